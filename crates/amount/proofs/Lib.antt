@@ -1,0 +1,4 @@
+mod Bytes
+mod Columns
+mod Decimals
+mod Digits

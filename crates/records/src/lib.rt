@@ -1,0 +1,38 @@
+//! Accounts, transfers and events of a double-entry ledger, the results that an event can have, and
+//! the plain machine that says what each of them means (`specs/`).
+#![tactic(auto)]
+
+mod accepted;
+mod account;
+mod account_checks;
+mod account_flags;
+mod account_result;
+mod balances;
+mod facts;
+mod filter;
+mod reply;
+mod statement_row;
+#[cfg(test)]
+mod tests;
+mod transfer;
+mod transfer_checks;
+mod transfer_flags;
+mod transfer_result;
+mod unavailable;
+mod width;
+
+pub use accepted::{Accepted, Ending};
+pub use account::{Account, AccountEvent};
+pub use account_checks::{account_fields, compare_account};
+pub use account_flags::AccountFlags;
+pub use account_result::AccountResult;
+pub use balances::{BalanceAt, Balances};
+pub use facts::{Held, Named, PendingState, Stored, TransferFacts};
+pub use filter::{AccountFilter, FilterFlags, Order};
+pub use reply::{BatchReply, EventResult};
+pub use statement_row::{Kind, Side, StatementRow};
+pub use transfer::{Transfer, TransferEvent};
+pub use transfer_checks::{compare_transfer, transfer_fields};
+pub use transfer_flags::TransferFlags;
+pub use transfer_result::TransferResult;
+pub use unavailable::Unavailable;

@@ -1,0 +1,20 @@
+/// The result of one event of a batch.
+#[derive(Clone, Copy, Debug, PartialEq, Eq)]
+pub struct EventResult<R> {
+    pub result: R,
+    /// The timestamp of the event's place in the batch, in nanoseconds, accepted or not.
+    pub timestamp: u64,
+}
+
+/// The answer to a batch.
+#[derive(Debug, Drop)]
+pub enum BatchReply<R> {
+    /// The batch ran: the clock after it, and a result for each event, in order.
+    Done {
+        /// In nanoseconds.
+        clock: u64,
+        results: Vec<EventResult<R>>,
+    },
+    /// The clock after the batch would pass 2^62; nothing changed.
+    ClockExhausted,
+}

@@ -1,0 +1,93 @@
+ghost use Rattle.records.specs.Widths.{IsTransferInWidth, IsTransferEventInWidth};
+
+use crate::TransferFlags;
+use crate::width::{fits_u16, fits_u32, fits_u64, fits_u128};
+use amount::Amount;
+
+/// A transfer as it was accepted: in a post or void the fields that it takes from its pending
+/// transfer are filled in, and a balancing amount is lowered already.
+#[derive(Clone, Copy, Debug, PartialEq, Eq)]
+pub struct Transfer {
+    /// Neither 0 nor the greatest number.
+    pub id: u128,
+    pub debit_account_id: u128,
+    pub credit_account_id: u128,
+    pub amount: Amount,
+    /// The pending transfer that a post or void ends, else 0.
+    pub pending_id: u128,
+    pub user_data_128: u128,
+    pub user_data_64: u64,
+    pub user_data_32: u32,
+    /// In seconds after the timestamp, for a pending transfer; 0 is never.
+    pub timeout: u32,
+    pub ledger: u32,
+    pub code: u16,
+    pub flags: TransferFlags,
+    /// In nanoseconds, unique among the tenant's accounts and transfers.
+    pub timestamp: u64,
+    /// The clock of its batch, in nanoseconds. No reply shows it.
+    pub at: u64,
+}
+
+/// A request for a transfer.
+#[derive(Clone, Copy, Debug, PartialEq, Eq)]
+pub struct TransferEvent {
+    pub id: u128,
+    pub debit_account_id: u128,
+    pub credit_account_id: u128,
+    pub amount: Amount,
+    pub pending_id: u128,
+    pub user_data_128: u128,
+    pub user_data_64: u64,
+    pub user_data_32: u32,
+    /// In seconds, for a pending transfer only.
+    pub timeout: u32,
+    pub ledger: u32,
+    pub code: u16,
+    pub flags: TransferFlags,
+    /// Must be 0: the ledger gives the timestamp.
+    pub timestamp: u64,
+}
+
+impl Transfer {
+    /// Tells that each field is within its width. It does nothing.
+    pub fn widths(&self)
+        ensures { IsTransferInWidth self.now }
+    {
+        fits_u128(self.id);
+        fits_u128(self.debit_account_id);
+        fits_u128(self.credit_account_id);
+        fits_u128(self.amount.value());
+        fits_u128(self.pending_id);
+        fits_u128(self.user_data_128);
+        fits_u64(self.user_data_64);
+        fits_u32(self.user_data_32);
+        fits_u32(self.timeout);
+        fits_u32(self.ledger);
+        fits_u16(self.code);
+        fits_u16(self.flags.0);
+        fits_u64(self.timestamp);
+        fits_u64(self.at);
+    }
+}
+
+impl TransferEvent {
+    /// Tells that each field is within its width. It does nothing.
+    pub fn widths(&self)
+        ensures { IsTransferEventInWidth self.now }
+    {
+        fits_u128(self.id);
+        fits_u128(self.debit_account_id);
+        fits_u128(self.credit_account_id);
+        fits_u128(self.amount.value());
+        fits_u128(self.pending_id);
+        fits_u128(self.user_data_128);
+        fits_u64(self.user_data_64);
+        fits_u32(self.user_data_32);
+        fits_u32(self.timeout);
+        fits_u32(self.ledger);
+        fits_u16(self.code);
+        fits_u16(self.flags.0);
+        fits_u64(self.timestamp);
+    }
+}

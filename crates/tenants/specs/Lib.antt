@@ -1,0 +1,3 @@
+pub mod KeyText
+pub mod NameText
+pub mod Padded
