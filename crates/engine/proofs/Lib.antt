@@ -1,0 +1,17 @@
+pub mod Rows
+pub mod Verdicts
+pub mod Ended
+pub mod SentAgain
+pub mod Keyed
+pub mod Fates
+pub mod Totals
+pub mod Meets
+pub mod Next
+pub mod Changes
+pub mod Sound
+pub mod BalancesWith
+pub mod AcceptedNext
+pub mod Released
+pub mod NextAccount
+pub mod Books
+pub mod Endings

@@ -1,0 +1,4 @@
+pub mod After
+pub mod Inherited
+pub mod Decision
+pub mod Promises

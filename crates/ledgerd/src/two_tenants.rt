@@ -1,0 +1,54 @@
+ghost use Rattle.std.specs.Prelude.{◌≡◌, Some, IfOk};
+ghost use Rattle.plain.specs.Book.{machine_with};
+ghost use Rattle.ledgerd.specs.TwoTenants.{account_event, opened};
+
+use amount::Amount;
+use chain::run_accounts;
+use plain::{Book, PlainTables};
+use records::{AccountEvent, AccountFlags, Unavailable};
+use std::alloc::Global;
+
+/// The digest of the first tenant.
+pub const FIRST: [u8; 32] = [0; 32];
+
+/// The digest of the second tenant.
+pub const SECOND: [u8; 32] = [1; 32];
+
+fn account(id: u128) -> AccountEvent
+    ensures { result ≡ account_event id }
+{
+    AccountEvent {
+        id,
+        debits_pending: Amount::ZERO,
+        debits_posted: Amount::ZERO,
+        credits_pending: Amount::ZERO,
+        credits_posted: Amount::ZERO,
+        user_data_128: 0,
+        user_data_64: 0,
+        user_data_32: 0,
+        ledger: 7,
+        code: 10,
+        flags: AccountFlags(0),
+        timestamp: 0,
+    }
+}
+
+// A tenant with accounts 1 and 2.
+fn new_tenant(alloc: Global) -> Result<PlainTables, Unavailable>
+    ensures { IfOk result (λ tables. tables.now ≡ opened) }
+{
+    let mut tables = PlainTables::new(alloc);
+    run_accounts(alloc, &mut tables, &[account(1), account(2)], 0)?;
+    Ok(tables)
+}
+
+/// A book of two tenants, each with accounts 1 and 2 of ledger 7 and code 10.
+pub fn two_tenants(alloc: Global) -> Result<Book, Unavailable>
+    ensures first { IfOk result (λ book. machine_with FIRST book ≡ Some opened) }
+    ensures second { IfOk result (λ book. machine_with SECOND book ≡ Some opened) }
+{
+    let mut book = Book::new(alloc);
+    book.add(FIRST, new_tenant(alloc)?)?;
+    book.add(SECOND, new_tenant(alloc)?)?;
+    Ok(book)
+}

@@ -1,0 +1,3 @@
+mod NewTenant
+mod Tenants
+mod Kept

@@ -1,0 +1,14 @@
+use Rattle.std.proofs.Common.{refl, rules}
+use Rattle.plain.proofs.NewTenant.{valid_new}
+use Rattle.plain.proofs.plain_tables.PlainTables.new.Goals as goal
+
+pub invariant_of-result : goal.invariant_of-result
+invariant_of-result c = record {
+  now = valid_new _ _ c.new.ensures.items c.new-2.ensures.items;
+  begun = valid_new _ _ refl refl;
+  lists = search rules;
+  mark = tt;
+}
+
+pub returns-clause-usable : goal.returns-clause-usable
+returns-clause-usable c = valid_new _ _ c.new.ensures.items c.new-2.ensures.items

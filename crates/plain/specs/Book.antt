@@ -1,0 +1,24 @@
+-- The tenants of a book, each known by its digest.
+use Rattle.std.specs.Prelude.{◌≡◌, ◌≢◌, ℕ, Bool, List, Option, Some}
+use Rattle.std.specs.List.{find}
+use Rattle.std.specs.Option.{option_map}
+use Rattle.std.specs.Str.{bytes_eq}
+use Rattle.records.specs.Machine.{Machine}
+use Rattle.chain.specs.Tables.{State}
+use Rattle.plain.specs.declared.book.Tenant.{Tenant}
+
+abbrev pub has_digest : List ℕ → Tenant → Bool
+has_digest digest tenant = bytes_eq tenant.digest digest
+
+-- what the tables of the tenant with this digest mean
+abbrev pub state_with : List ℕ → List Tenant → Option State
+state_with digest tenants = option_map (λ tenant. tenant.tables) (find (has_digest digest) tenants)
+
+-- the machine of the tenant with this digest
+abbrev pub machine_with : List ℕ → List Tenant → Option Machine
+machine_with digest tenants = option_map (λ state. state.now) (state_with digest tenants)
+
+-- a tenant has come, or has changed its tables, and every other tenant's are as they were
+pub record ChangesOne (digest : List ℕ) (state : State) (old new : List Tenant) : Type 0 where
+  pub own : state_with digest new ≡ Some state
+  pub others : (other : List ℕ) → other ≢ digest → state_with other new ≡ state_with other old

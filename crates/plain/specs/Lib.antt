@@ -1,0 +1,4 @@
+pub mod Beginning
+pub mod Book
+pub mod Lending
+pub mod PlainTables

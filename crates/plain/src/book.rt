@@ -1,0 +1,109 @@
+ghost use Rattle.std.specs.Prelude.{◌≡◌, [], ◌∷◌, ◌++◌, IfErr, IsNone, OnOk, OnErr};
+ghost use Rattle.std.specs.List.{position};
+ghost use Rattle.std.specs.Option.{option_copied_mut};
+ghost use Rattle.std.specs.Borrow.{sem};
+ghost use Rattle.plain.specs.Book.{has_digest, state_with, ChangesOne};
+ghost use Rattle.plain.specs.Lending.{LendsTables, LendsTablesOf};
+
+use crate::PlainTables;
+use records::Unavailable;
+use std::alloc::Global;
+use std::marker::Model;
+
+#[derive(Drop)]
+struct Tenant {
+    digest: [u8; 32],
+    tables: PlainTables,
+}
+
+/// The tables of several tenants, each known by the 32 bytes of its digest.
+#[derive(Drop)]
+pub struct Book {
+    tenants: Vec<Tenant>,
+}
+
+impl Model for Book {
+    ghost use Rattle.std.specs.Prelude.{List};
+    ghost use Rattle.plain.specs.declared.book.Tenant.{Tenant};
+
+    ghost Value = { List Tenant };
+
+    ghost view = { λ b. b.tenants.items };
+}
+
+impl Tenant {
+    fn tables(&mut self) -> &mut PlainTables
+        ensures* writes_back { sem 𝓛 (LendsTables self.entry result) }
+        ensures value { result.now ≡ self.old.tables }
+    {
+        &mut self.tables
+    }
+}
+
+impl Book {
+    /// A book without tenants.
+    pub fn new(alloc: Global) -> Book
+        ensures { result ≡ [] }
+    {
+        Book {
+            tenants: Vec::new(alloc),
+        }
+    }
+
+    /// Keeps a tenant's tables under its digest.
+    pub fn add(&mut self, digest: [u8; 32], tables: PlainTables) -> Result<(), Unavailable>
+        requires { IsNone (state_with digest self.old) }
+        ensures ok { OnOk result (ChangesOne digest tables self.old self.new) }
+        ensures err { OnErr result (self.new ≡ self.old) }
+        ensures memory { IfErr result (λ e. e ≡ Unavailable.Memory) }
+    {
+        self.tenants.push(Tenant { digest, tables })?;
+        Ok(())
+    }
+
+    /// The tables of the tenant with this digest, to read and change.
+    pub fn tables(&mut self, digest: &[u8; 32]) -> Option<&mut PlainTables>
+        ensures* writes_back { sem 𝓛 (LendsTablesOf digest.now self.entry result) }
+        ensures value { option_copied_mut result ≡ state_with digest.now self.old }
+    {
+        match place_of(&self.tenants, digest) {
+            Some(place) => Some(self.tenants[place].tables()),
+            None => None,
+        }
+    }
+}
+
+fn place_of(tenants: &[Tenant], digest: &[u8; 32]) -> Option<usize>
+    ensures { result ≡ position (has_digest digest.now) tenants.now }
+{
+    tenants.iter().position(|tenant| tenant.digest == *digest)
+}
+
+#[cfg(test)]
+mod tests {
+    use super::*;
+    use chain::Tables;
+    use std::test::Fail;
+
+    #[test]
+    fn keeps_each_tenants_tables(rt: HostRuntime) -> Result<(), Fail> {
+        let mut book = Book::new(rt.alloc());
+        book.add([0; 32], PlainTables::new(rt.alloc()))?;
+        assert!(rt; book.tables(&[1; 32]).is_none());
+        book.add([1; 32], PlainTables::new(rt.alloc()))?;
+
+        let first = book.tables(&[0; 32]).ok_or("no first tenant")?;
+        first.begin();
+        assert_eq!(rt; first.clock()?, 0);
+        first.settle(7)?;
+
+        let second = book.tables(&[1; 32]).ok_or("no second tenant")?;
+        second.begin();
+        assert_eq!(rt; second.clock()?, 0);
+
+        let first = book.tables(&[0; 32]).ok_or("no first tenant")?;
+        first.begin();
+        assert_eq!(rt; first.clock()?, 7);
+        Ok(())
+    }
+}

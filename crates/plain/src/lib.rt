@@ -1,0 +1,12 @@
+//! The tables of one tenant over plain lists, searched and summed anew at each call, and a book of
+//! several tenants.
+#![tactic(auto)]
+
+mod balances;
+mod book;
+mod fate;
+mod plain_tables;
+mod search;
+
+pub use book::Book;
+pub use plain_tables::PlainTables;

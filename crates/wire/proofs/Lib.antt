@@ -1,0 +1,5 @@
+mod Events
+mod Numbers
+mod Objects
+mod Texts
+mod Few

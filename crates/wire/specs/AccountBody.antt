@@ -1,0 +1,45 @@
+-- The account event that a JSON object means.
+use Rattle.std.specs.Prelude.{ℕ, ◌^◌, List, [], ◌∷◌, codes, Option, Some}
+use Rattle.serde_json.specs.Data.{Data}
+use Rattle.serde_json.specs.Find.{get}
+use Rattle.records.specs.declared.account.AccountEvent.{AccountEvent}
+use Rattle.wire.specs.Fields.{wide, whole, given, event_of}
+
+abbrev pub account_names : List (List ℕ)
+account_names =
+    codes "id" ∷ codes "debits_pending" ∷ codes "debits_posted" ∷ codes "credits_pending" ∷ codes "credits_posted"
+    ∷ codes "user_data_128" ∷ codes "user_data_64" ∷ codes "user_data_32"
+    ∷ codes "ledger" ∷ codes "code" ∷ codes "flags" ∷ codes "timestamp" ∷ []
+
+unfoldable pub account_from : Data → Option AccountEvent
+account_from d =
+    given (wide (2 ^ 128) (get (codes "id") d)) (λ id.
+    given (wide (2 ^ 128) (get (codes "debits_pending") d)) (λ debits_pending.
+    given (wide (2 ^ 128) (get (codes "debits_posted") d)) (λ debits_posted.
+    given (wide (2 ^ 128) (get (codes "credits_pending") d)) (λ credits_pending.
+    given (wide (2 ^ 128) (get (codes "credits_posted") d)) (λ credits_posted.
+    given (wide (2 ^ 128) (get (codes "user_data_128") d)) (λ user_data_128.
+    given (wide (2 ^ 64) (get (codes "user_data_64") d)) (λ user_data_64.
+    given (whole (2 ^ 32) (get (codes "user_data_32") d)) (λ user_data_32.
+    given (whole (2 ^ 32) (get (codes "ledger") d)) (λ ledger.
+    given (whole (2 ^ 16) (get (codes "code") d)) (λ code.
+    given (whole (2 ^ 16) (get (codes "flags") d)) (λ flags.
+    given (wide (2 ^ 64) (get (codes "timestamp") d)) (λ timestamp.
+    Some (record {
+      id = id;
+      debits_pending = debits_pending;
+      debits_posted = debits_posted;
+      credits_pending = credits_pending;
+      credits_posted = credits_posted;
+      user_data_128 = user_data_128;
+      user_data_64 = user_data_64;
+      user_data_32 = user_data_32;
+      ledger = ledger;
+      code = code;
+      flags = record { 0 = flags };
+      timestamp = timestamp;
+    })))))))))))))
+
+-- the account event, where the value is an object of these fields alone and each of them is good
+abbrev pub account_of : Data → Option AccountEvent
+account_of d = event_of account_names account_from d
