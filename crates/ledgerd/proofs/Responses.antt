@@ -1,5 +1,5 @@
 -- What is answered by the tables that a book lends is the response of the book.
-use Rattle.std.proofs.Common.{◌≡◌, ◌≢◌, ℕ, Bool, true, false, List, Option, Some, option_map, inl, inr, sym, ap, ◌∙◌, subst, arith}
+use Rattle.std.proofs.Common.{◌≡◌, ℕ, List, Option, Some, option_map, inl, inr, sym, ap, ◌∙◌, subst}
 use Rattle.std.specs.Str.{bytes_eq}
 use Rattle.std.proofs.lemmas.Slice.Eq.{bytes_eq-Decides}
 use Rattle.std.proofs.lemmas.Bool.{cases_Bool}
@@ -10,7 +10,7 @@ use Rattle.plain.specs.declared.book.Tenant.{Tenant}
 use Rattle.plain.specs.Book.{state_with, machine_with, ChangesOne}
 use Rattle.ledgerd.specs.declared.plain_reply.PlainReply.{PlainReply}
 use Rattle.ledgerd.specs.declared.plain_reply.PlainReply.TheVariants.{Body, Refused, Unavailable}
-use Rattle.ledgerd.specs.Answer.{Told, plain_answer, machine_after, Says}
+use Rattle.ledgerd.specs.Answer.{plain_answer, machine_after, Says}
 use Rattle.ledgerd.specs.Response.{Answers, KeepsAll, IsResponse, Leaves}
 
 machine_of : (digest : List ℕ) (tenants : List Tenant) (s : State) → state_with digest tenants ≡ Some s → machine_with digest tenants ≡ Some s.now

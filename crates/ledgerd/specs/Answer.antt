@@ -1,5 +1,5 @@
 -- What a body of transfers is answered over one tenant's machine, and what it leaves.
-use Rattle.std.specs.Prelude.{◌≡◌, ℕ, List, [], ◌∷◌, ◌++◌, codes, Option, Some, None, Result, Ok, Err}
+use Rattle.std.specs.Prelude.{◌≡◌, ℕ, List, codes, Option, Some, None, Result, Ok, Err}
 use Rattle.serde_json.specs.Written.{compact_text}
 use Rattle.records.specs.declared.transfer.TransferEvent.{TransferEvent}
 use Rattle.records.specs.declared.transfer_result.TransferResult.{TransferResult}

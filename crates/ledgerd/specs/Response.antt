@@ -1,11 +1,11 @@
 -- A request of one tenant in a book of several: what it is told, and what it leaves to each of them.
-use Rattle.std.specs.Prelude.{◌≡◌, ◌≢◌, ℕ, List, Option, option_map}
+use Rattle.std.specs.Prelude.{◌≡◌, ◌≢◌, ℕ, List, option_map}
 use Rattle.records.specs.Machine.{Machine}
 use Rattle.plain.specs.declared.book.Tenant.{Tenant}
 use Rattle.plain.specs.Book.{machine_with}
 use Rattle.ledgerd.specs.declared.plain_reply.PlainReply.{PlainReply}
 use Rattle.ledgerd.specs.declared.plain_reply.PlainReply.TheVariants.{Body, Refused, Unavailable}
-use Rattle.ledgerd.specs.Answer.{Told, plain_answer, machine_after, Says}
+use Rattle.ledgerd.specs.Answer.{plain_answer, machine_after, Says}
 
 -- every tenant's machine is as before
 abbrev pub KeepsAll : List Tenant → List Tenant → Type 0

@@ -1,5 +1,5 @@
 -- The book that the program answers from when it is given no command.
-use Rattle.std.specs.Prelude.{ℕ, List, [], ◌∷◌}
+use Rattle.std.specs.Prelude.{ℕ, [], ◌∷◌}
 use Rattle.records.specs.declared.account.Account.{Account}
 use Rattle.records.specs.declared.account.AccountEvent.{AccountEvent}
 use Rattle.records.specs.Machine.{Machine}

@@ -1,15 +1,14 @@
 -- What a call leaves are a tenant's lists again.
-use Rattle.std.proofs.Common.{◌≡◌, ℕ, ◌≤◌, List, [], ◌∷◌, ◌++◌, length, take, arith, sym, ap, subst, length-append}
+use Rattle.std.proofs.Common.{◌≡◌, ℕ, ◌≤◌, [], ◌∷◌, ◌++◌, length, take, arith, sym, ap, subst, length-append, Global}
 use Rattle.std.proofs.lemmas.List.{take-append-le}
-use Rattle.std.proofs.Common.{Global}
 use Rattle.std.specs.declared.vec.Vec.{Vec}
 use Rattle.records.specs.declared.account.Account.{Account}
 use Rattle.records.specs.declared.transfer.Transfer.{Transfer}
 use Rattle.records.specs.Step.{max_clock}
-use Rattle.records.specs.Valid.{IsValid, IsNextAccount, IsNextTransfer, later, next_account, next_transfer}
+use Rattle.records.specs.Valid.{IsNextAccount, IsNextTransfer, later, next_account, next_transfer}
 use Rattle.chain.specs.Tables.{State}
 use Rattle.plain.specs.declared.plain_tables.PlainTables.TheInside.{Inside}
-use Rattle.plain.specs.PlainTables.{machine_now, state_in, HasBegun, IsKept}
+use Rattle.plain.specs.PlainTables.{machine_now, state_in, IsKept}
 
 pub kept_later : (t : Inside) (s : State) (clock : ℕ) → state_in t ≡ s → IsKept t → s.now.clock ≤ clock → clock ≤ max_clock → IsKept (record t { clock = clock })
 kept_later t s clock is_s kept not_back bounded = record {

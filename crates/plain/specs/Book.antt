@@ -7,6 +7,7 @@ use Rattle.records.specs.Machine.{Machine}
 use Rattle.chain.specs.Tables.{State}
 use Rattle.plain.specs.declared.book.Tenant.{Tenant}
 
+-- whether the tenant is known by this digest
 abbrev pub has_digest : List ℕ → Tenant → Bool
 has_digest digest tenant = bytes_eq tenant.digest digest
 

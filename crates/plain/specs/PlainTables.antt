@@ -22,6 +22,7 @@ machine_begun b accounts transfers = record { accounts = take b.accounts account
 abbrev pub machine_copied : Copied → Machine
 machine_copied c = record { accounts = c.accounts.items; transfers = c.transfers.items; clock = c.clock }
 
+-- what the fields stand for
 abbrev pub state_in : Inside → State
 state_in t = record {
   now = machine_now t;
@@ -40,6 +41,7 @@ pub record IsMark (b : Beginning) (begun : Machine) (c : Copied) : Type 0 where
   pub lists : HasBegun b c.accounts.items c.transfers.items
   pub same : machine_begun b c.accounts.items c.transfers.items ≡ begun
 
+-- the lists, those with which the batch began and those of the mark are each a valid machine's
 pub record IsKept (t : Inside) : Type 0 where
   pub now : IsValid (machine_now t)
   pub begun : IsValid (state_in t).begun

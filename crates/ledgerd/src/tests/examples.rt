@@ -119,17 +119,10 @@ fn balances_both_sides(rt: HostRuntime) -> Result<(), Fail> {
 }
 
 #[test]
-fn refuses_sums_and_limits(rt: HostRuntime) -> Result<(), Fail> {
-    let now = (rt.alloc(), 0);
-    let sums = [transfer(100, (1, 2), MAX, 0), transfer(101, (1, 2), 1, 0)];
-    run(
-        &rt,
-        &mut base(&rt, rt.alloc())?,
-        now,
-        &sums,
-        &[(0, 5), (50, 6)],
-    )?;
-    let pending_sums = [
+fn refuses_sums_beyond_128_bits(rt: HostRuntime) -> Result<(), Fail> {
+    let posted = [transfer(100, (1, 2), MAX, 0), transfer(101, (1, 2), 1, 0)];
+    on_base(&rt, rt.alloc(), &posted, &[(0, 5), (50, 6)])?;
+    let pending = [
         transfer(100, (1, 2), MAX, PENDING),
         transfer(101, (1, 2), 1, PENDING),
         transfer(102, (1, 2), 1, 0),
@@ -137,36 +130,27 @@ fn refuses_sums_and_limits(rt: HostRuntime) -> Result<(), Fail> {
         transfer(104, (4, 2), 1, 0),
     ];
     let told = [(0, 5), (48, 6), (52, 7), (49, 8), (53, 9)];
-    run(&rt, &mut base(&rt, rt.alloc())?, now, &pending_sums, &told)?;
+    on_base(&rt, rt.alloc(), &pending, &told)
+}
+
+#[test]
+fn refuses_what_passes_a_limit(rt: HostRuntime) -> Result<(), Fail> {
     let limit = [
         transfer(100, (1, 3), 50, 0),
         transfer(101, (3, 2), 50, PENDING),
         transfer(102, (3, 2), 1, 0),
     ];
-    run(
-        &rt,
-        &mut base(&rt, rt.alloc())?,
-        now,
-        &limit,
-        &[(0, 5), (0, 6), (55, 7)],
-    )?;
+    on_base(&rt, rt.alloc(), &limit, &[(0, 5), (0, 6), (55, 7)])
+}
+
+#[test]
+fn refuses_fields(rt: HostRuntime) -> Result<(), Fail> {
     let mut other = ending(101, 100, 5, POST);
     other.debit_account_id = 2;
     let ended = [transfer(100, (1, 2), 5, PENDING), other];
-    run(
-        &rt,
-        &mut base(&rt, rt.alloc())?,
-        now,
-        &ended,
-        &[(0, 5), (26, 6)],
-    )?;
-    run(
-        &rt,
-        &mut base(&rt, rt.alloc())?,
-        now,
-        &[transfer(0, (1, 2), 10, 64)],
-        &[(4, 5)],
-    )
+    on_base(&rt, rt.alloc(), &ended, &[(0, 5), (26, 6)])?;
+    let reserved = [transfer(0, (1, 2), 10, 64)];
+    on_base(&rt, rt.alloc(), &reserved, &[(4, 5)])
 }
 
 #[test]
@@ -184,13 +168,7 @@ fn chains_stand_or_fall(rt: HostRuntime) -> Result<(), Fail> {
         transfer(100, (1, 2), 10, LINKED),
         transfer(101, (1, 2), 10, LINKED),
     ];
-    run(
-        &rt,
-        &mut base(&rt, rt.alloc())?,
-        now,
-        &left_open,
-        &[(2, 5), (1, 6)],
-    )?;
+    on_base(&rt, rt.alloc(), &left_open, &[(2, 5), (1, 6)])?;
     let mut both = base(&rt, rt.alloc())?;
     let batch = [
         transfer(100, (1, 2), 70, LINKED + PENDING),
@@ -203,75 +181,43 @@ fn chains_stand_or_fall(rt: HostRuntime) -> Result<(), Fail> {
 
 #[test]
 fn one_failure_fails_its_chain(rt: HostRuntime) -> Result<(), Fail> {
-    let now = (rt.alloc(), 0);
     let first = [
         transfer(100, (1, 9), 1, LINKED),
         transfer(101, (1, 9), 1, 0),
     ];
-    run(
-        &rt,
-        &mut base(&rt, rt.alloc())?,
-        now,
-        &first,
-        &[(45, 5), (2, 6)],
-    )?;
+    on_base(&rt, rt.alloc(), &first, &[(45, 5), (2, 6)])?;
     let behind = [
         transfer(100, (1, 2), 10, LINKED),
         transfer(101, (1, 9), 10, 0),
         transfer(102, (1, 2), 5, 0),
     ];
-    run(
-        &rt,
-        &mut base(&rt, rt.alloc())?,
-        now,
-        &behind,
-        &[(2, 5), (45, 6), (0, 7)],
-    )?;
+    on_base(&rt, rt.alloc(), &behind, &[(2, 5), (45, 6), (0, 7)])?;
     let left_open = [
         transfer(100, (1, 9), 1, LINKED),
         transfer(101, (1, 2), 1, LINKED),
         transfer(102, (1, 2), 1, LINKED),
     ];
-    run(
-        &rt,
-        &mut base(&rt, rt.alloc())?,
-        now,
-        &left_open,
-        &[(45, 5), (2, 6), (1, 7)],
-    )?;
+    on_base(&rt, rt.alloc(), &left_open, &[(45, 5), (2, 6), (1, 7)])?;
+    let mut no_ledger = account(6, 0);
+    no_ledger.ledger = 0;
+    let accounts = [account(5, LINKED), no_ledger];
+    let mut tables = base(&rt, rt.alloc())?;
+    open(&rt, rt.alloc(), &mut tables, &accounts, &[(2, 5), (19, 6)])
+}
+
+#[test]
+fn an_id_twice_fails_its_chain(rt: HostRuntime) -> Result<(), Fail> {
     let twice = [
         transfer(100, (1, 2), 1, LINKED),
         transfer(100, (1, 2), 1, 0),
     ];
-    run(
-        &rt,
-        &mut base(&rt, rt.alloc())?,
-        now,
-        &twice,
-        &[(2, 5), (7, 6)],
-    )?;
+    on_base(&rt, rt.alloc(), &twice, &[(2, 5), (7, 6)])?;
     let linked_twice = [
         transfer(100, (1, 2), 1, LINKED),
         transfer(100, (1, 2), 1, LINKED),
         transfer(101, (1, 2), 1, 0),
     ];
-    run(
-        &rt,
-        &mut base(&rt, rt.alloc())?,
-        now,
-        &linked_twice,
-        &[(2, 5), (18, 6), (2, 7)],
-    )?;
-    let mut no_ledger = account(6, 0);
-    no_ledger.ledger = 0;
-    let accounts = [account(5, LINKED), no_ledger];
-    open(
-        &rt,
-        rt.alloc(),
-        &mut base(&rt, rt.alloc())?,
-        &accounts,
-        &[(2, 5), (19, 6)],
-    )
+    on_base(&rt, rt.alloc(), &linked_twice, &[(2, 5), (18, 6), (2, 7)])
 }
 
 #[test]

@@ -145,6 +145,17 @@ pub fn run(
     Ok(())
 }
 
+/// Runs a batch of transfers at moment 0 on a base of its own, as `run` does.
+pub fn on_base(
+    rt: &impl Abort,
+    alloc: Global,
+    batch: &[TransferEvent],
+    want: &[(u16, u64)],
+) -> Result<(), Fail> {
+    let mut tables = base(rt, alloc)?;
+    run(rt, &mut tables, (alloc, 0), batch, want)
+}
+
 /// The account's debits pending and posted and credits pending and posted have to be these.
 pub fn holds(
     rt: &impl Abort,
