@@ -1,7 +1,5 @@
 ghost use Rattle.std.specs.Prelude.{◌≡◌, ◌≢◌, ◌↔◌, ℕ, ◌<◌, ◌^◌, length, IfOk, IsErr};
-ghost use Rattle.std.specs.Cmp.Lexicographic.{slice_cmp};
-ghost use Rattle.std.specs.Ordering.{nat_cmp};
-ghost use Rattle.amount.specs.Column.{column_of};
+ghost use Rattle.amount.specs.Column.{column_of, IsOneToOne, KeepsOrder};
 
 use crate::money::Amount;
 use std::error::Error;
@@ -43,8 +41,8 @@ impl Amount {
 /// A law: columns in the order of their bytes are amounts in their order, and no two amounts share
 /// one. The call does nothing, and a proof learns the law from it.
 pub fn columns_keep_order()
-    ensures one_to_one { (a b : ℕ) → a < 2 ^ 128 → b < 2 ^ 128 → column_of a ≡ column_of b → a ≡ b }
-    ensures order { (a b : ℕ) → a < 2 ^ 128 → b < 2 ^ 128 → slice_cmp nat_cmp (column_of a) (column_of b) ≡ nat_cmp a b }
+    ensures one_to_one { IsOneToOne }
+    ensures order { KeepsOrder }
 {}
 
 #[cfg(test)]

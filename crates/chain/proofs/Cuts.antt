@@ -5,7 +5,7 @@ use Rattle.std.proofs.lemmas.Bool.Decides.{nat_tests}
 use Rattle.std.proofs.lemmas.List.{length-take-le, drop_all}
 use Rattle.std.proofs.lemmas.List.Sums.{prefix_len_passes}
 use Rattle.std.proofs.lemmas.List.Quantifiers.{position-Some}
-use Rattle.records.specs.Chains.{chains_of, tied}
+use Rattle.records.specs.Chains.{chains_of, with_linked}
 use Rattle.records.specs.Chains.Chain.{Closed, Open}
 
 pub no_chain : {E : Type 0} (linked : E → Bool) → chains_of linked [] ≡ []
@@ -13,7 +13,7 @@ unfolding chains_of
 no_chain linked = refl
 
 -- one event more in front
-linked_first : {E : Type 0} (linked : E → Bool) (ev : E) (batch : List E) → linked ev ≡ true → chains_of linked (ev ∷ batch) ≡ tied ev (chains_of linked batch)
+linked_first : {E : Type 0} (linked : E → Bool) (ev : E) (batch : List E) → linked ev ≡ true → chains_of linked (ev ∷ batch) ≡ with_linked ev (chains_of linked batch)
 unfolding chains_of
 linked_first linked ev batch h = rw h
 
@@ -26,13 +26,13 @@ closed_at linked [] i within before last = absurd (omega arith)
 closed_at linked (ev ∷ batch) zero within before last = closed_first linked ev batch (last ev)
 closed_at linked (ev ∷ batch) (suc i) within before last =
     linked_first linked ev batch (before 0 ev (omega arith))
-    ∙ ap (tied ev) (closed_at linked batch i (omega arith) (λ k d h. before (suc k) d (omega arith)) last)
+    ∙ ap (with_linked ev) (closed_at linked batch i (omega arith) (λ k d h. before (suc k) d (omega arith)) last)
 
 open_all : {E : Type 0} (linked : E → Bool) (ev : E) (batch : List E) → ((k : ℕ) (d : E) → k < suc (length batch) → linked (get_or (ev ∷ batch) k d) ≡ true) → chains_of linked (ev ∷ batch) ≡ Open (take (length batch) (ev ∷ batch)) ∷ []
-open_all linked ev [] all = linked_first linked ev [] (all 0 ev (omega arith)) ∙ ap (tied ev) (no_chain linked)
+open_all linked ev [] all = linked_first linked ev [] (all 0 ev (omega arith)) ∙ ap (with_linked ev) (no_chain linked)
 open_all linked ev (next ∷ batch) all =
     linked_first linked ev (next ∷ batch) (all 0 ev (omega arith))
-    ∙ ap (tied ev) (open_all linked next batch (λ k d h. all (suc k) d (omega arith)))
+    ∙ ap (with_linked ev) (open_all linked next batch (λ k d h. all (suc k) d (omega arith)))
 
 not_false : (b : Bool) → not b ≡ false → b ≡ true
 not_false true h = refl

@@ -1,8 +1,9 @@
 pub mod Batches
+pub mod ChainOutcomes
 pub mod Cuts
-pub mod Kept
 pub mod Stamps
-pub mod States
+pub mod Runs
+pub mod StaysInBatch
 pub mod Steps
 pub mod Timestamps
 pub mod Trials

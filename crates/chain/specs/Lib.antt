@@ -1,3 +1,4 @@
 pub mod Tables
 pub mod InBatch
-pub mod Linked
+pub mod EventLaws
+pub mod Chains

@@ -1,100 +1,17 @@
-ghost use Rattle.std.specs.Prelude.{◌≡◌, IfOk, OnOk, OnErr};
+ghost use Rattle.std.specs.Prelude.{◌≡◌};
 ghost use Rattle.std.specs.Option.{option_map, option_and_then};
 ghost use Rattle.records.specs.Machine.{transfer_with};
-ghost use Rattle.records.specs.Facts.{facts_of, stored_in, held_with, named_by, pending_amount_for, debit_account_of, credit_account_of};
+ghost use Rattle.records.specs.Sides.{event_account_on};
+ghost use Rattle.records.specs.Facts.{facts_of, with_pending_amount, pending_amount_in};
+ghost use Rattle.records.specs.Facts.{pending_transfer_in, account_id_of, account_in};
+ghost use Rattle.chain.specs.Tables.{Tells, Leaves, same};
 
 use crate::Tables;
 use amount::Amount;
 use records::{
-    Held, Named, PendingState, Stored, Transfer, TransferEvent, TransferFacts, Unavailable,
+    AccountWithBalances, ExistingTransfer, PendingTransfer, Side, Transfer, TransferEvent,
+    TransferFacts, Unavailable,
 };
-
-// The amount of the pending transfer that a post or void ended, else its own.
-fn pending_amount<T: Tables>(tables: &mut T, transfer: &Transfer) -> Result<Amount, Unavailable>
-    requires { T.is_usable tables.old }
-    ensures ok { IfOk result (λ amount. amount ≡ pending_amount_for (T.state tables.old).now transfer.now) }
-    ensures same { OnOk result (T.state tables.new ≡ T.state tables.old) }
-    ensures usable { OnOk result (T.is_usable tables.new) }
-    ensures err { OnErr result ((T.state tables.new).now ≡ (T.state tables.old).begun) }
-{
-    if !transfer.flags.is_ending() {
-        return Ok(transfer.amount);
-    }
-    Ok(match tables.transfer(transfer.pending_id)? {
-        Some(pending) => pending.amount,
-        None => transfer.amount,
-    })
-}
-
-fn stored_with<T: Tables>(tables: &mut T, id: u128) -> Result<Option<Stored>, Unavailable>
-    requires { T.is_usable tables.old }
-    ensures ok { IfOk result (λ stored. stored ≡ option_map (stored_in (T.state tables.old).now) (transfer_with id (T.state tables.old).now.transfers)) }
-    ensures same { OnOk result (T.state tables.new ≡ T.state tables.old) }
-    ensures usable { OnOk result (T.is_usable tables.new) }
-    ensures err { OnErr result ((T.state tables.new).now ≡ (T.state tables.old).begun) }
-{
-    let Some(transfer) = tables.transfer(id)? else {
-        return Ok(None);
-    };
-    let pending_amount = pending_amount(tables, &transfer)?;
-    Ok(Some(Stored {
-        transfer,
-        pending_amount,
-    }))
-}
-
-// The transfer that a post or void names.
-fn named_by<T: Tables>(tables: &mut T, ev: &TransferEvent) -> Result<Option<Named>, Unavailable>
-    requires { T.is_usable tables.old }
-    ensures ok { IfOk result (λ named. named ≡ named_by (T.state tables.old).now ev.now) }
-    ensures same { OnOk result (T.state tables.new ≡ T.state tables.old) }
-    ensures usable { OnOk result (T.is_usable tables.new) }
-    ensures err { OnErr result ((T.state tables.new).now ≡ (T.state tables.old).begun) }
-{
-    if !ev.flags.is_ending() {
-        return Ok(None);
-    }
-    let Some(transfer) = tables.transfer(ev.pending_id)? else {
-        return Ok(None);
-    };
-    let state = tables
-        .pending_state(ev.pending_id)?
-        .unwrap_or(PendingState::Open);
-    Ok(Some(Named { transfer, state }))
-}
-
-fn debit_account_of(ev: &TransferEvent, named: &Option<Named>) -> Option<u128>
-    ensures { result ≡ debit_account_of ev.now named.now }
-{
-    if ev.flags.is_ending() {
-        named.map(|p| p.transfer.debit_account_id)
-    } else {
-        Some(ev.debit_account_id)
-    }
-}
-
-fn credit_account_of(ev: &TransferEvent, named: &Option<Named>) -> Option<u128>
-    ensures { result ≡ credit_account_of ev.now named.now }
-{
-    if ev.flags.is_ending() {
-        named.map(|p| p.transfer.credit_account_id)
-    } else {
-        Some(ev.credit_account_id)
-    }
-}
-
-fn held_of<T: Tables>(tables: &mut T, id: Option<u128>) -> Result<Option<Held>, Unavailable>
-    requires { T.is_usable tables.old }
-    ensures ok { IfOk result (λ held. held ≡ option_and_then (held_with (T.state tables.old).now) id) }
-    ensures same { OnOk result (T.state tables.new ≡ T.state tables.old) }
-    ensures usable { OnOk result (T.is_usable tables.new) }
-    ensures err { OnErr result ((T.state tables.new).now ≡ (T.state tables.old).begun) }
-{
-    match id {
-        Some(id) => tables.account(id),
-        None => Ok(None),
-    }
-}
 
 /// All that the verdict on a transfer event depends on. Nothing changes.
 ///
@@ -104,20 +21,110 @@ pub fn transfer_facts<T: Tables>(
     tables: &mut T,
     ev: &TransferEvent,
 ) -> Result<TransferFacts, Unavailable>
-    requires { T.is_usable tables.old }
-    ensures ok { IfOk result (λ facts. facts ≡ facts_of (T.state tables.old).now ev.now) }
-    ensures same { OnOk result (T.state tables.new ≡ T.state tables.old) }
-    ensures usable { OnOk result (T.is_usable tables.new) }
-    ensures err { OnErr result ((T.state tables.new).now ≡ (T.state tables.old).begun) }
+    requires { T.means.is_usable tables.old }
+    ensures value { Tells T.means tables.old tables.new result (λ m. facts_of m ev.now) }
+    ensures leaves { Leaves T.means tables.old tables.new result same }
 {
-    let stored = stored_with(tables, ev.id)?;
-    let named = named_by(tables, ev)?;
-    let debit = held_of(tables, debit_account_of(ev, &named))?;
-    let credit = held_of(tables, credit_account_of(ev, &named))?;
+    let existing = existing_transfer(tables, ev.id)?;
+    let failed = tables.failed(ev.id)?;
+    let pending = pending_transfer(tables, ev)?;
+    let debit = account_of(tables, account_id(Side::Debit, ev, &pending))?;
+    let credit = account_of(tables, account_id(Side::Credit, ev, &pending))?;
     Ok(TransferFacts {
-        stored,
-        named,
+        existing,
+        failed,
+        pending,
         debit,
         credit,
     })
+}
+
+// The transfer with this id, with the amount of the pending transfer that it names.
+fn existing_transfer<T: Tables>(
+    tables: &mut T,
+    id: u128,
+) -> Result<Option<ExistingTransfer>, Unavailable>
+    requires { T.means.is_usable tables.old }
+    ensures value { Tells T.means tables.old tables.new result
+        (λ m. option_map (with_pending_amount m) (transfer_with id m.transfers)) }
+    ensures leaves { Leaves T.means tables.old tables.new result same }
+{
+    let Some(transfer) = tables.transfer(id)? else {
+        return Ok(None);
+    };
+    let pending_amount = pending_amount(tables, &transfer)?;
+    Ok(Some(ExistingTransfer {
+        transfer,
+        pending_amount,
+    }))
+}
+
+// The amount of the pending transfer that a post or void ended, else its own.
+fn pending_amount<T: Tables>(tables: &mut T, transfer: &Transfer) -> Result<Amount, Unavailable>
+    requires { T.means.is_usable tables.old }
+    ensures value { Tells T.means tables.old tables.new result
+        (λ m. pending_amount_in m transfer.now) }
+    ensures leaves { Leaves T.means tables.old tables.new result same }
+{
+    if !transfer.flags.is_post_or_void() {
+        return Ok(transfer.amount);
+    }
+    Ok(match tables.transfer(transfer.pending_id)? {
+        Some(pending) => pending.amount,
+        None => transfer.amount,
+    })
+}
+
+// The transfer that a post or void names.
+fn pending_transfer<T: Tables>(
+    tables: &mut T,
+    ev: &TransferEvent,
+) -> Result<Option<PendingTransfer>, Unavailable>
+    requires { T.means.is_usable tables.old }
+    ensures value { Tells T.means tables.old tables.new result (λ m. pending_transfer_in m ev.now) }
+    ensures leaves { Leaves T.means tables.old tables.new result same }
+{
+    if !ev.flags.is_post_or_void() {
+        return Ok(None);
+    }
+    let Some(transfer) = tables.transfer(ev.pending_id)? else {
+        return Ok(None);
+    };
+    let state = tables.pending_state(ev.pending_id)?;
+    Ok(Some(PendingTransfer { transfer, state }))
+}
+
+// The account of an event on a side: its own, or for a post or void that of the pending transfer.
+fn account_id(side: Side, ev: &TransferEvent, pending: &Option<PendingTransfer>) -> Option<u128>
+    ensures { result ≡ account_id_of side ev.now pending.now }
+{
+    if ev.flags.is_post_or_void() {
+        pending.map(|pending| pending.transfer.account_on(side))
+    } else {
+        Some(own_account(side, ev))
+    }
+}
+
+fn own_account(side: Side, ev: &TransferEvent) -> u128
+    ensures { result ≡ event_account_on side ev.now }
+{
+    match side {
+        Side::Debit => ev.debit_account_id,
+        Side::Credit => ev.credit_account_id,
+    }
+}
+
+fn account_of<T: Tables>(
+    tables: &mut T,
+    id: Option<u128>,
+) -> Result<Option<AccountWithBalances>, Unavailable>
+    requires { T.means.is_usable tables.old }
+    ensures value { Tells T.means tables.old tables.new result
+        (λ m. option_and_then (account_in m) id) }
+    ensures leaves { Leaves T.means tables.old tables.new result same }
+{
+    match id {
+        Some(id) => tables.account(id),
+        None => Ok(None),
+    }
 }

@@ -1,106 +1,112 @@
-ghost use Rattle.std.specs.Prelude.{◌≡◌, ◌≤◌, Some, None, IsSome, IfOk, OnOk, OnErr};
-ghost use Rattle.records.specs.Machine.{transfer_with};
-ghost use Rattle.records.specs.Facts.{held_with};
+ghost use Rattle.std.specs.Prelude.{◌≡◌, ◌≤◌, None, IsSome};
+ghost use Rattle.records.specs.Machine.{transfer_with, has_id, with_failed};
+ghost use Rattle.records.specs.Facts.{account_in};
 ghost use Rattle.records.specs.Step.{at_clock, max_clock};
 ghost use Rattle.records.specs.Valid.{IsValid, IsNextAccount, with_account, with_transfer};
 ghost use Rattle.records.specs.Accepted.{IsAccepted};
-ghost use Rattle.chain.specs.Tables.{State, pending_state_of, with_now};
+ghost use Rattle.chain.specs.Tables.{Meaning, Tells, Leaves, pending_state_of, FailsNow, on_now, marking, at_mark, unmarked, same};
 
-use records::{Accepted, Account, Held, PendingState, Transfer, Unavailable};
+use records::{Accepted, Account, AccountWithBalances, PendingState, Transfer, Unavailable};
 
-/// One tenant's accounts and transfers inside one open batch.
+/// One tenant's accounts, transfers and failed ids inside one open batch.
 ///
-/// After `Unavailable` the batch is over: all is as at its beginning, and no further call is allowed.
+/// After `Unavailable` the batch is over: all is as at its beginning, and no further call is
+/// allowed. Tables that lose what they stand on, as a connection whose disk fails, are no longer
+/// live: what they answer from then on says nothing of the tenant.
 pub trait Tables {
-    /// The tenant's machine now, at the beginning of the batch and at the mark.
-    ghost state: { Self → State };
-
-    /// Whether calls are allowed.
-    ghost is_usable: { Self → Type 0 };
+    /// The tenant's machine now, at the beginning of the batch and at the mark; whether calls are
+    /// allowed; whether the tables are live; and what every run of calls keeps.
+    ghost means: { Meaning Self };
 
     /// The tenant's clock, in nanoseconds.
     fn clock(&mut self) -> Result<u64, Unavailable>
-        requires { is_usable self.old }
-        ensures ok { IfOk result (λ clock. clock ≡ (state self.old).now.clock) }
-        ensures same { OnOk result (state self.new ≡ state self.old) }
-        ensures usable { OnOk result (is_usable self.new) }
-        ensures err { OnErr result ((state self.new).now ≡ (state self.old).begun) };
+        requires { means.is_usable self.old }
+        ensures value { Tells means self.old self.new result (λ m. m.clock) }
+        ensures leaves { Leaves means self.old self.new result same };
 
     /// The account with this id, with its balances at the clock.
-    fn account(&mut self, id: u128) -> Result<Option<Held>, Unavailable>
-        requires { is_usable self.old }
-        ensures ok { IfOk result (λ held. held ≡ held_with (state self.old).now id) }
-        ensures same { OnOk result (state self.new ≡ state self.old) }
-        ensures usable { OnOk result (is_usable self.new) }
-        ensures err { OnErr result ((state self.new).now ≡ (state self.old).begun) };
+    fn account(&mut self, id: u128) -> Result<Option<AccountWithBalances>, Unavailable>
+        requires { means.is_usable self.old }
+        ensures value { Tells means self.old self.new result (λ m. account_in m id) }
+        ensures leaves { Leaves means self.old self.new result same };
 
     /// The transfer with this id.
     fn transfer(&mut self, id: u128) -> Result<Option<Transfer>, Unavailable>
-        requires { is_usable self.old }
-        ensures ok { IfOk result (λ found. found ≡ transfer_with id (state self.old).now.transfers) }
-        ensures same { OnOk result (state self.new ≡ state self.old) }
-        ensures usable { OnOk result (is_usable self.new) }
-        ensures err { OnErr result ((state self.new).now ≡ (state self.old).begun) };
+        requires { means.is_usable self.old }
+        ensures value { Tells means self.old self.new result (λ m. transfer_with id m.transfers) }
+        ensures leaves { Leaves means self.old self.new result same };
 
     /// What has become of the transfer with this id at the clock, if it is a pending one.
     fn pending_state(&mut self, id: u128) -> Result<Option<PendingState>, Unavailable>
-        requires { is_usable self.old }
-        ensures ok { IfOk result (λ found. found ≡ pending_state_of (state self.old).now id) }
-        ensures same { OnOk result (state self.new ≡ state self.old) }
-        ensures usable { OnOk result (is_usable self.new) }
-        ensures err { OnErr result ((state self.new).now ≡ (state self.old).begun) };
+        requires { means.is_usable self.old }
+        ensures value { Tells means self.old self.new result (λ m. pending_state_of m id) }
+        ensures leaves { Leaves means self.old self.new result same };
+
+    /// Whether the id has failed for good.
+    fn failed(&mut self, id: u128) -> Result<bool, Unavailable>
+        requires { means.is_usable self.old }
+        ensures value { Tells means self.old self.new result (λ m. has_id id m.failed) }
+        ensures leaves { Leaves means self.old self.new result same };
 
     /// Sets the clock, in nanoseconds, and releases what is due at it.
     fn settle(&mut self, clock: u64) -> Result<(), Unavailable>
-        requires usable { is_usable self.old }
-        requires unmarked { (state self.old).marked ≡ None }
-        requires later { (state self.old).now.clock ≤ clock }
+        requires usable { means.is_usable self.old }
+        requires unmarked { means.is_live self.old → (means.state self.old).marked ≡ None }
+        requires later { means.is_live self.old → (means.state self.old).now.clock ≤ clock }
         requires bounded { clock ≤ max_clock }
-        ensures ok { OnOk result (state self.new ≡ with_now (state self.old) (at_clock (state self.old).now clock)) }
-        ensures usable { OnOk result (is_usable self.new) }
-        ensures err { OnErr result ((state self.new).now ≡ (state self.old).begun) };
+        ensures { Leaves means self.old self.new result (on_now (λ m. at_clock m clock)) };
 
     /// Keeps an account.
     fn accept_account(&mut self, account: &Account) -> Result<(), Unavailable>
-        requires usable { is_usable self.old }
-        requires next { IsNextAccount (state self.old).now account.now }
-        ensures ok { OnOk result (state self.new ≡ with_now (state self.old) (with_account (state self.old).now account.now)) }
-        ensures usable { OnOk result (is_usable self.new) }
-        ensures err { OnErr result ((state self.new).now ≡ (state self.old).begun) };
+        requires usable { means.is_usable self.old }
+        requires next { means.is_live self.old →
+            IsNextAccount (means.state self.old).now account.now }
+        ensures { Leaves means self.old self.new result
+            (on_now (λ m. with_account m account.now)) };
 
-    /// Keeps a transfer, with the balances of its accounts and the state of the pending transfer that
-    /// it ends.
+    /// Keeps a transfer, with the balances of its accounts and the state of the pending transfer
+    /// that it ends.
     fn accept_transfer(&mut self, accepted: &Accepted) -> Result<(), Unavailable>
-        requires usable { is_usable self.old }
-        requires next { IsAccepted (state self.old).now accepted.now }
-        ensures ok { OnOk result (state self.new ≡ with_now (state self.old) (with_transfer (state self.old).now accepted.now.stored)) }
-        ensures usable { OnOk result (is_usable self.new) }
-        ensures err { OnErr result ((state self.new).now ≡ (state self.old).begun) };
+        requires usable { means.is_usable self.old }
+        requires next { means.is_live self.old →
+            IsAccepted (means.state self.old).now accepted.now }
+        ensures { Leaves means self.old self.new result
+            (on_now (λ m. with_transfer m accepted.now.stored)) };
+
+    /// Keeps the id of a transfer that failed for good.
+    fn record_failed(&mut self, id: u128) -> Result<(), Unavailable>
+        requires usable { means.is_usable self.old }
+        requires unmarked { means.is_live self.old → (means.state self.old).marked ≡ None }
+        requires fails { means.is_live self.old → FailsNow (means.state self.old).now id }
+        ensures { Leaves means self.old self.new result (on_now (λ m. with_failed m id)) };
 
     /// Marks where to go back to.
     fn mark(&mut self) -> Result<(), Unavailable>
-        requires usable { is_usable self.old }
-        requires unmarked { (state self.old).marked ≡ None }
-        ensures ok { OnOk result (state self.new ≡ record (state self.old) { marked = Some (state self.old).now }) }
-        ensures usable { OnOk result (is_usable self.new) }
-        ensures err { OnErr result ((state self.new).now ≡ (state self.old).begun) };
+        requires usable { means.is_usable self.old }
+        requires unmarked { means.is_live self.old → (means.state self.old).marked ≡ None }
+        ensures { Leaves means self.old self.new result marking };
 
     /// Goes back to the mark and closes it.
     fn back_to_mark(&mut self) -> Result<(), Unavailable>
-        requires usable { is_usable self.old }
-        requires marked { IsSome (state self.old).marked }
-        ensures ok { OnOk result ((Some (state self.new).now ≡ (state self.old).marked) × ((state self.new).begun ≡ (state self.old).begun) × ((state self.new).marked ≡ None)) }
-        ensures usable { OnOk result (is_usable self.new) }
-        ensures err { OnErr result ((state self.new).now ≡ (state self.old).begun) };
+        requires usable { means.is_usable self.old }
+        requires marked { means.is_live self.old → IsSome (means.state self.old).marked }
+        ensures { Leaves means self.old self.new result at_mark };
 
     /// Closes the mark and keeps what has come since.
     fn release_mark(&mut self) -> Result<(), Unavailable>
-        requires usable { is_usable self.old }
-        requires marked { IsSome (state self.old).marked }
-        ensures ok { OnOk result (state self.new ≡ record (state self.old) { marked = None }) }
-        ensures usable { OnOk result (is_usable self.new) }
-        ensures err { OnErr result ((state self.new).now ≡ (state self.old).begun) };
+        requires usable { means.is_usable self.old }
+        requires marked { means.is_live self.old → IsSome (means.state self.old).marked }
+        ensures { Leaves means self.old self.new result unmarked };
 
-    /// Tables that may be called hold a valid machine.
-    ghost valid: { (tables : Self) → is_usable tables → IsValid (state tables).now };
+    /// No call at all is a run of calls.
+    ghost stays: { (a : Self) → means.follows a a };
+
+    /// A run of calls behind another is a run of calls.
+    ghost then: { (a b c : Self) → means.follows a b → means.follows b c → means.follows a c };
+
+    /// Tables that are no longer live stay so.
+    ghost lived: { (a b : Self) → means.follows a b → means.is_live b → means.is_live a };
+
+    /// Live tables that may be called hold a valid machine.
+    ghost valid: { (a : Self) → means.is_live a → means.is_usable a → IsValid (means.state a).now };
 }

@@ -2,7 +2,7 @@
 use Rattle.records.specs.declared.transfer.Transfer.{Transfer}
 use Rattle.records.specs.StoredRecord.{given_or}
 
--- a record, with what it left 0 of the accounts, the user data, the ledger and the code
+-- a record, with the pending transfer's accounts, user data, ledger and code where it left them 0
 abbrev pub inherited_record : Transfer → Transfer → Transfer
 inherited_record pending given = record given {
   debit_account_id = given_or pending.debit_account_id given.debit_account_id;

@@ -2,3 +2,8 @@ pub mod After
 pub mod Inherited
 pub mod Decision
 pub mod Promises
+pub mod EntryLaws
+pub mod StepLaws
+pub mod EndingLaw
+pub mod RetryLaws
+pub mod FailedLaws

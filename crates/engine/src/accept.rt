@@ -1,41 +1,31 @@
 ghost use Rattle.std.specs.Prelude.{◌≡◌, ℕ};
-ghost use Rattle.records.specs.declared.facts.Held.{Held};
+ghost use Rattle.records.specs.declared.side.Side.TheVariants.{Debit, Credit};
 ghost use Rattle.records.specs.Accepted.{ending_of};
 ghost use Rattle.records.specs.StoredRecord.{given_or, stored_transfer};
 ghost use Rattle.records.specs.Widths.{IsTransferInWidth};
 ghost use Rattle.engine.specs.Inherited.{inherited_record};
-ghost use Rattle.engine.specs.After.{debit_after, credit_after};
+ghost use Rattle.engine.specs.Decision.{IsAfter};
 
-use crate::after::{credit_after, debit_after};
+use crate::after::balances_after;
 use crate::amounts::actual_amount;
-use amount::Amount;
-use records::{
-    Accepted, Balances, Ending, Held, PendingState, Transfer, TransferEvent, TransferFacts,
-};
-
-const NO_BALANCES: Balances = Balances {
-    debits_pending: Amount::ZERO,
-    debits_posted: Amount::ZERO,
-    credits_pending: Amount::ZERO,
-    credits_posted: Amount::ZERO,
-};
+use records::{Accepted, Balances, Ending, Side, Transfer, TransferEvent, TransferFacts};
 
 // What an event leaves if it is accepted. An account that is not among the facts has no balances.
 pub(crate) fn accept(facts: &TransferFacts, ev: &TransferEvent, timestamp: u64, at: u64) -> Accepted
     ensures stored { result.stored ≡ stored_transfer facts.now ev.now timestamp at }
     ensures ends { result.ends ≡ ending_of result.stored }
     ensures widths { IsTransferInWidth result.stored }
-    ensures debit { (held : Held) → facts.now.debit ≡ Some held → result.debit_after ≡ debit_after held.balances facts.now.named result.stored }
-    ensures credit { (held : Held) → facts.now.credit ≡ Some held → result.credit_after ≡ credit_after held.balances facts.now.named result.stored }
+    ensures debit { IsAfter Debit facts.now result }
+    ensures credit { IsAfter Credit facts.now result }
 {
     let stored = stored_transfer(facts, ev, timestamp, at);
     stored.widths();
-    let debit = facts.debit.map_or(NO_BALANCES, |held| held.balances);
-    let credit = facts.credit.map_or(NO_BALANCES, |held| held.balances);
+    let debit = facts.debit.map_or(Balances::ZERO, |found| found.balances);
+    let credit = facts.credit.map_or(Balances::ZERO, |found| found.balances);
     Accepted {
         stored,
-        debit_after: debit_after(debit, &facts.named, &stored),
-        credit_after: credit_after(credit, &facts.named, &stored),
+        debit_after: balances_after(Side::Debit, &debit, &facts.pending, &stored),
+        credit_after: balances_after(Side::Credit, &credit, &facts.pending, &stored),
         ends: ending_of(&stored),
     }
 }
@@ -60,13 +50,13 @@ fn stored_transfer(facts: &TransferFacts, ev: &TransferEvent, timestamp: u64, at
         timestamp,
         at,
     };
-    match &facts.named {
-        Some(named) if ev.flags.is_ending() => inherit(named.transfer, given),
+    match &facts.pending {
+        Some(pending) if ev.flags.is_post_or_void() => inherited_record(pending.transfer, given),
         _ => given,
     }
 }
 
-fn inherit(pending: Transfer, given: Transfer) -> Transfer
+fn inherited_record(pending: Transfer, given: Transfer) -> Transfer
     ensures { result ≡ inherited_record pending given }
 {
     Transfer {
@@ -88,19 +78,14 @@ fn given_or(inherited: u128, given: u128) -> u128
     if given == 0 { inherited } else { given }
 }
 
-// The pending transfer that a post or void ends.
+// How the record ends a pending transfer, if it is a post or void.
 fn ending_of(stored: &Transfer) -> Option<Ending>
     ensures { result ≡ ending_of stored.now }
 {
-    if stored.flags.is_ending() {
-        Some(Ending {
-            id: stored.pending_id,
-            state: if stored.flags.is_post() {
-                PendingState::Posted
-            } else {
-                PendingState::Voided
-            },
-        })
+    if stored.flags.is_post() {
+        Some(Ending::Posted(stored.pending_id))
+    } else if stored.flags.is_void() {
+        Some(Ending::Voided(stored.pending_id))
     } else {
         None
     }

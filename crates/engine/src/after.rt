@@ -1,42 +1,43 @@
 ghost use Rattle.std.specs.Prelude.{◌≡◌};
-ghost use Rattle.engine.specs.After.{debit_after, credit_after, debit_after_ending, credit_after_ending, debit_after_new, credit_after_new};
+ghost use Rattle.engine.specs.After.{balances_after, sums_after, sums_after_post_or_void};
+ghost use Rattle.engine.specs.After.{sums_after_single_or_pending};
 
-use crate::amounts::added;
-use crate::pending::{credit_released, debit_released};
+use crate::amounts::{capped_sum, sums_without};
 use amount::Amount;
-use records::{Balances, Named, Transfer};
+use records::{Balances, PendingTransfer, Side, Sums, Transfer};
 
-// The balances of the debit account with the transfer, where `named` is what it names.
-pub(crate) fn debit_after(balances: Balances, named: &Option<Named>, stored: &Transfer) -> Balances
-    ensures { result ≡ debit_after balances named.now stored.now }
+// The balances of the account on this side with the transfer, where `pending` is what it names.
+pub(crate) fn balances_after(
+    side: Side,
+    balances: &Balances,
+    pending: &Option<PendingTransfer>,
+    stored: &Transfer,
+) -> Balances
+    ensures { result ≡ balances_after side balances.now pending.now stored.now }
 {
-    match named {
-        Some(named) if stored.flags.is_ending() => {
-            debit_after_ending(balances, named.transfer.amount, stored)
+    let sums = sums_after(balances.sums_on(side), pending, stored);
+    balances.with_sums(side, sums)
+}
+
+fn sums_after(sums: Sums, pending: &Option<PendingTransfer>, stored: &Transfer) -> Sums
+    ensures { result ≡ sums_after sums pending.now stored.now }
+{
+    match pending {
+        Some(pending) if stored.flags.is_post_or_void() => {
+            sums_after_post_or_void(sums, pending.transfer.amount, stored)
         }
-        _ => debit_after_new(balances, stored),
+        _ => sums_after_single_or_pending(sums, stored),
     }
 }
 
-// The balances of the credit account, likewise.
-pub(crate) fn credit_after(balances: Balances, named: &Option<Named>, stored: &Transfer) -> Balances
-    ensures { result ≡ credit_after balances named.now stored.now }
+// The whole pending amount is released, and a post adds its own.
+fn sums_after_post_or_void(sums: Sums, pending: Amount, stored: &Transfer) -> Sums
+    ensures { result ≡ sums_after_post_or_void sums pending stored.now }
 {
-    match named {
-        Some(named) if stored.flags.is_ending() => {
-            credit_after_ending(balances, named.transfer.amount, stored)
-        }
-        _ => credit_after_new(balances, stored),
-    }
-}
-
-fn debit_after_ending(balances: Balances, pending: Amount, stored: &Transfer) -> Balances
-    ensures { result ≡ debit_after_ending balances pending stored.now }
-{
-    let released = debit_released(balances, pending);
+    let released = sums_without(sums, pending);
     if stored.flags.is_post() {
-        Balances {
-            debits_posted: added(released.debits_posted, stored.amount),
+        Sums {
+            posted: capped_sum(released.posted, stored.amount),
             ..released
         }
     } else {
@@ -44,48 +45,18 @@ fn debit_after_ending(balances: Balances, pending: Amount, stored: &Transfer) ->
     }
 }
 
-fn credit_after_ending(balances: Balances, pending: Amount, stored: &Transfer) -> Balances
-    ensures { result ≡ credit_after_ending balances pending stored.now }
-{
-    let released = credit_released(balances, pending);
-    if stored.flags.is_post() {
-        Balances {
-            credits_posted: added(released.credits_posted, stored.amount),
-            ..released
-        }
-    } else {
-        released
-    }
-}
-
-fn debit_after_new(balances: Balances, stored: &Transfer) -> Balances
-    ensures { result ≡ debit_after_new balances stored.now }
+fn sums_after_single_or_pending(sums: Sums, stored: &Transfer) -> Sums
+    ensures { result ≡ sums_after_single_or_pending sums stored.now }
 {
     if stored.flags.is_pending() {
-        Balances {
-            debits_pending: added(balances.debits_pending, stored.amount),
-            ..balances
+        Sums {
+            pending: capped_sum(sums.pending, stored.amount),
+            ..sums
         }
     } else {
-        Balances {
-            debits_posted: added(balances.debits_posted, stored.amount),
-            ..balances
-        }
-    }
-}
-
-fn credit_after_new(balances: Balances, stored: &Transfer) -> Balances
-    ensures { result ≡ credit_after_new balances stored.now }
-{
-    if stored.flags.is_pending() {
-        Balances {
-            credits_pending: added(balances.credits_pending, stored.amount),
-            ..balances
-        }
-    } else {
-        Balances {
-            credits_posted: added(balances.credits_posted, stored.amount),
-            ..balances
+        Sums {
+            posted: capped_sum(sums.posted, stored.amount),
+            ..sums
         }
     }
 }

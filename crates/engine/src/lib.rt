@@ -7,21 +7,30 @@ mod accounts;
 mod after;
 mod amounts;
 mod decision;
-mod ending_checks;
+mod ending_law;
+mod entries_law;
 mod laws;
-mod new_checks;
 mod pending;
-mod room_checks;
+mod refusals;
+mod retry_laws;
+mod step_laws;
 #[cfg(test)]
 mod tests;
 mod transfers;
 
 pub use accounts::decide_account;
 pub use decision::{AccountDecision, Decision};
+pub use ending_law::endings_are_told;
+pub use entries_law::{entries_come_in_turn, valid_exactly_entry_by_entry};
 pub use laws::{
-    account_changes_nothing, books_balance, ends_once, limits_hold, release_is_without,
-    sent_again_is_same, sums_fit,
+    account_changes_nothing, books_balance, ends_once, failed_ids_hold, limits_hold,
+    release_is_without, sent_again_is_same, sums_fit,
 };
 pub use pending::{due, release};
-pub use records::{Accepted, Ending, Held, Named, PendingState, Stored, TransferFacts};
+pub use records::{
+    Accepted, AccountWithBalances, Ending, ExistingTransfer, PendingState, PendingTransfer,
+    TransferFacts,
+};
+pub use retry_laws::{failed_stays_failed, retry_adds_nothing};
+pub use step_laws::{later_of_later_is_later, steps_lead_to_later, steps_stay_valid};
 pub use transfers::decide_transfer;

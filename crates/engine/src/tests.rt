@@ -1,14 +1,14 @@
 mod samples;
 
 use crate::{
-    Accepted, AccountDecision, Decision, Ending, PendingState, Stored, TransferFacts,
+    Accepted, AccountDecision, Decision, Ending, ExistingTransfer, PendingState, TransferFacts,
     decide_account, decide_transfer, due, release,
 };
 use amount::Amount;
-use records::{AccountEvent, AccountResult, Balances, TransferEvent, TransferResult};
+use records::{AccountEvent, AccountResult, Balances, Sums, TransferEvent, TransferResult};
 use samples::{
     BALANCING_CREDIT, BALANCING_DEBIT, PENDING, POST, VOID, account, account_event, balances,
-    between, ending, facts_of_pending, held, part_posted, stored, transfer,
+    between, facts_of_pending, found, part_posted, post_or_void, stored, transfer,
 };
 
 fn decide(facts: &TransferFacts, ev: &TransferEvent) -> Decision {
@@ -36,7 +36,7 @@ fn left(facts: &TransferFacts, ev: &TransferEvent) -> Option<(Amount, Balances, 
 
 #[test]
 fn posts_a_part(rt: HostRuntime) {
-    let accounts = between(held(1, 0, [0; 4]), held(2, 0, [0; 4]));
+    let accounts = between(found(1, 0, [0; 4]), found(2, 0, [0; 4]));
     let pending = left(&accounts, &transfer(100, 1, 2, 100, PENDING));
     assert_eq!(rt;
         pending,
@@ -52,25 +52,22 @@ fn posts_a_part(rt: HostRuntime) {
         stored: part_posted(),
         debit_after: balances([0, 40, 0, 0]),
         credit_after: balances([0, 0, 0, 40]),
-        ends: Some(Ending {
-            id: 100,
-            state: PendingState::Posted,
-        }),
+        ends: Some(Ending::Posted(100)),
     };
     assert_eq!(rt;
-        decide(&open, &ending(101, 100, 40, POST)),
+        decide(&open, &post_or_void(101, 100, 40, POST)),
         Decision::Accept(posted)
     );
 
     let ended = facts_of_pending(100, 0, PendingState::Posted);
-    let again = refusal(&ended, &ending(102, 100, 60, POST));
+    let again = refusal(&ended, &post_or_void(102, 100, 60, POST));
     assert_eq!(rt; again, Some(TransferResult::PendingTransferAlreadyPosted));
 }
 
 #[test]
 fn knows_a_post_again(rt: HostRuntime) {
     let mut known = facts_of_pending(100, 0, PendingState::Posted);
-    known.stored = Some(Stored {
+    known.existing = Some(ExistingTransfer {
         transfer: part_posted(),
         pending_amount: Amount::new(100),
     });
@@ -78,14 +75,14 @@ fn knows_a_post_again(rt: HostRuntime) {
         (40, TransferResult::Exists),
         (41, TransferResult::ExistsWithDifferentAmount),
     ] {
-        let found = refusal(&known, &ending(101, 100, amount, POST));
-        assert_eq!(rt; found, Some(want), "at {amount}");
+        let told = refusal(&known, &post_or_void(101, 100, amount, POST));
+        assert_eq!(rt; told, Some(want), "at {amount}");
     }
 }
 
 #[test]
 fn posts_until_it_is_due(rt: HostRuntime) {
-    let all = ending(101, 100, u128::MAX, POST);
+    let all = post_or_void(101, 100, u128::MAX, POST);
     let open = facts_of_pending(100, 1, PendingState::Open);
     assert_eq!(rt;
         left(&open, &all),
@@ -112,23 +109,29 @@ fn posts_until_it_is_due(rt: HostRuntime) {
 #[test]
 fn voids_the_whole(rt: HostRuntime) {
     let open = facts_of_pending(100, 0, PendingState::Open);
-    let part = refusal(&open, &ending(101, 100, 99, VOID));
+    let part = refusal(&open, &post_or_void(101, 100, 99, VOID));
     assert_eq!(rt;
         part,
         Some(TransferResult::PendingTransferHasDifferentAmount)
     );
-    let void = left(&open, &ending(101, 100, 0, VOID));
+    let void = left(&open, &post_or_void(101, 100, 0, VOID));
     assert_eq!(rt;
         void,
         Some((Amount::new(100), balances([0; 4]), balances([0; 4])))
     );
 
     let debit = Balances {
-        debits_pending: Amount::new(100),
+        debits: Sums {
+            pending: Amount::new(100),
+            posted: Amount::new(1),
+        },
         ..balances([0, 1, 2, 3])
     };
     let credit = Balances {
-        credits_pending: Amount::new(100),
+        credits: Sums {
+            pending: Amount::new(100),
+            posted: Amount::new(3),
+        },
         ..balances([1, 2, 0, 3])
     };
     let (debit, credit) = release(debit, credit, Amount::new(100));
@@ -147,12 +150,33 @@ fn refuses_by_the_event_and_its_accounts(rt: HostRuntime) {
     let open = facts_of_pending(5, 0, PendingState::Open);
     let other_account = TransferEvent {
         debit_account_id: 2,
-        ..ending(101, 100, 5, POST)
+        ..post_or_void(101, 100, 5, POST)
     };
     assert_eq!(rt;
         refusal(&open, &other_account),
         Some(TransferResult::PendingTransferHasDifferentDebitAccountId)
     );
+}
+
+// Of an id that failed for good only the results 3 to 18 come before 60.
+#[test]
+fn keeps_failed_ids(rt: HostRuntime) {
+    let failed = TransferFacts {
+        failed: true,
+        ..between(found(1, 0, [0; 4]), found(2, 0, [0; 4]))
+    };
+    for (flags, want) in [
+        (0, TransferResult::IdAlreadyFailed),
+        (64, TransferResult::ReservedFlag),
+        (PENDING + POST, TransferResult::IdAlreadyFailed),
+    ] {
+        let told = refusal(&failed, &transfer(104, 1, 2, 1, flags));
+        assert_eq!(rt; told, Some(want), "flags {flags}");
+    }
+
+    let unused = between(found(1, 0, [0; 4]), found(2, 0, [0; 4]));
+    let told = refusal(&unused, &transfer(104, 1, 2, 1, PENDING + POST));
+    assert_eq!(rt; told, Some(TransferResult::FlagsAreMutuallyExclusive));
 }
 
 #[test]
@@ -190,14 +214,18 @@ fn keeps_sums_and_limits(rt: HostRuntime) {
             TransferResult::OverflowsCredits,
         ),
     ] {
-        let facts = between(held(1, 0, debit), held(2, 0, credit));
-        let found = refusal(&facts, &transfer(101, 1, 2, 1, flags));
-        assert_eq!(rt; found, Some(want));
+        let facts = between(found(1, 0, debit), found(2, 0, credit));
+        let told = refusal(&facts, &transfer(101, 1, 2, 1, flags));
+        assert_eq!(rt; told, Some(want));
     }
 
-    let limited = between(held(3, 10, [50, 0, 0, 50]), held(2, 0, [0, 0, 50, 0]));
-    let exceeding = refusal(&limited, &transfer(102, 3, 2, 1, 0));
-    assert_eq!(rt; exceeding, Some(TransferResult::ExceedsCredits));
+    let limited = between(found(3, 10, [50, 0, 0, 50]), found(2, 0, [0, 0, 50, 0]));
+    let debits = refusal(&limited, &transfer(102, 3, 2, 1, 0));
+    assert_eq!(rt; debits, Some(TransferResult::ExceedsCredits));
+
+    let limited = between(found(1, 0, [0, 0, 30, 30]), found(5, 4, [0, 30, 30, 0]));
+    let credits = refusal(&limited, &transfer(103, 1, 5, 1, 0));
+    assert_eq!(rt; credits, Some(TransferResult::ExceedsDebits));
 }
 
 #[test]
@@ -209,9 +237,9 @@ fn balances_what_is_left(rt: HostRuntime) {
         ([0, 0, 0, 30], [0, 50, 0, 0], both, 30),
         ([0, 30, 0, 30], [0, 50, 0, 30], BALANCING_CREDIT, 20),
     ] {
-        let facts = between(held(3, 0, debit), held(2, 0, credit));
-        let found = accepted(&facts, &transfer(102, 3, 2, u128::MAX, flags));
-        assert_eq!(rt; found.map(|a| a.stored.amount), Some(Amount::new(want)));
+        let facts = between(found(3, 0, debit), found(2, 0, credit));
+        let told = accepted(&facts, &transfer(102, 3, 2, u128::MAX, flags));
+        assert_eq!(rt; told.map(|a| a.stored.amount), Some(Amount::new(want)));
     }
 }
 

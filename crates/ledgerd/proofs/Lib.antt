@@ -1,2 +1,4 @@
+mod Isolation
 mod Opened
+mod Printing
 mod Responses

@@ -1,8 +1,7 @@
-//! `ledgerd` keeps money for several firms. Without words it answers one body of transfers, read from
-//! standard input, for the first tenant of a book of two.
+//! `ledgerd` keeps money for several firms. Without words it answers one body of transfers, read
+//! from standard input, for the first tenant of a book of two.
 #![tactic(auto)]
 
-mod plain_refusal;
 mod plain_reply;
 mod printed;
 mod respond_plain;

@@ -1,27 +1,24 @@
 ghost use Rattle.ledgerd.specs.FromBody.{IsRefused};
 
-use crate::plain_refusal::PlainRefusal;
-use wire::BodyRefusal;
+use ledger_http::Refusal;
 
 /// What `respond_plain` answers.
 #[derive(Debug, Drop)]
 pub enum PlainReply {
     /// The batch ran; the bytes of the reply's body.
     Body(Vec<u8>),
-    Refused(PlainRefusal),
+    Refused(Refusal),
     /// Memory ran out, and nothing has changed.
     Unavailable,
 }
 
-impl From<BodyRefusal> for PlainReply {
+impl From<Refusal> for PlainReply {
     ghost from_gives = { IsRefused };
 
-    fn from(refusal: BodyRefusal) -> PlainReply {
+    fn from(refusal: Refusal) -> PlainReply {
         match refusal {
-            BodyRefusal::BodyNotJson => PlainReply::Refused(PlainRefusal::BodyNotJson),
-            BodyRefusal::BadField => PlainReply::Refused(PlainRefusal::BadField),
-            BodyRefusal::TooManyEvents => PlainReply::Refused(PlainRefusal::TooManyEvents),
-            BodyRefusal::Unavailable => PlainReply::Unavailable,
+            Refusal::Unavailable => PlainReply::Unavailable,
+            refusal => PlainReply::Refused(refusal),
         }
     }
 }

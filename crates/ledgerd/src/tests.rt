@@ -3,4 +3,5 @@
 mod bodies;
 mod edges;
 mod examples;
-mod sample;
+mod failed_ids;
+mod fixture;

@@ -1,3 +1,4 @@
+mod AscendingIds
 mod NewTenant
 mod Tenants
 mod Kept

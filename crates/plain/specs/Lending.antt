@@ -13,6 +13,9 @@ use Rattle.plain.specs.Book.{ChangesOne}
 abbrev pub LendsTables : MutBor Tenant → MutBor State → Fml
 LendsTables t r = Lends tenant.the_row tables.the_row t r (λ state. record t.now { tables = state })
 
--- the tenant with this digest has the tables that are left behind r; where there is none, the book stays
+-- the tenant with this digest has the tables that are left behind r; where there is none, the book
+-- stays
 abbrev pub LendsTablesOf : List ℕ → MutBor (List Tenant) → Option (MutBor State) → Fml
-LendsTablesOf digest b r = LendsSo book.the_row tables.the_row b r (λ new state. OnSome r (ChangesOne digest state b.now new)) (λ new. new ≡ b.now)
+LendsTablesOf digest b r =
+    LendsSo book.the_row tables.the_row b r
+    (λ new state. OnSome r (ChangesOne digest state b.now new)) (λ new. new ≡ b.now)

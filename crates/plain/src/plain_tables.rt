@@ -1,16 +1,18 @@
 ghost use Rattle.std.specs.Prelude.{◌≡◌, IfOk};
-ghost use Rattle.records.specs.Balances.{balances_of};
-ghost use Rattle.records.specs.Machine.{new_machine};
+ghost use Rattle.records.specs.Balances.{balances_in};
+ghost use Rattle.records.specs.Machine.{new_machine, with_failed};
 ghost use Rattle.records.specs.Valid.{IsValid};
 ghost use Rattle.plain.specs.Beginning.{beginning_at};
-ghost use Rattle.plain.specs.PlainTables.{machine_copied};
+ghost use Rattle.plain.specs.PlainTables.{ascending, machine_copied, plain_meaning};
 
 use crate::balances::balances;
 use crate::fate::fate;
-use crate::search::{find_account, find_transfer};
+use crate::search::{find_account, find_id, find_transfer};
 use chain::Tables;
 use engine::sums_fit;
-use records::{Accepted, Account, Balances, Held, PendingState, Transfer, Unavailable};
+use records::{
+    Accepted, Account, AccountWithBalances, Balances, PendingState, Transfer, Unavailable,
+};
 use std::alloc::{AllocError, Global};
 use std::marker::Model;
 
@@ -19,10 +21,12 @@ use std::marker::Model;
 struct Beginning {
     accounts: usize,
     transfers: usize,
+    failed: usize,
     clock: u64,
 }
 
-/// A copy of a tenant's lists and of its clock in nanoseconds.
+/// A copy of what can change while a mark is open: accounts and transfers, and the clock in
+/// nanoseconds. No id fails for good in the meantime.
 #[derive(Drop)]
 struct Copied {
     accounts: Vec<Account>,
@@ -30,12 +34,13 @@ struct Copied {
     clock: u64,
 }
 
-/// One tenant's accounts and transfers as two lists, each in order of timestamp. Nothing is kept
-/// beside them: each call searches and sums anew.
+/// One tenant's accounts, transfers and failed ids as three lists, each in the order in which they
+/// came. Nothing is kept beside them: each call searches and sums anew.
 #[derive(Drop)]
 pub struct PlainTables {
     accounts: Vec<Account>,
     transfers: Vec<Transfer>,
+    failed: Vec<u128>,
     clock: u64,
     begun: Beginning,
     mark: Option<Copied>,
@@ -62,10 +67,12 @@ impl PlainTables {
         PlainTables {
             accounts: Vec::new(alloc),
             transfers: Vec::new(alloc),
+            failed: Vec::new(alloc),
             clock: 0,
             begun: Beginning {
                 accounts: 0,
                 transfers: 0,
+                failed: 0,
                 clock: 0,
             },
             mark: None,
@@ -80,6 +87,7 @@ impl PlainTables {
         self.begun = Beginning {
             accounts: self.accounts.len(),
             transfers: self.transfers.len(),
+            failed: self.failed.len(),
             clock: self.clock,
         };
         self.mark = None;
@@ -92,6 +100,7 @@ impl PlainTables {
     {
         self.accounts.truncate(self.begun.accounts);
         self.transfers.truncate(self.begun.transfers);
+        self.failed.truncate(self.begun.failed);
         self.clock = self.begun.clock;
         self.mark = None;
     }
@@ -110,6 +119,13 @@ impl PlainTables {
         &self.transfers
     }
 
+    /// The ids that failed for good, in the order in which they did.
+    pub fn failed_ids(&self) -> &[u128]
+        ensures { ascending result.now ≡ self.now.now.failed }
+    {
+        &self.failed
+    }
+
     /// Memory ran out, which ends the batch.
     fn give_up(&mut self) -> Result<(), Unavailable>
         ensures result { result ≡ Err Unavailable.Memory }
@@ -120,7 +136,7 @@ impl PlainTables {
     }
 
     fn copied(&self) -> Result<Copied, AllocError>
-        ensures { IfOk result (λ copy. machine_copied copy ≡ self.now.now) }
+        ensures { IfOk result (λ copy. machine_copied copy self.now.now.failed ≡ self.now.now) }
     {
         Ok(Copied {
             accounts: self.accounts.clone()?,
@@ -131,7 +147,7 @@ impl PlainTables {
 
     /// The balances of an account at the clock.
     fn balances(&self, id: u128) -> Balances
-        ensures { result ≡ balances_of self.now.now.transfers self.now.now.clock id }
+        ensures { result ≡ balances_in self.now.now id }
     {
         sums_fit();
         balances(&self.transfers, self.clock, id)
@@ -139,20 +155,18 @@ impl PlainTables {
 }
 
 impl Tables for PlainTables {
-    ghost state = { λ s. s };
-
-    ghost is_usable = { λ s. IsValid s.now };
+    ghost means = { plain_meaning };
 
     fn clock(&mut self) -> Result<u64, Unavailable> {
         Ok(self.clock)
     }
 
-    fn account(&mut self, id: u128) -> Result<Option<Held>, Unavailable> {
+    fn account(&mut self, id: u128) -> Result<Option<AccountWithBalances>, Unavailable> {
         let Some(account) = find_account(&self.accounts, id) else {
             return Ok(None);
         };
         let balances = self.balances(account.id);
-        Ok(Some(Held { account, balances }))
+        Ok(Some(AccountWithBalances { account, balances }))
     }
 
     fn transfer(&mut self, id: u128) -> Result<Option<Transfer>, Unavailable> {
@@ -170,6 +184,10 @@ impl Tables for PlainTables {
         }
     }
 
+    fn failed(&mut self, id: u128) -> Result<bool, Unavailable> {
+        Ok(find_id(&self.failed, id))
+    }
+
     fn settle(&mut self, clock: u64) -> Result<(), Unavailable> {
         self.clock = clock;
         Ok(())
@@ -184,6 +202,13 @@ impl Tables for PlainTables {
 
     fn accept_transfer(&mut self, accepted: &Accepted) -> Result<(), Unavailable> {
         match self.transfers.push(accepted.stored) {
+            Ok(()) => Ok(()),
+            Err(_) => self.give_up(),
+        }
+    }
+
+    fn record_failed(&mut self, id: u128) -> Result<(), Unavailable> {
+        match self.failed.push(id) {
             Ok(()) => Ok(()),
             Err(_) => self.give_up(),
         }
@@ -210,7 +235,13 @@ impl Tables for PlainTables {
         Ok(())
     }
 
-    ghost valid = { λ tables usable. usable };
+    ghost stays = { λ a. tt };
+
+    ghost then = { λ a b c first second. tt };
+
+    ghost lived = { λ a b follows live. tt };
+
+    ghost valid = { λ a live usable. usable };
 }
 
 #[cfg(test)]
@@ -225,8 +256,10 @@ mod tests {
         assert_eq!(rt; tables.account(1)?, None);
         assert_eq!(rt; tables.transfer(1)?, None);
         assert_eq!(rt; tables.pending_state(1)?, None);
+        assert!(rt; !tables.failed(1)?);
         assert_eq!(rt; tables.accounts().len(), 0);
         assert_eq!(rt; tables.transfers().len(), 0);
+        assert_eq!(rt; tables.failed_ids().len(), 0);
         Ok(())
     }
 

@@ -1,5 +1,5 @@
 ghost use Rattle.std.specs.Prelude.{◌≡◌};
-ghost use Rattle.records.specs.Machine.{account_with, transfer_with};
+ghost use Rattle.records.specs.Machine.{account_with, transfer_with, has_id};
 
 use records::{Account, Transfer};
 
@@ -23,4 +23,10 @@ pub fn find_transfer(transfers: &[Transfer], id: u128) -> Option<Transfer>
         }
     }
     None
+}
+
+pub fn find_id(ids: &[u128], id: u128) -> bool
+    ensures { result ≡ has_id id ids.now }
+{
+    ids.iter().any(|other| *other == id)
 }

@@ -1,3 +1,6 @@
 pub mod Samples
 pub mod WorkedExamples
 pub mod WorkedChains
+pub mod WorkedFailedIds
+pub mod WorkedReads
+pub mod WorkedEntries

@@ -7,7 +7,7 @@ use Rattle.records.specs.declared.balances.Balances.{Balances}
 use Rattle.records.specs.AccountResultNames as for_accounts
 use Rattle.records.specs.TransferResultNames as for_transfers
 use Rattle.records.specs.Machine.{Machine, new_machine, transfer_with}
-use Rattle.records.specs.Balances.{balances_of}
+use Rattle.records.specs.Balances.{balances_in}
 use Rattle.records.specs.Step.{account_rules, transfer_rules, Outcome, Answered, Exhausted, step_outcome, step_machine}
 
 -- an account with these flags, of ledger 7 and code 10
@@ -56,10 +56,10 @@ after_transfers m batch moment = step_machine transfer_rules m batch moment
 
 -- debits_pending, debits_posted, credits_pending and credits_posted of an account now
 abbrev pub balances : Machine → ℕ → Balances
-balances m account = balances_of m.transfers m.clock account
+balances m account = balances_in m account
 
 abbrev pub sums : ℕ → ℕ → ℕ → ℕ → Balances
-sums dp dd cp cc = record { debits_pending = dp; debits_posted = dd; credits_pending = cp; credits_posted = cc }
+sums dp dd cp cc = record { debits = record { pending = dp; posted = dd }; credits = record { pending = cp; posted = cc } }
 
 -- the amount that is stored of a transfer
 abbrev pub stored_amount : Machine → ℕ → Option ℕ

@@ -3,6 +3,7 @@ use Rattle.std.specs.Prelude.{ℕ, List, codes}
 use Rattle.records.specs.declared.account_result.AccountResult.{AccountResult}
 use Rattle.records.specs.declared.account_result.AccountResult.TheVariants as answer
 
+-- the number
 abbrev pub number_of : AccountResult → ℕ
 number_of answer.Accepted = 0
 number_of answer.LinkedEventChainOpen = 1
@@ -26,7 +27,7 @@ number_of answer.CreditsPostedMustBeZero = 18
 number_of answer.LedgerMustNotBeZero = 19
 number_of answer.CodeMustNotBeZero = 20
 
--- in ASCII
+-- the name, in ASCII
 abbrev pub name_of : AccountResult → List ℕ
 name_of answer.Accepted = codes "ok"
 name_of answer.LinkedEventChainOpen = codes "linked_event_chain_open"

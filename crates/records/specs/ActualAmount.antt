@@ -1,46 +1,56 @@
 -- The amount that a transfer moves.
-use Rattle.std.specs.Prelude.{ℕ, ◌+◌, ◌-◌, Bool, ◌==◌, min, Option, Some, None, if◌then◌else◌}
+use Rattle.std.specs.Prelude.{ℕ, ◌-◌, ◌==◌, min, Option, Some, None, if◌then◌else◌}
 use Rattle.records.specs.declared.balances.Balances.{Balances}
 use Rattle.records.specs.declared.transfer.TransferEvent.{TransferEvent}
-use Rattle.records.specs.declared.facts.Held.{Held}
-use Rattle.records.specs.declared.facts.Named.{Named}
+use Rattle.records.specs.declared.facts.AccountWithBalances.{AccountWithBalances}
+use Rattle.records.specs.declared.facts.PendingTransfer.{PendingTransfer}
 use Rattle.records.specs.declared.facts.TransferFacts.{TransferFacts}
-use Rattle.records.specs.Flags.{is_post, is_void, is_ending, is_balancing_debit, is_balancing_credit}
+use Rattle.records.specs.declared.side.Side.{Side}
+use Rattle.records.specs.declared.side.Side.TheVariants.{Debit, Credit}
+use Rattle.records.specs.Flags.{is_post, is_void, is_post_or_void}
+use Rattle.records.specs.Sides.{other_side, sums_on, is_balancing_on}
 use Rattle.records.specs.Machine.{max_amount}
+use Rattle.records.specs.Balances.{total_of}
 
--- the amount that a post or void asks for: for a post the greatest number is the whole pending amount
+-- what a post or void asks for: for a post the greatest number is the whole pending amount
 abbrev pub amount_asked : ℕ → TransferEvent → ℕ
-amount_asked pending ev = if is_post ev.flags then (if ev.amount == max_amount then pending else ev.amount) else ev.amount
+amount_asked pending ev =
+    if is_post ev.flags then (if ev.amount == max_amount then pending else ev.amount)
+    else ev.amount
 
--- the amount that a post or void moves: a void takes the whole pending amount back
+-- what a post or void moves of a pending amount: a void takes it back whole
 abbrev pub amount_ended : ℕ → TransferEvent → ℕ
 amount_ended pending ev = if is_void ev.flags then pending else amount_asked pending ev
 
--- how much an account can be debited before its debits, pending ones too, exceed its posted credits
-abbrev pub debit_room : Balances → ℕ
-debit_room b = b.credits_posted - (b.debits_pending + b.debits_posted)
+-- how much more a side takes before it exceeds, with all that is pending, the other's posted sum
+abbrev pub room_on : Side → Balances → ℕ
+room_on side balances =
+    (sums_on (other_side side) balances).posted - total_of (sums_on side balances)
 
--- how much an account can be credited before its credits, pending ones too, exceed its posted debits
-abbrev pub credit_room : Balances → ℕ
-credit_room b = b.debits_posted - (b.credits_pending + b.credits_posted)
-
--- the least of an amount and a room, where the flag asks for it
-abbrev pub lowered : Bool → ℕ → ℕ → ℕ
-lowered flag room amount = if flag then min amount room else amount
+-- an amount, lowered to an account's room on a side if the event has that side's balancing flag
+abbrev pub lowered_amount : Side → AccountWithBalances → TransferEvent → ℕ → ℕ
+lowered_amount side a ev amount =
+    if is_balancing_on side ev.flags then min amount (room_on side a.balances) else amount
 
 -- the event's amount, lowered to the room of the accounts that its balancing flags name
-abbrev pub amount_balanced : Held → Held → TransferEvent → ℕ
-amount_balanced debit credit ev = lowered (is_balancing_credit ev.flags) (credit_room credit.balances) (lowered (is_balancing_debit ev.flags) (debit_room debit.balances) ev.amount)
+abbrev pub amount_balanced : AccountWithBalances → AccountWithBalances → TransferEvent → ℕ
+amount_balanced debit credit ev =
+    lowered_amount Credit credit ev (lowered_amount Debit debit ev ev.amount)
 
-abbrev pub amount_between : Option Held → Option Held → TransferEvent → ℕ
+-- the same of accounts that may not be there
+abbrev pub amount_between :
+    Option AccountWithBalances → Option AccountWithBalances → TransferEvent → ℕ
 amount_between (Some debit) (Some credit) ev = amount_balanced debit credit ev
 amount_between (Some debit) None ev = ev.amount
 amount_between None credit ev = ev.amount
 
-abbrev pub amount_of_named : Option Named → TransferEvent → ℕ
-amount_of_named (Some p) ev = amount_ended p.transfer.amount ev
-amount_of_named None ev = ev.amount
+-- what a post or void moves of a pending transfer that may not be there
+abbrev pub amount_of_pending : Option PendingTransfer → TransferEvent → ℕ
+amount_of_pending (Some p) ev = amount_ended p.transfer.amount ev
+amount_of_pending None ev = ev.amount
 
 -- the amount that is stored if the event is accepted
 abbrev pub actual_amount : TransferFacts → TransferEvent → ℕ
-actual_amount f ev = if is_ending ev.flags then amount_of_named f.named ev else amount_between f.debit f.credit ev
+actual_amount f ev =
+    if is_post_or_void ev.flags then amount_of_pending f.pending ev
+    else amount_between f.debit f.credit ev

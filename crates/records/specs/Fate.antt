@@ -7,10 +7,11 @@ use Rattle.records.specs.declared.facts.PendingState.TheVariants.{Open, Posted, 
 use Rattle.records.specs.Flags.{is_post, is_void}
 use Rattle.records.specs.Due.{is_due}
 
--- whether an entry posts, or voids, the transfer with this id
+-- whether an entry posts the transfer with this id
 abbrev pub posts : ℕ → Transfer → Bool
 posts id entry = is_post entry.flags && (entry.pending_id == id)
 
+-- whether it voids it
 abbrev pub voids : ℕ → Transfer → Bool
 voids id entry = is_void entry.flags && (entry.pending_id == id)
 
@@ -22,6 +23,7 @@ fate_of entries clock transfer =
     else if is_due clock transfer then Expired
     else Open
 
+-- whether it was neither posted nor voided nor has expired
 abbrev pub is_open : PendingState → Bool
 is_open Open = true
 is_open Posted = false

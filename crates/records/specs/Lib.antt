@@ -3,6 +3,7 @@ pub mod TransferResultNames
 pub mod Flags
 pub mod FirstOf
 pub mod Machine
+pub mod Sides
 pub mod Due
 pub mod Fate
 pub mod Balances
@@ -16,4 +17,8 @@ pub mod Step
 pub mod Reads
 pub mod Widths
 pub mod Valid
+pub mod EntryByEntry
+pub mod Later
 pub mod Accepted
+pub mod Streams
+pub mod Streamed

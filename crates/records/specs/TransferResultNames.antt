@@ -3,6 +3,7 @@ use Rattle.std.specs.Prelude.{ℕ, List, codes}
 use Rattle.records.specs.declared.transfer_result.TransferResult.{TransferResult}
 use Rattle.records.specs.declared.transfer_result.TransferResult.TheVariants as answer
 
+-- the number
 abbrev pub number_of : TransferResult → ℕ
 number_of answer.Accepted = 0
 number_of answer.LinkedEventChainOpen = 1
@@ -59,8 +60,9 @@ number_of answer.OverflowsDebits = 52
 number_of answer.OverflowsCredits = 53
 number_of answer.ExceedsCredits = 55
 number_of answer.ExceedsDebits = 56
+number_of answer.IdAlreadyFailed = 60
 
--- in ASCII
+-- the name, in ASCII
 abbrev pub name_of : TransferResult → List ℕ
 name_of answer.Accepted = codes "ok"
 name_of answer.LinkedEventChainOpen = codes "linked_event_chain_open"
@@ -117,3 +119,4 @@ name_of answer.OverflowsDebits = codes "overflows_debits"
 name_of answer.OverflowsCredits = codes "overflows_credits"
 name_of answer.ExceedsCredits = codes "exceeds_credits"
 name_of answer.ExceedsDebits = codes "exceeds_debits"
+name_of answer.IdAlreadyFailed = codes "id_already_failed"

@@ -4,13 +4,13 @@ use Rattle.records.specs.declared.account.Account.{Account}
 use Rattle.records.specs.declared.account.AccountEvent.{AccountEvent}
 use Rattle.records.specs.declared.transfer.Transfer.{Transfer}
 use Rattle.records.specs.declared.transfer.TransferEvent.{TransferEvent}
-use Rattle.records.specs.Machine.{Machine, new_machine}
+use Rattle.records.specs.Machine.{Machine, new_machine, max_amount, transfer_with, with_failed}
 use Rattle.records.specs.Facts.{facts_of}
 use Rattle.records.specs.StoredRecord.{stored_transfer}
 use Rattle.records.specs.Widths.{IsAccountInWidth, IsTransferInWidth}
 use Rattle.records.specs.Step.{account_verdict_in, transfer_verdict_in, at_clock, max_clock}
 
--- the event that would be sent to open this very account, or to make this very transfer
+-- the event that would be sent to open this very account
 abbrev pub event_of_account : Account → AccountEvent
 event_of_account a = record {
   id = a.id;
@@ -27,6 +27,7 @@ event_of_account a = record {
   timestamp = 0;
 }
 
+-- the event that would be sent to make this very transfer
 abbrev pub event_of_transfer : Transfer → TransferEvent
 event_of_transfer t = record {
   id = t.id;
@@ -44,7 +45,8 @@ event_of_transfer t = record {
   timestamp = 0;
 }
 
--- a timestamp that the next entry may have: later than every earlier one, and within the last batch of the clock
+-- a timestamp that the next entry may have: later than every earlier one, and within the last batch
+-- of the clock
 pub record IsNextTimestamp (m : Machine) (timestamp : ℕ) : Type 0 where
   pub positive : 0 < timestamp
   pub after_accounts : All (λ a. a.timestamp < timestamp) m.accounts
@@ -64,17 +66,36 @@ pub record IsNextTransfer (m : Machine) (t : Transfer) : Type 0 where
   pub timestamp : IsNextTimestamp m t.timestamp
   pub at : t.at ≡ m.clock
   pub accepted : transfer_verdict_in m (event_of_transfer t) ≡ None
-  pub stored : stored_transfer (facts_of m (event_of_transfer t)) (event_of_transfer t) t.timestamp t.at ≡ t
+  pub stored :
+      stored_transfer (facts_of m (event_of_transfer t)) (event_of_transfer t) t.timestamp t.at ≡ t
 
+-- an id that can fail for good: one that a transfer may have, and none has
+pub record IsNextFailed (m : Machine) (id : ℕ) : Type 0 where
+  pub positive : 0 < id
+  pub below_max : id < max_amount
+  pub unknown : transfer_with id m.transfers ≡ None
+
+-- the machine with one account more
 abbrev pub with_account : Machine → Account → Machine
 with_account m a = record m { accounts = m.accounts ++ a ∷ [] }
 
+-- the machine with one transfer more
 abbrev pub with_transfer : Machine → Transfer → Machine
 with_transfer m t = record m { transfers = m.transfers ++ t ∷ [] }
 
--- a machine that a new tenant comes to by accepted entries, each in its turn, under a clock that never turns back
+-- a machine that a new tenant comes to by accepted entries and failed ids, each in its turn, under
+-- a clock that never turns back; an entry's id has not failed and an id that fails is no entry's,
+-- so the failed ids might as well all come last
 pub data IsValid : Machine → Type 0 where
   new_tenant : IsValid new_machine
-  later : (m : Machine) (clock : ℕ) → IsValid m → m.clock ≤ clock → clock ≤ max_clock → IsValid (at_clock m clock)
-  next_account : (m : Machine) (a : Account) → IsValid m → IsNextAccount m a → IsValid (with_account m a)
-  next_transfer : (m : Machine) (t : Transfer) → IsValid m → IsNextTransfer m t → IsValid (with_transfer m t)
+  later :
+      (m : Machine) (clock : ℕ) →
+      IsValid m → m.clock ≤ clock → clock ≤ max_clock → IsValid (at_clock m clock)
+  next_account :
+      (m : Machine) (account : Account) →
+      IsValid m → IsNextAccount m account → IsValid (with_account m account)
+  next_transfer :
+      (m : Machine) (entry : Transfer) →
+      IsValid m → IsNextTransfer m entry → IsValid (with_transfer m entry)
+  next_failed :
+      (m : Machine) (id : ℕ) → IsValid m → IsNextFailed m id → IsValid (with_failed m id)

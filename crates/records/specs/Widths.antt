@@ -5,6 +5,7 @@ use Rattle.records.specs.declared.account.AccountEvent.{AccountEvent}
 use Rattle.records.specs.declared.transfer.Transfer.{Transfer}
 use Rattle.records.specs.declared.transfer.TransferEvent.{TransferEvent}
 
+-- each field of an account
 pub record IsAccountInWidth (a : Account) : Type 0 where
   pub id : a.id < 2 ^ 128
   pub user_data_128 : a.user_data_128 < 2 ^ 128
@@ -15,6 +16,7 @@ pub record IsAccountInWidth (a : Account) : Type 0 where
   pub flags : a.flags.0 < 2 ^ 16
   pub timestamp : a.timestamp < 2 ^ 64
 
+-- each field of a transfer
 pub record IsTransferInWidth (t : Transfer) : Type 0 where
   pub id : t.id < 2 ^ 128
   pub debit_account_id : t.debit_account_id < 2 ^ 128
@@ -31,6 +33,7 @@ pub record IsTransferInWidth (t : Transfer) : Type 0 where
   pub timestamp : t.timestamp < 2 ^ 64
   pub at : t.at < 2 ^ 64
 
+-- each field of a request to open an account
 pub record IsAccountEventInWidth (ev : AccountEvent) : Type 0 where
   pub id : ev.id < 2 ^ 128
   pub debits_pending : ev.debits_pending < 2 ^ 128
@@ -45,6 +48,7 @@ pub record IsAccountEventInWidth (ev : AccountEvent) : Type 0 where
   pub flags : ev.flags.0 < 2 ^ 16
   pub timestamp : ev.timestamp < 2 ^ 64
 
+-- each field of a request for a transfer
 pub record IsTransferEventInWidth (ev : TransferEvent) : Type 0 where
   pub id : ev.id < 2 ^ 128
   pub debit_account_id : ev.debit_account_id < 2 ^ 128

@@ -1,12 +1,10 @@
-use crate::{Balances, PendingState, Transfer};
+use crate::{Balances, Transfer};
 
-/// A pending transfer that a post or void ends.
+/// What an entry does to the pending transfer with this id.
 #[derive(Clone, Copy, Debug, PartialEq, Eq)]
-pub struct Ending {
-    /// The id of the pending transfer.
-    pub id: u128,
-    /// Posted or voided.
-    pub state: PendingState,
+pub enum Ending {
+    Posted(u128),
+    Voided(u128),
 }
 
 /// What an accepted transfer leaves.
@@ -18,6 +16,6 @@ pub struct Accepted {
     pub debit_after: Balances,
     /// The balances of its credit account with it.
     pub credit_after: Balances,
-    /// The pending transfer that it ends, for a post or void.
+    /// How it ends a pending transfer, for a post or void.
     pub ends: Option<Ending>,
 }

@@ -1,12 +1,12 @@
 ghost use Rattle.std.specs.Prelude.{◌≡◌};
 ghost use Rattle.records.specs.FirstOf.{first_of};
-ghost use Rattle.records.specs.AccountVerdict.{account_event_rows, account_difference};
+ghost use Rattle.records.specs.AccountVerdict.{account_event_results, account_difference};
 
 use crate::{Account, AccountEvent, AccountResult};
 
-/// The first result that the event alone decides, before its id is looked up.
+/// Results 3 to 6: the first that the event alone decides, before its id is looked up.
 pub fn account_fields(ev: &AccountEvent) -> Option<AccountResult>
-    ensures { result ≡ first_of (account_event_rows ev.now) }
+    ensures { result ≡ first_of (account_event_results ev.now) }
 {
     if ev.timestamp != 0 {
         return Some(AccountResult::TimestampMustBeZero);
@@ -23,8 +23,8 @@ pub fn account_fields(ev: &AccountEvent) -> Option<AccountResult>
     None
 }
 
-/// The first field in which the event differs from the account that stands under its id, in the order
-/// of the results. The event's balances are not compared.
+/// Results 7 to 12: the first field in which the event differs from the account that exists under
+/// its id, in the order of the results. The event's balances are not compared.
 pub fn compare_account(old: &Account, new: &AccountEvent) -> Option<AccountResult>
     ensures { result ≡ account_difference old.now new.now }
 {

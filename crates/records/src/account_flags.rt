@@ -1,5 +1,10 @@
 ghost use Rattle.std.specs.Prelude.{◌≡◌};
-ghost use Rattle.records.specs.Flags.{is_account_linked, limits_debits, limits_credits, keeps_history, has_reserved_account_flag, are_account_flags_exclusive};
+ghost use Rattle.records.specs.Flags.{is_account_linked, limits_debits, limits_credits};
+ghost use Rattle.records.specs.Flags.{keeps_history, has_reserved_account_flag};
+ghost use Rattle.records.specs.Flags.{are_account_flags_exclusive};
+ghost use Rattle.records.specs.Sides.{limits_side};
+
+use crate::Side;
 
 /// The 16 flag bits of an account: 0 linked, 1 debits must not exceed credits, 2 credits must not
 /// exceed debits, 3 history. The other bits are reserved.
@@ -26,6 +31,16 @@ impl AccountFlags {
         ensures { result ≡ limits_credits self }
     {
         (self.0 >> 2) % 2 == 1
+    }
+
+    /// Whether the sums on this side are limited by the posted sum of the other.
+    pub fn limits_side(self, side: Side) -> bool
+        ensures { result ≡ limits_side side self }
+    {
+        match side {
+            Side::Debit => self.limits_debits(),
+            Side::Credit => self.limits_credits(),
+        }
     }
 
     /// Bit 3: the balances after each entry may be asked for.

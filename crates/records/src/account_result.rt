@@ -1,8 +1,8 @@
 ghost use Rattle.std.specs.Prelude.{◌≡◌};
 ghost use Rattle.records.specs.AccountResultNames.{number_of, name_of};
 
-/// What became of an account event, in the order in which the conditions are tested. The conditions stand in
-/// `docs/RESULTS.md`; names and numbers are those of replies.
+/// What became of an account event, in the order in which the conditions are tested. The
+/// conditions stand in `docs/RESULTS.md`; names and numbers are those of replies.
 #[derive(Clone, Copy, Debug, PartialEq, Eq)]
 pub enum AccountResult {
     Accepted = 0,

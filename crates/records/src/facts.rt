@@ -11,25 +11,25 @@ pub enum PendingState {
     Expired,
 }
 
-/// A transfer that stands under the id of an event.
+/// The transfer that exists under the id of an event.
 #[derive(Clone, Copy, Debug, PartialEq, Eq)]
-pub struct Stored {
+pub struct ExistingTransfer {
     pub transfer: Transfer,
     /// Of a post or void the amount of the pending transfer that it ended, else its own amount.
     pub pending_amount: Amount,
 }
 
-/// The transfer that a post or void names.
+/// The transfer that a post or void names by its pending_id.
 #[derive(Clone, Copy, Debug, PartialEq, Eq)]
-pub struct Named {
+pub struct PendingTransfer {
     pub transfer: Transfer,
-    /// Open where the transfer is not a pending one.
-    pub state: PendingState,
+    /// None where the transfer is not a pending one.
+    pub state: Option<PendingState>,
 }
 
 /// An account with its balances.
 #[derive(Clone, Copy, Debug, PartialEq, Eq)]
-pub struct Held {
+pub struct AccountWithBalances {
     pub account: Account,
     pub balances: Balances,
 }
@@ -38,11 +38,13 @@ pub struct Held {
 #[derive(Clone, Copy, Debug, PartialEq, Eq)]
 pub struct TransferFacts {
     /// The transfer of the event's id.
-    pub stored: Option<Stored>,
+    pub existing: Option<ExistingTransfer>,
+    /// Whether the event's id has failed for good.
+    pub failed: bool,
     /// The transfer of the event's pending_id, for a post or void.
-    pub named: Option<Named>,
-    /// The debit account: that of the event, or of the named transfer for a post or void.
-    pub debit: Option<Held>,
+    pub pending: Option<PendingTransfer>,
+    /// The debit account: that of the event, or of the pending transfer for a post or void.
+    pub debit: Option<AccountWithBalances>,
     /// The credit account, likewise.
-    pub credit: Option<Held>,
+    pub credit: Option<AccountWithBalances>,
 }

@@ -8,10 +8,17 @@ mod account_checks;
 mod account_flags;
 mod account_result;
 mod balances;
+mod drain;
 mod facts;
 mod filter;
 mod reply;
+mod row_sink;
+mod side;
+mod source;
 mod statement_row;
+#[cfg(test)]
+mod stream_tests;
+mod streamed;
 #[cfg(test)]
 mod tests;
 mod transfer;
@@ -26,11 +33,18 @@ pub use account::{Account, AccountEvent};
 pub use account_checks::{account_fields, compare_account};
 pub use account_flags::AccountFlags;
 pub use account_result::AccountResult;
-pub use balances::{BalanceAt, Balances};
-pub use facts::{Held, Named, PendingState, Stored, TransferFacts};
+pub use balances::{BalanceAt, Balances, Sums};
+pub use drain::{Drain, put_all};
+pub use facts::{
+    AccountWithBalances, ExistingTransfer, PendingState, PendingTransfer, TransferFacts,
+};
 pub use filter::{AccountFilter, FilterFlags, Order};
-pub use reply::{BatchReply, EventResult};
-pub use statement_row::{Kind, Side, StatementRow};
+pub use reply::{BatchReply, EventResult, Refusal};
+pub use row_sink::{RowSink, SinkFault};
+pub use side::Side;
+pub use source::{Failed, Source};
+pub use statement_row::{Kind, StatementRow};
+pub use streamed::Streamed;
 pub use transfer::{Transfer, TransferEvent};
 pub use transfer_checks::{compare_transfer, transfer_fields};
 pub use transfer_flags::TransferFlags;

@@ -6,6 +6,16 @@ pub struct EventResult<R> {
     pub timestamp: u64,
 }
 
+/// The first event of a chain that fails.
+#[derive(Clone, Copy, Debug, PartialEq, Eq)]
+pub struct Refusal<R> {
+    /// Its place in the chain, from 0.
+    pub place: usize,
+    pub result: R,
+    /// Its id, if that stays failed whatever becomes of the chain.
+    pub failed_id: Option<u128>,
+}
+
 /// The answer to a batch.
 #[derive(Debug, Drop)]
 pub enum BatchReply<R> {

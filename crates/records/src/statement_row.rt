@@ -1,12 +1,5 @@
-use crate::Balances;
+use crate::{Balances, Side};
 use amount::Amount;
-
-/// Which side of a transfer the account is.
-#[derive(Clone, Copy, Debug, PartialEq, Eq)]
-pub enum Side {
-    Debit,
-    Credit,
-}
 
 /// What kind of transfer an entry is.
 #[derive(Clone, Copy, Debug, PartialEq, Eq)]

@@ -1,8 +1,9 @@
 use crate::{
     Account, AccountEvent, AccountFlags, AccountResult, Transfer, TransferEvent, TransferFlags,
-    TransferResult, compare_account, compare_transfer,
+    TransferResult, Unavailable, compare_account, compare_transfer,
 };
 use amount::Amount;
+use std::test::Fail;
 
 fn account(flags: u16) -> Account {
     Account {
@@ -113,4 +114,16 @@ fn compares_balancing_transfers(rt: HostRuntime) {
         let found = compare_transfer(&old, &again, old.amount);
         assert_eq!(rt; found, want, "at {amount}");
     }
+}
+
+#[test]
+fn prints_why_a_ledger_is_unavailable(rt: HostRuntime) -> Result<(), Fail> {
+    for (why, text) in [
+        (Unavailable::Memory, "out of memory"),
+        (Unavailable::Size, "the store is full"),
+        (Unavailable::Disk, "the disk failed"),
+    ] {
+        assert_eq!(rt; format!(in rt.alloc(); "{why}")?.as_str(), text);
+    }
+    Ok(())
 }

@@ -1,7 +1,9 @@
+ghost use Rattle.std.specs.Prelude.{◌≡◌};
+ghost use Rattle.records.specs.Sides.{account_on};
 ghost use Rattle.records.specs.Widths.{IsTransferInWidth, IsTransferEventInWidth};
 
-use crate::TransferFlags;
 use crate::width::{fits_u16, fits_u32, fits_u64, fits_u128};
+use crate::{Side, TransferFlags};
 use amount::Amount;
 
 /// A transfer as it was accepted: in a post or void the fields that it takes from its pending
@@ -50,6 +52,16 @@ pub struct TransferEvent {
 }
 
 impl Transfer {
+    /// The account that it has on this side.
+    pub fn account_on(&self, side: Side) -> u128
+        ensures { result ≡ account_on side self.now }
+    {
+        match side {
+            Side::Debit => self.debit_account_id,
+            Side::Credit => self.credit_account_id,
+        }
+    }
+
     /// Tells that each field is within its width. It does nothing.
     pub fn widths(&self)
         ensures { IsTransferInWidth self.now }

@@ -1,9 +1,15 @@
 ghost use Rattle.std.specs.Prelude.{◌≡◌};
-ghost use Rattle.records.specs.Flags.{is_transfer_linked, is_pending, is_post, is_void, is_balancing_debit, is_balancing_credit, is_ending, is_balancing, has_reserved_transfer_flag, are_transfer_flags_exclusive};
+ghost use Rattle.records.specs.Flags.{is_transfer_linked, is_pending, is_post, is_void};
+ghost use Rattle.records.specs.Flags.{is_balancing_debit, is_balancing_credit, is_balancing};
+ghost use Rattle.records.specs.Flags.{is_post_or_void, has_reserved_transfer_flag};
+ghost use Rattle.records.specs.Flags.{are_transfer_flags_exclusive};
+ghost use Rattle.records.specs.Sides.{is_balancing_on};
+
+use crate::Side;
 
 /// The 16 flag bits of a transfer: 0 linked, 1 pending, 2 post a pending transfer, 3 void a pending
-/// transfer, 4 balancing debit, 5 balancing credit. The other bits are reserved. A transfer with none
-/// of the bits 1 to 3 is single-phase.
+/// transfer, 4 balancing debit, 5 balancing credit. The other bits are reserved. A transfer with
+/// none of the bits 1 to 3 is single-phase.
 #[derive(Clone, Copy, Debug, PartialEq, Eq)]
 pub struct TransferFlags(pub u16);
 
@@ -51,10 +57,20 @@ impl TransferFlags {
     }
 
     /// Whether the event posts or voids a pending transfer.
-    pub fn is_ending(self) -> bool
-        ensures { result ≡ is_ending self }
+    pub fn is_post_or_void(self) -> bool
+        ensures { result ≡ is_post_or_void self }
     {
         self.is_post() || self.is_void()
+    }
+
+    /// Whether the amount is lowered to the room on this side.
+    pub fn is_balancing_on(self, side: Side) -> bool
+        ensures { result ≡ is_balancing_on side self }
+    {
+        match side {
+            Side::Debit => self.is_balancing_debit(),
+            Side::Credit => self.is_balancing_credit(),
+        }
     }
 
     /// Whether one of the balancing bits is set.
@@ -71,13 +87,13 @@ impl TransferFlags {
         self.0 >= 64
     }
 
-    /// Whether bits are set that exclude each other: two of pending, post and void, or a post or void
-    /// with a balancing bit.
+    /// Whether bits are set that exclude each other: two of pending, post and void, or a post or
+    /// void with a balancing bit.
     pub fn are_exclusive(self) -> bool
         ensures { result ≡ are_transfer_flags_exclusive self }
     {
-        (self.is_pending() && self.is_ending())
+        (self.is_pending() && self.is_post_or_void())
             || (self.is_post() && self.is_void())
-            || (self.is_ending() && self.is_balancing())
+            || (self.is_post_or_void() && self.is_balancing())
     }
 }

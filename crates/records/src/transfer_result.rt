@@ -1,7 +1,8 @@
 ghost use Rattle.std.specs.Prelude.{◌≡◌};
 ghost use Rattle.records.specs.TransferResultNames.{number_of, name_of};
+ghost use Rattle.records.specs.TransferVerdict.{fails_for_good};
 
-/// What became of a transfer event, in the order in which the conditions are tested. The conditions stand in
+/// What became of a transfer event, by number. The conditions and their order stand in
 /// `docs/RESULTS.md`; names and numbers are those of replies.
 #[derive(Clone, Copy, Debug, PartialEq, Eq)]
 pub enum TransferResult {
@@ -60,9 +61,25 @@ pub enum TransferResult {
     OverflowsCredits = 53,
     ExceedsCredits = 55,
     ExceedsDebits = 56,
+    IdAlreadyFailed = 60,
 }
 
 impl TransferResult {
+    /// Whether the id of a transfer that failed so stays failed, for want of a pending transfer, an
+    /// account or funds.
+    pub fn fails_for_good(self) -> bool
+        ensures { result ≡ fails_for_good self }
+    {
+        matches!(
+            self,
+            TransferResult::PendingTransferNotFound
+                | TransferResult::DebitAccountNotFound
+                | TransferResult::CreditAccountNotFound
+                | TransferResult::ExceedsCredits
+                | TransferResult::ExceedsDebits
+        )
+    }
+
     /// The number of the result in a reply.
     pub fn number(self) -> u16
         ensures { result ≡ number_of self }
@@ -140,6 +157,7 @@ impl TransferResult {
             TransferResult::OverflowsCredits => "overflows_credits",
             TransferResult::ExceedsCredits => "exceeds_credits",
             TransferResult::ExceedsDebits => "exceeds_debits",
+            TransferResult::IdAlreadyFailed => "id_already_failed",
         }
     }
 }

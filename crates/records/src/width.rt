@@ -1,5 +1,5 @@
-//! What the type of a number says of it. The functions do nothing: their clauses carry the bound of a
-//! field to where it is needed.
+//! What the type of a number says of it. The functions do nothing: their clauses carry the bound of
+//! a field to where it is needed.
 
 ghost use Rattle.std.specs.Prelude.{◌^◌, ◌<◌};
 

@@ -12,7 +12,8 @@ value_of_digit digit = unwrap_or (hex_digit_value digit) 0
 
 -- the bytes that digits name, two digits a byte, the greater digit first
 unfoldable pub bytes_of_digits : List ℕ → List ℕ
-bytes_of_digits (high ∷ low ∷ rest) = (16 * value_of_digit high + value_of_digit low) ∷ bytes_of_digits rest
+bytes_of_digits (high ∷ low ∷ rest) =
+    (16 * value_of_digit high + value_of_digit low) ∷ bytes_of_digits rest
 bytes_of_digits (digit ∷ []) = []
 bytes_of_digits [] = []
 

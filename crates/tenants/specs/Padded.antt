@@ -12,4 +12,5 @@ pub record IsPaddedName (bytes : List ℕ) (len : ℕ) : Type 0 where
 pub padded-take : (bytes : List ℕ) (len : ℕ) → IsPaddedName bytes len
     → take len bytes ++ replicate (64 - length (take len bytes)) 0 ≡ bytes
 padded-take bytes len h =
-    ap (λ n. take len bytes ++ replicate (64 - n) 0) (length-take-le len bytes h.within) ∙ sym h.zeros
+    ap (λ n. take len bytes ++ replicate (64 - n) 0) (length-take-le len bytes h.within)
+    ∙ sym h.zeros

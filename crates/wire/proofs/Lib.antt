@@ -1,5 +1,4 @@
-mod Events
+mod Lists
 mod Numbers
 mod Objects
 mod Texts
-mod Few

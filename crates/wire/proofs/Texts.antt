@@ -7,6 +7,8 @@ use Rattle.serde_json.specs.Data.{Data}
 use Rattle.serde_json.specs.Written.{compact_text, outline}
 use Rattle.serde_json.proofs.Texts.{print-outline}
 
-pub compact_text_from_tokens : (d : Data) (text before : List ℕ) (ts : List Token) → text ≡ before ++ print ts → before ≡ [] → ts ≡ json_tokens (outline d) → text ≡ compact_text d
+pub compact_text_from_tokens : (d : Data) (text before : List ℕ) (ts : List Token)
+    → text ≡ before ++ print ts → before ≡ [] → ts ≡ json_tokens (outline d)
+    → text ≡ compact_text d
 compact_text_from_tokens d text before ts written empty tokens =
     written ∙ ap (λ b. b ++ print ts) empty ∙ ap print tokens ∙ print-outline d

@@ -3,14 +3,17 @@ use Rattle.std.specs.Prelude.{ℕ, ◌^◌, List, [], ◌∷◌, codes, Option, 
 use Rattle.serde_json.specs.Data.{Data}
 use Rattle.serde_json.specs.Find.{get}
 use Rattle.records.specs.declared.account.AccountEvent.{AccountEvent}
-use Rattle.wire.specs.Fields.{wide, whole, given, event_of}
+use Rattle.wire.specs.Fields.{wide, whole, given, object_of}
 
+-- the fields that it may have
 abbrev pub account_names : List (List ℕ)
 account_names =
-    codes "id" ∷ codes "debits_pending" ∷ codes "debits_posted" ∷ codes "credits_pending" ∷ codes "credits_posted"
+    codes "id" ∷ codes "debits_pending" ∷ codes "debits_posted"
+    ∷ codes "credits_pending" ∷ codes "credits_posted"
     ∷ codes "user_data_128" ∷ codes "user_data_64" ∷ codes "user_data_32"
     ∷ codes "ledger" ∷ codes "code" ∷ codes "flags" ∷ codes "timestamp" ∷ []
 
+-- the account event of these fields, if each of them is good
 unfoldable pub account_from : Data → Option AccountEvent
 account_from d =
     given (wide (2 ^ 128) (get (codes "id") d)) (λ id.
@@ -40,6 +43,6 @@ account_from d =
       timestamp = timestamp;
     })))))))))))))
 
--- the account event, where the value is an object of these fields alone and each of them is good
+-- the account event that a value is, if it is an object of these fields alone
 abbrev pub account_of : Data → Option AccountEvent
-account_of d = event_of account_names account_from d
+account_of d = object_of account_names account_from d

@@ -1,9 +1,11 @@
--- The fields of an event: numbers, each with its form and its width.
-use Rattle.std.specs.Prelude.{ℕ, Bool, false, nat_lt, List, [], ◌∷◌, bytes_eq, Option, Some, None, option_and_then, if◌then◌else◌}
+-- The fields of an object in a body: numbers, each with its form and its width.
+use Rattle.std.specs.Prelude.{ℕ, Bool, false, nat_lt, List, [], ◌∷◌, bytes_eq, Option, Some, None}
+use Rattle.std.specs.Prelude.{option_and_then, if◌then◌else◌}
 use Rattle.std.specs.List.{list_any, list_all}
 use Rattle.std.specs.Str.Parse.{digits_value}
 use Rattle.amount.specs.Decimal.{decimal_of}
-use Rattle.serde_json.specs.Data.{Data, null, boolean, number, string, array, object, Members, no_members, member}
+use Rattle.serde_json.specs.Data.{Data, null, boolean, number, string, array, object, Members}
+use Rattle.serde_json.specs.Data.{no_members, member}
 use Rattle.serde_json.specs.Find.{as_str, as_number, as_u64}
 
 -- the number, where it is below the bound
@@ -12,7 +14,10 @@ below bound n = if nat_lt n bound then Some n else None
 
 -- the number whose canonical decimal the text is
 unfoldable pub canonical_number : List ℕ → Option ℕ
-canonical_number text = if bytes_eq (decimal_of (digits_value 10 text)) text then Some (digits_value 10 text) else None
+canonical_number text =
+    if bytes_eq (decimal_of (digits_value 10 text)) text
+    then Some (digits_value 10 text)
+    else None
 
 -- that number, where it is below the bound
 abbrev pub number_below : ℕ → List ℕ → Option ℕ
@@ -33,6 +38,7 @@ abbrev pub names_of : Members → List (List ℕ)
 names_of no_members = []
 names_of (member name d ms) = name ∷ names_of ms
 
+-- whether a name is one of those known
 abbrev pub is_among : List (List ℕ) → List ℕ → Bool
 is_among known name = list_any (bytes_eq name) known
 
@@ -46,8 +52,8 @@ has_only known (array ds) = false
 has_only known (object ms) = list_all (is_among known) (names_of ms)
 
 -- what is made of an object that has only known fields
-abbrev pub event_of : {E : Type 0} → List (List ℕ) → (Data → Option E) → Data → Option E
-event_of known from_fields d = if has_only known d then from_fields d else None
+abbrev pub object_of : {E : Type 0} → List (List ℕ) → (Data → Option E) → Data → Option E
+object_of known from_fields d = if has_only known d then from_fields d else None
 
 -- what a field gives, and then what follows from it
 abbrev pub given : {A B : Type 0} → Option A → (A → Option B) → Option B

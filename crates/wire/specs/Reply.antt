@@ -1,33 +1,132 @@
 -- The JSON of replies. Keys stand in byte order.
-use Rattle.std.specs.Prelude.{ℕ, List, codes, map}
-use Rattle.serde_json.specs.Data.{Data, number, unsigned, string, array, object, member, no_members}
+use Rattle.std.specs.Prelude.{ℕ, List, [], ◌∷◌, codes, map}
+use Rattle.serde_json.specs.Data.{Data, number, unsigned, string, array, object, Members, member}
+use Rattle.serde_json.specs.Data.{no_members}
 use Rattle.serde_json.specs.View.{items_of}
 use Rattle.amount.specs.Decimal.{decimal_of}
 use Rattle.records.specs.declared.account_result.AccountResult.{AccountResult}
-use Rattle.records.specs.declared.transfer_result.TransferResult.{TransferResult}
+use Rattle.records.specs.declared.balances.BalanceAt.{BalanceAt}
+use Rattle.records.specs.declared.facts.AccountWithBalances.{AccountWithBalances}
 use Rattle.records.specs.declared.reply.EventResult.{EventResult}
+use Rattle.records.specs.declared.transfer.Transfer.{Transfer}
+use Rattle.records.specs.declared.transfer_result.TransferResult.{TransferResult}
 use Rattle.records.specs.AccountResultNames as account
 use Rattle.records.specs.TransferResultNames as transfer
 
+-- a number of 64 or 128 bits is a string of its decimal
+abbrev pub wide_data : ℕ → Data
+wide_data n = string (decimal_of n)
+
+-- a smaller number is a JSON number
+abbrev pub whole_data : ℕ → Data
+whole_data n = number (unsigned n)
+
+-- a list of what each value shows
+abbrev pub list_data : {A : Type 0} → (A → Data) → List A → Data
+list_data shows values = array (items_of (map shows values))
+
+-- members in this order
+abbrev pub members_with : List (List ℕ × Data) → Members
+members_with [] = no_members
+members_with (m ∷ ms) = member m.0 m.1 (members_with ms)
+
+-- the object that has them
+abbrev pub object_with : List (List ℕ × Data) → Data
+object_with ms = object (members_with ms)
+
 -- the result of one event, by its number and its name
 abbrev pub result_data : {R : Type 0} → (R → ℕ) → (R → List ℕ) → EventResult R → Data
-result_data number_of name_of event =
-    object (member (codes "number") (number (unsigned (number_of event.result)))
-    (member (codes "result") (string (name_of event.result))
-    (member (codes "timestamp") (string (decimal_of event.timestamp)) no_members)))
+result_data number_of name_of event = object_with (
+    (codes "number", whole_data (number_of event.result))
+    ∷ (codes "result", string (name_of event.result))
+    ∷ (codes "timestamp", wide_data event.timestamp)
+    ∷ [])
 
--- the clock after a batch, and the results of its events in their order
-abbrev pub batch_data : {R : Type 0} → (R → ℕ) → (R → List ℕ) → ℕ → List (EventResult R) → Data
-batch_data number_of name_of clock results =
-    object (member (codes "clock") (string (decimal_of clock))
-    (member (codes "results") (array (items_of (map (result_data number_of name_of) results))) no_members))
+-- the result of an account event
+abbrev pub account_result_data : EventResult AccountResult → Data
+account_result_data event = result_data account.number_of account.name_of event
 
-abbrev pub transfer_batch_data : ℕ → List (EventResult TransferResult) → Data
-transfer_batch_data clock results = batch_data transfer.number_of transfer.name_of clock results
+-- the result of a transfer event
+abbrev pub transfer_result_data : EventResult TransferResult → Data
+transfer_result_data event = result_data transfer.number_of transfer.name_of event
 
+-- an account with its balances
+abbrev pub account_data : AccountWithBalances → Data
+account_data found = object_with (
+    (codes "code", whole_data found.account.code)
+    ∷ (codes "credits_pending", wide_data found.balances.credits.pending)
+    ∷ (codes "credits_posted", wide_data found.balances.credits.posted)
+    ∷ (codes "debits_pending", wide_data found.balances.debits.pending)
+    ∷ (codes "debits_posted", wide_data found.balances.debits.posted)
+    ∷ (codes "flags", whole_data found.account.flags.0)
+    ∷ (codes "id", wide_data found.account.id)
+    ∷ (codes "ledger", whole_data found.account.ledger)
+    ∷ (codes "timestamp", wide_data found.account.timestamp)
+    ∷ (codes "user_data_128", wide_data found.account.user_data_128)
+    ∷ (codes "user_data_32", whole_data found.account.user_data_32)
+    ∷ (codes "user_data_64", wide_data found.account.user_data_64)
+    ∷ [])
+
+-- a transfer; the clock of its batch is never shown
+abbrev pub transfer_data : Transfer → Data
+transfer_data entry = object_with (
+    (codes "amount", wide_data entry.amount)
+    ∷ (codes "code", whole_data entry.code)
+    ∷ (codes "credit_account_id", wide_data entry.credit_account_id)
+    ∷ (codes "debit_account_id", wide_data entry.debit_account_id)
+    ∷ (codes "flags", whole_data entry.flags.0)
+    ∷ (codes "id", wide_data entry.id)
+    ∷ (codes "ledger", whole_data entry.ledger)
+    ∷ (codes "pending_id", wide_data entry.pending_id)
+    ∷ (codes "timeout", whole_data entry.timeout)
+    ∷ (codes "timestamp", wide_data entry.timestamp)
+    ∷ (codes "user_data_128", wide_data entry.user_data_128)
+    ∷ (codes "user_data_32", whole_data entry.user_data_32)
+    ∷ (codes "user_data_64", wide_data entry.user_data_64)
+    ∷ [])
+
+-- the balances after an entry, with the entry's timestamp
+abbrev pub balance_data : BalanceAt → Data
+balance_data row = object_with (
+    (codes "credits_pending", wide_data row.balances.credits.pending)
+    ∷ (codes "credits_posted", wide_data row.balances.credits.posted)
+    ∷ (codes "debits_pending", wide_data row.balances.debits.pending)
+    ∷ (codes "debits_posted", wide_data row.balances.debits.posted)
+    ∷ (codes "timestamp", wide_data row.timestamp)
+    ∷ [])
+
+-- a clock and a list under a name that comes after `clock`
+abbrev pub clock_and_list : {A : Type 0} → (A → Data) → ℕ → List ℕ → List A → Data
+clock_and_list shows clock name values =
+    object_with ((codes "clock", wide_data clock) ∷ (name, list_data shows values) ∷ [])
+
+-- the same under a name that comes before it
+abbrev pub list_and_clock : {A : Type 0} → (A → Data) → ℕ → List ℕ → List A → Data
+list_and_clock shows clock name values =
+    object_with ((name, list_data shows values) ∷ (codes "clock", wide_data clock) ∷ [])
+
+-- the clock after a batch of accounts, and the results of its events in their order
 abbrev pub account_batch_data : ℕ → List (EventResult AccountResult) → Data
-account_batch_data clock results = batch_data account.number_of account.name_of clock results
+account_batch_data clock results =
+    clock_and_list account_result_data clock (codes "results") results
+
+-- the same of a batch of transfers
+abbrev pub transfer_batch_data : ℕ → List (EventResult TransferResult) → Data
+transfer_batch_data clock results =
+    clock_and_list transfer_result_data clock (codes "results") results
+
+-- the accounts that a lookup finds
+abbrev pub accounts_data : ℕ → List AccountWithBalances → Data
+accounts_data clock accounts = list_and_clock account_data clock (codes "accounts") accounts
+
+-- the transfers that a lookup or a history finds
+abbrev pub transfers_data : ℕ → List Transfer → Data
+transfers_data clock transfers = clock_and_list transfer_data clock (codes "transfers") transfers
+
+-- the balances of a history
+abbrev pub balances_data : ℕ → List BalanceAt → Data
+balances_data clock balances = list_and_clock balance_data clock (codes "balances") balances
 
 -- a refusal by its name
 abbrev pub refusal_data : List ℕ → Data
-refusal_data name = object (member (codes "error") (string name) no_members)
+refusal_data name = object_with ((codes "error", string name) ∷ [])

@@ -3,14 +3,17 @@ use Rattle.std.specs.Prelude.{ℕ, ◌^◌, List, [], ◌∷◌, codes, Option, 
 use Rattle.serde_json.specs.Data.{Data}
 use Rattle.serde_json.specs.Find.{get}
 use Rattle.records.specs.declared.transfer.TransferEvent.{TransferEvent}
-use Rattle.wire.specs.Fields.{wide, whole, given, event_of}
+use Rattle.wire.specs.Fields.{wide, whole, given, object_of}
 
+-- the fields that it may have
 abbrev pub transfer_names : List (List ℕ)
 transfer_names =
-    codes "id" ∷ codes "debit_account_id" ∷ codes "credit_account_id" ∷ codes "amount" ∷ codes "pending_id"
+    codes "id" ∷ codes "debit_account_id" ∷ codes "credit_account_id"
+    ∷ codes "amount" ∷ codes "pending_id"
     ∷ codes "user_data_128" ∷ codes "user_data_64" ∷ codes "user_data_32"
     ∷ codes "timeout" ∷ codes "ledger" ∷ codes "code" ∷ codes "flags" ∷ codes "timestamp" ∷ []
 
+-- the transfer event of these fields, if each of them is good
 unfoldable pub transfer_from : Data → Option TransferEvent
 transfer_from d =
     given (wide (2 ^ 128) (get (codes "id") d)) (λ id.
@@ -42,6 +45,6 @@ transfer_from d =
       timestamp = timestamp;
     }))))))))))))))
 
--- the transfer event, where the value is an object of these fields alone and each of them is good
+-- the transfer event that a value is, if it is an object of these fields alone
 abbrev pub transfer_of : Data → Option TransferEvent
-transfer_of d = event_of transfer_names transfer_from d
+transfer_of d = object_of transfer_names transfer_from d

@@ -1,10 +1,10 @@
-use crate::event::Event;
 use crate::fields::{u16_field, u32_field, u64_field, u128_field};
+use crate::object::Object;
 use amount::Amount;
 use records::{AccountEvent, AccountFlags};
 use serde_json::Value;
 
-impl Event for AccountEvent {
+impl Object for AccountEvent {
     ghost use Rattle.wire.specs.AccountBody.{account_names, account_from};
 
     ghost names = { account_names };

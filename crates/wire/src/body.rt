@@ -1,73 +1,111 @@
-ghost use Rattle.std.specs.Prelude.{◌≡◌, ◌≢◌, ◌≤◌, length, is_some, Some, None, Ok, Err, IfOk, IfErr};
-ghost use Rattle.serde_json.specs.View.{items_view};
-ghost use Rattle.wire.specs.Fields.{event_of};
-ghost use Rattle.wire.specs.Body.{events_of, events_in, transfers_in, accounts_in};
+ghost use Rattle.std.specs.Prelude.{◌≡◌, ◌≢◌, ◌≤◌, length, is_some, Some, None, Ok, Err, IfOk};
+ghost use Rattle.std.specs.Prelude.{IfErr};
+ghost use Rattle.serde_json.specs.Errors.{IsMemory};
+ghost use Rattle.serde_json.specs.View.{view, items_view};
+ghost use Rattle.wire.specs.Body.{json_of, each_of, list_in, transfers_in, accounts_in, ids_in};
+ghost use Rattle.wire.specs.Body.{filter_in};
 
-use crate::BodyRefusal;
-use crate::event::{Event, read_event};
-use records::{AccountEvent, TransferEvent};
+use crate::item::Item;
+use crate::object::read_object;
+use ledger_http::Refusal;
+use records::{AccountEvent, AccountFilter, TransferEvent};
 use serde_json::Value;
 use std::alloc::Global;
 
-/// How many events a batch may have.
-const MAX_EVENTS: usize = 1000;
+/// How many events or ids a list may have.
+const MAX_ITEMS: usize = 1000;
 
 /// Reads the body of a batch of transfers: a JSON list of objects.
-pub fn read_transfers(alloc: Global, body: &[u8]) -> Result<Vec<TransferEvent>, BodyRefusal>
+pub fn read_transfers(alloc: Global, body: &[u8]) -> Result<Vec<TransferEvent>, Refusal>
     ensures ok { IfOk result (λ events. transfers_in body.now ≡ Ok events.items) }
     ensures few { IfOk result (λ events. length events.items ≤ 1000) }
-    ensures err { IfErr result (λ e. e ≢ BodyRefusal.Unavailable → transfers_in body.now ≡ Err e) }
+    ensures err { IfErr result (λ e. e ≢ Refusal.Unavailable → transfers_in body.now ≡ Err e) }
 {
-    read_events(alloc, body)
+    read_list(alloc, body)
 }
 
 /// Reads the body of a batch of accounts: a JSON list of objects.
-pub fn read_accounts(alloc: Global, body: &[u8]) -> Result<Vec<AccountEvent>, BodyRefusal>
+pub fn read_accounts(alloc: Global, body: &[u8]) -> Result<Vec<AccountEvent>, Refusal>
     ensures ok { IfOk result (λ events. accounts_in body.now ≡ Ok events.items) }
     ensures few { IfOk result (λ events. length events.items ≤ 1000) }
-    ensures err { IfErr result (λ e. e ≢ BodyRefusal.Unavailable → accounts_in body.now ≡ Err e) }
+    ensures err { IfErr result (λ e. e ≢ Refusal.Unavailable → accounts_in body.now ≡ Err e) }
 {
-    read_events(alloc, body)
+    read_list(alloc, body)
 }
 
-fn read_events<E: Event>(alloc: Global, body: &[u8]) -> Result<Vec<E>, BodyRefusal>
-    ensures ok { IfOk result (λ events.
-        events_in (event_of E.names E.from_fields) body.now ≡ Ok events.items) }
-    ensures err { IfErr result (λ e. e ≢ BodyRefusal.Unavailable
-        → events_in (event_of E.names E.from_fields) body.now ≡ Err e) }
+/// Reads the body of a lookup: a JSON list of ids.
+pub(crate) fn read_ids(alloc: Global, body: &[u8]) -> Result<Vec<u128>, Refusal>
+    ensures ok { IfOk result (λ ids. ids_in body.now ≡ Ok ids.items) }
+    ensures few { IfOk result (λ ids. length ids.items ≤ 1000) }
+    ensures err { IfErr result (λ e. e ≢ Refusal.Unavailable → ids_in body.now ≡ Err e) }
 {
-    let value = Value::from_slice(alloc, body)?;
-    let items = value.as_array().ok_or(BodyRefusal::BadField)?;
-    if items.len() <= MAX_EVENTS {
+    read_list(alloc, body)
+}
+
+/// Reads the body of a history: a filter as a JSON object.
+pub(crate) fn read_filter(alloc: Global, body: &[u8]) -> Result<AccountFilter, Refusal>
+    ensures ok { IfOk result (λ asked. filter_in body.now ≡ Ok asked) }
+    ensures err { IfErr result (λ e. e ≢ Refusal.Unavailable → filter_in body.now ≡ Err e) }
+{
+    let value = read_json(alloc, body)?;
+    read_object(&value).ok_or(Refusal::BadField)
+}
+
+fn read_list<I: Item>(alloc: Global, body: &[u8]) -> Result<Vec<I>, Refusal>
+    ensures ok { IfOk result (λ list. list_in I.means body.now ≡ Ok list.items) }
+    ensures few { IfOk result (λ list. length list.items ≤ 1000) }
+    ensures err { IfErr result (λ e. e ≢ Refusal.Unavailable → list_in I.means body.now ≡ Err e) }
+{
+    let value = read_json(alloc, body)?;
+    let items = value.as_array().ok_or(Refusal::BadField)?;
+    if items.len() <= MAX_ITEMS {
         return read_items(alloc, items);
     }
 
-    // More events are judged and not kept: two megabytes may hold 700,000 of them.
-    if are_events::<E>(items) {
-        Err(BodyRefusal::TooManyEvents)
+    // More items are judged and not kept: two megabytes may hold 700,000 of them.
+    if are_items::<I>(items) {
+        Err(Refusal::TooManyEvents)
     } else {
-        Err(BodyRefusal::BadField)
+        Err(Refusal::BadField)
     }
 }
 
-fn are_events<E: Event>(items: &[Value]) -> bool
-    ensures { result ≡ is_some (events_of (event_of E.names E.from_fields) (items_view items.now)) }
+fn read_json(alloc: Global, body: &[u8]) -> Result<Value, Refusal>
+    ensures ok { IfOk result (λ value. json_of body.now ≡ Some (view value)) }
+    ensures err { IfErr result (λ e. e ≢ Refusal.Unavailable
+        → (e ≡ Refusal.BodyNotJson) × (json_of body.now ≡ None)) }
 {
-    items.iter().all(|item| read_event::<E>(item).is_some())
+    Value::from_slice(alloc, body).map_err(refusal_of)
 }
 
-fn read_items<E: Event>(alloc: Global, items: &[Value]) -> Result<Vec<E>, BodyRefusal>
-    ensures ok { IfOk result (λ events.
-        events_of (event_of E.names E.from_fields) (items_view items.now) ≡ Some events.items) }
-    ensures err { IfErr result (λ e. e ≢ BodyRefusal.Unavailable → (e ≡ BodyRefusal.BadField)
-        × (events_of (event_of E.names E.from_fields) (items_view items.now) ≡ None)) }
+fn refusal_of(error: serde_json::Error) -> Refusal
+    ensures memory { IsMemory error → result ≡ Refusal.Unavailable }
+    ensures text { ¬ IsMemory error → result ≡ Refusal.BodyNotJson }
 {
-    let mut events = Vec::new(alloc);
+    if error.is_memory() {
+        Refusal::Unavailable
+    } else {
+        Refusal::BodyNotJson
+    }
+}
+
+fn are_items<I: Item>(items: &[Value]) -> bool
+    ensures { result ≡ is_some (each_of I.means (items_view items.now)) }
+{
+    items.iter().all(|item| I::read(item).is_some())
+}
+
+fn read_items<I: Item>(alloc: Global, items: &[Value]) -> Result<Vec<I>, Refusal>
+    ensures ok { IfOk result (λ list. each_of I.means (items_view items.now) ≡ Some list.items) }
+    ensures err { IfErr result (λ e. e ≢ Refusal.Unavailable → (e ≡ Refusal.BadField)
+        × (each_of I.means (items_view items.now) ≡ None)) }
+{
+    let mut list = Vec::new(alloc);
     for item in items {
-        let event = read_event(item).ok_or(BodyRefusal::BadField)?;
-        events.push(event)?;
+        let next = I::read(item).ok_or(Refusal::BadField)?;
+        list.push(next)?;
     }
-    Ok(events)
+    Ok(list)
 }
 
 #[cfg(test)]

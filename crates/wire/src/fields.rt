@@ -1,4 +1,4 @@
-//! The numbers in the fields of an event's object.
+//! The numbers in the fields of an object.
 
 ghost use Rattle.std.specs.Prelude.{◌≡◌, ℕ, ◌<◌, ◌^◌, ◌↔◌, List, Some};
 ghost use Rattle.amount.specs.Decimal.{decimal_of};
@@ -49,7 +49,7 @@ pub(crate) fn u16_field(object: &Value, name: &str) -> Option<u16>
     }
 }
 
-fn read_number(text: &str) -> Option<u128>
+pub(crate) fn read_number(text: &str) -> Option<u128>
     ensures { result ≡ number_below (2 ^ 128) text.now }
 {
     Some(Amount::read_decimal(text)?.value())

@@ -1,10 +1,10 @@
-use crate::event::Event;
 use crate::fields::{u16_field, u32_field, u64_field, u128_field};
+use crate::object::Object;
 use amount::Amount;
 use records::{TransferEvent, TransferFlags};
 use serde_json::Value;
 
-impl Event for TransferEvent {
+impl Object for TransferEvent {
     ghost use Rattle.wire.specs.TransferBody.{transfer_names, transfer_from};
 
     ghost names = { transfer_names };

@@ -1,9 +1,9 @@
 ghost use Rattle.std.specs.Prelude.{◌≡◌};
 
-use crate::{Held, Named, PendingState, TransferFacts};
+use crate::{AccountWithBalances, PendingState, PendingTransfer, TransferFacts};
 use amount::Amount;
 use records::{
-    Account, AccountEvent, AccountFlags, Balances, Transfer, TransferEvent, TransferFlags,
+    Account, AccountEvent, AccountFlags, Balances, Sums, Transfer, TransferEvent, TransferFlags,
 };
 
 pub(super) const PENDING: u16 = 2;
@@ -25,10 +25,14 @@ pub(super) fn balances(sums: [u128; 4]) -> Balances {
         credits_posted,
     ] = sums;
     Balances {
-        debits_pending: Amount::new(debits_pending),
-        debits_posted: Amount::new(debits_posted),
-        credits_pending: Amount::new(credits_pending),
-        credits_posted: Amount::new(credits_posted),
+        debits: Sums {
+            pending: Amount::new(debits_pending),
+            posted: Amount::new(debits_posted),
+        },
+        credits: Sums {
+            pending: Amount::new(credits_pending),
+            posted: Amount::new(credits_posted),
+        },
     }
 }
 
@@ -46,17 +50,21 @@ pub(super) fn account(id: u64, flags: u16) -> Account {
     }
 }
 
-pub(super) fn held(id: u64, flags: u16, sums: [u128; 4]) -> Option<Held> {
-    Some(Held {
+pub(super) fn found(id: u64, flags: u16, sums: [u128; 4]) -> Option<AccountWithBalances> {
+    Some(AccountWithBalances {
         account: account(id, flags),
         balances: balances(sums),
     })
 }
 
-pub(super) fn between(debit: Option<Held>, credit: Option<Held>) -> TransferFacts {
+pub(super) fn between(
+    debit: Option<AccountWithBalances>,
+    credit: Option<AccountWithBalances>,
+) -> TransferFacts {
     TransferFacts {
-        stored: None,
-        named: None,
+        existing: None,
+        failed: false,
+        pending: None,
         debit,
         credit,
     }
@@ -88,7 +96,7 @@ pub(super) fn transfer(
 }
 
 // A post or void that leaves open what it may.
-pub(super) fn ending(id: u128, pending_id: u128, amount: u128, flags: u16) -> TransferEvent {
+pub(super) fn post_or_void(id: u128, pending_id: u128, amount: u128, flags: u16) -> TransferEvent {
     TransferEvent {
         pending_id,
         ledger: 0,
@@ -130,13 +138,11 @@ pub(super) fn facts_of_pending(amount: u128, timeout: u32, state: PendingState) 
         0
     };
     TransferFacts {
-        stored: None,
-        named: Some(Named {
+        pending: Some(PendingTransfer {
             transfer: stored(&sent, 5),
-            state,
+            state: Some(state),
         }),
-        debit: held(1, 0, [open, 0, 0, 0]),
-        credit: held(2, 0, [0, 0, open, 0]),
+        ..between(found(1, 0, [open, 0, 0, 0]), found(2, 0, [0, 0, open, 0]))
     }
 }
 
@@ -147,7 +153,7 @@ pub(super) fn part_posted() -> Transfer {
         credit_account_id: 2,
         ledger: 7,
         code: 1,
-        ..stored(&ending(101, 100, 40, POST), 6)
+        ..stored(&post_or_void(101, 100, 40, POST), 6)
     }
 }
 

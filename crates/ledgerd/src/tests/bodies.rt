@@ -1,4 +1,4 @@
-use super::sample::base;
+use super::fixture::Ledger;
 use crate::plain_reply::PlainReply;
 use crate::printed::printed;
 use crate::respond_plain::respond_plain;
@@ -133,7 +133,7 @@ fn answers_the_examples_of_chains(rt: HostRuntime) -> Result<(), Fail> {
     ];
     for (body, want) in examples {
         let mut book = Book::new(alloc);
-        book.add(FIRST, base(&rt, alloc)?)?;
+        book.add(FIRST, Ledger::base(alloc)?.into_tables())?;
         assert_eq!(rt; told(alloc, &mut book, body, 0)?.as_slice(), want);
     }
     Ok(())

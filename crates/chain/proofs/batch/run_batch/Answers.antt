@@ -1,45 +1,66 @@
-use Rattle.std.proofs.Common.{◌≡◌, ◌+◌, ◌-◌, ◌∙◌, sym, ap, arith, length, refl}
-use Rattle.chain.proofs.States.{now_after, same_but_now, in_two_steps}
+use Rattle.std.proofs.Common.{◌+◌, ◌-◌, ◌∙◌, sym, ap, arith, length, refl}
+use Rattle.records.specs.Chains.{chains_of, after_chains}
+use Rattle.records.specs.Step.{at_clock, step_machine}
+use Rattle.chain.specs.Tables.{on_now, same}
+use Rattle.chain.proofs.Runs.{Joins, in_turn, changed_so}
 use Rattle.chain.proofs.Steps.{outcome_exhausted, machine_exhausted, outcome_answered, machine_answered}
 use Rattle.chain.proofs.Timestamps.{batch_begins}
 use Rattle.chain.proofs.batch.run_batch.Goals as goal
 
 pub returns-in_default-clause-reply : goal.returns-in_default-clause-reply
-returns-in_default-clause-reply g c =
-    let late = rw c.in_ok-clock.ensures.ok at c.in_default.ensures in
-    rw (outcome_exhausted g.E.Judged.rules (g.T.Tables.state c.args.tables.now).now c.args.batch.now c.args.moment late) tt
+returns-in_default-clause-reply g c live =
+    let late = rw (c.in_ok-clock.ensures.value live) at c.in_default.ensures in
+    rw (outcome_exhausted g.E.BatchEvent.rules (g.T.Tables.means.state c.args.tables.now).now c.args.batch.now c.args.moment late) tt
 
-pub returns-in_default-clause-machine : goal.returns-in_default-clause-machine
-returns-in_default-clause-machine g c =
-    let late = rw c.in_ok-clock.ensures.ok at c.in_default.ensures in
-    rw (machine_exhausted g.E.Judged.rules (g.T.Tables.state c.args.tables.now).now c.args.batch.now c.args.moment late) c.in_ok-clock.ensures.same
+pub returns-in_default-clause-leaves : goal.returns-in_default-clause-leaves
+returns-in_default-clause-leaves g c =
+    let t = g.T.Tables.means in
+    let rules = g.E.BatchEvent.rules in
+    let old = t.state c.args.tables.now in
+    changed_so t c.args.tables.now c.clock.new.self _ _ same (on_now (λ m. step_machine rules m c.args.batch.now c.args.moment)) c.in_ok-clock.ensures.leaves (λ live.
+    let late = rw (c.in_ok-clock.ensures.value live) at c.in_default.ensures in
+    ap (λ m. on_now (λ n. m) old) (sym (machine_exhausted rules old.now c.args.batch.now c.args.moment late)))
 
-pub run_chains-requires-clause-in_batch : goal.run_chains-requires-clause-in_batch
-run_chains-requires-clause-in_batch g c =
-    let old = g.T.Tables.state c.args.tables.now in
-    let start = g.T.Tables.state c.clock.new.self in
-    let same : start.now ≡ old.now = ap (λ s. s.now) c.in_ok-clock.ensures.same in
-    let told : c.in_ok-clock.clock ≡ start.now.clock = c.in_ok-clock.ensures.ok ∙ sym (ap (λ m. m.clock) same) in
+pub run_chains-requires-clause-between : goal.run_chains-requires-clause-between
+run_chains-requires-clause-between g c live =
+    let t = g.T.Tables.means in
+    let old = t.state c.args.tables.now in
+    let clocked : t.is_live c.clock.new.self = g.met.T.Tables.lived _ _ c.in_ok-settle.ensures.follows live in
+    let was : t.is_live c.args.tables.now = g.met.T.Tables.lived _ _ c.in_ok-clock.ensures.leaves.follows clocked in
+    let settled = rw (c.in_ok-clock.ensures.leaves.state clocked) at c.in_ok-settle.ensures.state live in
+    let told = c.in_ok-clock.ensures.value clocked in
     let first = c.in-Some.clock - length c.args.batch.now + 1 in
-    let valid = g.met.T.Tables.valid c.clock.new.self c.in_ok-clock.ensures.usable in
-    let begins = batch_begins start.now c.in-Some.clock first valid (omega arith) c.in-Some.ensures.1 (omega arith) in
-    rw (now_after start _ _ c.in_ok-settle.ensures.ok) begins
+    let begins = batch_begins old.now c.in-Some.clock first (g.met.T.Tables.valid c.args.tables.now was c.requires.usable) (omega arith) in
+    record {
+      in_batch = rw settled begins;
+      unmarked = ap (λ s. s.marked) settled ∙ (c.requires.fresh was).unmarked;
+    }
 
 pub returns-clause-reply : goal.returns-clause-reply
-returns-clause-reply g c =
-    let rules = g.E.Judged.rules in
-    let old = g.T.Tables.state c.args.tables.now in
-    let told = rw c.in_ok-clock.ensures.ok at c.in-Some.ensures.0 in
-    let settled = rw c.in_ok-clock.ensures.same at c.in_ok-settle.ensures.ok in
-    let items = rw (c.in_ok-results.ensures.items, now_after old _ _ settled) at c.in_ok-run_chains.ensures.results in
+returns-clause-reply g c live =
+    let t = g.T.Tables.means in
+    let rules = g.E.BatchEvent.rules in
+    let old = t.state c.args.tables.now in
+    let settled_live : t.is_live c.settle.new.self = g.met.T.Tables.lived _ _ c.in_ok-run_chains.ensures.leaves.follows live in
+    let clocked : t.is_live c.clock.new.self = g.met.T.Tables.lived _ _ c.in_ok-settle.ensures.follows settled_live in
+    let settled = rw (c.in_ok-clock.ensures.leaves.state clocked) at c.in_ok-settle.ensures.state settled_live in
+    let told = rw (c.in_ok-clock.ensures.value clocked) at c.in-Some.ensures.0 in
+    let items = rw (c.in_ok-results.ensures.items, settled) at c.in_ok-run_chains.ensures.results live in
     rw (outcome_answered rules old.now c.args.batch.now c.args.moment c.in-Some.clock told c.in-Some.ensures.1) (refl, items)
 
-pub returns-clause-machine : goal.returns-clause-machine
-returns-clause-machine g c =
-    let rules = g.E.Judged.rules in
-    let old = g.T.Tables.state c.args.tables.now in
-    let told = rw c.in_ok-clock.ensures.ok at c.in-Some.ensures.0 in
-    let settled = rw c.in_ok-clock.ensures.same at c.in_ok-settle.ensures.ok in
-    let same = same_but_now old _ _ settled in
-    let ran = rw (now_after old _ _ settled) at c.in_ok-run_chains.ensures.machine in
-    rw (machine_answered rules old.now c.args.batch.now c.args.moment c.in-Some.clock told c.in-Some.ensures.1) (in_two_steps old (g.T.Tables.state c.settle.new.self) _ _ same ran)
+pub returns-clause-leaves : goal.returns-clause-leaves
+returns-clause-leaves g c =
+    let t = g.T.Tables.means in
+    let rules = g.E.BatchEvent.rules in
+    let joins : Joins t = record { then = g.met.T.Tables.then; lived = g.met.T.Tables.lived } in
+    let old = t.state c.args.tables.now in
+    let clock = c.in-Some.clock in
+    let first = clock - length c.args.batch.now + 1 in
+    let settling = on_now (λ m. at_clock m clock) in
+    let running = on_now (λ m. after_chains rules m (chains_of rules.linked c.args.batch.now) first) in
+    let settled = in_turn t c.args.tables.now c.clock.new.self c.settle.new.self _ _ same settling joins c.in_ok-clock.ensures.leaves c.in_ok-settle.ensures in
+    let ran = in_turn t c.args.tables.now c.settle.new.self c.run_chains.new.tables _ _ settling running joins settled c.in_ok-run_chains.ensures.leaves in
+    changed_so t c.args.tables.now c.run_chains.new.tables _ _ (λ s. running (settling s)) (on_now (λ m. step_machine rules m c.args.batch.now c.args.moment)) ran (λ live.
+    let clocked : t.is_live c.clock.new.self = joins.lived _ _ (joins.then _ _ _ c.in_ok-settle.ensures.follows c.in_ok-run_chains.ensures.leaves.follows) live in
+    let told = rw (c.in_ok-clock.ensures.value clocked) at c.in-Some.ensures.0 in
+    ap (λ m. on_now (λ n. m) old) (sym (machine_answered rules old.now c.args.batch.now c.args.moment clock told c.in-Some.ensures.1)))

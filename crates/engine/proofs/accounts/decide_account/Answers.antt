@@ -1,5 +1,5 @@
 use Rattle.std.proofs.Common.{sym}
-use Rattle.engine.proofs.NextAccount.{next_account}
+use Rattle.engine.proofs.NextAccountLemmas.{next_account}
 use Rattle.engine.proofs.accounts.decide_account.Goals as goal
 
 pub returns-in-None-clause-next : goal.returns-in-None-clause-next

@@ -1,4 +1,4 @@
-use Rattle.engine.proofs.Books.{books_balance}
+use Rattle.engine.proofs.BooksBalance.{books_balance}
 use Rattle.engine.proofs.Sound.{sound}
 use Rattle.engine.proofs.laws.books_balance.Goals as goal
 

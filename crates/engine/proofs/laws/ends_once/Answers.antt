@@ -1,4 +1,4 @@
-use Rattle.engine.proofs.Endings.{each_ends_once}
+use Rattle.engine.proofs.EndsOnceLemmas.{each_ends_once}
 use Rattle.engine.proofs.Sound.{sound}
 use Rattle.engine.proofs.laws.ends_once.Goals as goal
 

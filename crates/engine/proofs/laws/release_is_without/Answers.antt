@@ -1,5 +1,5 @@
 use Rattle.std.proofs.lemmas.Bool.{ne_eqb}
-use Rattle.engine.proofs.Released.{released, released_in}
+use Rattle.engine.proofs.ReleaseLemmas.{released, released_in}
 use Rattle.engine.proofs.Sound.{sound}
 use Rattle.engine.proofs.laws.release_is_without.Goals as goal
 

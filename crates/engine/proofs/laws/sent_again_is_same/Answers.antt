@@ -1,4 +1,4 @@
-use Rattle.engine.proofs.AcceptedNext.{sent_as_stored}
+use Rattle.engine.proofs.AcceptedIsNext.{sent_as_stored}
 use Rattle.engine.proofs.Sound.{sound}
 use Rattle.engine.proofs.laws.sent_again_is_same.Goals as goal
 

@@ -1,5 +1,5 @@
 use Rattle.std.proofs.Common.{ap, ◌∙◌}
-use Rattle.records.specs.Balances.{balances_of}
+use Rattle.records.specs.Balances.{balances_of, balances_in}
 use Rattle.chain.specs.Tables.{State}
 use Rattle.plain.proofs.plain_tables.PlainTables.balances.Goals as goal
 
@@ -13,4 +13,4 @@ pub returns : goal.returns
 returns c =
     c.balances.ensures
     ∙ ap (λ transfers. balances_of transfers c.self.inside.clock c.args.id) c.deref.ensures.value
-    ∙ ap (λ (s : State). balances_of s.now.transfers s.now.clock c.args.id) c.self.view_is
+    ∙ ap (λ (s : State). balances_in s.now c.args.id) c.self.view_is

@@ -1,0 +1,36 @@
+use Rattle.std.proofs.Common.{refl}
+use Rattle.matchit.proofs.OnLiterals.{matchit_on_literals}
+use Rattle.ledger_http.specs.Routes.{service_rows}
+use Rattle.ledger_http.proofs.routing.service_router.Goals as goal
+
+pub add-requires : goal.add-requires
+unfolding matchit_on_literals
+add-requires c = rw c.new-router.ensures (_, refl, refl)
+
+pub add-requires-2 : goal.add-requires-2
+unfolding matchit_on_literals
+add-requires-2 c = rw (c.in_ok-add.ensures.ok, c.new-router.ensures) (_, refl, refl)
+
+pub add-requires-3 : goal.add-requires-3
+unfolding matchit_on_literals
+add-requires-3 c = rw (c.in_ok-add-2.ensures.ok, c.in_ok-add.ensures.ok, c.new-router.ensures) (_, refl, refl)
+
+pub add-requires-4 : goal.add-requires-4
+unfolding matchit_on_literals
+add-requires-4 c = rw (c.in_ok-add-3.ensures.ok, c.in_ok-add-2.ensures.ok, c.in_ok-add.ensures.ok, c.new-router.ensures) (_, refl, refl)
+
+pub add-requires-5 : goal.add-requires-5
+unfolding matchit_on_literals
+add-requires-5 c = rw (c.in_ok-add-4.ensures.ok, c.in_ok-add-3.ensures.ok, c.in_ok-add-2.ensures.ok, c.in_ok-add.ensures.ok, c.new-router.ensures) (_, refl, refl)
+
+pub add-requires-6 : goal.add-requires-6
+unfolding matchit_on_literals
+add-requires-6 c = rw (c.in_ok-add-5.ensures.ok, c.in_ok-add-4.ensures.ok, c.in_ok-add-3.ensures.ok, c.in_ok-add-2.ensures.ok, c.in_ok-add.ensures.ok, c.new-router.ensures) (_, refl, refl)
+
+pub add-requires-7 : goal.add-requires-7
+unfolding matchit_on_literals
+add-requires-7 c = rw (c.in_ok-add-6.ensures.ok, c.in_ok-add-5.ensures.ok, c.in_ok-add-4.ensures.ok, c.in_ok-add-3.ensures.ok, c.in_ok-add-2.ensures.ok, c.in_ok-add.ensures.ok, c.new-router.ensures) (_, refl, refl)
+
+pub returns-clause-ok : goal.returns-clause-ok
+unfolding matchit_on_literals service_rows
+returns-clause-ok c = rw (c.in_ok-add-7.ensures.ok, c.in_ok-add-6.ensures.ok, c.in_ok-add-5.ensures.ok, c.in_ok-add-4.ensures.ok, c.in_ok-add-3.ensures.ok, c.in_ok-add-2.ensures.ok, c.in_ok-add.ensures.ok, c.new-router.ensures)

@@ -1,0 +1,31 @@
+-- What reading a message gives, where the bytes are known.
+use Rattle.std.specs.Prelude.{◌≡◌, ℕ, ◌<◌, ◌≤◌, ◌⊎◌, List, [], ◌++◌, length, take, drop, Option, Some, Err, ⊤}
+use Rattle.httparse.specs.Grammar.{RequestHead}
+use Rattle.ledger_http.specs.declared.refusal.Refusal.{Refusal}
+use Rattle.ledger_http.specs.declared.refusal.Refusal.TheVariants.{BadHead, Truncated}
+use Rattle.ledger_http.specs.declared.message.Message.{Message}
+use Rattle.ledger_http.specs.declared.message.Message.TheVariants.{Whole, End, Refused, NoMemory}
+use Rattle.ledger_http.specs.Head.{IsGoodHead}
+use Rattle.ledger_http.specs.Message.{length_of_body, Begins, IsRefused, IsAnnounced}
+
+-- what a reader gives is the first message of what was unread
+abbrev pub IsFirst : List ℕ → Option (List ℕ) → Message → Type 0
+IsFirst unread left (Whole bytes) = Begins unread bytes.items left
+IsFirst unread left End = (unread ≡ []) × (left ≡ Some [])
+IsFirst unread left (Refused refusal) = IsRefused unread refusal
+IsFirst unread left NoMemory = IsAnnounced unread
+
+-- the bytes are no good head, or a good one behind which no body of allowed length is due
+abbrev pub IsHeadRefused : List ℕ → Refusal → Type 0
+IsHeadRefused head refusal =
+    ((refusal ≡ BadHead) × ((h : RequestHead) → IsGoodHead head h → ⊥))
+    ⊎ ((h : RequestHead) × IsGoodHead head h × (length_of_body h ≡ Err refusal))
+
+-- behind a head stands a body of so many bytes, or less than that
+abbrev pub IsRead : List ℕ → List ℕ → ℕ → Option (List ℕ) → Message → Type 0
+IsRead head bytes size left (Whole message) =
+    (message.items ≡ head ++ take size bytes)
+    × (size ≤ length bytes) × (left ≡ Some (drop size bytes))
+IsRead head bytes size left End = ⊥
+IsRead head bytes size left (Refused refusal) = (refusal ≡ Truncated) × (length bytes < size)
+IsRead head bytes size left NoMemory = ⊤

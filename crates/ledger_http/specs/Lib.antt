@@ -1,0 +1,13 @@
+pub mod RefusalTable
+pub mod ReplyText
+pub mod Limits
+pub mod Results
+pub mod Head
+pub mod Header
+pub mod Message
+pub mod Reading
+pub mod First
+pub mod Routes
+pub mod Routing
+pub mod Question
+pub mod Alone

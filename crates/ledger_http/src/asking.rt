@@ -1,0 +1,61 @@
+//! Which request a message asks.
+ghost use Rattle.std.specs.Prelude.{◌≡◌, ◌≤◌, IfOk};
+ghost use Rattle.httparse.specs.Grammar.{RequestHead};
+ghost use Rattle.ledger_http.specs.Limits.{max_body};
+ghost use Rattle.ledger_http.specs.Message.{First, length_of_body};
+ghost use Rattle.ledger_http.specs.Header.{Shows};
+ghost use Rattle.ledger_http.specs.Question.{question_in, Tells, IsAsked};
+
+use crate::ends::head_length;
+use crate::head::{Head, head_of};
+use crate::limits::MAX_BODY;
+use crate::routing::{account_in, find_route};
+use crate::{Asked, Refusal};
+use std::alloc::Global;
+use tenants::Key;
+
+/// How long the body behind a head is.
+pub(crate) fn body_length(head: &Head<'_>) -> Result<usize, Refusal>
+    ensures size { (h : RequestHead) → Shows head.now h → result ≡ length_of_body h }
+    ensures few { IfOk result (λ size. size ≤ max_body) }
+{
+    match head.length {
+        Some(size) if size > MAX_BODY => Err(Refusal::BodyTooLarge),
+        Some(size) => Ok(size),
+        None if head.method == b"GET".as_slice() => Ok(0),
+        None => Err(Refusal::LengthRequired),
+    }
+}
+
+// What a whole message asks.
+fn question<'a>(alloc: Global, head: Head<'a>, body: &'a [u8]) -> Result<Asked<'a>, Refusal>
+    ensures { (first : First) → Shows head.entry first.head → first.body ≡ body.now
+        → Tells (question_in first) result }
+{
+    let route = find_route(alloc, head.target)?;
+    if head.method != route.method() {
+        return Err(Refusal::BadMethod);
+    }
+    let Some(key) = head.key.and_then(Key::read) else {
+        return Err(Refusal::UnknownKey);
+    };
+    Ok(Asked {
+        route,
+        account: account_in(head.target),
+        key,
+        body,
+    })
+}
+
+/// Reads the first message of `bytes` up to its key. What stands behind it does not matter.
+pub fn asked(alloc: Global, bytes: &[u8]) -> Result<Asked<'_>, Refusal>
+    ensures { IsAsked bytes.now result }
+{
+    let head_size = head_length(bytes)?;
+    let head = head_of(&bytes[..head_size])?;
+    let body_size = body_length(&head)?;
+    if bytes.len() - head_size < body_size {
+        return Err(Refusal::Truncated);
+    }
+    question(alloc, head, &bytes[head_size..head_size + body_size])
+}

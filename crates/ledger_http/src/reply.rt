@@ -1,0 +1,47 @@
+ghost use Rattle.std.specs.Prelude.{◌≡◌, IfOk};
+ghost use Rattle.std.specs.String.{string_bytes};
+ghost use Rattle.ledger_http.specs.ReplyText.{head_text, body_text, reply_text};
+
+use crate::{ContentType, Refusal};
+use http::StatusCode;
+use std::alloc::{AllocError, Global};
+
+/// A reply, from its status line on.
+#[derive(Debug, Drop)]
+pub enum Reply {
+    Whole(Vec<u8>),
+    /// The constant reply of a refusal.
+    Fixed(Refusal),
+}
+
+// All of a reply without refusal that stands before its body.
+fn head(alloc: Global, kind: ContentType, length: usize) -> Result<String, AllocError>
+    ensures { IfOk result (λ head. string_bytes head ≡ head_text 200 kind length) }
+{
+    let status = StatusCode::OK;
+    let kind = kind.name();
+    format!(in alloc;
+        "HTTP/1.1 {status}\r\ncontent-length: {length}\r\ncontent-type: {kind}\r\n\r\n"
+    )
+}
+
+impl Reply {
+    /// A reply without refusal.
+    #[tactic(auto, unfolding(crate::specs::ReplyText::body_text))]
+    pub fn of_body(alloc: Global, kind: ContentType, body: &[u8]) -> Result<Reply, AllocError>
+        ensures { IfOk result (λ reply. reply_text reply ≡ body_text kind body.now) }
+    {
+        let mut bytes = head(alloc, kind, body.len())?.into_bytes();
+        bytes.extend_from_slice(body)?;
+        Ok(Reply::Whole(bytes))
+    }
+
+    pub fn bytes(&self) -> &[u8]
+        ensures { result.now ≡ reply_text self.now }
+    {
+        match self {
+            Reply::Whole(bytes) => bytes.as_slice(),
+            Reply::Fixed(refusal) => refusal.reply().as_bytes(),
+        }
+    }
+}

@@ -1,0 +1,47 @@
+ghost use Rattle.std.specs.Prelude.{◌≡◌};
+ghost use Rattle.ledger_http.specs.Routes.{path_of, method_of};
+
+/// What a request asks for.
+#[derive(Clone, Copy, Debug, PartialEq, Eq)]
+pub enum Route {
+    /// A batch of account events.
+    Accounts,
+    /// A batch of transfer events.
+    Transfers,
+    /// Accounts by their ids.
+    LookupAccounts,
+    /// Transfers by their ids.
+    LookupTransfers,
+    /// An account's transfers.
+    HistoryTransfers,
+    /// An account's balances after its transfers.
+    HistoryBalances,
+    /// An account's statement.
+    Statement,
+}
+
+impl Route {
+    /// The path; braces stand round what is not fixed.
+    pub fn path(self) -> &'static str
+        ensures { result.now ≡ path_of self }
+    {
+        match self {
+            Route::Accounts => "/accounts",
+            Route::Transfers => "/transfers",
+            Route::LookupAccounts => "/accounts/lookup",
+            Route::LookupTransfers => "/transfers/lookup",
+            Route::HistoryTransfers => "/history/transfers",
+            Route::HistoryBalances => "/history/balances",
+            Route::Statement => "/statement/{account}",
+        }
+    }
+
+    pub fn method(self) -> &'static [u8]
+        ensures { result.now ≡ method_of self }
+    {
+        match self {
+            Route::Statement => b"GET",
+            _ => b"POST",
+        }
+    }
+}

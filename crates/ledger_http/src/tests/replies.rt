@@ -1,0 +1,115 @@
+use super::sample::Narrow;
+use crate::{ContentType, Refusal, Reply, write_reply};
+use records::Streamed;
+use std::alloc::AllocError;
+
+// Each refusal with its status line, the length of its body and its name.
+fn row(case: u8) -> Option<(Refusal, &'static str, u8, &'static str)> {
+    Some(match case {
+        0 => (Refusal::BadHead, "400 Bad Request", 20, "bad_head"),
+        1 => (
+            Refusal::HeadTooLarge,
+            "431 Request Header Fields Too Large",
+            26,
+            "head_too_large",
+        ),
+        2 => (
+            Refusal::LengthRequired,
+            "411 Length Required",
+            27,
+            "length_required",
+        ),
+        3 => (
+            Refusal::BodyTooLarge,
+            "413 Payload Too Large",
+            26,
+            "body_too_large",
+        ),
+        4 => (Refusal::Truncated, "400 Bad Request", 21, "truncated"),
+        5 => (Refusal::NoRoute, "404 Not Found", 20, "no_route"),
+        6 => (
+            Refusal::BadMethod,
+            "405 Method Not Allowed",
+            22,
+            "bad_method",
+        ),
+        7 => (Refusal::UnknownKey, "401 Unauthorized", 23, "unknown_key"),
+        8 => (Refusal::BodyNotJson, "400 Bad Request", 25, "body_not_json"),
+        9 => (Refusal::BadField, "400 Bad Request", 21, "bad_field"),
+        10 => (
+            Refusal::TooManyEvents,
+            "413 Payload Too Large",
+            27,
+            "too_many_events",
+        ),
+        11 => (Refusal::NoAccount, "404 Not Found", 22, "no_account"),
+        12 => (Refusal::NoHistory, "409 Conflict", 22, "no_history"),
+        13 => (
+            Refusal::ClockExhausted,
+            "503 Service Unavailable",
+            27,
+            "clock_exhausted",
+        ),
+        14 => (
+            Refusal::Unavailable,
+            "503 Service Unavailable",
+            23,
+            "unavailable",
+        ),
+        _ => return None,
+    })
+}
+
+fn refusal_text(
+    rt: &impl AllocGlobal,
+    status: &str,
+    length: u8,
+    name: &str,
+) -> Result<String, AllocError> {
+    format!(in rt.alloc();
+        "HTTP/1.1 {status}\r\ncontent-length: {length}\r\ncontent-type: application/json\r\n\r\n\
+         {{\"error\":\"{name}\"}}"
+    )
+}
+
+fn is_replied(rt: &impl AllocGlobal, case: u8) -> Result<bool, AllocError> {
+    let Some((refusal, status, length, name)) = row(case) else {
+        return Ok(false);
+    };
+    let want = refusal_text(rt, status, length, name)?;
+    Ok(Reply::Fixed(refusal).bytes() == want.as_bytes() && refusal.name() == name)
+}
+
+#[test]
+fn has_constant_replies(rt: HostRuntime) -> Result<(), AllocError> {
+    for case in 0..15 {
+        assert!(rt; is_replied(&rt, case)?, "case {case}");
+    }
+    assert_eq!(rt; Refusal::HeadTooLarge.status().as_u16(), 431);
+    Ok(())
+}
+
+// The reply with room for so many bytes is written as far as it goes, and told so.
+fn is_written(rt: &impl AllocGlobal, reply: &Reply, room: usize) -> bool {
+    let taken = Vec::new(rt.alloc());
+    let mut writer = Streamed::new(Narrow { taken, room });
+    let result = write_reply(&mut writer, reply);
+    let Narrow { taken, room: _ } = writer.into_inner();
+    let bytes = reply.bytes();
+    let fits = bytes.len() <= room;
+    result.is_ok() == fits && taken.as_slice() == &bytes[..room.min(bytes.len())]
+}
+
+#[test]
+fn writes_replies_or_a_beginning(rt: HostRuntime) -> Result<(), AllocError> {
+    let json = b"HTTP/1.1 200 OK\r\ncontent-length: 2\r\ncontent-type: application/json\r\n\r\n{}";
+    let reply = Reply::of_body(rt.alloc(), ContentType::Json, b"{}")?;
+    assert!(rt; reply.bytes() == json.as_slice());
+    let csv = b"HTTP/1.1 200 OK\r\ncontent-length: 3\r\ncontent-type: text/csv\r\n\r\na\n1";
+    let reply = Reply::of_body(rt.alloc(), ContentType::Csv, b"a\n1")?;
+    assert!(rt; reply.bytes() == csv.as_slice());
+    for room in 0..70 {
+        assert!(rt; is_written(&rt, &reply, room), "with room for {room}");
+    }
+    Ok(())
+}

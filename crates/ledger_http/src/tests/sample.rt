@@ -1,0 +1,315 @@
+//! Readers and writers that are slow and fail, and messages that are refused.
+ghost use Rattle.std.specs.Prelude.{◌≡◌, false};
+ghost use Rattle.records.specs.Streamed.{stream_failed};
+
+use crate::{Message, Refusal, asked, read_message};
+use records::Streamed;
+use std::alloc::AllocError;
+use std::io::{self, ErrorKind, Read, Write};
+
+/// A good key.
+pub(crate) const KEY: &str =
+    "x-ledger-key: 0FababababababababababababababababababababababababababababababC9\r\n";
+
+/// Gives at most `piece` bytes a call, and fails behind the last one if it is to.
+#[derive(Drop)]
+pub(crate) struct Pieces<'a> {
+    pub(crate) bytes: &'a [u8],
+    pub(crate) piece: usize,
+    pub(crate) fails: bool,
+}
+
+impl Read for Pieces<'_> {
+    fn read(&mut self, buf: &mut [u8]) -> io::Result<usize> {
+        if self.bytes.is_empty() && self.fails {
+            return Err(ErrorKind::ConnectionReset.into());
+        }
+        let count = buf.len().min(self.piece).min(self.bytes.len());
+        let (front, rest) = self.bytes.split_at(count);
+        buf[..count].copy_from_slice(front);
+        self.bytes = rest;
+        Ok(count)
+    }
+}
+
+/// Takes at most three bytes a call, and fails once it has taken `room` bytes.
+#[derive(Drop)]
+pub(crate) struct Narrow {
+    pub(crate) taken: Vec<u8>,
+    pub(crate) room: usize,
+}
+
+impl Write for Narrow {
+    fn write(&mut self, buf: &[u8]) -> io::Result<usize> {
+        let count = buf.len().min(3).min(self.room);
+        if count == 0 {
+            return Err(ErrorKind::BrokenPipe.into());
+        }
+        self.taken.extend_from_slice(&buf[..count])?;
+        self.room -= count;
+        Ok(count)
+    }
+
+    fn flush(&mut self) -> io::Result<()> {
+        Ok(())
+    }
+}
+
+/// A request line without its version, the headers behind it, the body, and why they are refused.
+pub(crate) type Refused = (&'static str, &'static str, &'static str, Refusal);
+
+/// Each refusal, and where one message meets several, the one that comes first.
+pub(crate) fn refused(case: u8) -> Option<Refused> {
+    Some(match case {
+        // Heads that are not good, whatever else is wrong with them.
+        0 => ("GET /\u{7f}", "", "", Refusal::BadHead),
+        1 => ("POST / HTTP/1.0\r\na: b", "", "", Refusal::BadHead),
+        2 => (
+            "POST /nowhere",
+            "content-length: 2\r\nContent-Length: 2\r\n",
+            "ab",
+            Refusal::BadHead,
+        ),
+        3 => (
+            "POST /accounts",
+            "content-length: 05\r\n",
+            "12345",
+            Refusal::BadHead,
+        ),
+        4 => (
+            "POST /accounts",
+            "content-length: +2\r\n",
+            "ab",
+            Refusal::BadHead,
+        ),
+        5 => (
+            "POST /accounts",
+            "content-length: 2, 2\r\n",
+            "ab",
+            Refusal::BadHead,
+        ),
+        6 => (
+            "POST /accounts",
+            "content-length:\r\n",
+            "",
+            Refusal::BadHead,
+        ),
+        7 => (
+            "POST /accounts",
+            "content-length: ٢\r\n",
+            "ab",
+            Refusal::BadHead,
+        ),
+        8 => (
+            "POST /nowhere",
+            "transfer-encoding:\r\n",
+            "",
+            Refusal::BadHead,
+        ),
+        9 => (
+            "POST /nowhere",
+            "Transfer-Encoding: chunked\r\n",
+            "0\r\n\r\n",
+            Refusal::BadHead,
+        ),
+        10 => ("GET /accounts", "a : b\r\n", "", Refusal::BadHead),
+        11 => ("GET /accounts", "a: b\r\n c\r\n", "", Refusal::BadHead),
+        12 => ("GET /accounts", "a: \u{1}\r\n", "", Refusal::BadHead),
+        13 => ("GET /accounts HTTP/1.1\n\n", "", "", Refusal::BadHead),
+        // No length, or one that is too long.
+        14 => ("POST /nowhere", "", "", Refusal::LengthRequired),
+        15 => ("get /accounts", "", "", Refusal::LengthRequired),
+        16 => (
+            "POST /nowhere",
+            "content-length: 2097153\r\n",
+            "",
+            Refusal::BodyTooLarge,
+        ),
+        17 => (
+            "GET /nowhere",
+            "content-length: 2097153\r\n",
+            "",
+            Refusal::BodyTooLarge,
+        ),
+        18 => (
+            "POST /accounts",
+            "content-length: 18446744073709551618\r\n",
+            "ab",
+            Refusal::BodyTooLarge,
+        ),
+        19 => (
+            "POST /accounts",
+            "content-length: 999999999999999999999999999999\r\n",
+            "",
+            Refusal::BodyTooLarge,
+        ),
+        // Bodies that are cut short.
+        20 => (
+            "POST /nowhere",
+            "content-length: 2097152\r\n",
+            "ab",
+            Refusal::Truncated,
+        ),
+        21 => (
+            "GET /nowhere",
+            "content-length: 3\r\n",
+            "ab",
+            Refusal::Truncated,
+        ),
+        // Paths without a route, whatever the method and the key.
+        22 => ("GET /é", "", "", Refusal::NoRoute),
+        23 => ("POST /", "content-length: 0\r\n", "", Refusal::NoRoute),
+        24 => (
+            "POST /accounts/",
+            "content-length: 0\r\n",
+            "",
+            Refusal::NoRoute,
+        ),
+        25 => (
+            "POST //accounts",
+            "content-length: 0\r\n",
+            "",
+            Refusal::NoRoute,
+        ),
+        26 => (
+            "POST /transfers/",
+            "content-length: 0\r\n",
+            "",
+            Refusal::NoRoute,
+        ),
+        27 => (
+            "POST /transfers?x=1",
+            "content-length: 0\r\n",
+            "",
+            Refusal::NoRoute,
+        ),
+        28 => ("GET /statement", "", "", Refusal::NoRoute),
+        29 => ("GET /statement/", "", "", Refusal::NoRoute),
+        30 => ("GET /statement/1/", "", "", Refusal::NoRoute),
+        31 => ("GET /statement/1/2", "", "", Refusal::NoRoute),
+        // The method of another route, whatever the key.
+        32 => ("GET /accounts", "", "", Refusal::BadMethod),
+        33 => (
+            "get /accounts",
+            "content-length: 0\r\n",
+            "",
+            Refusal::BadMethod,
+        ),
+        34 => (
+            "HEAD /statement/1",
+            "content-length: 0\r\n",
+            "",
+            Refusal::BadMethod,
+        ),
+        35 => (
+            "POST /statement/01",
+            "content-length: 0\r\n",
+            "",
+            Refusal::BadMethod,
+        ),
+        // Keys that are missing, doubled or ill-formed, whatever the body.
+        36 => (
+            "POST /accounts",
+            "content-length: 1\r\n",
+            "[",
+            Refusal::UnknownKey,
+        ),
+        37 => ("GET /statement/01", "", "", Refusal::UnknownKey),
+        38 => (
+            "GET /statement/1",
+            "x-ledger-key: 000000000000000000000000000000000000000000000000000000000000000\r\n",
+            "",
+            Refusal::UnknownKey,
+        ),
+        39 => (
+            "GET /statement/1",
+            "x-ledger-key: 000000000000000000000000000000000000000000000000000000000000000g\r\n",
+            "",
+            Refusal::UnknownKey,
+        ),
+        40 => (
+            "GET /statement/1",
+            "x-ledger-key: é00000000000000000000000000000000000000000000000000000000000000\r\n",
+            "",
+            Refusal::UnknownKey,
+        ),
+        41 => (
+            "GET /statement/1",
+            "x-ledger-key:\r\n",
+            "",
+            Refusal::UnknownKey,
+        ),
+        42 => (
+            "GET /statement/1",
+            "x-ledger-key: 0000000000000000000000000000000000000000000000000000000000000000\r\n\
+         X-Ledger-Key: 0000000000000000000000000000000000000000000000000000000000000000\r\n",
+            "",
+            Refusal::UnknownKey,
+        ),
+        43 => (
+            "GET /statement/1",
+            "X-LEDGER-KEY: 0000000000000000000000000000000000000000000000000000000000000000\r\n\
+         x-ledger-key: 1\r\n",
+            "",
+            Refusal::UnknownKey,
+        ),
+        _ => return None,
+    })
+}
+
+/// A message of these parts.
+pub(crate) fn message(
+    rt: &impl AllocGlobal,
+    line: &str,
+    headers: &str,
+    body: &str,
+) -> Result<String, AllocError> {
+    format!(in rt.alloc(); "{line} HTTP/1.1\r\n{headers}\r\n{body}")
+}
+
+/// Whether the refusal comes before the request is looked at.
+pub(crate) fn is_of_reading(refusal: Refusal) -> bool {
+    matches!(
+        refusal,
+        Refusal::BadHead
+            | Refusal::HeadTooLarge
+            | Refusal::LengthRequired
+            | Refusal::BodyTooLarge
+            | Refusal::Truncated
+    )
+}
+
+/// Why bytes are refused, if they are.
+pub(crate) fn refusal_of(rt: &impl AllocGlobal, bytes: &[u8]) -> Option<Refusal> {
+    match asked(rt.alloc(), bytes) {
+        Ok(_) => None,
+        Err(refusal) => Some(refusal),
+    }
+}
+
+/// A reader of these bytes in pieces, which ends or fails behind them.
+pub(crate) fn reader_of(bytes: &[u8], piece: usize, fails: bool) -> Streamed<Pieces<'_>>
+    ensures { stream_failed result ≡ false }
+{
+    Streamed::new(Pieces {
+        bytes,
+        piece,
+        fails,
+    })
+}
+
+/// Why the first message that is read is refused, if it is.
+pub(crate) fn refusal_read(rt: &impl AllocGlobal, bytes: &[u8], piece: usize) -> Option<Refusal> {
+    match read_message(rt.alloc(), &mut reader_of(bytes, piece, false)) {
+        Ok(Message::Refused(refusal)) => Some(refusal),
+        _ => None,
+    }
+}
+
+/// Whether the first message that is read is all of the bytes.
+pub(crate) fn is_read_whole(rt: &impl AllocGlobal, bytes: &[u8], piece: usize) -> bool {
+    match read_message(rt.alloc(), &mut reader_of(bytes, piece, false)) {
+        Ok(Message::Whole(whole)) => whole.as_slice() == bytes,
+        _ => false,
+    }
+}

@@ -1,0 +1,29 @@
+//! What takes an account's statement, row by row.
+ghost use Rattle.std.specs.Prelude.{◌≡◌, Bool, false, is_err, OnOk};
+ghost use Rattle.records.specs.declared.statement_row.StatementRow.{StatementRow};
+
+use crate::StatementRow;
+
+/// Why a sink refused a row.
+#[derive(Clone, Copy, Debug, PartialEq, Eq)]
+pub enum SinkFault {
+    /// What it writes to failed.
+    Write,
+    /// Memory ran out.
+    Memory,
+}
+
+/// Takes the rows of a statement. It is not called again once it has refused one.
+pub trait RowSink {
+    // What taking a row makes of the sink.
+    ghost takes: { Self → StatementRow → Self → Type 0 };
+
+    // Whether it has refused a row.
+    ghost refused: { Self → Bool };
+
+    /// Takes the next row.
+    fn row(&mut self, row: &StatementRow) -> Result<(), SinkFault>
+        requires { refused self.old ≡ false }
+        ensures taken { OnOk result (takes self.old row.now self.new) }
+        ensures refused { refused self.new ≡ is_err result };
+}

@@ -1,0 +1,37 @@
+-- The filter that a JSON object means.
+use Rattle.std.specs.Prelude.{ℕ, ◌^◌, List, [], ◌∷◌, codes, Option, Some, None}
+use Rattle.std.specs.Prelude.{nat_lt, if◌then◌else◌}
+use Rattle.serde_json.specs.Data.{Data}
+use Rattle.serde_json.specs.Find.{get}
+use Rattle.records.specs.declared.filter.AccountFilter.{AccountFilter}
+use Rattle.wire.specs.Fields.{wide, whole, given, object_of}
+
+-- the fields that it may have
+abbrev pub filter_names : List (List ℕ)
+filter_names =
+    codes "account_id" ∷ codes "timestamp_min" ∷ codes "timestamp_max"
+    ∷ codes "flags" ∷ codes "limit" ∷ []
+
+-- at most 1,000 entries may be asked for, and not none
+abbrev pub limit_of : Option Data → Option ℕ
+limit_of field = given (whole 1001 field) (λ limit. if nat_lt 0 limit then Some limit else None)
+
+-- the filter of these fields, if each of them is good; no flag bit above the third is
+unfoldable pub filter_from : Data → Option AccountFilter
+filter_from d =
+    given (wide (2 ^ 128) (get (codes "account_id") d)) (λ account_id.
+    given (wide (2 ^ 64) (get (codes "timestamp_min") d)) (λ timestamp_min.
+    given (wide (2 ^ 64) (get (codes "timestamp_max") d)) (λ timestamp_max.
+    given (whole 8 (get (codes "flags") d)) (λ flags.
+    given (limit_of (get (codes "limit") d)) (λ limit.
+    Some (record {
+      account_id = account_id;
+      timestamp_min = timestamp_min;
+      timestamp_max = timestamp_max;
+      limit = limit;
+      flags = record { 0 = flags };
+    }))))))
+
+-- the filter that a value is, if it is an object of these fields alone
+abbrev pub filter_of : Data → Option AccountFilter
+filter_of d = object_of filter_names filter_from d

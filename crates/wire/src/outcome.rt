@@ -1,0 +1,38 @@
+use crate::Items;
+use ledger_http::Refusal;
+use records::{
+    AccountResult, AccountWithBalances, BalanceAt, EventResult, Transfer, TransferResult,
+};
+
+/// What became of a request: all that its reply shows. Each clock is in nanoseconds.
+#[derive(Debug, Drop)]
+pub enum Outcome {
+    Refused(Refusal),
+    /// The clock after a batch of accounts, and a result for each event.
+    AccountResults {
+        clock: u64,
+        results: Items<EventResult<AccountResult>>,
+    },
+    /// The clock after a batch of transfers, and a result for each event.
+    TransferResults {
+        clock: u64,
+        results: Items<EventResult<TransferResult>>,
+    },
+    /// The accounts that a lookup found.
+    Accounts {
+        clock: u64,
+        accounts: Items<AccountWithBalances>,
+    },
+    /// The transfers that a lookup or a history found.
+    Transfers {
+        clock: u64,
+        transfers: Items<Transfer>,
+    },
+    /// The balances that a history found.
+    Balances {
+        clock: u64,
+        balances: Items<BalanceAt>,
+    },
+    /// A statement, as CSV.
+    Statement(Items<u8>),
+}

@@ -1,0 +1,110 @@
+ghost use Rattle.std.specs.Prelude.{◌≡◌, ◌++◌, OnOk};
+ghost use Rattle.json.specs.Tree.{json_tokens};
+ghost use Rattle.serde_json.specs.Data.{Data};
+ghost use Rattle.serde_json.specs.Written.{outline};
+
+use crate::members::{write_text, write_u64, write_u128, write_whole};
+use crate::reply_result::ReplyResult;
+use json::Writer;
+use records::{AccountWithBalances, BalanceAt, EventResult, Transfer};
+use std::alloc::AllocError;
+
+/// What a reply's list shows as an object.
+pub(crate) trait Shown {
+    ghost shows: { Self → Data };
+
+    fn write(&self, writer: &mut Writer) -> Result<(), AllocError>
+        ensures ok { OnOk result (writer.new.tokens
+            ≡ writer.old.tokens ++ json_tokens (outline (shows self.now))) }
+        ensures before { writer.new.before ≡ writer.old.before };
+}
+
+impl<R: ReplyResult> Shown for EventResult<R> {
+    ghost use Rattle.wire.specs.Reply.{result_data};
+
+    ghost shows = { result_data R.number_of R.name_of };
+
+    fn write(&self, writer: &mut Writer) -> Result<(), AllocError> {
+        writer.begin_object()?;
+        write_whole(writer, "number", u32::from(self.result.number()))?;
+        write_text(writer, "result", self.result.name())?;
+        write_u64(writer, "timestamp", self.timestamp)?;
+        writer.end_object()
+    }
+}
+
+impl Shown for AccountWithBalances {
+    ghost use Rattle.wire.specs.Reply.{account_data};
+
+    ghost shows = { account_data };
+
+    fn write(&self, writer: &mut Writer) -> Result<(), AllocError> {
+        let AccountWithBalances { account, balances } = self;
+        writer.begin_object()?;
+        write_whole(writer, "code", u32::from(account.code))?;
+        write_u128(writer, "credits_pending", balances.credits.pending.value())?;
+        write_u128(writer, "credits_posted", balances.credits.posted.value())?;
+        write_u128(writer, "debits_pending", balances.debits.pending.value())?;
+        write_u128(writer, "debits_posted", balances.debits.posted.value())?;
+        write_whole(writer, "flags", u32::from(account.flags.0))?;
+        write_u128(writer, "id", account.id)?;
+        write_whole(writer, "ledger", account.ledger)?;
+        write_u64(writer, "timestamp", account.timestamp)?;
+        write_u128(writer, "user_data_128", account.user_data_128)?;
+        write_whole(writer, "user_data_32", account.user_data_32)?;
+        write_u64(writer, "user_data_64", account.user_data_64)?;
+        writer.end_object()
+    }
+}
+
+impl Shown for Transfer {
+    ghost use Rattle.wire.specs.Reply.{transfer_data};
+
+    ghost shows = { transfer_data };
+
+    fn write(&self, writer: &mut Writer) -> Result<(), AllocError> {
+        writer.begin_object()?;
+        write_u128(writer, "amount", self.amount.value())?;
+        write_whole(writer, "code", u32::from(self.code))?;
+        write_u128(writer, "credit_account_id", self.credit_account_id)?;
+        write_u128(writer, "debit_account_id", self.debit_account_id)?;
+        write_whole(writer, "flags", u32::from(self.flags.0))?;
+        write_u128(writer, "id", self.id)?;
+        write_whole(writer, "ledger", self.ledger)?;
+        write_u128(writer, "pending_id", self.pending_id)?;
+        write_whole(writer, "timeout", self.timeout)?;
+        write_u64(writer, "timestamp", self.timestamp)?;
+        write_u128(writer, "user_data_128", self.user_data_128)?;
+        write_whole(writer, "user_data_32", self.user_data_32)?;
+        write_u64(writer, "user_data_64", self.user_data_64)?;
+        writer.end_object()
+    }
+}
+
+impl Shown for BalanceAt {
+    ghost use Rattle.wire.specs.Reply.{balance_data};
+
+    ghost shows = { balance_data };
+
+    fn write(&self, writer: &mut Writer) -> Result<(), AllocError> {
+        writer.begin_object()?;
+        write_u128(
+            writer,
+            "credits_pending",
+            self.balances.credits.pending.value(),
+        )?;
+        write_u128(
+            writer,
+            "credits_posted",
+            self.balances.credits.posted.value(),
+        )?;
+        write_u128(
+            writer,
+            "debits_pending",
+            self.balances.debits.pending.value(),
+        )?;
+        write_u128(writer, "debits_posted", self.balances.debits.posted.value())?;
+        write_u64(writer, "timestamp", self.timestamp)?;
+        writer.end_object()
+    }
+}

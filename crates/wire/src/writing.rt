@@ -1,0 +1,47 @@
+ghost use Rattle.std.specs.Prelude.{◌≡◌, Ok, IfOk};
+ghost use Rattle.ledger_http.specs.ReplyText.{reply_text};
+ghost use Rattle.wire.specs.Told.{outcome_text};
+
+use crate::Outcome;
+use crate::batch_text::{batch_text_accounts, batch_text_transfers};
+use crate::list_text::{clock_then_list, list_then_clock};
+use ledger_http::{ContentType, Refusal, Reply};
+use std::alloc::{AllocError, Global};
+
+/// Memory ran out.
+pub type NoMemory = AllocError;
+
+/// The reply that shows an outcome. A refusal's is constant and takes no memory.
+pub fn reply_bytes(alloc: Global, outcome: &Outcome) -> Result<Reply, NoMemory>
+    ensures ok { IfOk result (λ reply. reply_text reply ≡ outcome_text outcome.now) }
+    ensures refused { (refusal : Refusal) → outcome.now ≡ Outcome.Refused refusal
+        → result ≡ Ok (Reply.Fixed refusal) }
+{
+    match outcome {
+        Outcome::Refused(refusal) => Ok(Reply::Fixed(*refusal)),
+        Outcome::AccountResults { clock, results } => {
+            let body = batch_text_accounts(alloc, *clock, results.as_slice())?;
+            Reply::of_body(alloc, ContentType::Json, &body)
+        }
+        Outcome::TransferResults { clock, results } => {
+            let body = batch_text_transfers(alloc, *clock, results.as_slice())?;
+            Reply::of_body(alloc, ContentType::Json, &body)
+        }
+        Outcome::Accounts { clock, accounts } => {
+            let body = list_then_clock(alloc, *clock, "accounts", accounts.as_slice())?;
+            Reply::of_body(alloc, ContentType::Json, &body)
+        }
+        Outcome::Transfers { clock, transfers } => {
+            let body = clock_then_list(alloc, *clock, "transfers", transfers.as_slice())?;
+            Reply::of_body(alloc, ContentType::Json, &body)
+        }
+        Outcome::Balances { clock, balances } => {
+            let body = list_then_clock(alloc, *clock, "balances", balances.as_slice())?;
+            Reply::of_body(alloc, ContentType::Json, &body)
+        }
+        Outcome::Statement(text) => Reply::of_body(alloc, ContentType::Csv, text.as_slice()),
+    }
+}
+
+#[cfg(test)]
+mod tests;
