@@ -1,0 +1,10 @@
+pub mod StatusNumbers
+pub mod Cells
+pub mod TypedRows
+pub mod Widths
+pub mod Prescribed
+pub mod Keyed
+pub mod Changes
+pub mod Settling
+pub mod SameRows
+pub mod Tables
