@@ -1,0 +1,7 @@
+pub mod Uses
+pub mod Walks
+pub mod Levels
+pub mod Filled
+pub mod Getters
+pub mod Builders
+pub mod Outcomes

@@ -1,0 +1,73 @@
+-- The command line as `clap`'s rules see it.
+use Rattle.std.specs.Prelude.{List, Some, codes, pos, true, ◌∷◌, []}
+use Rattle.clap.specs.Words.{App, Rule, Shape, Text, new_app, new_rule, with_subcommand}
+use Rattle.clap.specs.declared.builder.action.ArgAction.TheVariants.{SetTrue}
+use Rattle.clap.specs.declared.builder.value_parser.ValueParser.{ValueParser}
+use Rattle.clap.specs.declared.builder.value_parser.ValueParser.TheVariants.{Signed, Unsigned}
+
+-- `--name VALUE`, which its command must have
+abbrev pub text_rule : Text → Rule
+text_rule name = record (new_rule name) { long = Some name; value_names = 1; required = true }
+
+-- the same, of a number
+abbrev pub number_rule : Text → ValueParser → Rule
+number_rule name numbers = record (text_rule name) { parser = Some numbers }
+
+-- a port, below 2^16
+abbrev pub ports : ValueParser
+ports = Signed (pos 0) (pos 65535)
+
+-- a count, below 2^64
+abbrev pub counts : ValueParser
+counts = Unsigned 0 18446744073709551615
+
+-- `--name`, which may be left out
+abbrev pub flag_rule : Text → Rule
+flag_rule name = record (new_rule name) { long = Some name; action = Some SetTrue }
+
+-- the option that names the file of the store
+abbrev pub db_rule : Rule
+db_rule = text_rule (codes "db")
+
+-- a subcommand with the store's file and these options
+abbrev pub over_store : Text → List Rule → Shape
+over_store name rules = record (new_app name).top { rules = db_rule ∷ rules }
+
+-- serve: a port, and how many requests to answer
+abbrev pub serve_shape : Shape
+serve_shape = over_store (codes "serve")
+    (number_rule (codes "port") ports ∷ number_rule (codes "requests") counts ∷ [])
+
+-- tenant-add: the tenant's name and key
+abbrev pub tenant_add_shape : Shape
+tenant_add_shape = over_store (codes "tenant-add")
+    (text_rule (codes "name") ∷ text_rule (codes "key") ∷ [])
+
+-- statement: a tenant, its account, and whether the newest come first
+abbrev pub statement_shape : Shape
+statement_shape = over_store (codes "statement")
+    (text_rule (codes "tenant") ∷ text_rule (codes "account") ∷ flag_rule (codes "reversed") ∷ [])
+
+-- check: nothing but the file
+abbrev pub check_shape : Shape
+check_shape = over_store (codes "check") []
+
+-- migrate: the version to come to
+abbrev pub migrate_shape : Shape
+migrate_shape = over_store (codes "migrate") (text_rule (codes "to") ∷ [])
+
+-- the program without its subcommands; the words are those after its name
+abbrev pub program : App
+program = record (new_app (codes "ledgerd")) {
+  top = record (new_app (codes "ledgerd")).top { no_binary_name = true };
+}
+
+-- the whole command line
+unfoldable pub ledgerd_app : App
+ledgerd_app =
+    with_subcommand
+    (with_subcommand
+    (with_subcommand
+    (with_subcommand
+    (with_subcommand program serve_shape) tenant_add_shape) statement_shape) check_shape)
+    migrate_shape

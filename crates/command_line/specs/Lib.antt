@@ -1,0 +1,5 @@
+pub mod Built
+pub mod Ledgerd
+pub mod Line
+pub mod Values
+pub mod Refusal

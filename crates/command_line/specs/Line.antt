@@ -1,0 +1,46 @@
+-- Which command a line is.
+use Rattle.std.specs.Prelude.{List, [], Option, Some, None, ◌≡◌, codes}
+use Rattle.clap.specs.Words.{IsAmong, Row, Text, fault_of, kind_of, subcommand_of}
+use Rattle.command_line.specs.Ledgerd.{ledgerd_app}
+use Rattle.command_line.specs.Values.{HasNumber, HasText, has_flag}
+use Rattle.command_line.specs.declared.commands.Command.{Command}
+use Rattle.command_line.specs.declared.commands.Command.TheVariants as command
+use Rattle.command_line.specs.declared.fault.LineFault.{LineFault}
+use Rattle.command_line.specs.declared.fault.LineFault.TheVariants.{Refused, Memory}
+
+-- the command has the subcommand's name, and each value from the option of its own name
+abbrev pub Spells : Text → List Row → Command → Type 0
+Spells name rows command.Lists = ⊥
+Spells name rows (command.Serve db port requests) = (name ≡ codes "serve")
+    × HasText rows (codes "db") db.now
+    × HasNumber rows (codes "port") port
+    × HasNumber rows (codes "requests") requests
+Spells name rows (command.AddTenant db tenant key) = (name ≡ codes "tenant-add")
+    × HasText rows (codes "db") db.now
+    × HasText rows (codes "name") tenant.now
+    × HasText rows (codes "key") key.now
+Spells name rows (command.Statement db tenant account reversed) = (name ≡ codes "statement")
+    × HasText rows (codes "db") db.now
+    × HasText rows (codes "tenant") tenant.now
+    × HasText rows (codes "account") account.now
+    × (reversed ≡ has_flag rows (codes "reversed"))
+Spells name rows (command.Check db) = (name ≡ codes "check")
+    × HasText rows (codes "db") db.now
+Spells name rows (command.Migrate db to) = (name ≡ codes "migrate")
+    × HasText rows (codes "db") db.now
+    × HasText rows (codes "to") to.now
+
+-- the command of the subcommand that `clap` met, with its values, or the run over lists
+abbrev pub IsOf : Option (Text × List Row) → Command → Type 0
+IsOf None c = c ≡ command.Lists
+IsOf (Some met) c = Spells met.0 met.1 c
+
+-- `clap` takes the words, and the command is what it states for them
+pub record IsCommandOf (words : List Text) (c : Command) : Type 0 where
+  pub taken : fault_of ledgerd_app words ≡ []
+  pub stated : IsOf (subcommand_of ledgerd_app words) c
+
+-- a refusal has a kind that `clap` states for the words
+abbrev pub IsFaultOf : List Text → LineFault → Type 0
+IsFaultOf words (Refused error) = IsAmong (kind_of error) (fault_of ledgerd_app words)
+IsFaultOf words Memory = Unit {0}

@@ -1,0 +1,75 @@
+-- What the matches of a command hold.
+use Rattle.std.specs.Prelude.{ℕ, Bool, List, None, Some, ◌≡◌, ◌⊎◌, ◌<◌, ◌^◌, IsSome, codes, false}
+use Rattle.std.specs.Prelude.{option_map}
+use Rattle.std.specs.Option.{option_map_or}
+use Rattle.std.specs.Str.{bytes_eq}
+use Rattle.std.specs.Str.Parse.{IsNumeral, digits_value, without_leading_plus}
+use Rattle.clap.specs.Words.{Row, Text, first_of, one_of}
+
+-- the value of an option, as it was written
+abbrev pub HasText : List Row → Text → Text → Type 0
+HasText rows name text = first_of name rows ≡ Some text
+
+-- an option has a text
+abbrev pub HasSomeText : List Row → Text → Type 0
+HasSomeText rows name = IsSome (first_of name rows)
+
+-- the number that a text is read as, which may have a plus before it
+abbrev pub number_of : Text → ℕ
+number_of text = digits_value 10 (without_leading_plus text)
+
+-- the value of an option, as a number
+abbrev pub HasNumber : List Row → Text → ℕ → Type 0
+HasNumber rows name n = option_map number_of (one_of name rows) ≡ Some n
+
+-- the option has a value, and it is a number below the bound
+pub record HasNumberBelow (rows : List Row) (name : Text) (bound : ℕ) : Type 0 where
+  pub text : Text
+  pub read : one_of name rows ≡ Some text
+  pub numeral : IsNumeral 10 (without_leading_plus text)
+  pub below : number_of text < bound
+
+-- the flag was given
+abbrev pub has_flag : List Row → Text → Bool
+has_flag rows name = option_map_or (λ text. bytes_eq text (codes "true")) (one_of name rows) false
+
+-- what stands for a flag is nothing, `true` or `false`
+abbrev pub IsFlag : List Row → Text → Type 0
+IsFlag rows name = (one_of name rows ≡ None)
+    ⊎ ((one_of name rows ≡ Some (codes "true")) ⊎ (one_of name rows ≡ Some (codes "false")))
+
+-- the values of serve are there
+pub record FillsServe (rows : List Row) : Type 0 where
+  pub db : HasSomeText rows (codes "db")
+  pub port : HasNumberBelow rows (codes "port") (2 ^ 16)
+  pub requests : HasNumberBelow rows (codes "requests") (2 ^ 64)
+
+-- the values of tenant-add are there
+pub record FillsTenantAdd (rows : List Row) : Type 0 where
+  pub db : HasSomeText rows (codes "db")
+  pub name : HasSomeText rows (codes "name")
+  pub key : HasSomeText rows (codes "key")
+
+-- the values of statement are there
+pub record FillsStatement (rows : List Row) : Type 0 where
+  pub db : HasSomeText rows (codes "db")
+  pub tenant : HasSomeText rows (codes "tenant")
+  pub account : HasSomeText rows (codes "account")
+  pub reversed : IsFlag rows (codes "reversed")
+
+-- the value of check is there
+pub record FillsCheck (rows : List Row) : Type 0 where
+  pub db : HasSomeText rows (codes "db")
+
+-- the values of migrate are there
+pub record FillsMigrate (rows : List Row) : Type 0 where
+  pub db : HasSomeText rows (codes "db")
+  pub to : HasSomeText rows (codes "to")
+
+-- the name is a command's, and each of its values is there
+abbrev pub IsFilled : Text → List Row → Type 0
+IsFilled name rows = ((name ≡ codes "serve") × FillsServe rows)
+    ⊎ (((name ≡ codes "tenant-add") × FillsTenantAdd rows)
+    ⊎ (((name ≡ codes "statement") × FillsStatement rows)
+    ⊎ (((name ≡ codes "check") × FillsCheck rows)
+    ⊎ ((name ≡ codes "migrate") × FillsMigrate rows))))

@@ -1,0 +1,13 @@
+//! The command line of `ledgerd`: its words read as one of its commands.
+#![tactic(auto)]
+
+mod app;
+mod commands;
+mod fault;
+mod read;
+#[cfg(test)]
+mod tests;
+
+pub use commands::Command;
+pub use fault::LineFault;
+pub use read::command;

@@ -1,0 +1,123 @@
+ghost use Rattle.std.specs.Prelude.{◌≡◌, ◌^◌, IfErr, IfOk, codes, map, true};
+ghost use Rattle.clap.specs.Words.{found_of, rows_of, takes};
+ghost use Rattle.command_line.specs.Ledgerd.{ledgerd_app};
+ghost use Rattle.command_line.specs.Line.{IsCommandOf, IsFaultOf, Spells};
+ghost use Rattle.command_line.specs.Values.{FillsCheck, FillsMigrate, FillsServe, FillsStatement};
+ghost use Rattle.command_line.specs.Values.{FillsTenantAdd, HasNumber, HasNumberBelow};
+ghost use Rattle.command_line.specs.Values.{HasSomeText, HasText, IsFilled, IsFlag, has_flag};
+
+use crate::app::ledgerd_command;
+use crate::{Command, LineFault};
+use clap::ArgMatches;
+use std::alloc::Global;
+use std::convert::AsStr;
+
+fn text<'a>(values: &ArgMatches<'a>, name: &str) -> &'a str
+    requires { HasSomeText (rows_of (found_of values.now)) name.now }
+    ensures { HasText (rows_of (found_of values.now)) name.now result.now }
+{
+    values.get_str(name).unwrap()
+}
+
+fn port(values: &ArgMatches<'_>) -> u16
+    requires { HasNumberBelow (rows_of (found_of values.now)) (codes "port") (2 ^ 16) }
+    ensures { HasNumber (rows_of (found_of values.now)) (codes "port") result }
+{
+    values.get_one::<u16>("port").unwrap()
+}
+
+fn requests(values: &ArgMatches<'_>) -> u64
+    requires { HasNumberBelow (rows_of (found_of values.now)) (codes "requests") (2 ^ 64) }
+    ensures { HasNumber (rows_of (found_of values.now)) (codes "requests") result }
+{
+    values.get_one::<u64>("requests").unwrap()
+}
+
+fn is_reversed(values: &ArgMatches<'_>) -> bool
+    requires { IsFlag (rows_of (found_of values.now)) (codes "reversed") }
+    ensures { result ≡ has_flag (rows_of (found_of values.now)) (codes "reversed") }
+{
+    values.get_flag("reversed")
+}
+
+fn serve<'a>(values: &ArgMatches<'a>) -> Command<'a>
+    requires { FillsServe (rows_of (found_of values.now)) }
+    ensures { Spells (codes "serve") (rows_of (found_of values.now)) result }
+{
+    Command::Serve {
+        db: text(values, "db"),
+        port: port(values),
+        requests: requests(values),
+    }
+}
+
+fn add_tenant<'a>(values: &ArgMatches<'a>) -> Command<'a>
+    requires { FillsTenantAdd (rows_of (found_of values.now)) }
+    ensures { Spells (codes "tenant-add") (rows_of (found_of values.now)) result }
+{
+    Command::AddTenant {
+        db: text(values, "db"),
+        name: text(values, "name"),
+        key: text(values, "key"),
+    }
+}
+
+fn statement<'a>(values: &ArgMatches<'a>) -> Command<'a>
+    requires { FillsStatement (rows_of (found_of values.now)) }
+    ensures { Spells (codes "statement") (rows_of (found_of values.now)) result }
+{
+    Command::Statement {
+        db: text(values, "db"),
+        tenant: text(values, "tenant"),
+        account: text(values, "account"),
+        reversed: is_reversed(values),
+    }
+}
+
+fn check<'a>(values: &ArgMatches<'a>) -> Command<'a>
+    requires { FillsCheck (rows_of (found_of values.now)) }
+    ensures { Spells (codes "check") (rows_of (found_of values.now)) result }
+{
+    Command::Check {
+        db: text(values, "db"),
+    }
+}
+
+fn migrate<'a>(values: &ArgMatches<'a>) -> Command<'a>
+    requires { FillsMigrate (rows_of (found_of values.now)) }
+    ensures { Spells (codes "migrate") (rows_of (found_of values.now)) result }
+{
+    Command::Migrate {
+        db: text(values, "db"),
+        to: text(values, "to"),
+    }
+}
+
+fn named<'a>(name: &str, values: &ArgMatches<'a>) -> Command<'a>
+    requires { IsFilled name.now (rows_of (found_of values.now)) }
+    ensures { Spells name.now (rows_of (found_of values.now)) result }
+{
+    match name {
+        "serve" => serve(values),
+        "tenant-add" => add_tenant(values),
+        "statement" => statement(values),
+        "check" => check(values),
+        "migrate" => migrate(values),
+        _ => unreachable!(),
+    }
+}
+
+/// Reads the words after the program's name. `LineFault::Refused` is also the answer to a call for
+/// help.
+pub fn command<'a, S: AsStr>(alloc: Global, words: &'a [S]) -> Result<Command<'a>, LineFault>
+    ensures ok { IfOk result (IsCommandOf (map S.text words.entry.now)) }
+    ensures refused { IfErr result (IsFaultOf (map S.text words.entry.now)) }
+    ensures taken { takes ledgerd_app (map S.text words.entry.now) ≡ true
+        → IfErr result (λ fault. fault ≡ LineFault.Memory) }
+{
+    let matches = ledgerd_command(alloc)?.try_get_matches_from(words)?;
+    match matches.subcommand() {
+        None => Ok(Command::Lists),
+        Some((name, values)) => Ok(named(name, values)),
+    }
+}

@@ -1,0 +1,4 @@
+pub mod Fronts
+pub mod Rows
+pub mod PlainLines
+pub mod WholeStatement
