@@ -13,6 +13,7 @@ test:
 
 bench:
 	bench/run
+	bench/messages
 
 alloc:
 	bench/alloc

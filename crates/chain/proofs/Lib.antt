@@ -1,9 +1,9 @@
-pub mod Batches
+pub mod BatchProgress
+pub mod ChainCutting
 pub mod ChainOutcomes
-pub mod Cuts
-pub mod Stamps
-pub mod Runs
+pub mod EntriesUpToClock
+pub mod EventTrials
+pub mod ResultTimestamps
 pub mod StaysInBatch
-pub mod Steps
-pub mod Timestamps
-pub mod Trials
+pub mod StepOutcomes
+pub mod TableCalls

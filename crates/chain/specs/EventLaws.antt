@@ -18,12 +18,16 @@ use Rattle.records.specs.Flags.{is_post_or_void}
 use Rattle.records.specs.FirstOf.{first_of, or_else}
 use Rattle.records.specs.Facts.{facts_of, with_pending_amount, pending_amount_in}
 use Rattle.records.specs.TransferVerdict.{transfer_verdict, fails_for_good}
-use Rattle.records.specs.TransferVerdict.{transfer_event_results, transfer_id_verdict, transfer_difference}
-use Rattle.records.specs.TransferVerdict.{new_transfer_verdict, post_or_void_verdict, single_or_pending_verdict}
-use Rattle.records.specs.TransferVerdict.{transfer_difference_results, transfer_detail_results, new_transfer_results}
+use Rattle.records.specs.TransferVerdict.{transfer_event_results, transfer_id_verdict}
+use Rattle.records.specs.TransferVerdict.{transfer_difference}
+use Rattle.records.specs.TransferVerdict.{new_transfer_verdict, post_or_void_verdict}
+use Rattle.records.specs.TransferVerdict.{single_or_pending_verdict}
+use Rattle.records.specs.TransferVerdict.{transfer_difference_results, transfer_detail_results}
+use Rattle.records.specs.TransferVerdict.{new_transfer_results}
 use Rattle.records.specs.StoredRecord.{stored_account, stored_transfer}
 use Rattle.records.specs.Chains.{Rules}
-use Rattle.records.specs.Step.{account_rules, transfer_rules, after_account, after_transfer, transfer_verdict_in, failed_transfer_id}
+use Rattle.records.specs.Step.{account_rules, transfer_rules, after_account, after_transfer}
+use Rattle.records.specs.Step.{transfer_verdict_in, failed_transfer_id}
 use Rattle.chain.specs.InBatch.{IsInBatch}
 
 -- an id that has not failed and is no entry's
@@ -33,8 +37,8 @@ pub record IsUnused (m : Machine) (id : ℕ) : Type 0 where
   pub unknown : transfer_with id m.transfers ≡ None
   pub unrecorded : has_id id m.failed ≡ false
 
--- the laws of a kind of event: an event keeps its machine in its batch, and leaves no id unused that
--- was used; one that fails for good has an unused id
+-- the laws of a kind of event: an event keeps its machine in its batch, and leaves no id unused
+-- that was used; one that fails for good has an unused id
 pub record EventLaws {E R : Type 0} (rules : Rules E R) : Type 0 where
   pub keeps_batch :
       (m : Machine) (ev : E) (timestamp clock : ℕ) →
@@ -47,25 +51,37 @@ pub record EventLaws {E R : Type 0} (rules : Rules E R) : Type 0 where
       rules.verdict m ev ≡ Some r → rules.failed_id ev r ≡ Some id → IsUnused m id
 
 -- a later timestamp
-pub stays_later : (m : Machine) (clock timestamp next : ℕ) → IsInBatch m clock timestamp → timestamp ≤ next → IsInBatch m clock next
+pub stays_later :
+    (m : Machine) (clock timestamp next : ℕ) → IsInBatch m clock timestamp → timestamp ≤ next →
+    IsInBatch m clock next
 stays_later m clock timestamp next before later = record {
   at = before.at;
-  after_accounts = All-weaker (λ (a : Account). a.timestamp < timestamp) (λ a. a.timestamp < next) (λ a h. omega arith) m.accounts before.after_accounts;
-  after_transfers = All-weaker (λ (t : Transfer). t.timestamp < timestamp) (λ t. t.timestamp < next) (λ t h. omega arith) m.transfers before.after_transfers;
+  after_accounts =
+      All-weaker (λ (a : Account). a.timestamp < timestamp) (λ a. a.timestamp < next)
+      (λ a h. omega arith) m.accounts before.after_accounts;
+  after_transfers =
+      All-weaker (λ (t : Transfer). t.timestamp < timestamp) (λ t. t.timestamp < next)
+      (λ t h. omega arith) m.transfers before.after_transfers;
 }
 
-account_keeps_batch : (m : Machine) (ev : AccountEvent) (timestamp clock : ℕ) → IsInBatch m clock timestamp → IsInBatch (after_account m ev timestamp) clock (timestamp + 1)
+account_keeps_batch :
+    (m : Machine) (ev : AccountEvent) (timestamp clock : ℕ) → IsInBatch m clock timestamp →
+    IsInBatch (after_account m ev timestamp) clock (timestamp + 1)
 unfolding after_account
 account_keeps_batch m ev timestamp clock before =
     let P = λ (a : Account). a.timestamp < timestamp + 1 in
     let older = stays_later m clock timestamp (timestamp + 1) before (omega arith) in
     record {
       at = before.at;
-      after_accounts = All-append P m.accounts (stored_account ev timestamp ∷ []) older.after_accounts (All-cons P (stored_account ev timestamp) [] (omega arith) (All-nil P));
+      after_accounts =
+          All-append P m.accounts (stored_account ev timestamp ∷ []) older.after_accounts
+          (All-cons P (stored_account ev timestamp) [] (omega arith) (All-nil P));
       after_transfers = older.after_transfers;
     }
 
-transfer_keeps_batch : (m : Machine) (ev : TransferEvent) (timestamp clock : ℕ) → IsInBatch m clock timestamp → IsInBatch (after_transfer m ev timestamp) clock (timestamp + 1)
+transfer_keeps_batch :
+    (m : Machine) (ev : TransferEvent) (timestamp clock : ℕ) → IsInBatch m clock timestamp →
+    IsInBatch (after_transfer m ev timestamp) clock (timestamp + 1)
 unfolding after_transfer
 transfer_keeps_batch m ev timestamp clock before =
     let P = λ (t : Transfer). t.timestamp < timestamp + 1 in
@@ -74,10 +90,14 @@ transfer_keeps_batch m ev timestamp clock before =
     record {
       at = before.at;
       after_accounts = older.after_accounts;
-      after_transfers = All-append P m.transfers (t ∷ []) older.after_transfers (All-cons P t [] (omega arith) (All-nil P));
+      after_transfers =
+          All-append P m.transfers (t ∷ []) older.after_transfers
+          (All-cons P t [] (omega arith) (All-nil P));
     }
 
-account_was_unused : (m : Machine) (ev : AccountEvent) (timestamp id : ℕ) → IsUnused (after_account m ev timestamp) id → IsUnused m id
+account_was_unused :
+    (m : Machine) (ev : AccountEvent) (timestamp id : ℕ) →
+    IsUnused (after_account m ev timestamp) id → IsUnused m id
 unfolding after_account
 account_was_unused m ev timestamp id unused = record {
   not_zero = unused.not_zero;
@@ -86,18 +106,24 @@ account_was_unused m ev timestamp id unused = record {
   unrecorded = unused.unrecorded;
 }
 
-not_first : (b : Bool) (x : Transfer) (rest : Option Transfer) → (if b then Some x else rest) ≡ None → (b ≡ false) × (rest ≡ None)
+not_first :
+    (b : Bool) (x : Transfer) (rest : Option Transfer) → (if b then Some x else rest) ≡ None →
+    (b ≡ false) × (rest ≡ None)
 not_first true x rest none = absurd (grind arith)
 not_first false x rest none = (refl, none)
 
 -- no entry of a longer list has the id, so none of the list has
-not_before : (id : ℕ) (entries : List Transfer) (entry : Transfer) → transfer_with id (entries ++ entry ∷ []) ≡ None → transfer_with id entries ≡ None
+not_before :
+    (id : ℕ) (entries : List Transfer) (entry : Transfer) →
+    transfer_with id (entries ++ entry ∷ []) ≡ None → transfer_with id entries ≡ None
 not_before id [] entry none = refl
 not_before id (first ∷ entries) entry none =
     let later = not_first (first.id == id) first (transfer_with id (entries ++ entry ∷ [])) none in
     rw later.0 (not_before id entries entry later.1)
 
-transfer_was_unused : (m : Machine) (ev : TransferEvent) (timestamp id : ℕ) → IsUnused (after_transfer m ev timestamp) id → IsUnused m id
+transfer_was_unused :
+    (m : Machine) (ev : TransferEvent) (timestamp id : ℕ) →
+    IsUnused (after_transfer m ev timestamp) id → IsUnused m id
 unfolding after_transfer
 transfer_was_unused m ev timestamp id unused = record {
   not_zero = unused.not_zero;
@@ -111,20 +137,28 @@ NoneForGood : List (Bool × TransferResult) → Type 0
 NoneForGood [] = Unit {0}
 NoneForGood (row ∷ rows) = (fails_for_good row.1 ≡ false) × NoneForGood rows
 
-is_not : (x r : TransferResult) → fails_for_good x ≡ false → fails_for_good r ≡ true → Some x ≡ Some r → ⊥
+is_not :
+    (x r : TransferResult) → fails_for_good x ≡ false → fails_for_good r ≡ true → Some x ≡ Some r →
+    ⊥
 is_not x r not good same = grind arith
 
 -- a verdict that fails for good comes from behind such rows, none of which holds
-behind : (rows : List (Bool × TransferResult)) (rest : Option TransferResult) (r : TransferResult) → NoneForGood rows → fails_for_good r ≡ true → or_else (first_of rows) rest ≡ Some r → (first_of rows ≡ None) × (rest ≡ Some r)
+behind :
+    (rows : List (Bool × TransferResult)) (rest : Option TransferResult) (r : TransferResult) →
+    NoneForGood rows → fails_for_good r ≡ true → or_else (first_of rows) rest ≡ Some r →
+    (first_of rows ≡ None) × (rest ≡ Some r)
 unfolding NoneForGood
 behind [] rest r none good verdict = (refl, verdict)
 behind (row ∷ rows) rest r none good verdict =
-    elim row.0 as (λ b. or_else (if b then Some row.1 else first_of rows) rest ≡ Some r → ((if b then Some row.1 else first_of rows) ≡ None) × (rest ≡ Some r)) [
+    elim row.0 as (λ b. or_else (if b then Some row.1 else first_of rows) rest ≡ Some r →
+    ((if b then Some row.1 else first_of rows) ≡ None) × (rest ≡ Some r)) [
       | true ↦ λ h. absurd (is_not row.1 r none.0 good h)
       | false ↦ λ h. behind rows rest r none.1 good h
     ] verdict
 
-no_row : (b : Bool) (x : TransferResult) (rest : Option TransferResult) → (if b then Some x else rest) ≡ None → (b ≡ false) × (rest ≡ None)
+no_row :
+    (b : Bool) (x : TransferResult) (rest : Option TransferResult) →
+    (if b then Some x else rest) ≡ None → (b ≡ false) × (rest ≡ None)
 no_row true x rest none = absurd (grind arith)
 no_row false x rest none = (refl, none)
 
@@ -133,48 +167,77 @@ in_turn None b c = refl
 in_turn (Some x) b c = refl
 
 -- an event whose id exists does not fail for good
-existing_stays : (old : Transfer) (pending : ℕ) (ev : TransferEvent) (r : TransferResult) → fails_for_good r ≡ true → or_else (transfer_difference old pending ev) (Some answer.Exists) ≡ Some r → ⊥
+existing_stays :
+    (old : Transfer) (pending : ℕ) (ev : TransferEvent) (r : TransferResult) →
+    fails_for_good r ≡ true →
+    or_else (transfer_difference old pending ev) (Some answer.Exists) ≡ Some r → ⊥
 unfolding NoneForGood
 existing_stays old pending ev r good verdict =
     let fields = first_of (transfer_difference_results old pending ev) in
     let details = first_of (transfer_detail_results old ev) in
-    let first = behind (transfer_difference_results old pending ev) (or_else details (Some answer.Exists)) r (refl, (refl, (refl, (refl, (refl, (refl, tt)))))) good (sym (in_turn fields details (Some answer.Exists)) ∙ verdict) in
-    let second = behind (transfer_detail_results old ev) (Some answer.Exists) r (refl, (refl, (refl, (refl, (refl, tt))))) good first.1 in
+    let first = behind (transfer_difference_results old pending ev)
+    (or_else details (Some answer.Exists)) r (refl, (refl, (refl, (refl, (refl, (refl, tt)))))) good
+    (sym (in_turn fields details (Some answer.Exists)) ∙ verdict) in
+    let second = behind (transfer_detail_results old ev) (Some answer.Exists) r
+    (refl, (refl, (refl, (refl, (refl, tt))))) good first.1 in
     is_not answer.Exists r refl good second.1
 
 -- one whose id is new has an id that has not failed
-new_has_not_failed : (f : TransferFacts) (ev : TransferEvent) (r : TransferResult) → fails_for_good r ≡ true → new_transfer_verdict f ev ≡ Some r → f.failed ≡ false
+new_has_not_failed :
+    (f : TransferFacts) (ev : TransferEvent) (r : TransferResult) → fails_for_good r ≡ true →
+    new_transfer_verdict f ev ≡ Some r → f.failed ≡ false
 unfolding NoneForGood
 new_has_not_failed f ev r good verdict =
-    let rest = if is_post_or_void ev.flags then post_or_void_verdict f ev else single_or_pending_verdict f ev in
-    (no_row f.failed answer.IdAlreadyFailed _ (behind (new_transfer_results f ev) rest r (refl, (refl, tt)) good verdict).0).0
+    let rest = if is_post_or_void ev.flags then post_or_void_verdict f ev else
+    single_or_pending_verdict f ev in
+    (no_row f.failed answer.IdAlreadyFailed _
+    (behind (new_transfer_results f ev) rest r (refl, (refl, tt)) good verdict).0).0
 
 -- the event's id is no entry's and has not failed
-fails_so : (m : Machine) (ev : TransferEvent) (r : TransferResult) → fails_for_good r ≡ true → transfer_id_verdict (facts_of m ev).existing (facts_of m ev) ev ≡ Some r → (transfer_with ev.id m.transfers ≡ None) × (has_id ev.id m.failed ≡ false)
+fails_so :
+    (m : Machine) (ev : TransferEvent) (r : TransferResult) → fails_for_good r ≡ true →
+    transfer_id_verdict (facts_of m ev).existing (facts_of m ev) ev ≡ Some r →
+    (transfer_with ev.id m.transfers ≡ None) × (has_id ev.id m.failed ≡ false)
 unfolding facts_of
 fails_so m ev r good verdict =
-    elim (transfer_with ev.id m.transfers) as (λ found. transfer_id_verdict (option_map (with_pending_amount m) found) (facts_of m ev) ev ≡ Some r → (found ≡ None) × (has_id ev.id m.failed ≡ false)) [
+    elim (transfer_with ev.id m.transfers) as (λ found. transfer_id_verdict
+    (option_map (with_pending_amount m) found) (facts_of m ev) ev ≡ Some r →
+    (found ≡ None) × (has_id ev.id m.failed ≡ false)) [
       | None ↦ λ h. (refl, new_has_not_failed (facts_of m ev) ev r good h)
       | Some old ↦ λ h. absurd (existing_stays old (pending_amount_in m old) ev r good h)
     ] verdict
 
-by_id : (b : Bool) (id found : ℕ) → (if b then Some found else None) ≡ Some id → (b ≡ true) × (found ≡ id)
+by_id :
+    (b : Bool) (id found : ℕ) → (if b then Some found else None) ≡ Some id →
+    (b ≡ true) × (found ≡ id)
 by_id true id found some = (refl, grind arith)
 by_id false id found some = absurd (grind arith)
 
 apart : (a b : ℕ) → (a == b) ≡ false → a ≢ b
 apart a b h same = grind (arith, nat_tests)
 
-transfer_fails_unused : (m : Machine) (ev : TransferEvent) (r : TransferResult) (id : ℕ) → transfer_verdict_in m ev ≡ Some r → failed_transfer_id ev r ≡ Some id → IsUnused m id
+transfer_fails_unused :
+    (m : Machine) (ev : TransferEvent) (r : TransferResult) (id : ℕ) →
+    transfer_verdict_in m ev ≡ Some r → failed_transfer_id ev r ≡ Some id → IsUnused m id
 unfolding transfer_verdict_in transfer_verdict NoneForGood
 transfer_fails_unused m ev r id verdict fails =
     let own = by_id (fails_for_good r) id ev.id fails in
-    let split = behind (transfer_event_results ev) (transfer_id_verdict (facts_of m ev).existing (facts_of m ev) ev) r (refl, (refl, (refl, (refl, tt)))) own.0 verdict in
+    let split = behind (transfer_event_results ev)
+    (transfer_id_verdict (facts_of m ev).existing (facts_of m ev) ev) r
+    (refl, (refl, (refl, (refl, tt)))) own.0 verdict in
     let so = fails_so m ev r own.0 split.1 in
-    let third = (no_row _ answer.ReservedFlag _ (no_row _ answer.TimestampMustBeZero _ split.0).1).1 in
+    let third = (no_row _ answer.ReservedFlag _
+    (no_row _ answer.TimestampMustBeZero _ split.0).1).1 in
     let zero = no_row (ev.id == 0) answer.IdMustNotBeZero _ third in
     let max = no_row (ev.id == max_amount) answer.IdMustNotBeIntMax None zero.1 in
-    let unused : IsUnused m ev.id = record { not_zero = apart ev.id 0 zero.0; not_max = apart ev.id max_amount max.0; unknown = so.0; unrecorded = so.1 } in
+    let unused : IsUnused m ev.id =
+    record {
+      not_zero = apart ev.id 0 zero.0;
+      not_max = apart ev.id max_amount max.0;
+      unknown =
+          so.0;
+      unrecorded = so.1;
+    } in
     subst (IsUnused m) own.1 unused
 
 pub account_laws : EventLaws account_rules

@@ -1,5 +1,6 @@
 -- What the tables of one tenant mean inside an open batch, and what a call on them leaves.
-use Rattle.std.specs.Prelude.{◌≡◌, ℕ, Bool, true, false, Option, Some, None, Result, IfOk, OnOk, OnErr}
+use Rattle.std.specs.Prelude.{◌≡◌, ℕ, Bool, true, false, Option, Some, None, Result, IfOk, OnOk}
+use Rattle.std.specs.Prelude.{OnErr}
 use Rattle.std.specs.Option.{option_and_then}
 use Rattle.records.specs.declared.facts.PendingState.{PendingState}
 use Rattle.records.specs.declared.unavailable.Unavailable.{Unavailable}

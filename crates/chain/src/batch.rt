@@ -1,7 +1,10 @@
-ghost use Rattle.std.specs.Prelude.{◌≡◌, ◌<◌, ◌≤◌, ◌+◌, ◌++◌, ◌&&◌, not, is_none, length, max, None, MatchOption, IfOk, IfSome, IsSome, OnOk, vec_len, vec_capacity};
+ghost use Rattle.std.specs.Prelude.{◌≡◌, ◌<◌, ◌≤◌, ◌+◌, ◌++◌, ◌&&◌, not, is_none, length, max};
+ghost use Rattle.std.specs.Prelude.{None, MatchOption, IfOk, IfSome, IsSome, OnOk, vec_len};
+ghost use Rattle.std.specs.Prelude.{vec_capacity};
 ghost use Rattle.records.specs.Chains.{chains_of, chains_results, trial_of, chain_size};
 ghost use Rattle.records.specs.Chains.{after_fallen, after_chain, after_chains};
-ghost use Rattle.records.specs.Step.{max_clock, with_timestamps, step_outcome, step_machine, IsReply};
+ghost use Rattle.records.specs.Step.{max_clock, with_timestamps, step_outcome, step_machine};
+ghost use Rattle.records.specs.Step.{IsReply};
 ghost use Rattle.chain.specs.Tables.{IsFresh, Tells, Leaves, on_now, closing};
 ghost use Rattle.chain.specs.InBatch.{IsInBatch, IsBetweenChains, IsInTime};
 ghost use Rattle.chain.specs.Chains.{chain_of, after_try, id_failed_by};

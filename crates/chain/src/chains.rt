@@ -1,4 +1,5 @@
-ghost use Rattle.std.specs.Prelude.{◌≡◌, ◌∷◌, ◌<◌, ◌≤◌, ◌+◌, ◌^◌, ◌++◌, length, drop, not, position, slice_index_or, IfSome, vec_len, vec_capacity};
+ghost use Rattle.std.specs.Prelude.{◌≡◌, ◌∷◌, ◌<◌, ◌≤◌, ◌+◌, ◌^◌, ◌++◌, length, drop, not};
+ghost use Rattle.std.specs.Prelude.{position, slice_index_or, IfSome, vec_len, vec_capacity};
 ghost use Rattle.records.specs.Chains.{chains_of, chain_size};
 ghost use Rattle.records.specs.Step.{with_timestamps};
 ghost use Rattle.chain.specs.Chains.{chain_of, results_from};
@@ -36,7 +37,8 @@ fn first_unlinked<E: BatchEvent>(batch: &[E]) -> Option<usize>
 pub(crate) fn first_chain<E: BatchEvent>(batch: &[E]) -> CutChain<'_, E>
     requires { 0 < length batch.now }
     ensures first { chains_of E.rules.linked batch.now
-        ≡ chain_of result ∷ chains_of E.rules.linked (drop (chain_size (chain_of result)) batch.now) }
+        ≡ chain_of result
+        ∷ chains_of E.rules.linked (drop (chain_size (chain_of result)) batch.now) }
     ensures some { 0 < chain_size (chain_of result) }
     ensures within { chain_size (chain_of result) ≤ length batch.now }
 {
@@ -60,7 +62,8 @@ pub(crate) fn push_results<E: BatchEvent>(
     first: u64,
 )
     requires within { IfSome refusal (λ refusal. refusal.place < length chain.now.judged.now) }
-    requires room { vec_len results.old + chain_size (chain_of chain.now) ≤ vec_capacity results.old }
+    requires room { vec_len results.old + chain_size (chain_of chain.now)
+        ≤ vec_capacity results.old }
     requires fits { first + chain_size (chain_of chain.now) < 2 ^ 63 }
     ensures items { results.new.items
         ≡ results.old.items ++

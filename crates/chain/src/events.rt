@@ -1,7 +1,8 @@
 ghost use Rattle.std.specs.Prelude.{◌≡◌, ◌≤◌, ◌+◌, ℕ, length, IfOk};
 ghost use Rattle.records.specs.Machine.{Machine};
 ghost use Rattle.records.specs.Chains.{Rules};
-ghost use Rattle.records.specs.Step.{account_rules, transfer_rules, step_outcome, step_machine, IsReply};
+ghost use Rattle.records.specs.Step.{account_rules, transfer_rules, step_outcome, step_machine};
+ghost use Rattle.records.specs.Step.{IsReply};
 ghost use Rattle.chain.specs.Tables.{IsFresh, Tells, Leaves, on_now};
 ghost use Rattle.chain.specs.InBatch.{IsInBatch, IsInTime, after_event};
 ghost use Rattle.chain.specs.EventLaws.{EventLaws, account_laws, transfer_laws};
@@ -178,8 +179,8 @@ pub fn run_accounts<T: Tables>(
     run_batch(alloc, tables, accounts, moment)
 }
 
-/// Runs a batch of transfer events at a moment, in nanoseconds: the clock goes to the moment, unless
-/// it is there already, and advances one nanosecond per event.
+/// Runs a batch of transfer events at a moment, in nanoseconds: the clock goes to the moment,
+/// unless it is there already, and advances one nanosecond per event.
 ///
 /// After `Unavailable` nothing has changed, and the batch is over.
 pub fn run_transfers<T: Tables>(

@@ -5,9 +5,15 @@ mod batch;
 mod chains;
 mod events;
 mod facts;
+mod ledgers;
+mod reads;
 mod tables;
+mod work;
 
 pub use events::{run_accounts, run_transfers};
 pub use facts::transfer_facts;
+pub use ledgers::{BatchFault, Ledgers};
+pub use reads::{Listed, ReadFault};
 pub use records::BatchReply;
 pub use tables::Tables;
+pub use work::Work;

@@ -4,7 +4,8 @@ ghost use Rattle.records.specs.Facts.{account_in};
 ghost use Rattle.records.specs.Step.{at_clock, max_clock};
 ghost use Rattle.records.specs.Valid.{IsValid, IsNextAccount, with_account, with_transfer};
 ghost use Rattle.records.specs.Accepted.{IsAccepted};
-ghost use Rattle.chain.specs.Tables.{Meaning, Tells, Leaves, pending_state_of, FailsNow, on_now, marking, at_mark, unmarked, same};
+ghost use Rattle.chain.specs.Tables.{Meaning, Tells, Leaves, pending_state_of, FailsNow, on_now};
+ghost use Rattle.chain.specs.Tables.{marking, at_mark, unmarked, same};
 
 use records::{Accepted, Account, AccountWithBalances, PendingState, Transfer, Unavailable};
 
@@ -61,6 +62,7 @@ pub trait Tables {
         requires usable { means.is_usable self.old }
         requires next { means.is_live self.old →
             IsNextAccount (means.state self.old).now account.now }
+        requires bounded { account.now.timestamp ≤ max_clock }
         ensures { Leaves means self.old self.new result
             (on_now (λ m. with_account m account.now)) };
 
@@ -70,6 +72,8 @@ pub trait Tables {
         requires usable { means.is_usable self.old }
         requires next { means.is_live self.old →
             IsAccepted (means.state self.old).now accepted.now }
+        requires bounded { accepted.now.stored.timestamp ≤ max_clock }
+        requires at_bounded { accepted.now.stored.at ≤ max_clock }
         ensures { Leaves means self.old self.new result
             (on_now (λ m. with_transfer m accepted.now.stored)) };
 

@@ -1,14 +1,9 @@
 -- Where `clap` takes the words, the subcommand that it states is one of ours, with each of its values.
-use Rattle.std.proofs.Common.{◌≡◌, ◌⊎◌, ◌∙◌, ◌==◌, ◌&&◌, ◌||◌, ◌^◌, ℕ, Bool, true, false, List, [], ◌∷◌, length, drop, Option, Some, None, ap, refl, sym, subst, inl, inr, cond, is_some, true≢false, arith, lit<}
-use Rattle.std.proofs.lemmas.Bool.{ne_eqb}
-use Rattle.std.proofs.lemmas.Str.Parse.{digit_from_value}
+use Rattle.std.proofs.Common.{◌≡◌, ◌⊎◌, ◌∙◌, ◌==◌, ◌&&◌, ◌||◌, Bool, true, false, List, [], ◌∷◌, length, Option, Some, None, ap, refl, sym, subst, inl, inr, cond, is_some, true≢false, lit<}
 use Rattle.std.specs.Prelude.{find, option_map, unwrap_or, codes}
 use Rattle.std.specs.Option.{option_map_or}
 use Rattle.std.specs.Str.{bytes_eq}
-use Rattle.std.specs.Str.Parse.{IsNumeral, starts_with_minus, without_leading_plus}
 use Rattle.std.proofs.lemmas.Slice.Eq.{bytes_eq-Decides}
-use Rattle.std.proofs.lemmas.Int.{ints}
-use Rattle.clap.specs.Lexer.{without_minus}
 use Rattle.clap.specs.Kinds.{Kinds, value_kinds}
 use Rattle.clap.specs.Faults.{entered_fault, fault_of, level_fault, walk_fault}
 use Rattle.clap.specs.Simple.{App, Shape, argument_words, built, built_leaf, entered, filled, help_rule, inherited, label_of, marked_built, names_of, rows_at, subcommand_of, with_leaf_noted}
@@ -22,7 +17,8 @@ use Rattle.command_line.proofs.Uses.{Each, IsOwn, both_none, each_found, flag_se
 use Rattle.command_line.proofs.Walks.{walk_stops}
 use Rattle.command_line.proofs.Levels.{HasValue, Holds, level_holds}
 use Rattle.command_line.specs.Ledgerd.{check_shape, counts, flag_rule, ledgerd_app, migrate_shape, number_rule, ports, program, serve_shape, statement_shape, tenant_add_shape, text_rule}
-use Rattle.command_line.specs.Values.{HasNumberBelow, HasSomeText, IsFilled, IsFlag}
+use Rattle.command_line.specs.Values.{HasSomeText, IsFilled, IsFlag}
+use Rattle.command_line.proofs.NumberValues.{signed_number}
 
 -- a subcommand as `clap` builds it
 abbrev above : Shape
@@ -48,50 +44,6 @@ either_word false b e = inr e
 either_left : (a : Bool) → (a || false) ≡ true → a ≡ true
 either_left true e = refl
 either_left false e = e
-
--- ---- numbers
-
-without_minus-cond : (t : List ℕ) → without_minus t ≡ cond (starts_with_minus t) (drop 1 t) t
-without_minus-cond [] = refl
-without_minus-cond (x ∷ xs) = go (x == 45)
-  where
-    go : (b : Bool) → unwrap_or (cond b (Some xs) None) (x ∷ xs) ≡ cond b xs (x ∷ xs)
-    go true = refl
-    go false = refl
-
-no_plus : (ds : List ℕ) → IsNumeral 10 ds → without_leading_plus ds ≡ ds
-no_plus [] h = refl
-no_plus (d ∷ ds) h =
-    let plus : (d == 43) ≡ false = ne_eqb _ _ (λ e. omega (arith, digit_from_value d h.1.0)) in
-    ap (λ (b : Bool). drop (cond b 1 0) (d ∷ ds)) plus
-
--- a text that `i64` reads as a number from 0 on, with its minus taken off
-signed_number : (rows : List Row) (name text : Text) → one_of name rows ≡ Some (without_minus text) → Accepts false ports text → HasNumberBelow rows name (2 ^ 16)
-signed_number rows name text read ok = go (starts_with_minus text) refl
-  where
-    go : (b : Bool) → starts_with_minus text ≡ b → HasNumberBelow rows name (2 ^ 16)
-    go true minus =
-        let is : without_minus text ≡ drop 1 text = rw (without_minus-cond text, minus) refl in
-        let numeral : IsNumeral 10 (drop 1 text) = rw minus at ok.0 in
-        let low = rw minus at ok.2 in
-        let same = no_plus (drop 1 text) numeral in
-        record {
-          text = drop 1 text;
-          read = subst (λ (t : Text). one_of name rows ≡ Some t) is read;
-          numeral = rw same numeral;
-          below = rw same (omega (arith, ints));
-        }
-    go false minus =
-        let is : without_minus text ≡ text = rw (without_minus-cond text, minus) refl in
-        let high = rw minus at ok.3 in
-        record {
-          text = text;
-          read = subst (λ (t : Text). one_of name rows ≡ Some t) is read;
-          numeral = rw minus at ok.0;
-          below = omega (arith, ints);
-        }
-
--- ---- the subcommands
 
 text_own : (c : List Rule) (name : Text) → arg_by_id c name ≡ Some (filled (text_rule name)) → IsOwn c (filled (text_rule name))
 text_own c name own = record { own = own; sets = option_sets (filled (text_rule name)) refl (lit< tt) }
@@ -196,8 +148,6 @@ migrate_met words e =
     let own : Each (IsOwn c) c = (text_own c (codes "db") refl, (text_own c (codes "to") refl, (help_own c refl, tt))) in
     let holds = level_holds (ready migrate_shape) words own refl e in
     inr (inr (inr (inr (refl, record { db = text_at rows (codes "db") holds.0; to = text_at rows (codes "to") holds.1.0 }))))
-
--- ---- the whole line
 
 -- the subcommand that a walk stopped at is filled
 StopsAt : Text → List Text → Shape → Type 0

@@ -16,8 +16,6 @@ use Rattle.clap.specs.declared.parser.matches.ValueSource.TheVariants.{DefaultVa
 use Rattle.command_line.proofs.Uses.{AllPass, Each, FirstPasses, IsOwn, Passes, both_none, each_found, first_ok, with_values_passes}
 use Rattle.command_line.proofs.Walks.{settles, walk_passes}
 
--- ---- defaults
-
 default_row_passes : (c : List Rule) (a : Rule) (given : List Text) (rows : List Row) → arg_by_id c a.id ≡ Some a → given_default_fault a given ≡ []
     → AllPass c rows → AllPass c (default_rows a.id (reading_by a) given rows)
 default_row_passes c a [] rows own e p = p
@@ -46,8 +44,6 @@ defaults_pass c (a ∷ xs) rows own e p =
     let parts = both_none (default_fault rows a) (defaults_fault (with_default rows a) xs) e in
     defaults_pass c xs (with_default rows a) own.1 parts.1 (default_passes c a rows own.0.own parts.0 p)
 
--- ---- the last checks
-
 needed : (wants_help wants_subcommand wants_argument : Bool) → check_kinds wants_help wants_subcommand wants_argument ≡ [] → wants_argument ≡ false
 needed true sub arg e = absurd (true≢false (sym (ap (λ (l : Kinds). length l == 0) e)))
 needed false true arg e = absurd (true≢false (sym (ap (λ (l : Kinds). length l == 0) e)))
@@ -63,8 +59,6 @@ none_of test (x ∷ xs) e = go (test x) refl e (none_of test xs)
         → (test x ≡ false) × Each (λ a. test a ≡ false) xs
     go true t f later = absurd (true≢false f)
     go false t f later = (t, later f)
-
--- ---- what a rule's rows say
 
 -- the argument has a value that passes its parser
 pub record HasValue (rows : List Row) (a : Rule) : Type 0 where
@@ -121,8 +115,6 @@ each_holds : (c : List Rule) (rows : List Row) (xs : List Rule) → Each (IsOwn 
     → Each (Holds rows) xs
 each_holds c rows [] own p given = tt
 each_holds c rows (a ∷ xs) own p given = (holds_of c rows a own.0 p given.0, each_holds c rows xs own.1 p given.1)
-
--- ---- a whole level
 
 pub level_holds : (s : Shape) (words : List Text) → Each (IsOwn s.rules) s.rules → s.subcommand_negates_reqs ≡ false
     → level_fault s [] nothing_held words false [] ≡ [] → Each (Holds (rows_after s.rules [] words)) s.rules

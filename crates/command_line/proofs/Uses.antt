@@ -63,8 +63,6 @@ pub record IsOwn (c : List Rule) (a : Rule) : Type 0 where
   pub own : arg_by_id c a.id ≡ Some a
   pub sets : Sets a
 
--- ---- rows
-
 row_passes : (P : Row → Type 0) (id : Text) (change : Row → List Row) (missing rs : List Row)
     → ((r : Row) → P r → Each P (change r)) → Each P missing → Each P rs → Each P (at_row id change missing rs)
 row_passes P id change missing [] changed new h = new
@@ -106,8 +104,6 @@ pub used_passes : (c : List Rule) (a : Rule) (again : Bool) (values : List Text)
 used_passes c a again values rs is e h =
     let set = is.sets again values rs e in
     subst (AllPass c) (sym set.2) (with_values_passes c a CommandLine set.0 set.1 (without a.id rs) is.own set.3 (without_passes (Passes c) a.id rs h))
-
--- ---- which arguments set their rows
 
 pub first_ok : (a : Rule) (v : Text) (vs : List Text) → values_fault a (v ∷ vs) ≡ [] → value_kinds a.ignore_case (parser_of_value a.parser) v ≡ []
 first_ok a v vs e = (both_none _ (values_fault a vs) e).0

@@ -12,8 +12,6 @@ use Rattle.clap.specs.declared.error.kind.ErrorKind.TheVariants.{DisplayHelp, In
 use Rattle.command_line.proofs.Uses.{AllPass, Each, IsOwn, both_none, each_found, used_passes}
 
 module _ (c : List Rule) (again : Bool) (all : Each (IsOwn c) c) where
-  -- ---- what is pending is used
-
   settled_some : (o : Option Rule) (values : List Text) (rows : List Row) → ((a : Rule) → o ≡ Some a → IsOwn c a)
       → option_map_or (λ a. use_fault again a values rows) o [] ≡ [] → AllPass c rows → AllPass c (used_by_id o values rows)
   settled_some None values rows own e h = h
@@ -34,8 +32,6 @@ module _ (c : List Rule) (again : Bool) (all : Each (IsOwn c) c) where
   reacts a values h own e p =
       let parts = both_none (settle_fault c again h) (use_fault again a values (settled c h).rows) e in
       used_passes c a again values (settled c h).rows own parts.1 (settles h parts.0 p)
-
-  -- ---- flags and options
 
   option_passes : (a : Rule) (v : Option Text) (h : Held) → IsOwn c a → option_fault c again a v h ≡ [] → AllPass c h.rows
       → AllPass c (option_met c a v h).0.rows
@@ -90,8 +86,6 @@ module _ (c : List Rule) (again : Bool) (all : Each (IsOwn c) c) where
   bundle_passes (suc k) flags skip so_far h e p =
       step_passes (slice_get (chars flags) 0) flags skip so_far h (bundle_met c k) (flags_fault c again k) (bundle_passes k) e p
 
-  -- ---- one word
-
   option_word_passes : (o : Option Rule) (id word : Text) (h : Held) → AllPass c h.rows → AllPass c (option_word o id word h).0.rows
   option_word_passes None id word h p = p
   option_word_passes (Some a) id word h p = p
@@ -126,8 +120,6 @@ module _ (c : List Rule) (again : Bool) (all : Each (IsOwn c) c) where
       go : (b : Bool) → cond b [] (settle_fault c again h) ≡ [] → AllPass c (pushed a.id word (cond b h (settled c h))).rows
       go true f = p
       go false f = settles h f p
-
--- ---- a word of a command
 
 module _ (s : Shape) (names : Names) (all : Each (IsOwn s.rules) s.rules) where
   met_passes : (found : Option Text) (waiting : Waiting) (position : ℕ) (word : Text) (h : Held) → other_fault s found word h ≡ []
@@ -175,8 +167,6 @@ module _ (s : Shape) (names : Names) (all : Each (IsOwn s.rules) s.rules) where
   walk_passes (word ∷ rest) w e p =
       let parts = both_none (turn_fault s names w word) (walk_fault s names (walked s.rules names w word) rest) e in
       walk_passes rest (walked s.rules names w word) parts.1 (turn_passes w.stopped w word parts.0 p)
-
-  -- ---- no word asks for help
 
   abbrev pub is_help : Text → Bool
   is_help name = bytes_eq name (codes "help") && not s.disable_help_subcommand

@@ -34,4 +34,6 @@ pub mod ToldEndings
 pub mod RetriedEvents
 pub mod RefusalLemmas
 pub mod RetriedBatches
+pub mod BarredIds
+pub mod RememberedIds
 pub mod FailedRetries

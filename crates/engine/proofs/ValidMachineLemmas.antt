@@ -1,5 +1,5 @@
--- What is known of the lists of a valid machine. This module is exported on purpose, to the crate `rows`, whose laws on
--- rows stand on the lists that the rows come from; nothing else above this crate names its lemmas.
+-- What is known of the lists of a valid machine. This module is exported on purpose, to the crates
+-- that prove more of such lists: `rows`, `running` and `stored_tables`.
 use Rattle.std.proofs.Common.{◌≡◌, ◌≤◌, ◌<◌, ◌+◌, ℕ, List, [], ◌∷◌, ◌++◌, None, arith}
 use Rattle.std.specs.List.{All}
 use Rattle.std.proofs.lemmas.List.Elements.{All-nil, All-head, All-tail, All-push}

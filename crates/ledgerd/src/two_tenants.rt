@@ -2,10 +2,9 @@ ghost use Rattle.std.specs.Prelude.{◌≡◌, Some, IfOk};
 ghost use Rattle.plain.specs.Book.{machine_with};
 ghost use Rattle.ledgerd.specs.TwoTenants.{account_event, opened};
 
-use amount::Amount;
 use chain::run_accounts;
 use plain::{Book, PlainTables};
-use records::{AccountEvent, AccountFlags, Unavailable};
+use records::{AccountEvent, Unavailable};
 use std::alloc::Global;
 
 /// The digest of the first tenant.
@@ -19,17 +18,9 @@ fn account(id: u128) -> AccountEvent
 {
     AccountEvent {
         id,
-        debits_pending: Amount::ZERO,
-        debits_posted: Amount::ZERO,
-        credits_pending: Amount::ZERO,
-        credits_posted: Amount::ZERO,
-        user_data_128: 0,
-        user_data_64: 0,
-        user_data_32: 0,
         ledger: 7,
         code: 10,
-        flags: AccountFlags(0),
-        timestamp: 0,
+        ..AccountEvent::default()
     }
 }
 

@@ -1,4 +1,9 @@
 mod AscendingIds
 mod NewTenant
 mod Tenants
-mod Kept
+mod BatchLemmas
+mod BookReads
+mod EntryRows
+mod Handing
+mod KeptLists
+mod PrefixSums

@@ -75,12 +75,12 @@ pub record IsKept (t : Inside) : Type 0 where
   pub failed : t.begun.failed ≤ length t.failed.items
   pub mark : IfSome t.mark (IsMark t.begun (state_in t).begun t.failed.items)
 
--- lists are always live, may be called where they hold a valid machine, and keep nothing beside
--- their state
+-- lists are always live, may be called where they hold a valid machine, and keep the machine with
+-- which the batch began
 abbrev pub plain_meaning : Meaning State
 plain_meaning = record {
   state = λ s. s;
   is_usable = λ s. IsValid s.now;
   is_live = λ s. Unit {0};
-  follows = λ a b. Unit {0};
+  follows = λ a b. b.begun ≡ a.begun;
 }

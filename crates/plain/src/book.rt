@@ -1,8 +1,12 @@
-ghost use Rattle.std.specs.Prelude.{◌≡◌, [], ◌∷◌, ◌++◌, IfErr, IsNone, OnOk, OnErr};
+ghost use Rattle.std.specs.Prelude.{◌≡◌, [], ◌∷◌, ◌++◌, is_some, IfErr, IsNone, OnOk, OnErr};
+ghost use Rattle.std.specs.Prelude.{option_copied};
 ghost use Rattle.std.specs.List.{position};
 ghost use Rattle.std.specs.Option.{option_copied_mut};
 ghost use Rattle.std.specs.Borrow.{sem};
-ghost use Rattle.plain.specs.Book.{has_digest, state_with, ChangesOne};
+ghost use Rattle.records.specs.Valid.{IsValid};
+ghost use Rattle.chain.specs.Ledgers.{AreValid};
+ghost use Rattle.plain.specs.BookLedgers.{machines_in};
+ghost use Rattle.plain.specs.Book.{has_digest, state_with, machine_with, ChangesOne};
 ghost use Rattle.plain.specs.Lending.{LendsTables, LendsTablesOf};
 
 use crate::PlainTables;
@@ -43,7 +47,8 @@ impl Tenant {
 impl Book {
     /// A book without tenants.
     pub fn new(alloc: Global) -> Book
-        ensures { result ≡ [] }
+        ensures empty { result ≡ [] }
+        ensures usable { AreValid (machines_in result) }
     {
         Book {
             tenants: Vec::new(alloc),
@@ -56,9 +61,26 @@ impl Book {
         ensures ok { OnOk result (ChangesOne digest tables self.old self.new) }
         ensures err { OnErr result (self.new ≡ self.old) }
         ensures memory { IfErr result (λ e. e ≡ Unavailable.Memory) }
+        ensures usable { IsValid tables.now → AreValid (machines_in self.old)
+            → AreValid (machines_in self.new) }
     {
         self.tenants.push(Tenant { digest, tables })?;
         Ok(())
+    }
+
+    /// Whether a tenant has this digest.
+    pub fn holds(&self, digest: &[u8; 32]) -> bool
+        ensures { result ≡ is_some (machine_with digest.now self.now) }
+    {
+        place_of(&self.tenants, digest).is_some()
+    }
+
+    /// The tables of the tenant with this digest, to read.
+    pub fn tables_of(&self, digest: &[u8; 32]) -> Option<&PlainTables>
+        ensures { option_copied result ≡ state_with digest.now self.now }
+    {
+        let place = place_of(&self.tenants, digest)?;
+        Some(&self.tenants[place].tables)
     }
 
     /// The tables of the tenant with this digest, to read and change.

@@ -4,9 +4,15 @@
 
 mod balances;
 mod book;
+mod book_ledgers;
+mod entries;
 mod fate;
+mod filters;
+mod hand_out;
 mod plain_tables;
 mod search;
+#[cfg(test)]
+mod tests;
 
 pub use book::Book;
 pub use plain_tables::PlainTables;

@@ -1,9 +1,12 @@
 ghost use Rattle.std.specs.Prelude.{◌≡◌, IfOk};
+ghost use Rattle.std.proofs.Common.{refl, ◌∙◌};
 ghost use Rattle.records.specs.Balances.{balances_in};
 ghost use Rattle.records.specs.Machine.{new_machine, with_failed};
 ghost use Rattle.records.specs.Valid.{IsValid};
 ghost use Rattle.plain.specs.Beginning.{beginning_at};
 ghost use Rattle.plain.specs.PlainTables.{ascending, machine_copied, plain_meaning};
+
+mod reads;
 
 use crate::balances::balances;
 use crate::fate::fate;
@@ -235,9 +238,9 @@ impl Tables for PlainTables {
         Ok(())
     }
 
-    ghost stays = { λ a. tt };
+    ghost stays = { λ a. refl };
 
-    ghost then = { λ a b c first second. tt };
+    ghost then = { λ a b c first second. second ∙ first };
 
     ghost lived = { λ a b follows live. tt };
 

@@ -5,7 +5,7 @@ use crate::width::{fits_u16, fits_u32, fits_u64, fits_u128};
 use amount::Amount;
 
 /// An account as it was opened. It has no balances: these are sums over the transfers.
-#[derive(Clone, Copy, Debug, PartialEq, Eq)]
+#[derive(Clone, Copy, Debug, PartialEq, Eq, Default)]
 pub struct Account {
     /// Neither 0 nor the greatest number.
     pub id: u128,
@@ -22,7 +22,7 @@ pub struct Account {
 }
 
 /// A request to open an account.
-#[derive(Clone, Copy, Debug, PartialEq, Eq)]
+#[derive(Clone, Copy, Debug, PartialEq, Eq, Default)]
 pub struct AccountEvent {
     pub id: u128,
     /// Must be 0, as the other three balances.

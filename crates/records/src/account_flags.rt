@@ -8,7 +8,7 @@ use crate::Side;
 
 /// The 16 flag bits of an account: 0 linked, 1 debits must not exceed credits, 2 credits must not
 /// exceed debits, 3 history. The other bits are reserved.
-#[derive(Clone, Copy, Debug, PartialEq, Eq)]
+#[derive(Clone, Copy, Debug, PartialEq, Eq, Default)]
 pub struct AccountFlags(pub u16);
 
 impl AccountFlags {

@@ -8,30 +8,22 @@ use std::test::Fail;
 fn account(flags: u16) -> Account {
     Account {
         id: 1,
-        user_data_128: 0,
-        user_data_64: 0,
-        user_data_32: 0,
         ledger: 7,
         code: 10,
         flags: AccountFlags(flags),
         timestamp: 1,
+        ..Account::default()
     }
 }
 
 fn account_event(flags: u16, debits_posted: u128) -> AccountEvent {
     AccountEvent {
         id: 1,
-        debits_pending: Amount::ZERO,
         debits_posted: Amount::new(debits_posted),
-        credits_pending: Amount::ZERO,
-        credits_posted: Amount::ZERO,
-        user_data_128: 0,
-        user_data_64: 0,
-        user_data_32: 0,
         ledger: 7,
         code: 10,
         flags: AccountFlags(flags),
-        timestamp: 0,
+        ..AccountEvent::default()
     }
 }
 
@@ -42,15 +34,12 @@ fn stored(flags: u16, pending_id: u128, amount: u128) -> Transfer {
         credit_account_id: 2,
         amount: Amount::new(amount),
         pending_id,
-        user_data_128: 0,
-        user_data_64: 0,
-        user_data_32: 0,
-        timeout: 0,
         ledger: 7,
         code: 1,
         flags: TransferFlags(flags),
         timestamp: 6,
         at: 7,
+        ..Transfer::default()
     }
 }
 
@@ -58,18 +47,10 @@ fn stored(flags: u16, pending_id: u128, amount: u128) -> Transfer {
 fn retry(flags: u16, pending_id: u128, amount: u128) -> TransferEvent {
     TransferEvent {
         id: 101,
-        debit_account_id: 0,
-        credit_account_id: 0,
         amount: Amount::new(amount),
         pending_id,
-        user_data_128: 0,
-        user_data_64: 0,
-        user_data_32: 0,
-        timeout: 0,
-        ledger: 0,
-        code: 0,
         flags: TransferFlags(flags),
-        timestamp: 0,
+        ..TransferEvent::default()
     }
 }
 

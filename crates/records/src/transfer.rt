@@ -8,7 +8,7 @@ use amount::Amount;
 
 /// A transfer as it was accepted: in a post or void the fields that it takes from its pending
 /// transfer are filled in, and a balancing amount is lowered already.
-#[derive(Clone, Copy, Debug, PartialEq, Eq)]
+#[derive(Clone, Copy, Debug, PartialEq, Eq, Default)]
 pub struct Transfer {
     /// Neither 0 nor the greatest number.
     pub id: u128,
@@ -32,7 +32,7 @@ pub struct Transfer {
 }
 
 /// A request for a transfer.
-#[derive(Clone, Copy, Debug, PartialEq, Eq)]
+#[derive(Clone, Copy, Debug, PartialEq, Eq, Default)]
 pub struct TransferEvent {
     pub id: u128,
     pub debit_account_id: u128,

@@ -10,7 +10,7 @@ use crate::Side;
 /// The 16 flag bits of a transfer: 0 linked, 1 pending, 2 post a pending transfer, 3 void a pending
 /// transfer, 4 balancing debit, 5 balancing credit. The other bits are reserved. A transfer with
 /// none of the bits 1 to 3 is single-phase.
-#[derive(Clone, Copy, Debug, PartialEq, Eq)]
+#[derive(Clone, Copy, Debug, PartialEq, Eq, Default)]
 pub struct TransferFlags(pub u16);
 
 impl TransferFlags {

@@ -89,15 +89,12 @@ fn post() -> Transfer
         credit_account_id: 2,
         amount: Amount::new(40),
         pending_id: 100,
-        user_data_128: 0,
-        user_data_64: 0,
-        user_data_32: 0,
-        timeout: 0,
         ledger: 7,
         code: 1,
         flags: TransferFlags(4),
         timestamp: 6,
         at: 7,
+        ..Transfer::default()
     }
 }
 

@@ -40,13 +40,11 @@ pub(super) fn balances(sums: [u128; 4]) -> Balances {
 pub(super) fn account(id: u64, flags: u16) -> Account {
     Account {
         id: u128::from(id),
-        user_data_128: 0,
-        user_data_64: 0,
-        user_data_32: 0,
         ledger: 7,
         code: 10,
         flags: AccountFlags(flags),
         timestamp: id,
+        ..Account::default()
     }
 }
 
@@ -83,15 +81,10 @@ pub(super) fn transfer(
         debit_account_id: debit,
         credit_account_id: credit,
         amount: Amount::new(amount),
-        pending_id: 0,
-        user_data_128: 0,
-        user_data_64: 0,
-        user_data_32: 0,
-        timeout: 0,
         ledger: 7,
         code: 1,
         flags: TransferFlags(flags),
-        timestamp: 0,
+        ..TransferEvent::default()
     }
 }
 
@@ -160,16 +153,9 @@ pub(super) fn part_posted() -> Transfer {
 pub(super) fn account_event(id: u128, flags: u16, ledger: u32) -> AccountEvent {
     AccountEvent {
         id,
-        debits_pending: Amount::ZERO,
-        debits_posted: Amount::ZERO,
-        credits_pending: Amount::ZERO,
-        credits_posted: Amount::ZERO,
-        user_data_128: 0,
-        user_data_64: 0,
-        user_data_32: 0,
         ledger,
         code: 10,
         flags: AccountFlags(flags),
-        timestamp: 0,
+        ..AccountEvent::default()
     }
 }

@@ -219,7 +219,7 @@ fn prints_a_line(rt: HostRuntime) -> Result<(), Fail> {
 }
 
 // Where an allocation is refused, the ledger is unavailable and as it was, and answers when there is
-// memory again. To be run with each allocation refused in turn (`make memory`).
+// memory again. To be run with each allocation refused in turn (`make alloc`).
 fn survives(rt: &impl Abort, alloc: Global, body: &[u8], transfers: usize) -> Result<(), Fail> {
     let (Ok(mut book), Ok(mut twin)) = (two_tenants(alloc), two_tenants(alloc)) else {
         return Ok(());

@@ -28,37 +28,6 @@ pub const KEEPS_HISTORY: u16 = 8;
 /// The greatest amount.
 pub const MAX: u128 = u128::MAX;
 
-const NO_ACCOUNT: AccountEvent = AccountEvent {
-    id: 0,
-    debits_pending: Amount::ZERO,
-    debits_posted: Amount::ZERO,
-    credits_pending: Amount::ZERO,
-    credits_posted: Amount::ZERO,
-    user_data_128: 0,
-    user_data_64: 0,
-    user_data_32: 0,
-    ledger: 0,
-    code: 0,
-    flags: AccountFlags(0),
-    timestamp: 0,
-};
-
-const NO_TRANSFER: TransferEvent = TransferEvent {
-    id: 0,
-    debit_account_id: 0,
-    credit_account_id: 0,
-    amount: Amount::ZERO,
-    pending_id: 0,
-    user_data_128: 0,
-    user_data_64: 0,
-    user_data_32: 0,
-    timeout: 0,
-    ledger: 0,
-    code: 0,
-    flags: TransferFlags(0),
-    timestamp: 0,
-};
-
 /// An account of ledger 7 and code 10.
 pub fn account(id: u128, flags: u16) -> AccountEvent {
     AccountEvent {
@@ -66,7 +35,7 @@ pub fn account(id: u128, flags: u16) -> AccountEvent {
         ledger: 7,
         code: 10,
         flags: AccountFlags(flags),
-        ..NO_ACCOUNT
+        ..AccountEvent::default()
     }
 }
 
@@ -79,7 +48,7 @@ pub fn transfer(id: u128, (debit, credit): (u128, u128), amount: u128) -> Transf
         amount: Amount::new(amount),
         ledger: 7,
         code: 1,
-        ..NO_TRANSFER
+        ..TransferEvent::default()
     }
 }
 
@@ -90,7 +59,7 @@ pub fn post(id: u128, pending_id: u128, amount: u128) -> TransferEvent {
         pending_id,
         amount: Amount::new(amount),
         flags: TransferFlags(POST),
-        ..NO_TRANSFER
+        ..TransferEvent::default()
     }
 }
 

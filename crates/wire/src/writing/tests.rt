@@ -57,13 +57,10 @@ fn tells_accounts(rt: HostRuntime) -> Result<(), Fail> {
     let plain = AccountWithBalances {
         account: Account {
             id: 1,
-            user_data_128: 0,
-            user_data_64: 0,
-            user_data_32: 0,
             ledger: 7,
             code: 10,
-            flags: AccountFlags(0),
             timestamp: 1,
+            ..Account::default()
         },
         balances: Balances::ZERO,
     };

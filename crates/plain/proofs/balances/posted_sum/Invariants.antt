@@ -4,4 +4,5 @@ use Rattle.records.specs.Balances.{amount_on, posted_amount}
 use Rattle.plain.proofs.balances.posted_sum.Given as goal
 
 abbrev pub invariant-loop-entry : goal.invariant-loop-entry
-invariant-loop-entry l = l.total ≡ sum_by (amount_on l.side l.account posted_amount) (take l.entry-index l.transfers)
+invariant-loop-entry l =
+    l.total ≡ sum_by (amount_on l.side l.account posted_amount) (take l.entry-index l.transfers)

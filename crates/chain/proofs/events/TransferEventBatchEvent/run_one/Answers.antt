@@ -6,7 +6,8 @@ pub accept_transfer-requires-clause-next : goal.accept_transfer-requires-clause-
 accept_transfer-requires-clause-next g c live =
     let t = g.T.Tables.means in
     let old = t.state c.args.tables.now in
-    let was : t.is_live c.args.tables.now = g.met.T.Tables.lived _ _ c.in_ok-facts.ensures.leaves.follows live in
+    let was : t.is_live c.args.tables.now =
+    g.met.T.Tables.lived _ _ c.in_ok-facts.ensures.leaves.follows live in
     let here = c.requires.in_batch was in
     let next : IsNextTimestamp old.now c.args.timestamp = record {
       positive = c.requires.in_time.positive;
@@ -16,4 +17,5 @@ accept_transfer-requires-clause-next g c live =
       by_clock = rw here.at (omega (arith, c.requires.in_time.by_clock));
     } in
     let valid = g.met.T.Tables.valid c.args.tables.now was c.requires.usable in
-    rw (c.in_ok-facts.ensures.leaves.state live) (c.in-Accept.ensures.next old.now valid (c.in_ok-facts.ensures.value live) (sym here.at) next)
+    rw (c.in_ok-facts.ensures.leaves.state live)
+    (c.in-Accept.ensures.next old.now valid (c.in_ok-facts.ensures.value live) (sym here.at) next)

@@ -4,10 +4,12 @@ use Rattle.chain.specs.Tables.{State}
 use Rattle.plain.proofs.plain_tables.PlainTables.balances.Goals as goal
 
 pub balances-requires-clause-debits : goal.balances-requires-clause-debits
-balances-requires-clause-debits c = rw c.deref.ensures.value (c.sums_fit.ensures _ c.self.invariant.now _).debits
+balances-requires-clause-debits c =
+    rw c.deref.ensures.value (c.sums_fit.ensures _ c.self.invariant.now _).debits
 
 pub balances-requires-clause-credits : goal.balances-requires-clause-credits
-balances-requires-clause-credits c = rw c.deref.ensures.value (c.sums_fit.ensures _ c.self.invariant.now _).credits
+balances-requires-clause-credits c =
+    rw c.deref.ensures.value (c.sums_fit.ensures _ c.self.invariant.now _).credits
 
 pub returns : goal.returns
 returns c =

@@ -12,4 +12,5 @@ invariant_of-result c = record {
 }
 
 pub returns-clause-usable : goal.returns-clause-usable
-returns-clause-usable c = valid_new _ _ _ c.new.ensures.items c.new-2.ensures.items c.new-3.ensures.items
+returns-clause-usable c =
+    valid_new _ _ _ c.new.ensures.items c.new-2.ensures.items c.new-3.ensures.items

@@ -1,13 +1,20 @@
-use Rattle.plain.proofs.Kept.{kept_account, state_account}
+use Rattle.std.proofs.Common.{ap}
+use Rattle.chain.specs.Tables.{State}
+use Rattle.plain.proofs.KeptLists.{kept_account, state_account}
 use Rattle.plain.proofs.plain_tables.PlainTablesTables.accept_account.Goals as goal
 
 pub invariant_of-self : goal.invariant_of-self
-invariant_of-self c = kept_account _ _ _ _ c.self.view_is c.self.invariant (c.requires.next tt) c.in-Ok.ensures.items
+invariant_of-self c =
+    kept_account _ _ _ _ c.self.view_is c.self.invariant (c.requires.next tt) c.in-Ok.ensures.items
 
 pub returns-in-Ok : goal.returns-in-Ok
 returns-in-Ok c = record {
-  state = λ live. state_account _ _ _ c.push.new.self c.self.view_is c.self.invariant c.in-Ok.ensures.items;
-  usable = (kept_account _ _ _ c.push.new.self c.self.view_is c.self.invariant (c.requires.next tt) c.in-Ok.ensures.items).now;
+  state = λ live. state_account _ _ _ c.push.new.self c.self.view_is c.self.invariant
+      c.in-Ok.ensures.items;
+  usable = (kept_account _ _ _ c.push.new.self c.self.view_is c.self.invariant (c.requires.next tt)
+      c.in-Ok.ensures.items).now;
   undone = λ live. tt;
-  follows = tt;
+  follows =
+      ap (λ (s : State). s.begun)
+      (state_account _ _ _ c.push.new.self c.self.view_is c.self.invariant c.in-Ok.ensures.items);
 }

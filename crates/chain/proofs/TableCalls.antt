@@ -9,7 +9,9 @@ pub record Joins {S : Type 0} (t : Meaning S) : Type 0 where
   pub lived : (a b : S) → t.follows a b → t.is_live b → t.is_live a
 
 -- two calls in turn
-pub in_turn : {S X Y : Type 0} (t : Meaning S) (a b c : S) (x : X) (y : Y) (f g : State → State) → Joins t → Leaves t a b (Ok x) f → Leaves t b c (Ok y) g → Leaves t a c (Ok y) (λ s. g (f s))
+pub in_turn :
+    {S X Y : Type 0} (t : Meaning S) (a b c : S) (x : X) (y : Y) (f g : State → State) → Joins t →
+    Leaves t a b (Ok x) f → Leaves t b c (Ok y) g → Leaves t a c (Ok y) (λ s. g (f s))
 in_turn t a b c x y f g joins first second = record {
   state = λ live. second.state live ∙ ap g (first.state (joins.lived _ _ second.follows live));
   usable = second.usable;
@@ -18,7 +20,9 @@ in_turn t a b c x y f g joins first second = record {
 }
 
 -- a change in other words
-pub changed_so : {S X Y : Type 0} (t : Meaning S) (a b : S) (x : X) (y : Y) (f g : State → State) → Leaves t a b (Ok x) f → (t.is_live b → f (t.state a) ≡ g (t.state a)) → Leaves t a b (Ok y) g
+pub changed_so :
+    {S X Y : Type 0} (t : Meaning S) (a b : S) (x : X) (y : Y) (f g : State → State) →
+    Leaves t a b (Ok x) f → (t.is_live b → f (t.state a) ≡ g (t.state a)) → Leaves t a b (Ok y) g
 changed_so t a b x y f g call same = record {
   state = λ live. call.state live ∙ same live;
   usable = call.usable;
@@ -32,18 +36,26 @@ pub record HasRun {S : Type 0} (t : Meaning S) (old new : S) : Type 0 where
   pub usable : t.is_usable new
   pub follows : t.follows old new
 
-two_steps : (old mid new : State) (change : Machine → Machine) → mid ≡ on_now (λ m. mid.now) old → new ≡ on_now change mid → new ≡ on_now (λ m. new.now) old
-two_steps old mid new change first second = second ∙ ap (on_now change) first ∙ ap (λ m. on_now (λ n. m) old) (sym (ap (λ s. s.now) second))
+two_steps :
+    (old mid new : State) (change : Machine → Machine) → mid ≡ on_now (λ m. mid.now) old →
+    new ≡ on_now change mid → new ≡ on_now (λ m. new.now) old
+two_steps old mid new change first second =
+    second ∙ ap (on_now change) first ∙ ap (λ m. on_now (λ n. m) old) (sym (ap (λ s. s.now) second))
 
-pub runs_on : {S X : Type 0} (t : Meaning S) (a b c : S) (x : X) (change : Machine → Machine) → Joins t → HasRun t a b → Leaves t b c (Ok x) (on_now change) → HasRun t a c
+pub runs_on :
+    {S X : Type 0} (t : Meaning S) (a b c : S) (x : X) (change : Machine → Machine) → Joins t →
+    HasRun t a b → Leaves t b c (Ok x) (on_now change) → HasRun t a c
 runs_on t a b c x change joins run call = record {
-  now = λ live. two_steps (t.state a) (t.state b) (t.state c) change (run.now (joins.lived _ _ call.follows live)) (call.state live);
+  now = λ live. two_steps (t.state a) (t.state b) (t.state c) change
+      (run.now (joins.lived _ _ call.follows live)) (call.state live);
   usable = call.usable;
   follows = joins.then _ _ _ run.follows call.follows;
 }
 
 -- a run as one call
-pub as_one : {S X : Type 0} (t : Meaning S) (a b : S) (x : X) (change : Machine → Machine) → HasRun t a b → (t.is_live b → (t.state b).now ≡ change (t.state a).now) → Leaves t a b (Ok x) (on_now change)
+pub as_one :
+    {S X : Type 0} (t : Meaning S) (a b : S) (x : X) (change : Machine → Machine) → HasRun t a b →
+    (t.is_live b → (t.state b).now ≡ change (t.state a).now) → Leaves t a b (Ok x) (on_now change)
 as_one t a b x change run changed = record {
   state = λ live. run.now live ∙ ap (λ m. on_now (λ n. m) (t.state a)) (changed live);
   usable = run.usable;
@@ -52,9 +64,14 @@ as_one t a b x change run changed = record {
 }
 
 -- a mark, a run and back to the mark
-pub went_back : (s : State) (change : Machine → Machine) → s.marked ≡ None → at_mark (on_now change (marking s)) ≡ s
+pub went_back :
+    (s : State) (change : Machine → Machine) → s.marked ≡ None →
+    at_mark (on_now change (marking s)) ≡ s
 went_back s change unmarked = ap (λ marked. record s { marked = marked }) (sym unmarked)
 
 -- a mark, a run and the mark released
-pub went_on : (s : State) (change : Machine → Machine) → s.marked ≡ None → unmarked (on_now change (marking s)) ≡ on_now change s
-went_on s change unmarked = ap (λ marked. record { now = change s.now; begun = s.begun; marked = marked }) (sym unmarked)
+pub went_on :
+    (s : State) (change : Machine → Machine) → s.marked ≡ None →
+    unmarked (on_now change (marking s)) ≡ on_now change s
+went_on s change unmarked =
+    ap (λ marked. record { now = change s.now; begun = s.begun; marked = marked }) (sym unmarked)

@@ -1,0 +1,85 @@
+-- What a read of one tenant's machine is told.
+use Rattle.std.specs.Prelude.{◌≡◌, ℕ, Bool, true, false, List, [], take, Option, Some, None}
+use Rattle.std.specs.Prelude.{Result, Ok, Err}
+use Rattle.records.specs.Machine.{Machine}
+use Rattle.records.specs.Reads.{AccountAnswer, NoAccount, NoHistory, Found}
+use Rattle.records.specs.Streams.{TakesRows}
+use Rattle.chain.specs.declared.reads.Listed.{Listed}
+use Rattle.chain.specs.declared.reads.ReadFault.{ReadFault}
+use Rattle.chain.specs.declared.reads.ReadFault.TheVariants as fault
+use Rattle.chain.specs.Ledgers.{LedgersMeaning, KeepsAll}
+
+-- what a read shows, and the clock at which it is judged
+pub record Seen (A : Type 0) : Type 0 where
+  pub clock : ℕ
+  pub shown : A
+
+-- an answer about an account, as a read tells it
+abbrev pub seen_by : {A : Type 0} → ℕ → AccountAnswer A → Result (Seen A) ReadFault
+seen_by clock NoAccount = Err fault.NoAccount
+seen_by clock NoHistory = Err fault.NoHistory
+seen_by clock (Found shown) = Ok (record { clock = clock; shown = shown })
+
+-- what a tenant, if there is one, answers to a read
+abbrev pub seen_in :
+    {A : Type 0} → (Machine → AccountAnswer A) → Option Machine → Result (Seen A) ReadFault
+seen_in answers None = Err fault.UnknownKey
+seen_in answers (Some m) = seen_by m.clock (answers m)
+
+-- what is shown, or nothing
+abbrev pub rows_of : {A : Type 0} → Result (Seen (List A)) ReadFault → List A
+rows_of (Ok seen) = seen.shown
+rows_of (Err why) = []
+
+-- a list that is what is seen, or the fault that there is; want of memory, size or disk says
+-- nothing of the tenant
+abbrev pub IsListed :
+    {A : Type 0} → Result (Seen (List A)) ReadFault → Result (Listed A) ReadFault → Type 0
+IsListed seen (Ok listed) =
+    seen ≡ Ok (record { clock = listed.clock; shown = listed.entries.items })
+IsListed seen (Err (fault.Unavailable why)) = Unit {0}
+IsListed seen (Err (fault.Sink why)) = ⊥
+IsListed seen (Err fault.UnknownKey) = seen ≡ Err fault.UnknownKey
+IsListed seen (Err fault.NoAccount) = seen ≡ Err fault.NoAccount
+IsListed seen (Err fault.NoHistory) = seen ≡ Err fault.NoHistory
+
+-- a sink took the rows that are seen, all of them, and nothing else
+pub record IsHanded {S A : Type 0} (takes : S → A → S → Type 0)
+    (seen : Result (Seen (List A)) ReadFault) (old new : S) : Type 0 where
+  pub answer : Seen (List A)
+  pub is : seen ≡ Ok answer
+  pub taken : TakesRows takes old answer.shown new
+
+-- a sink took a beginning of them
+pub record IsBegun {S A : Type 0} (takes : S → A → S → Type 0) (rows : List A) (old new : S) :
+    Type 0 where
+  pub count : ℕ
+  pub taken : TakesRows takes old (take count rows) new
+
+-- a read that hands rows out: all of them, or none where the tenant or the account is not there, or
+-- a beginning before another fault
+abbrev pub HandsOut :
+    {S A : Type 0} → (S → A → S → Type 0) → Result (Seen (List A)) ReadFault → S → S
+    → Result Unit ReadFault → Type 0
+HandsOut takes seen old new (Ok done) = IsHanded takes seen old new
+HandsOut takes seen old new (Err (fault.Unavailable why)) = IsBegun takes (rows_of seen) old new
+HandsOut {S} takes seen old new (Err (fault.Sink why)) =
+    (last : S) × IsBegun takes (rows_of seen) old last
+HandsOut takes seen old new (Err fault.UnknownKey) = (seen ≡ Err fault.UnknownKey) × (new ≡ old)
+HandsOut takes seen old new (Err fault.NoAccount) = (seen ≡ Err fault.NoAccount) × (new ≡ old)
+HandsOut takes seen old new (Err fault.NoHistory) = ⊥
+
+-- whether the sink refused a row
+abbrev pub is_refused : Result Unit ReadFault → Bool
+is_refused (Ok done) = false
+is_refused (Err (fault.Sink why)) = true
+is_refused (Err (fault.Unavailable why)) = false
+is_refused (Err fault.UnknownKey) = false
+is_refused (Err fault.NoAccount) = false
+is_refused (Err fault.NoHistory) = false
+
+-- a read changes no tenant's machine, and calls are still allowed
+pub record Reads {S : Type 0} (t : LedgersMeaning S) (old new : S) : Type 0 where
+  pub same : t.is_live new → KeepsAll (t.tenants old) (t.tenants new)
+  pub usable : t.is_usable new
+  pub follows : t.follows old new

@@ -1,0 +1,58 @@
+-- The ledgers of many tenants: the machine of each, and what a call for one of them leaves.
+use Rattle.std.specs.Prelude.{◌≡◌, ◌≢◌, ℕ, List, Option, Some, None, Result, Ok, Err, OnOk}
+use Rattle.records.specs.declared.unavailable.Unavailable.{Unavailable}
+use Rattle.records.specs.Machine.{Machine}
+use Rattle.records.specs.Valid.{IsValid}
+use Rattle.chain.specs.declared.ledgers.BatchFault.{BatchFault}
+use Rattle.chain.specs.declared.ledgers.BatchFault.TheVariants.{UnknownKey}
+use Rattle.chain.specs.declared.ledgers.BatchFault.TheVariants.{Unavailable as AreUnavailable}
+use Rattle.chain.specs.Tables.{Meaning}
+
+-- the machine of the tenant with this digest, if there is one
+abbrev pub Tenants : Type 0
+Tenants = List ℕ → Option Machine
+
+-- what the ledgers of many tenants mean: their machines, whether calls are allowed, whether the
+-- ledgers are live, and what every run of calls keeps
+pub record LedgersMeaning (S : Type 0) : Type 1 where
+  pub tenants : S → Tenants
+  pub is_usable : S → Type 0
+  pub is_live : S → Type 0
+  pub follows : S → S → Type 0
+
+-- every tenant's machine is valid
+abbrev pub AreValid : Tenants → Type 0
+AreValid tenants = (digest : List ℕ) (m : Machine) → tenants digest ≡ Some m → IsValid m
+
+-- every tenant's machine is as before
+abbrev pub KeepsAll : Tenants → Tenants → Type 0
+KeepsAll old new = (digest : List ℕ) → new digest ≡ old digest
+
+-- every machine but that of one tenant is as before
+abbrev pub KeepsOthers : List ℕ → Tenants → Tenants → Type 0
+KeepsOthers digest old new = (other : List ℕ) → other ≢ digest → new other ≡ old other
+
+-- what a batch of work leaves of one tenant's tables: if it answers, no mark is open
+pub record IsOver {S O : Type 0} (t : Meaning S) (old new : S) (result : Result O Unavailable) :
+    Type 0 where
+  pub usable : OnOk result (t.is_usable new)
+  pub unmarked : t.is_live new → OnOk result ((t.state new).marked ≡ None)
+  pub follows : t.follows old new
+
+-- a batch was run on the tenant's machine, and every other machine is as before
+pub record IsDone {O : Type 0} (gives : Machine → O → Machine → Type 0) (digest : List ℕ)
+    (old new : Tenants) (output : O) : Type 0 where
+  pub before : Machine
+  pub after : Machine
+  pub held : old digest ≡ Some before
+  pub given : gives before output after
+  pub holds : new digest ≡ Some after
+  pub others : KeepsOthers digest old new
+
+-- what a batch is told, and what it leaves
+abbrev pub IsRun :
+    {O : Type 0} → (Machine → O → Machine → Type 0) → List ℕ → Tenants → Tenants
+    → Result O BatchFault → Type 0
+IsRun gives digest old new (Ok output) = IsDone gives digest old new output
+IsRun gives digest old new (Err UnknownKey) = (old digest ≡ None) × KeepsAll old new
+IsRun gives digest old new (Err (AreUnavailable why)) = KeepsAll old new

@@ -1,0 +1,19 @@
+-- A book as the ledgers of many tenants: it is always live, and may be called where all its
+-- machines are valid.
+use Rattle.std.specs.Prelude.{List}
+use Rattle.chain.specs.Ledgers.{Tenants, LedgersMeaning, AreValid}
+use Rattle.plain.specs.declared.book.Tenant.{Tenant}
+use Rattle.plain.specs.Book.{machine_with}
+
+-- the machine of each tenant of a book
+abbrev pub machines_in : List Tenant → Tenants
+machines_in book digest = machine_with digest book
+
+-- what a book means
+abbrev pub book_meaning : LedgersMeaning (List Tenant)
+book_meaning = record {
+  tenants = machines_in;
+  is_usable = λ book. AreValid (machines_in book);
+  is_live = λ book. Unit {0};
+  follows = λ old new. Unit {0};
+}
