@@ -1,0 +1,112 @@
+-- Two ledgers that agree on a tenant.
+use Rattle.std.proofs.Common.{◌≡◌, ◌≢◌, ℕ, List, Option, Some, Result, Ok, Err, refl, sym, ap}
+use Rattle.std.proofs.Common.{◌∙◌, subst}
+use Rattle.httparse.specs.Grammar.{RequestHead}
+use Rattle.sha2.specs.Sha256.{sha256}
+use Rattle.records.specs.Machine.{Machine}
+use Rattle.chain.specs.Ledgers.{Tenants}
+use Rattle.ledger_http.specs.declared.refusal.Refusal.{Refusal}
+use Rattle.ledger_http.specs.declared.reply.Reply.{Reply}
+use Rattle.ledger_http.specs.ReplyText.{reply_text}
+use Rattle.ledger_http.specs.Message.{HasHead}
+use Rattle.ledger_http.specs.Question.{Question, asked_of}
+use Rattle.ledger_http.specs.Alone.{StandsAlone as IsAlone}
+use Rattle.wire.specs.Meaning.{meaning_of}
+use Rattle.wire.specs.Told.{outcome_text}
+use Rattle.service.specs.Served.{served_to}
+use Rattle.service.specs.Replies.{unavailable}
+use Rattle.service.specs.Responds.{Answers, Responds, IsAsking, IsCaller, AgreesOn}
+
+-- bytes have one head
+abbrev pub HeadsAreUnique : Type 0
+HeadsAreUnique =
+    (bytes : List ℕ) (h k : Option RequestHead) → HasHead bytes h → HasHead bytes k → h ≡ k
+
+same_text :
+    (asked : Result Question Refusal) (old new old' new' : Tenants) (moment : ℕ)
+    (text text' : List ℕ) →
+    Answers old new asked moment text → Answers old' new' asked moment text' →
+    ((digest : List ℕ) → IsAsking asked digest → old digest ≡ old' digest) → text ≡ text'
+same_text (Ok q) old new old' new' moment text text' a a' agree =
+    a.told
+    ∙ (ap
+    (λ (tenant : Option Machine). outcome_text
+    (served_to tenant (meaning_of q.route q.account q.body) moment).told)
+    (agree (sha256 q.key) refl)
+    ∙ sym a'.told)
+same_text (Err refusal) old new old' new' moment text text' a a' agree = a.told ∙ sym a'.told
+
+same_own :
+    (asked : Result Question Refusal) (old new old' new' : Tenants) (moment : ℕ)
+    (text text' : List ℕ) →
+    Answers old new asked moment text → Answers old' new' asked moment text' →
+    ((digest : List ℕ) → IsAsking asked digest → old digest ≡ old' digest) →
+    (digest : List ℕ) → IsAsking asked digest → new digest ≡ new' digest
+same_own (Ok q) old new old' new' moment text text' a a' agree digest is =
+    ap new is
+    ∙ (a.own
+    ∙ (ap
+    (λ (tenant : Option Machine). (served_to tenant (meaning_of q.route q.account q.body)
+    moment).left)
+    (agree (sha256 q.key) refl)
+    ∙ (sym a'.own ∙ sym (ap new' is))))
+same_own (Err refusal) old new old' new' moment text text' a a' agree digest is = absurd is
+
+others_stay :
+    (asked : Result Question Refusal) (old new : Tenants) (moment : ℕ) (text : List ℕ) →
+    Answers old new asked moment text →
+    (digest : List ℕ) → (IsAsking asked digest → ⊥) → new digest ≡ old digest
+others_stay (Ok q) old new moment text a digest not_asking = a.others digest not_asking
+others_stay (Err refusal) old new moment text a digest not_asking = a.same digest
+
+asking_at :
+    (bytes : List ℕ) (head : Option RequestHead) (digest : List ℕ) → HeadsAreUnique →
+    HasHead bytes head → IsCaller bytes digest → IsAsking (asked_of bytes head) digest
+asking_at bytes head digest unique has caller =
+    subst (λ (h : Option RequestHead). IsAsking (asked_of bytes h) digest)
+    (unique bytes caller.0 head caller.1 has) caller.2
+
+pub isolated :
+    HeadsAreUnique →
+    (old new old' new' : Tenants) (bytes : List ℕ) (moment : ℕ) (reply reply' : Reply) →
+    Responds old new bytes moment reply → Responds old' new' bytes moment reply' →
+    ((digest : List ℕ) → IsCaller bytes digest → old digest ≡ old' digest) →
+    reply ≢ unavailable → reply' ≢ unavailable →
+    AgreesOn bytes old new old' new' reply reply'
+isolated unique old new old' new' bytes moment reply reply' r r' agree ne ne' =
+    let a : Answers old new (asked_of bytes r.head) moment (reply_text reply) = r.answered ne in
+    let a' : Answers old' new' (asked_of bytes r.head) moment (reply_text reply') =
+    subst
+    (λ (h : Option RequestHead). Answers old' new' (asked_of bytes h) moment (reply_text reply'))
+    (unique bytes r'.head r.head r'.has r.has) (r'.answered ne') in
+    let agrees : (digest : List ℕ) → IsAsking (asked_of bytes r.head) digest → old digest ≡ old'
+    digest =
+    λ digest asking. agree digest (r.head, r.has, asking) in
+    record {
+      same_reply = same_text (asked_of bytes r.head) old new old' new' moment _ _ a a' agrees;
+      same_machine = λ digest caller.
+          same_own (asked_of bytes r.head) old new old' new' moment _ _ a a' agrees digest
+          (asking_at bytes r.head digest unique r.has caller);
+      others = λ digest not_caller.
+          others_stay (asked_of bytes r.head) old new moment _ a digest
+          (λ asking. not_caller (r.head, r.has, asking));
+      others' = λ digest not_caller.
+          others_stay (asked_of bytes r.head) old' new' moment _ a' digest
+          (λ asking. not_caller (r.head, r.has, asking));
+    }
+
+pub alone :
+    HeadsAreUnique →
+    (old new : Tenants) (unread message : List ℕ) (moment : ℕ) (reply : Reply) →
+    IsAlone unread message → Responds old new message moment reply →
+    Responds old new unread moment reply
+alone unique old new unread message moment reply s r = record {
+  head = Some s.head;
+  has = s.unread_has;
+  answered = λ ne.
+      subst (λ (asked : Result Question Refusal). Answers old new asked moment (reply_text reply))
+      (ap (asked_of message) (unique message r.head (Some s.head) r.has s.has) ∙ s.same)
+      (r.answered ne);
+  same = r.same;
+  whole = λ is. s.unread_whole;
+}

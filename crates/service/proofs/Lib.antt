@@ -1,0 +1,9 @@
+pub mod Texts
+pub mod BatchGives
+pub mod ShownReads
+pub mod ServedReads
+pub mod Responses
+pub mod Isolation
+pub mod ConnectionRuns
+pub mod OwnRequestsLemmas
+pub mod ConnectionEventsLemmas

@@ -1,0 +1,120 @@
+-- Reads and refusals that serve a tenant: no machine changes.
+use Rattle.std.proofs.Common.{◌≡◌, ◌≢◌, ℕ, true, false, List, Option, Some, None, is_some, Result}
+use Rattle.std.proofs.Common.{Ok, Err, refl, sym, ap, ◌∙◌, subst}
+use Rattle.records.specs.Machine.{Machine}
+use Rattle.chain.specs.Ledgers.{Tenants, KeepsAll}
+use Rattle.ledger_http.specs.declared.refusal.Refusal.{Refusal}
+use Rattle.ledger_http.specs.declared.refusal.Refusal.TheVariants.{UnknownKey, Unavailable}
+use Rattle.ledger_http.specs.declared.reply.Reply.{Reply}
+use Rattle.ledger_http.specs.declared.reply.Reply.TheVariants.{Fixed}
+use Rattle.ledger_http.specs.ReplyText.{reply_text}
+use Rattle.wire.specs.declared.outcome.Outcome.TheVariants.{Refused}
+use Rattle.wire.specs.declared.request.Request.{Request}
+use Rattle.wire.specs.Told.{outcome_text}
+use Rattle.service.specs.Served.{left_by, served_to}
+use Rattle.service.specs.Replies.{AnswersTenant, Serves, unavailable}
+
+left_alone :
+    (request : Request) (moment : ℕ) → ((m : Machine) → left_by m moment request ≡ m) →
+    (tenant : Option Machine) → (served_to tenant (Ok request) moment).left ≡ tenant
+left_alone request moment same None = refl
+left_alone request moment same (Some m) = ap (λ (m : Machine). Some m) (same m)
+
+by_read :
+    (old new : Tenants) (digest : List ℕ) (request : Request) (moment : ℕ) (reply : Reply) →
+    ((m : Machine) → left_by m moment request ≡ m) → KeepsAll old new →
+    (reply ≢ unavailable →
+    reply_text reply ≡ outcome_text (served_to (old digest) (Ok request) moment).told) →
+    Serves old new digest (Ok request) moment reply
+by_read old new digest request moment reply same keeps text = record {
+  answered = λ ne. record {
+    told = text ne;
+    own = keeps digest ∙ sym (left_alone request moment same (old digest));
+    others = λ other differs. keeps other;
+  };
+  same = λ is. keeps;
+}
+
+-- a request that changes no machine
+pub serves_by_read :
+    (old new : Tenants) (digest : List ℕ) (asked request : Request) (moment : ℕ) (reply : Reply) →
+    asked ≡ request → ((m : Machine) → left_by m moment request ≡ m) → KeepsAll old new →
+    (reply ≢ unavailable →
+    reply_text reply ≡ outcome_text (served_to (old digest) (Ok request) moment).told) →
+    Serves old new digest (Ok asked) moment reply
+serves_by_read old new digest asked request moment reply is same keeps text =
+    subst (λ (r : Request). Serves old new digest (Ok r) moment reply) (sym is)
+    (by_read old new digest request moment reply same keeps text)
+
+told_known :
+    (tenant : Option Machine) (refusal : Refusal) (moment : ℕ) → is_some tenant ≡ true →
+    (served_to tenant (Err refusal) moment).told ≡ Refused refusal
+told_known None refusal moment known = absurd (cc)
+told_known (Some m) refusal moment known = refl
+
+told_unknown :
+    (tenant : Option Machine) (meaning : Result Request Refusal) (moment : ℕ) →
+    is_some tenant ≡ false → (served_to tenant meaning moment).told ≡ Refused UnknownKey
+told_unknown None meaning moment unknown = refl
+told_unknown (Some m) meaning moment unknown = absurd (cc)
+
+left_refused :
+    (tenant : Option Machine) (refusal : Refusal) (moment : ℕ) →
+    (served_to tenant (Err refusal) moment).left ≡ tenant
+left_refused None refusal moment = refl
+left_refused (Some m) refusal moment = refl
+
+left_unknown :
+    (tenant : Option Machine) (meaning : Result Request Refusal) (moment : ℕ) →
+    is_some tenant ≡ false → (served_to tenant meaning moment).left ≡ tenant
+left_unknown None meaning moment unknown = refl
+left_unknown (Some m) meaning moment unknown = absurd (cc)
+
+answers_refused :
+    (old new : Tenants) (digest : List ℕ) (moment : ℕ) (refusal : Refusal) →
+    is_some (old digest) ≡ true → KeepsAll old new →
+    AnswersTenant old new digest (λ tenant. served_to tenant (Err refusal) moment)
+    (reply_text (Fixed refusal))
+answers_refused old new digest moment refusal known keeps = record {
+  told = ap outcome_text (sym (told_known (old digest) refusal moment known));
+  own = keeps digest ∙ sym (left_refused (old digest) refusal moment);
+  others = λ other differs. keeps other;
+}
+
+-- a refused body of a tenant that is there
+pub serves_refused :
+    (old new : Tenants) (digest : List ℕ) (meaning : Result Request Refusal) (moment : ℕ)
+    (refusal : Refusal) → is_some (old digest) ≡ true → KeepsAll old new →
+    (refusal ≢ Unavailable → meaning ≡ Err refusal) →
+    Serves old new digest meaning moment (Fixed refusal)
+serves_refused old new digest meaning moment refusal known keeps means = record {
+  answered = λ ne.
+      subst
+      (λ (m : Result Request Refusal).
+      AnswersTenant old new digest (λ tenant. served_to tenant m moment)
+      (reply_text (Fixed refusal)))
+      (sym (means (λ is. ne (ap Fixed is))))
+      (answers_refused old new digest moment refusal known keeps);
+  same = λ is. keeps;
+}
+
+-- a tenant that is not there
+pub serves_unknown :
+    (old new : Tenants) (digest : List ℕ) (meaning : Result Request Refusal) (moment : ℕ) →
+    is_some (old digest) ≡ false → KeepsAll old new →
+    Serves old new digest meaning moment (Fixed UnknownKey)
+serves_unknown old new digest meaning moment unknown keeps = record {
+  answered = λ ne. record {
+    told = ap outcome_text (sym (told_unknown (old digest) meaning moment unknown));
+    own = keeps digest ∙ sym (left_unknown (old digest) meaning moment unknown);
+    others = λ other differs. keeps other;
+  };
+  same = λ is. keeps;
+}
+
+-- ledgers that were not to be reached
+pub serves_unavailable :
+    (old new : Tenants) (digest : List ℕ) (meaning : Result Request Refusal) (moment : ℕ) →
+    KeepsAll old new → Serves old new digest meaning moment unavailable
+serves_unavailable old new digest meaning moment keeps =
+    record { answered = λ ne. absurd (ne refl); same = λ is. keeps }

@@ -1,0 +1,33 @@
+use Rattle.std.proofs.Common.{Ok, sym, subst}
+use Rattle.ledger_http.specs.declared.refusal.Refusal.{Refusal}
+use Rattle.wire.specs.declared.request.Request.{Request}
+use Rattle.std.proofs.Common.{ℕ, List, Result}
+use Rattle.sha2.specs.Sha256.{sha256}
+use Rattle.wire.specs.Meaning.{meaning_of}
+use Rattle.service.specs.Replies.{Serves}
+use Rattle.service.proofs.answering.answer.Goals as goal
+
+pub returns-in-Ok-clause-serves : goal.returns-in-Ok-clause-serves
+returns-in-Ok-clause-serves g c live =
+    subst
+    (λ (meaning : Result Request Refusal).
+    Serves (g.L.Ledgers.means.tenants c.args.ledgers.now)
+    (g.L.Ledgers.means.tenants c.serve_request.new.ledgers) (sha256 c.args.asked.now.key) meaning
+    c.args.moment c.serve_request.result)
+    (sym c.in-Ok.ensures.ok)
+    (subst
+    (λ (digest : List ℕ).
+    Serves (g.L.Ledgers.means.tenants c.args.ledgers.now)
+    (g.L.Ledgers.means.tenants c.serve_request.new.ledgers) digest (Ok c.in-Ok.request)
+    c.args.moment c.serve_request.result)
+    c.digest-digest.ensures (c.serve_request.ensures.serves live))
+
+pub returns-in-Err-clause-serves : goal.returns-in-Err-clause-serves
+returns-in-Err-clause-serves g c live =
+    subst
+    (λ (digest : List ℕ).
+    Serves (g.L.Ledgers.means.tenants c.args.ledgers.now)
+    (g.L.Ledgers.means.tenants c.refuse.new.ledgers) digest
+    (meaning_of c.args.asked.now.route c.args.asked.now.account.now c.args.asked.now.body.now)
+    c.args.moment c.refuse.result)
+    c.digest-digest.ensures (c.refuse.ensures.serves live _ c.args.moment c.in-Err.ensures.err)

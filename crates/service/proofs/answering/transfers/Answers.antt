@@ -1,0 +1,17 @@
+use Rattle.std.proofs.Common.{Ok, sym, subst}
+use Rattle.ledger_http.specs.declared.reply.Reply.{Reply}
+use Rattle.wire.specs.declared.request.Request.TheVariants.{Transfers}
+use Rattle.service.specs.Replies.{Serves}
+use Rattle.service.proofs.BatchGives.{serves_by_batch}
+use Rattle.service.proofs.answering.transfers.Goals as goal
+
+pub returns-clause-serves : goal.returns-clause-serves
+returns-clause-serves g c live =
+    subst
+    (λ (reply : Reply).
+    Serves (g.L.Ledgers.means.tenants c.args.ledgers.now)
+    (g.L.Ledgers.means.tenants c.in_batch.new.self) c.args.digest.now (Ok (Transfers c.args.events))
+    c.args.moment reply)
+    (sym c.batch_reply.ensures)
+    (serves_by_batch (Transfers c.args.events) c.args.moment c.args.digest.now _ _ c.in_batch.result
+    (c.in_batch.ensures.run live))

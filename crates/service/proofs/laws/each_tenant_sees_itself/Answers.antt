@@ -1,0 +1,5 @@
+use Rattle.service.proofs.OwnRequestsLemmas.{sees_itself}
+use Rattle.service.proofs.laws.each_tenant_sees_itself.Goals as goal
+
+pub returns : goal.returns
+returns c = sees_itself

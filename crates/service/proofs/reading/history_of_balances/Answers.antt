@@ -1,0 +1,22 @@
+use Rattle.std.proofs.Common.{refl, sym, ap, ◌∙◌}
+use Rattle.records.specs.Reads.{history_balances_answer}
+use Rattle.wire.specs.declared.outcome.Outcome.TheVariants as told
+use Rattle.wire.specs.declared.request.Request.TheVariants.{HistoryBalances}
+use Rattle.service.proofs.ShownReads.{told_as_seen, told_as_fault, told_on}
+use Rattle.service.proofs.reading.history_of_balances.Goals as goal
+
+pub returns-in_err-found-clause-told : goal.returns-in_err-found-clause-told
+returns-in_err-found-clause-told g c live moment =
+    told_on _ c.from_residual.result _ c.from_residual.ensures.1
+    (told_as_fault (HistoryBalances c.args.asked.now) moment
+    (λ m. history_balances_answer m c.args.asked.now)
+    told.Balances _ _ (record { tells = λ m. refl })
+    (c.in_err-found.ensures.told live))
+
+pub returns-clause-told : goal.returns-clause-told
+returns-clause-told g c live moment =
+    told_as_seen (HistoryBalances c.args.asked.now) moment
+    (λ m. history_balances_answer m c.args.asked.now)
+    told.Balances _ _ (record { tells = λ m. refl })
+    (c.in_ok-found.ensures.told live)
+    ∙ ap (told.Balances c.in_ok-found.found.clock) (sym c.into.ensures)

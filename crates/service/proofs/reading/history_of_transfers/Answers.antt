@@ -1,0 +1,21 @@
+use Rattle.std.proofs.Common.{refl, sym, ap, ◌∙◌}
+use Rattle.records.specs.Reads.{history_answer}
+use Rattle.wire.specs.declared.outcome.Outcome.TheVariants as told
+use Rattle.wire.specs.declared.request.Request.TheVariants.{HistoryTransfers}
+use Rattle.service.proofs.ShownReads.{told_as_seen, told_as_fault, told_on}
+use Rattle.service.proofs.reading.history_of_transfers.Goals as goal
+
+pub returns-in_err-found-clause-told : goal.returns-in_err-found-clause-told
+returns-in_err-found-clause-told g c live moment =
+    told_on _ c.from_residual.result _ c.from_residual.ensures.1
+    (told_as_fault (HistoryTransfers c.args.asked.now) moment
+    (λ m. history_answer m c.args.asked.now)
+    told.Transfers _ _ (record { tells = λ m. refl })
+    (c.in_err-found.ensures.told live))
+
+pub returns-clause-told : goal.returns-clause-told
+returns-clause-told g c live moment =
+    told_as_seen (HistoryTransfers c.args.asked.now) moment (λ m. history_answer m c.args.asked.now)
+    told.Transfers _ _ (record { tells = λ m. refl })
+    (c.in_ok-found.ensures.told live)
+    ∙ ap (told.Transfers c.in_ok-found.found.clock) (sym c.into.ensures)

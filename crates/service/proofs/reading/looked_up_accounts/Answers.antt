@@ -1,0 +1,22 @@
+use Rattle.std.proofs.Common.{refl, sym, ap, ◌∙◌}
+use Rattle.records.specs.Reads.{Found, found_accounts}
+use Rattle.wire.specs.declared.outcome.Outcome.TheVariants as told
+use Rattle.wire.specs.declared.request.Request.TheVariants.{LookupAccounts}
+use Rattle.service.proofs.ShownReads.{told_as_seen, told_as_fault, told_on}
+use Rattle.service.proofs.reading.looked_up_accounts.Goals as goal
+
+pub returns-in_err-found-clause-told : goal.returns-in_err-found-clause-told
+returns-in_err-found-clause-told g c live moment =
+    told_on _ c.from_residual.result _ c.from_residual.ensures.1
+    (told_as_fault (LookupAccounts c.args.ids.now) moment
+    (λ m. Found (found_accounts m c.args.ids.now))
+    told.Accounts _ _ (record { tells = λ m. refl })
+    (c.in_err-found.ensures.told live))
+
+pub returns-clause-told : goal.returns-clause-told
+returns-clause-told g c live moment =
+    told_as_seen (LookupAccounts c.args.ids.now) moment
+    (λ m. Found (found_accounts m c.args.ids.now))
+    told.Accounts _ _ (record { tells = λ m. refl })
+    (c.in_ok-found.ensures.told live)
+    ∙ ap (told.Accounts c.in_ok-found.found.clock) (sym c.into.ensures)

@@ -1,0 +1,165 @@
+-- Messages of one connection, one after the other, and their replies.
+use Rattle.std.specs.Prelude.{◌≡◌, ◌⊎◌, ℕ, Bool, true, false, List, [], ◌∷◌, ◌++◌, length}
+use Rattle.std.specs.Prelude.{Option, Some, None, Result, Ok, Err}
+use Rattle.std.specs.Io.KnownBytes.{Appends}
+use Rattle.records.specs.Streams.{AppendsFront}
+use Rattle.chain.specs.Ledgers.{LedgersMeaning}
+use Rattle.ledger_http.specs.declared.refusal.Refusal.{Refusal}
+use Rattle.ledger_http.specs.declared.reply.Reply.{Reply}
+use Rattle.ledger_http.specs.declared.reply.Reply.TheVariants.{Fixed}
+use Rattle.ledger_http.specs.ReplyText.{reply_text}
+use Rattle.ledger_http.specs.Message.{Begins, IsRefused, IsAnnounced}
+use Rattle.service.specs.declared.exchanging.Exchanged.{Exchanged}
+use Rattle.service.specs.declared.serving.ServeFault.{ServeFault}
+use Rattle.service.specs.declared.serving.ServeFault.TheVariants.{Read, Write}
+use Rattle.service.specs.Replies.{unavailable}
+use Rattle.service.specs.Responds.{Responds, RefusesEarly}
+
+-- a connection between two messages: the ledgers, what is unread where that is known, what gives
+-- the moments, and whether another message is read
+pub record Connection (S C : Type 0) : Type 0 where
+  pub ledgers : S
+  pub unread : Option (List ℕ)
+  pub moments : C
+  pub goes_on : Bool
+
+abbrev pub connection : {S C : Type 0} → S → Option (List ℕ) → C → Bool → Connection S C
+connection ledgers unread moments goes_on =
+    record { ledgers = ledgers; unread = unread; moments = moments; goes_on = goes_on }
+
+-- the first message of what is unread is answered, at the moment that is then given; where the
+-- ledgers are no longer live, no more is known than what is refused before a tenant is looked up
+pub record IsAnswered {S C : Type 0} (t : LedgersMeaning S) (gives : C → ℕ → C → Type 0)
+    (old : Connection S C) (reply : Reply) (new : Connection S C) : Type 0 where
+  pub message : List ℕ
+  pub moment : ℕ
+  pub first : (unread : List ℕ) → old.unread ≡ Some unread → Begins unread message new.unread
+  pub given : gives old.moments moment new.moments
+  pub responds :
+      t.is_live new.ledgers
+      → Responds (t.tenants old.ledgers) (t.tenants new.ledgers) message moment reply
+  pub early : RefusesEarly message reply
+  pub follows : t.follows old.ledgers new.ledgers
+  pub goes_on : new.goes_on ≡ true
+
+-- nothing changes but what is unread, no moment is asked for, and the connection ends
+pub record IsCutOff {S C : Type 0} (old new : Connection S C) : Type 0 where
+  pub ledgers : new.ledgers ≡ old.ledgers
+  pub moments : new.moments ≡ old.moments
+  pub ends : new.goes_on ≡ false
+
+-- a message is refused while it is read
+pub record IsTurnedAway {S C : Type 0} (old : Connection S C) (reply : Reply)
+    (new : Connection S C) : Type 0 where
+  pub refusal : Refusal
+  pub told : reply ≡ Fixed refusal
+  pub first : (unread : List ℕ) → old.unread ≡ Some unread → IsRefused unread refusal
+  pub cut : IsCutOff old new
+
+-- memory runs out for the body of a message whose head is good
+pub record LacksMemory {S C : Type 0} (old : Connection S C) (reply : Reply)
+    (new : Connection S C) : Type 0 where
+  pub told : reply ≡ unavailable
+  pub first : (unread : List ℕ) → old.unread ≡ Some unread → IsAnnounced unread
+  pub cut : IsCutOff old new
+
+-- one message and its reply
+pub record Exchange {S C : Type 0} (t : LedgersMeaning S) (gives : C → ℕ → C → Type 0)
+    (old : Connection S C) (reply : Reply) (new : Connection S C) : Type 0 where
+  pub open_before : old.goes_on ≡ true
+  pub by :
+      IsAnswered t gives old reply new ⊎ (IsTurnedAway old reply new ⊎ LacksMemory old reply new)
+
+-- the input has ended before the first byte of a message
+abbrev pub HasEnded : {S C : Type 0} → Connection S C → Type 0
+HasEnded old = (unread : List ℕ) → old.unread ≡ Some unread → unread ≡ []
+
+-- what reading and answering gives: a reply, or nothing at the end of the input
+abbrev pub Exchanges :
+    {S C : Type 0} → LedgersMeaning S → (C → ℕ → C → Type 0) → Connection S C → S
+    → Option (List ℕ) → C → Option Exchanged → Type 0
+Exchanges t gives old ledgers unread moments None =
+    HasEnded old × (ledgers ≡ old.ledgers) × (moments ≡ old.moments)
+Exchanges t gives old ledgers unread moments (Some exchanged) =
+    Exchange t gives old exchanged.reply (connection ledgers unread moments exchanged.goes_on)
+
+-- exchanges, one after the other, with these replies
+pub data Runs (S C : Type 0) (t : LedgersMeaning S) (gives : C → ℕ → C → Type 0)
+    (first : Connection S C) : List Reply → Connection S C → Type 0 where
+  Nothing : Runs S C t gives first [] first
+  More :
+      (replies : List Reply) (last : Connection S C) (reply : Reply) (next : Connection S C) →
+      Runs S C t gives first replies last → Exchange t gives last reply next →
+      Runs S C t gives first (replies ++ reply ∷ []) next
+
+-- the bytes of replies, one after the other
+abbrev pub texts_of : List Reply → List ℕ
+texts_of [] = []
+texts_of (reply ∷ replies) = reply_text reply ++ texts_of replies
+
+-- so many replies are written, and nothing else
+pub record HasReplied {S C : Type 0} (t : LedgersMeaning S) (gives : C → ℕ → C → Type 0)
+    (first : Connection S C) (written : Option (List ℕ)) (number : ℕ) (last : Connection S C)
+    (written_now : Option (List ℕ)) : Type 0 where
+  pub replies : List Reply
+  pub runs : Runs S C t gives first replies last
+  pub many : number ≡ length replies
+  pub texts : Appends written written_now (texts_of replies)
+
+-- a connection that is over without a fault: all replies that were asked for are written, or the
+-- last one ended it, or the input has ended
+pub record HasServed {S C : Type 0} (t : LedgersMeaning S) (gives : C → ℕ → C → Type 0)
+    (first : Connection S C) (written : Option (List ℕ)) (most number : ℕ) (ledgers : S)
+    (moments : C) (written_now : Option (List ℕ)) : Type 0 where
+  pub last : Connection S C
+  pub replied : HasReplied t gives first written number last written_now
+  pub ended : (number ≡ most) ⊎ ((last.goes_on ≡ false) ⊎ HasEnded last)
+  pub ledgers_left : ledgers ≡ last.ledgers
+  pub moments_left : moments ≡ last.moments
+
+-- the reader failed behind so many replies
+pub record HasFailedToRead {S C : Type 0} (t : LedgersMeaning S) (gives : C → ℕ → C → Type 0)
+    (first : Connection S C) (written : Option (List ℕ)) (number : ℕ) (ledgers : S) (moments : C)
+    (written_now : Option (List ℕ)) : Type 0 where
+  pub last : Connection S C
+  pub replied : HasReplied t gives first written number last written_now
+  pub ledgers_left : ledgers ≡ last.ledgers
+  pub moments_left : moments ≡ last.moments
+
+-- the writer failed behind so many replies: the next exchange is done, and a beginning of its reply
+-- written
+pub record HasFailedToWrite {S C : Type 0} (t : LedgersMeaning S) (gives : C → ℕ → C → Type 0)
+    (first : Connection S C) (written : Option (List ℕ)) (number : ℕ) (ledgers : S) (moments : C)
+    (written_now : Option (List ℕ)) : Type 0 where
+  pub last : Connection S C
+  pub between : Option (List ℕ)
+  pub replied : HasReplied t gives first written number last between
+  pub reply : Reply
+  pub next : Connection S C
+  pub exchanged : Exchange t gives last reply next
+  pub begun : AppendsFront between written_now (reply_text reply)
+  pub ledgers_left : ledgers ≡ next.ledgers
+  pub moments_left : moments ≡ next.moments
+
+-- how serving a connection ends
+abbrev pub IsServed :
+    {S C : Type 0} → LedgersMeaning S → (C → ℕ → C → Type 0) → Connection S C → Option (List ℕ)
+    → ℕ → S → C → Option (List ℕ) → Result ℕ ServeFault → Type 0
+IsServed t gives first written most ledgers moments written_now (Ok number) =
+    HasServed t gives first written most number ledgers moments written_now
+IsServed t gives first written most ledgers moments written_now (Err (Read number)) =
+    HasFailedToRead t gives first written number ledgers moments written_now
+IsServed t gives first written most ledgers moments written_now (Err (Write number)) =
+    HasFailedToWrite t gives first written number ledgers moments written_now
+
+-- whether the reader failed
+abbrev pub is_read_fault : Result ℕ ServeFault → Bool
+is_read_fault (Ok number) = false
+is_read_fault (Err (Read number)) = true
+is_read_fault (Err (Write number)) = false
+
+-- whether the writer failed
+abbrev pub is_write_fault : Result ℕ ServeFault → Bool
+is_write_fault (Ok number) = false
+is_write_fault (Err (Read number)) = false
+is_write_fault (Err (Write number)) = true

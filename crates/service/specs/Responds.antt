@@ -1,0 +1,84 @@
+-- The response to a message, and what two ledgers have in common that agree on a tenant.
+use Rattle.std.specs.Prelude.{◌≡◌, ◌≢◌, ℕ, List, Option, Result, Ok, Err, IsOk}
+use Rattle.httparse.specs.Grammar.{RequestHead}
+use Rattle.sha2.specs.Sha256.{sha256}
+use Rattle.chain.specs.Ledgers.{Tenants, KeepsAll}
+use Rattle.ledger_http.specs.declared.refusal.Refusal.{Refusal}
+use Rattle.ledger_http.specs.declared.reply.Reply.{Reply}
+use Rattle.ledger_http.specs.ReplyText.{refusal_text, reply_text}
+use Rattle.ledger_http.specs.Message.{HasHead, first_message, Begins}
+use Rattle.ledger_http.specs.Question.{Question, asked_of}
+use Rattle.service.specs.Served.{served}
+use Rattle.service.specs.Replies.{AnswersTenant, unavailable}
+
+-- a message is refused before any tenant is looked up, and nothing changes
+pub record Refuses (old new : Tenants) (refusal : Refusal) (text : List ℕ) : Type 0 where
+  pub told : text ≡ refusal_text refusal
+  pub same : KeepsAll old new
+
+-- what is asked is answered: the tenant that the key names by what is served to its own machine
+abbrev pub Answers : Tenants → Tenants → Result Question Refusal → ℕ → List ℕ → Type 0
+Answers old new (Ok question) moment text =
+    AnswersTenant old new (sha256 question.key)
+    (λ tenant. served tenant question.route question.account question.body moment) text
+Answers old new (Err refusal) moment text = Refuses old new refusal text
+
+-- the response to the first message of the bytes: an answer, or that the ledgers were unavailable,
+-- which changes nothing and never stands for one of the first five refusals
+pub record Responds (old new : Tenants) (bytes : List ℕ) (moment : ℕ) (reply : Reply) : Type 0 where
+  pub head : Option RequestHead
+  pub has : HasHead bytes head
+  pub answered :
+      reply ≢ unavailable → Answers old new (asked_of bytes head) moment (reply_text reply)
+  pub same : reply ≡ unavailable → KeepsAll old new
+  pub whole : reply ≡ unavailable → IsOk (first_message bytes head)
+
+-- what is refused before any tenant is looked up is refused whatever the ledgers are
+pub record RefusesEarly (bytes : List ℕ) (reply : Reply) : Type 0 where
+  pub head : Option RequestHead
+  pub has : HasHead bytes head
+  pub refused :
+      (refusal : Refusal) → asked_of bytes head ≡ Err refusal → reply ≢ unavailable →
+      reply_text reply ≡ refusal_text refusal
+  pub whole : reply ≡ unavailable → IsOk (first_message bytes head)
+
+-- the question is asked by the tenant with this digest
+abbrev pub IsAsking : Result Question Refusal → List ℕ → Type 0
+IsAsking (Ok question) digest = digest ≡ sha256 question.key
+IsAsking (Err refusal) digest = ⊥
+
+-- the bytes ask by the key of the tenant with this digest
+abbrev pub IsCaller : List ℕ → List ℕ → Type 0
+IsCaller bytes digest =
+    (head : Option RequestHead) × HasHead bytes head × IsAsking (asked_of bytes head) digest
+
+-- two ledgers give the same reply and leave the caller the same machine, and all others stay
+pub record AgreesOn (bytes : List ℕ) (old new old' new' : Tenants) (reply reply' : Reply) :
+    Type 0 where
+  pub same_reply : reply_text reply ≡ reply_text reply'
+  pub same_machine : (digest : List ℕ) → IsCaller bytes digest → new digest ≡ new' digest
+  pub others :
+      (digest : List ℕ) → (IsCaller bytes digest → ⊥) → new digest ≡ old digest
+  pub others' :
+      (digest : List ℕ) → (IsCaller bytes digest → ⊥) → new' digest ≡ old' digest
+
+-- the law of isolation: the reply and the caller's machine after it depend on the caller's machine,
+-- the bytes and the moment alone
+abbrev pub Isolates : Type 0
+Isolates =
+    (old new old' new' : Tenants) (bytes : List ℕ) (moment : ℕ) (reply reply' : Reply)
+    → Responds old new bytes moment reply
+    → Responds old' new' bytes moment reply'
+    → ((digest : List ℕ) → IsCaller bytes digest → old digest ≡ old' digest)
+    → reply ≢ unavailable
+    → reply' ≢ unavailable
+    → AgreesOn bytes old new old' new' reply reply'
+
+-- what stands behind a message does not matter to its answer
+abbrev pub StandsAlone : Type 0
+StandsAlone =
+    (old new : Tenants) (unread message : List ℕ) (left : Option (List ℕ)) (moment : ℕ)
+    (reply : Reply)
+    → Begins unread message left
+    → Responds old new message moment reply
+    → Responds old new unread moment reply

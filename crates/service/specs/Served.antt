@@ -1,0 +1,81 @@
+-- What is served to one tenant: what its request is told, and the machine that it leaves.
+use Rattle.std.specs.Prelude.{ℕ, List, Option, Some, None, Result, Ok, Err}
+use Rattle.records.specs.declared.reply.EventResult.{EventResult}
+use Rattle.records.specs.declared.filter.Order.TheVariants.{Oldest}
+use Rattle.records.specs.Machine.{Machine}
+use Rattle.records.specs.Step as step
+use Rattle.records.specs.Step.{Answered, Exhausted, account_rules, transfer_rules}
+use Rattle.records.specs.Step.{step_outcome, step_machine}
+use Rattle.records.specs.Reads as reads
+use Rattle.records.specs.Reads.{AccountAnswer, Found, found_accounts, found_transfers}
+use Rattle.records.specs.Reads.{history_answer, history_balances_answer, statement_answer}
+use Rattle.ledger_http.specs.declared.refusal.Refusal.{Refusal}
+use Rattle.ledger_http.specs.declared.refusal.Refusal.TheVariants.{UnknownKey, NoAccount, NoHistory}
+use Rattle.ledger_http.specs.declared.refusal.Refusal.TheVariants.{ClockExhausted}
+use Rattle.ledger_http.specs.declared.route.Route.{Route}
+use Rattle.wire.specs.declared.outcome.Outcome.{Outcome}
+use Rattle.wire.specs.declared.outcome.Outcome.TheVariants as told
+use Rattle.wire.specs.declared.request.Request.{Request}
+use Rattle.wire.specs.declared.request.Request.TheVariants as asks
+use Rattle.wire.specs.Meaning.{meaning_of}
+use Rattle.statement.specs.Text.{statement_text}
+
+-- what is told, and what is left
+pub record Served (M : Type 0) : Type 0 where
+  pub told : Outcome
+  pub left : M
+
+-- what a batch is told, whose results are shown so
+abbrev pub batch_told :
+    {R : Type 0} → (ℕ → List (EventResult R) → Outcome) → step.Outcome R → Outcome
+batch_told shows (Answered clock results) = shows clock results
+batch_told shows Exhausted = told.Refused ClockExhausted
+
+-- what a question about an account is told, whose answer is shown so
+abbrev pub answer_told : {A : Type 0} → (A → Outcome) → AccountAnswer A → Outcome
+answer_told shows reads.NoAccount = told.Refused NoAccount
+answer_told shows reads.NoHistory = told.Refused NoHistory
+answer_told shows (Found answer) = shows answer
+
+-- what a machine tells a request at a moment
+abbrev pub told_by : Machine → ℕ → Request → Outcome
+told_by m moment (asks.Accounts events) =
+    batch_told told.AccountResults (step_outcome account_rules m events moment)
+told_by m moment (asks.Transfers events) =
+    batch_told told.TransferResults (step_outcome transfer_rules m events moment)
+told_by m moment (asks.LookupAccounts ids) = told.Accounts m.clock (found_accounts m ids)
+told_by m moment (asks.LookupTransfers ids) = told.Transfers m.clock (found_transfers m ids)
+told_by m moment (asks.HistoryTransfers asked) =
+    answer_told (told.Transfers m.clock) (history_answer m asked)
+told_by m moment (asks.HistoryBalances asked) =
+    answer_told (told.Balances m.clock) (history_balances_answer m asked)
+told_by m moment (asks.Statement account) =
+    answer_told (λ rows. told.Statement (statement_text rows)) (statement_answer m account Oldest)
+
+-- the machine after it: batches are steps, and reads change nothing
+abbrev pub left_by : Machine → ℕ → Request → Machine
+left_by m moment (asks.Accounts events) = step_machine account_rules m events moment
+left_by m moment (asks.Transfers events) = step_machine transfer_rules m events moment
+left_by m moment (asks.LookupAccounts ids) = m
+left_by m moment (asks.LookupTransfers ids) = m
+left_by m moment (asks.HistoryTransfers asked) = m
+left_by m moment (asks.HistoryBalances asked) = m
+left_by m moment (asks.Statement account) = m
+
+-- what a machine tells and what it is after a request, or after one that is refused
+abbrev pub served_by : Machine → Result Request Refusal → ℕ → Served Machine
+served_by m (Ok request) moment =
+    record { told = told_by m moment request; left = left_by m moment request }
+served_by m (Err refusal) moment = record { told = told.Refused refusal; left = m }
+
+-- the same of a tenant, if there is one: a tenant that is not there is unknown, whatever it asks
+abbrev pub served_to : Option Machine → Result Request Refusal → ℕ → Served (Option Machine)
+served_to None meaning moment = record { told = told.Refused UnknownKey; left = None }
+served_to (Some m) meaning moment = record {
+  told = (served_by m meaning moment).told;
+  left = Some (served_by m meaning moment).left;
+}
+
+-- what is served to one tenant on a route, by the account in the path, the body and the moment
+abbrev pub served : Option Machine → Route → List ℕ → List ℕ → ℕ → Served (Option Machine)
+served tenant route account body moment = served_to tenant (meaning_of route account body) moment

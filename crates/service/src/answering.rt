@@ -1,0 +1,158 @@
+//! Answers one tenant's request.
+ghost use Rattle.std.specs.Prelude.{◌≡◌, ◌≢◌, ◌≤◌, ℕ, List, Result, Ok, Err, length};
+ghost use Rattle.sha2.specs.Sha256.{sha256};
+ghost use Rattle.ledger_http.specs.declared.refusal.Refusal.{Refusal};
+ghost use Rattle.wire.specs.declared.request.Request.{Request};
+ghost use Rattle.wire.specs.Meaning.{meaning_of, HasFew};
+ghost use Rattle.wire.specs.declared.request.Request.TheVariants.{Accounts, Transfers};
+ghost use Rattle.service.specs.Replies.{Serves, batch_reply};
+
+use crate::batches::{AccountBatch, TransferBatch};
+use crate::reading::{
+    history_of_balances, history_of_transfers, looked_up_accounts, looked_up_transfers, statement,
+};
+use crate::showing::reply_to_read;
+use chain::{BatchFault, Ledgers};
+use ledger_http::{Asked, Refusal, Reply};
+use records::{AccountEvent, TransferEvent};
+use std::alloc::Global;
+use tenants::digest;
+use wire::{Items, Request, meaning};
+
+fn batch_reply(batch: Result<Reply, BatchFault>) -> Reply
+    ensures { result ≡ batch_reply batch }
+{
+    match batch {
+        Ok(reply) => reply,
+        Err(BatchFault::UnknownKey) => Reply::Fixed(Refusal::UnknownKey),
+        Err(BatchFault::Unavailable(_)) => Reply::Fixed(Refusal::Unavailable),
+    }
+}
+
+fn accounts<L: Ledgers>(
+    alloc: Global,
+    ledgers: &mut L,
+    digest: &[u8; 32],
+    events: Items<AccountEvent>,
+    moment: u64,
+) -> Reply
+    requires usable { L.means.is_usable ledgers.old }
+    requires few { length events ≤ 1000 }
+    ensures serves { L.means.is_live ledgers.new → Serves (L.means.tenants ledgers.old)
+        (L.means.tenants ledgers.new) digest.now (Ok (Accounts events)) moment result }
+    ensures usable { L.means.is_usable ledgers.new }
+    ensures follows { L.means.follows ledgers.old ledgers.new }
+{
+    let work = AccountBatch {
+        alloc,
+        events,
+        moment,
+    };
+    batch_reply(ledgers.in_batch(digest, work))
+}
+
+fn transfers<L: Ledgers>(
+    alloc: Global,
+    ledgers: &mut L,
+    digest: &[u8; 32],
+    events: Items<TransferEvent>,
+    moment: u64,
+) -> Reply
+    requires usable { L.means.is_usable ledgers.old }
+    requires few { length events ≤ 1000 }
+    ensures serves { L.means.is_live ledgers.new → Serves (L.means.tenants ledgers.old)
+        (L.means.tenants ledgers.new) digest.now (Ok (Transfers events)) moment result }
+    ensures usable { L.means.is_usable ledgers.new }
+    ensures follows { L.means.follows ledgers.old ledgers.new }
+{
+    let work = TransferBatch {
+        alloc,
+        events,
+        moment,
+    };
+    batch_reply(ledgers.in_batch(digest, work))
+}
+
+// Serves a request that is not refused.
+fn serve_request<L: Ledgers>(
+    alloc: Global,
+    ledgers: &mut L,
+    digest: &[u8; 32],
+    request: Request,
+    moment: u64,
+) -> Reply
+    requires usable { L.means.is_usable ledgers.old }
+    requires few { HasFew request }
+    ensures serves { L.means.is_live ledgers.new → Serves (L.means.tenants ledgers.old)
+        (L.means.tenants ledgers.new) digest.now (Ok request) moment result }
+    ensures usable { L.means.is_usable ledgers.new }
+    ensures follows { L.means.follows ledgers.old ledgers.new }
+{
+    match request {
+        Request::Accounts(events) => accounts(alloc, ledgers, digest, events, moment),
+        Request::Transfers(events) => transfers(alloc, ledgers, digest, events, moment),
+        Request::LookupAccounts(ids) => {
+            reply_to_read(
+                alloc,
+                looked_up_accounts(alloc, ledgers, digest, ids.as_slice()),
+            )
+        }
+        Request::LookupTransfers(ids) => {
+            reply_to_read(
+                alloc,
+                looked_up_transfers(alloc, ledgers, digest, ids.as_slice()),
+            )
+        }
+        Request::HistoryTransfers(asked) => {
+            reply_to_read(alloc, history_of_transfers(alloc, ledgers, digest, &asked))
+        }
+        Request::HistoryBalances(asked) => {
+            reply_to_read(alloc, history_of_balances(alloc, ledgers, digest, &asked))
+        }
+        Request::Statement(account) => {
+            reply_to_read(alloc, statement(alloc, ledgers, digest, account))
+        }
+    }
+}
+
+// Refuses a request whose body is refused, unless there is no such tenant: that comes first.
+fn refuse<L: Ledgers>(ledgers: &mut L, digest: &[u8; 32], refusal: Refusal) -> Reply
+    requires { L.means.is_usable ledgers.old }
+    ensures serves { L.means.is_live ledgers.new
+        → (meaning : Result Request Refusal) (moment : ℕ)
+        → (refusal ≢ Refusal.Unavailable → meaning ≡ Err refusal)
+        → Serves (L.means.tenants ledgers.old) (L.means.tenants ledgers.new) digest.now meaning
+        moment result }
+    ensures usable { L.means.is_usable ledgers.new }
+    ensures follows { L.means.follows ledgers.old ledgers.new }
+{
+    let Ok(known) = ledgers.knows(digest) else {
+        return Reply::Fixed(Refusal::Unavailable);
+    };
+    if known {
+        Reply::Fixed(refusal)
+    } else {
+        Reply::Fixed(Refusal::UnknownKey)
+    }
+}
+
+/// Answers what a message asks, at a moment in nanoseconds.
+pub(crate) fn answer<L: Ledgers>(
+    alloc: Global,
+    ledgers: &mut L,
+    asked: &Asked,
+    moment: u64,
+) -> Reply
+    requires { L.means.is_usable ledgers.old }
+    ensures serves { L.means.is_live ledgers.new → Serves (L.means.tenants ledgers.old)
+        (L.means.tenants ledgers.new) (sha256 asked.now.key)
+        (meaning_of asked.now.route asked.now.account.now asked.now.body.now) moment result }
+    ensures usable { L.means.is_usable ledgers.new }
+    ensures follows { L.means.follows ledgers.old ledgers.new }
+{
+    let digest = digest(&asked.key);
+    match meaning(alloc, asked) {
+        Ok(request) => serve_request(alloc, ledgers, &digest, request, moment),
+        Err(refusal) => refuse(ledgers, &digest, refusal),
+    }
+}

@@ -1,0 +1,76 @@
+//! One message of a connection, and its reply.
+ghost use Rattle.std.specs.Prelude.{◌≡◌, true, false, is_err, IfOk, OnErr, OnOk};
+ghost use Rattle.std.specs.Io.KnownBytes.{Appends};
+ghost use Rattle.records.specs.Streams.{AppendsFront};
+ghost use Rattle.ledger_http.specs.ReplyText.{reply_text};
+ghost use Rattle.service.specs.Connections.{connection, Exchanges};
+
+use crate::moments::Moments;
+use crate::responding::respond;
+use chain::Ledgers;
+use ledger_http::{Message, ReadError, Refusal, Reply, WriteError, read_message, write_reply};
+use records::{Drain, Source};
+use std::alloc::Global;
+
+/// A reply, and whether the connection goes on behind it.
+#[derive(Drop)]
+pub(crate) struct Exchanged {
+    pub(crate) reply: Reply,
+    pub(crate) goes_on: bool,
+}
+
+impl Exchanged {
+    // A refusal that ends the connection.
+    fn last(refusal: Refusal) -> Exchanged
+        ensures reply { result.reply ≡ Reply.Fixed refusal }
+        ensures ends { result.goes_on ≡ false }
+    {
+        Exchanged {
+            reply: Reply::Fixed(refusal),
+            goes_on: false,
+        }
+    }
+}
+
+/// Writes a reply, and lets it go.
+pub(crate) fn write<W: Drain>(writer: &mut W, reply: Reply) -> Result<(), WriteError>
+    requires { W.failed writer.old ≡ false }
+    ensures ok { OnOk result
+        (Appends (W.written writer.old) (W.written writer.new) (reply_text reply)) }
+    ensures err { OnErr result
+        (AppendsFront (W.written writer.old) (W.written writer.new) (reply_text reply)) }
+    ensures failed { W.failed writer.new ≡ is_err result }
+{
+    write_reply(writer, &reply)
+}
+
+/// Reads a message and answers it. There is none at the end of the input.
+pub(crate) fn exchange<L: Ledgers, R: Source, C: Moments>(
+    alloc: Global,
+    ledgers: &mut L,
+    reader: &mut R,
+    moments: &mut C,
+) -> Result<Option<Exchanged>, ReadError>
+    requires usable { L.means.is_usable ledgers.old }
+    requires reads { R.failed reader.old ≡ false }
+    ensures exchanges { IfOk result (Exchanges L.means C.gives
+        (connection ledgers.old (R.left reader.old) moments.old true)
+        ledgers.new (R.left reader.new) moments.new) }
+    ensures same { OnErr result (ledgers.new ≡ ledgers.old) }
+    ensures unasked { OnErr result (moments.new ≡ moments.old) }
+    ensures failed { R.failed reader.new ≡ is_err result }
+    ensures usable { L.means.is_usable ledgers.new }
+    ensures follows { L.means.follows ledgers.old ledgers.new }
+{
+    match read_message(alloc, reader)? {
+        Message::Whole(message) => {
+            let moment = moments.moment();
+            let reply = respond(alloc, ledgers, &message, moment);
+            let goes_on = true;
+            Ok(Some(Exchanged { reply, goes_on }))
+        }
+        Message::End => Ok(None),
+        Message::Refused(refusal) => Ok(Some(Exchanged::last(refusal))),
+        Message::NoMemory => Ok(Some(Exchanged::last(Refusal::Unavailable))),
+    }
+}

@@ -1,0 +1,23 @@
+//! The service: a message's bytes, a reply's bytes, and the ledgers of many tenants of which only
+//! the caller's changes. It stands on any ledgers, in memory or on a disk.
+#![tactic(auto)]
+
+mod answering;
+mod batches;
+mod exchanging;
+mod laws;
+mod moments;
+mod reading;
+mod responding;
+mod serving;
+mod showing;
+#[cfg(test)]
+mod tests;
+
+pub use laws::{
+    connections_serve_each_alone, each_tenant_sees_itself, ledgers_are_sound,
+    messages_answered_alone, tenants_are_isolated,
+};
+pub use moments::Moments;
+pub use responding::respond;
+pub use serving::{ServeFault, serve};

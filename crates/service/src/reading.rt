@@ -1,0 +1,106 @@
+//! Reads of one tenant's ledger, as the outcomes that replies show.
+ghost use Rattle.wire.specs.declared.request.Request.TheVariants.{LookupAccounts, LookupTransfers};
+ghost use Rattle.wire.specs.declared.request.Request.TheVariants.{HistoryTransfers};
+ghost use Rattle.wire.specs.declared.request.Request.TheVariants.{HistoryBalances, Statement};
+ghost use Rattle.chain.specs.LedgerReads.{Reads};
+ghost use Rattle.service.specs.Reading.{ShowsTo};
+
+use chain::{Ledgers, ReadFault};
+use records::{AccountFilter, Order, SinkFault, Streamed};
+use statement::{StatementWriter, rows_make_a_statement};
+use std::alloc::Global;
+use wire::Outcome;
+
+pub(crate) fn looked_up_accounts<L: Ledgers>(
+    alloc: Global,
+    ledgers: &mut L,
+    digest: &[u8; 32],
+    ids: &[u128],
+) -> Result<Outcome, ReadFault>
+    requires { L.means.is_usable ledgers.old }
+    ensures told { L.means.is_live ledgers.new
+        → ShowsTo (L.means.tenants ledgers.old digest.now) (LookupAccounts ids.now) result }
+    ensures reads { Reads L.means ledgers.old ledgers.new }
+{
+    let found = ledgers.lookup_accounts(alloc, digest, ids)?;
+    Ok(Outcome::Accounts {
+        clock: found.clock,
+        accounts: found.entries.into(),
+    })
+}
+
+pub(crate) fn looked_up_transfers<L: Ledgers>(
+    alloc: Global,
+    ledgers: &mut L,
+    digest: &[u8; 32],
+    ids: &[u128],
+) -> Result<Outcome, ReadFault>
+    requires { L.means.is_usable ledgers.old }
+    ensures told { L.means.is_live ledgers.new
+        → ShowsTo (L.means.tenants ledgers.old digest.now) (LookupTransfers ids.now) result }
+    ensures reads { Reads L.means ledgers.old ledgers.new }
+{
+    let found = ledgers.lookup_transfers(alloc, digest, ids)?;
+    Ok(Outcome::Transfers {
+        clock: found.clock,
+        transfers: found.entries.into(),
+    })
+}
+
+pub(crate) fn history_of_transfers<L: Ledgers>(
+    alloc: Global,
+    ledgers: &mut L,
+    digest: &[u8; 32],
+    asked: &AccountFilter,
+) -> Result<Outcome, ReadFault>
+    requires { L.means.is_usable ledgers.old }
+    ensures told { L.means.is_live ledgers.new
+        → ShowsTo (L.means.tenants ledgers.old digest.now) (HistoryTransfers asked.now) result }
+    ensures reads { Reads L.means ledgers.old ledgers.new }
+{
+    let found = ledgers.history_transfers(alloc, digest, asked)?;
+    Ok(Outcome::Transfers {
+        clock: found.clock,
+        transfers: found.entries.into(),
+    })
+}
+
+pub(crate) fn history_of_balances<L: Ledgers>(
+    alloc: Global,
+    ledgers: &mut L,
+    digest: &[u8; 32],
+    asked: &AccountFilter,
+) -> Result<Outcome, ReadFault>
+    requires { L.means.is_usable ledgers.old }
+    ensures told { L.means.is_live ledgers.new
+        → ShowsTo (L.means.tenants ledgers.old digest.now) (HistoryBalances asked.now) result }
+    ensures reads { Reads L.means ledgers.old ledgers.new }
+{
+    let found = ledgers.history_balances(alloc, digest, asked)?;
+    Ok(Outcome::Balances {
+        clock: found.clock,
+        balances: found.entries.into(),
+    })
+}
+
+/// An account's statement, oldest entry first, made whole in memory.
+pub(crate) fn statement<L: Ledgers>(
+    alloc: Global,
+    ledgers: &mut L,
+    digest: &[u8; 32],
+    account: u128,
+) -> Result<Outcome, ReadFault>
+    requires { L.means.is_usable ledgers.old }
+    ensures told { L.means.is_live ledgers.new
+        → ShowsTo (L.means.tenants ledgers.old digest.now) (Statement account) result }
+    ensures reads { Reads L.means ledgers.old ledgers.new }
+{
+    rows_make_a_statement::<Streamed<Vec<u8>>>();
+    let mut writer = StatementWriter::new(alloc, Streamed::new(Vec::new(alloc)));
+    ledgers.each_statement_row(alloc, digest, account, Order::Oldest, &mut writer)?;
+    let (text, ended) = writer.finish();
+    match ended {
+        Ok(()) => Ok(Outcome::Statement(text.into_inner().into())),
+        Err(_) => Err(ReadFault::Sink(SinkFault::Write)),
+    }
+}
