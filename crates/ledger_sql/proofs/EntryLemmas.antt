@@ -1,0 +1,215 @@
+-- What a text that reads an account's entries answers.
+use Rattle.std.proofs.Common.{◌≡◌, ℕ, ℤ, List, [], ◌∷◌, ◌++◌, map, filter, Bool, true, false, cond, ◌&&◌, refl, sym, ap, subst, ◌∙◌}
+use Rattle.std.specs.declared.cmp.Ordering.{Ordering}
+use Rattle.std.specs.Ordering.{is_eq, is_ge, is_le}
+use Rattle.std.specs.List.{All, flat_map, list_all}
+use Rattle.std.specs.List.Sorted.{IsPermutation, IsSorted}
+use Rattle.std.proofs.lemmas.List.Sorted.{IsPermutation-map}
+use Rattle.sqlite_value.specs.declared.value.Value.{Value}
+use Rattle.sqlite_value.specs.declared.value.Value.TheVariants.{Null, Int, Real, Text, Blob}
+use Rattle.sqlite_value.specs.declared.keys.Collation.TheVariants.{Binary}
+use Rattle.sqlite_value.specs.Order.{Row, column, value_cmp}
+use Rattle.sqlite_value.proofs.OrderLemmas.{value_cmp-Int, then-Equal}
+use Rattle.sqlite_trees.specs.Tree.{Trees}
+use Rattle.sqlite_trees.proofs.ListLemmas.{map-map, map-flat_map, flat_map-map, filter-map, filter_same, filter_none, flat_map_same_on, all_of}
+use Rattle.sqlite_sql.specs.declared.ops.BinaryOp.TheVariants.{Compare}
+use Rattle.sqlite_sql.specs.declared.ops.CompareOp.{CompareOp}
+use Rattle.sqlite_sql.specs.declared.ops.CompareOp.TheVariants.{Ge, Le}
+use Rattle.sqlite_sql.specs.Ops.{binary, is_true}
+use Rattle.sqlite_sql.specs.Term.{Env, eval_all, holds}
+use Rattle.sqlite_sql.specs.Query.{Query, IsAnswer, output, Output, output_cmp}
+use Rattle.sqlite_sql.specs.Program.{overlay}
+use Rattle.sqlite_schema.specs.declared.schema.Schema.{Schema}
+use Rattle.sqlite_schema.specs.declared.command.Command.TheVariants.{Select}
+use Rattle.sqlite.specs.State.{State, Shown, Begins}
+use Rattle.sqlite.proofs.Callers.{reads_as, begins_as}
+use Rattle.ledger_sql.specs.Entries.{entries_when}
+use Rattle.ledger_sql.specs.TableRows.{cells_from, is_own, is_blob, is_same, is_from, is_until, transfer_rows}
+use Rattle.ledger_sql.proofs.AnswerLemmas.{truth_of, equals, equals_int, equals_text, equals_blob, made_by, sorted_shown}
+use Rattle.ledger_sql.proofs.KeyLemmas.{filter_both, and_true}
+use Rattle.ledger_sql.proofs.EntryTexts.{entry_terms, entry_query, IsEntryText}
+
+-- ---- comparisons
+
+equals_same : (a b : Value) → equals a b ≡ is_same a b
+unfolding binary
+equals_same Null Null = refl
+equals_same (Int m) Null = refl
+equals_same (Real x) Null = refl
+equals_same (Text t) Null = refl
+equals_same (Blob b) Null = refl
+equals_same a (Int n) = equals_int a n
+equals_same Null (Real y) = refl
+equals_same (Int m) (Real y) = truth_of (is_eq (value_cmp (Int m) (Real y)))
+equals_same (Real x) (Real y) = truth_of (is_eq (value_cmp (Real x) (Real y)))
+equals_same (Text t) (Real y) = truth_of (is_eq (value_cmp (Text t) (Real y)))
+equals_same (Blob b) (Real y) = truth_of (is_eq (value_cmp (Blob b) (Real y)))
+equals_same a (Text t) = equals_text a t
+equals_same a (Blob b) = equals_blob a b
+
+abbrev pub compares : CompareOp → ℤ → Value → Bool
+compares op n v = is_true (binary (Compare op Binary) v (Int n))
+
+pub compares_from : (n : ℤ) (v : Value) → compares Ge n v ≡ is_from n v
+unfolding binary
+compares_from n Null = refl
+compares_from n (Int m) = truth_of (is_ge (value_cmp (Int m) (Int n))) ∙ ap is_ge (value_cmp-Int m n)
+compares_from n (Real x) = truth_of (is_ge (value_cmp (Real x) (Int n)))
+compares_from n (Text t) = truth_of (is_ge (value_cmp (Text t) (Int n)))
+compares_from n (Blob b) = truth_of (is_ge (value_cmp (Blob b) (Int n)))
+
+pub compares_until : (n : ℤ) (v : Value) → compares Le n v ≡ is_until n v
+unfolding binary
+compares_until n Null = refl
+compares_until n (Int m) = truth_of (is_le (value_cmp (Int m) (Int n))) ∙ ap is_le (value_cmp-Int m n)
+compares_until n (Real x) = truth_of (is_le (value_cmp (Real x) (Int n)))
+compares_until n (Text t) = truth_of (is_le (value_cmp (Text t) (Int n)))
+compares_until n (Blob b) = truth_of (is_le (value_cmp (Blob b) (Int n)))
+
+-- ---- two tables
+
+and_false : (b : Bool) → (b && false) ≡ false
+and_false true = refl
+and_false false = refl
+
+found_each : {A B : Type 0} (p : A → Bool) (f : A → B) (xs : List A) → flat_map (λ x. cond (p x) (f x ∷ []) []) xs ≡ map f (filter p xs)
+found_each p f [] = refl
+found_each p f (x ∷ xs) = elim (p x) as (λ b. cond b (f x ∷ []) [] ++ flat_map (λ x. cond (p x) (f x ∷ []) []) xs ≡ map f (cond b (x ∷ filter p xs) (filter p xs))) [
+  | true ↦ ap (λ l. f x ∷ l) (found_each p f xs)
+  | false ↦ found_each p f xs
+]
+
+flat_filter : {A B : Type 0} (p : A → Bool) (f : A → List B) (xs : List A) → flat_map f (filter p xs) ≡ flat_map (λ x. cond (p x) (f x) []) xs
+flat_filter p f [] = refl
+flat_filter p f (x ∷ xs) = elim (p x) as (λ b. flat_map f (cond b (x ∷ filter p xs) (filter p xs)) ≡ cond b (f x) [] ++ flat_map (λ x. cond (p x) (f x) []) xs) [
+  | true ↦ ap (λ l. f x ++ l) (flat_filter p f xs)
+  | false ↦ flat_filter p f xs
+]
+
+module _ (tenant : ℤ) (account : List ℕ) (time : ℤ) (op : CompareOp) (in_time : Value → Bool) (tests : (v : Value) → compares op time v ≡ in_time v) where
+  abbrev pub keys : Row
+  keys = Int tenant ∷ Blob account ∷ Int time ∷ []
+
+  abbrev history_cells : Row → Row
+  history_cells = cells_from 2 6
+
+  abbrev transfer_cells : Row → Row
+  transfer_cells = cells_from 2 14
+
+  abbrev passes : Row → Row → Bool
+  passes h t = list_all (holds (keys ∷ h ∷ t ∷ [])) (entry_terms op)
+
+  -- whether a history row is asked for, and whether a transfer is of its time
+  abbrev is_asked : Row → Bool
+  is_asked h = is_own tenant h && (is_blob account (column h 2) && in_time (column h 3))
+
+  abbrev is_of : Row → Row → Bool
+  is_of h t = is_own tenant t && is_same (column t 14) (column h 3)
+
+  passes_is : (h t : Row) → passes h t ≡ (is_own tenant t && (is_same (column t 14) (column h 3) && is_asked h))
+  passes_is h t =
+      (λ i. equals_int (column t 1) tenant i && (equals_same (column t 14) (column h 3) i && (equals_int (column h 1) tenant i && (equals_blob (column h 2) account i && (tests (column h 3) i && true)))))
+      ∙ ap (λ b. is_own tenant t && (is_same (column t 14) (column h 3) && (is_own tenant h && (is_blob account (column h 2) && b)))) (and_true (in_time (column h 3)))
+
+  abbrev joined : Row → Row → Row
+  joined h t = history_cells h ++ transfer_cells t
+
+  -- the transfers that go with a history row
+  matched_with : (h : Row) (ts : List Row) (asked : Bool) → map (joined h) (filter (λ t. is_own tenant t && (is_same (column t 14) (column h 3) && asked)) ts)
+      ≡ cond asked (map (λ transfer. history_cells h ++ transfer) (filter (λ transfer. is_same (column transfer 12) (column h 3)) (map transfer_cells (filter (is_own tenant) ts)))) []
+  matched_with h ts true =
+      let point : (t : Row) → (is_own tenant t && (is_same (column t 14) (column h 3) && true)) ≡ is_of h t = λ t. ap (λ b. is_own tenant t && b) (and_true (is_same (column t 14) (column h 3))) in
+      ap (map (joined h)) (filter_same (λ t. is_own tenant t && (is_same (column t 14) (column h 3) && true)) (is_of h) ts (all_of _ point ts))
+      ∙ sym (
+      ap (map (λ transfer. history_cells h ++ transfer)) (
+      filter-map (λ transfer. is_same (column transfer 12) (column h 3)) transfer_cells (filter (is_own tenant) ts)
+      ∙ ap (map transfer_cells) (filter_both (is_own tenant) (λ t. is_same (column t 14) (column h 3)) ts))
+      ∙ map-map (λ transfer. history_cells h ++ transfer) transfer_cells (filter (is_of h) ts))
+  matched_with h ts false =
+      let never : (t : Row) → (is_own tenant t && (is_same (column t 14) (column h 3) && false)) ≡ false = λ t. ap (λ b. is_own tenant t && b) (and_false (is_same (column t 14) (column h 3))) ∙ and_false (is_own tenant t) in
+      ap (map (joined h)) (filter_none (λ t. is_own tenant t && (is_same (column t 14) (column h 3) && false)) ts (all_of _ never ts))
+
+  -- the entries, as the join finds them
+  entries_joined : (db : Trees) → flat_map (λ h. map (joined h) (filter (passes h) (db 8))) (db 15) ≡ entries_when tenant account in_time db
+  entries_joined db =
+      let hs : List Row = db 15 in
+      let ts : List Row = db 8 in
+      let with_own : Row → List Row = λ row. map (λ transfer. row ++ transfer) (filter (λ transfer. is_same (column transfer 12) (column row 1)) (transfer_rows tenant db)) in
+      let each : (h : Row) → map (joined h) (filter (passes h) ts) ≡ cond (is_asked h) (with_own (history_cells h)) [] = λ h.
+      ap (map (joined h)) (filter_same (passes h) (λ t. is_own tenant t && (is_same (column t 14) (column h 3) && is_asked h)) ts (all_of _ (passes_is h) ts)) ∙ matched_with h ts (is_asked h) in
+      flat_map_same_on (λ h. map (joined h) (filter (passes h) ts)) (λ h. cond (is_asked h) (with_own (history_cells h)) []) each hs
+      ∙ sym (
+      ap (flat_map with_own) (
+      filter-map (λ row. is_blob account (column row 0) && in_time (column row 1)) history_cells (filter (is_own tenant) hs)
+      ∙ ap (map history_cells) (filter_both (is_own tenant) (λ h. is_blob account (column h 2) && in_time (column h 3)) hs))
+      ∙ flat_map-map with_own history_cells (filter is_asked hs)
+      ∙ flat_filter is_asked (λ h. with_own (history_cells h)) hs)
+
+  module _ (descending : Bool) (history : (db : Trees) → overlay db [] 15 ≡ db 15) (transfers : (db : Trees) → overlay db [] 8 ≡ db 8) (db : Trees) where
+    abbrev query : Query
+    query = entry_query op descending
+
+    abbrev seen : Row → Row → Env
+    seen h t = keys ∷ h ∷ t ∷ []
+
+    staged_is : (rows : List Row) (a : IsAnswer query (overlay db []) keys rows) → a.staged ≡ flat_map (λ h. map (seen h) (filter (passes h) (db 8))) (db 15)
+    staged_is rows a =
+        a.grouped
+        ∙ ap (flat_map (λ h. flat_map (λ t. cond (passes h t) (seen h t ∷ []) []) (overlay db [] 8))) (history db)
+        ∙ ap (λ ts. flat_map (λ h. flat_map (λ t. cond (passes h t) (seen h t ∷ []) []) ts) (db 15)) (transfers db)
+        ∙ flat_map_same_on _ (λ h. map (seen h) (filter (passes h) (db 8))) (λ h. found_each (passes h) (seen h) (db 8)) (db 15)
+
+    pub entries_answered : (rows : List Row) → IsAnswer query (overlay db []) keys rows → IsPermutation (entries_when tenant account in_time db) rows
+    entries_answered rows a =
+        let show : Env → Row = λ env. eval_all query.project env in
+        let kept : a.kept ≡ map (output query) a.staged = a.distinct in
+        let moved = IsPermutation-map (λ (o : Output). o.1) a.kept a.ordered a.same in
+        let shown : map (λ (o : Output). o.1) a.kept ≡ entries_when tenant account in_time db =
+        ap (map (λ (o : Output). o.1)) kept
+        ∙ map-map (λ (o : Output). o.1) (output query) a.staged
+        ∙ ap (map show) (staged_is rows a)
+        ∙ map-flat_map show (λ h. map (seen h) (filter (passes h) (db 8))) (db 15)
+        ∙ flat_map_same_on _ (λ h. map (joined h) (filter (passes h) (db 8))) (λ h. map-map show (seen h) (filter (passes h) (db 8))) (db 15)
+        ∙ entries_joined db in
+        subst (λ xs. IsPermutation xs rows) shown (subst (IsPermutation (map (λ (o : Output). o.1) a.kept)) (sym a.shown) moved)
+
+    pub entries_sorted : (cmp : Row → Row → Ordering) → ((x y : Env) → output_cmp query (output query x) (output query y) ≡ cmp (output query x).1 (output query y).1)
+        → (rows : List Row) → IsAnswer query (overlay db []) keys rows → IsSorted cmp rows
+    entries_sorted cmp same rows a =
+        let kept : a.kept ≡ map (output query) a.staged = a.distinct in
+        let made = subst (All (λ (o : Output). (env : Env) × (o ≡ output query env))) (sym kept) (made_by (output query) [] a.staged) in
+        subst (IsSorted cmp) (sym a.shown) (sorted_shown query db keys cmp same a.kept a.ordered made a.same a.sorted)
+
+-- both orders are those of the timestamps
+pub oldest_first : (op : CompareOp) (x y : Env) → output_cmp (entry_query op false) (output (entry_query op false) x) (output (entry_query op false) y)
+    ≡ value_cmp (column (output (entry_query op false) x).1 1) (column (output (entry_query op false) y).1 1)
+oldest_first op x y = then-Equal _
+
+pub newest_first : (op : CompareOp) (x y : Env) → output_cmp (entry_query op true) (output (entry_query op true) x) (output (entry_query op true) y)
+    ≡ value_cmp (column (output (entry_query op true) y).1 1) (column (output (entry_query op true) x).1 1)
+newest_first op x y = then-Equal _
+
+module _ (sql : List ℕ) (schema : Schema) (op : CompareOp) (descending : Bool) (text : IsEntryText sql schema op descending) (old new : State) (has : old.now.schema ≡ schema)
+    (tenant : ℤ) (account : List ℕ) (time : ℤ) (in_time : Value → Bool) (tests : (v : Value) → compares op time v ≡ in_time v) (cmp : Row → Row → Ordering)
+    (same : (x y : Env) → output_cmp (entry_query op descending) (output (entry_query op descending) x) (output (entry_query op descending) y)
+    ≡ cmp (output (entry_query op descending) x).1 (output (entry_query op descending) y).1) where
+  abbrev entries : List Row
+  entries = entries_when tenant account in_time old.now.trees
+
+  abbrev given : Row
+  given = Int tenant ∷ Blob account ∷ Int time ∷ []
+
+  pub entries_shown : (rows : List Row) → Shown sql given old new rows → IsPermutation entries rows × IsSorted cmp rows
+  entries_shown rows h =
+      let got = reads_as sql given old new schema has (Select (record { lets = []; body = entry_query op descending }) text.names) text.is text.plain text.unlisted rows h in (
+        entries_answered tenant account time op in_time tests descending text.history text.transfers old.now.trees rows (got.answer Null),
+        entries_sorted tenant account time op in_time tests descending text.history text.transfers old.now.trees cmp same rows (got.answer Null),
+      )
+
+  pub entries_begun : (rows : List Row) → Begins sql given old rows → (rest : List Row) × IsPermutation entries (rows ++ rest) × IsSorted cmp (rows ++ rest)
+  entries_begun rows h =
+      let got = begins_as sql given old new schema has (Select (record { lets = []; body = entry_query op descending }) text.names) text.is text.plain text.unlisted rows h in (
+        got.1.0,
+        entries_answered tenant account time op in_time tests descending text.history text.transfers old.now.trees (rows ++ got.1.0) (got.1.1 Null),
+        entries_sorted tenant account time op in_time tests descending text.history text.transfers old.now.trees cmp same (rows ++ got.1.0) (got.1.1 Null),
+      )

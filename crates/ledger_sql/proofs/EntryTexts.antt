@@ -1,0 +1,86 @@
+-- What the texts mean that read an account's entries.
+use Rattle.std.proofs.Common.{◌≡◌, ℕ, zero, suc, ◌+◌, None, List, [], ◌∷◌, ◌++◌, codes, true, false, Bool, pos, negsuc, refl, sym, subst}
+use Rattle.sqlite_value.specs.declared.keys.Collation.TheVariants.{Binary}
+use Rattle.sqlite_value.specs.declared.value.Value.TheVariants.{Int}
+use Rattle.sqlite_trees.specs.Tree.{Trees}
+use Rattle.sqlite_schema.specs.declared.schema.Schema.{Schema}
+use Rattle.sqlite_schema.specs.declared.schema.Table.{Table}
+use Rattle.sqlite_schema.specs.declared.schema.Index.{Index}
+use Rattle.sqlite_schema.specs.declared.schema.View.{View}
+use Rattle.sqlite_schema.specs.declared.command.Command.TheVariants.{Select}
+use Rattle.sqlite_sql.specs.declared.ops.BinaryOp.TheVariants.{Compare}
+use Rattle.sqlite_sql.specs.declared.ops.CompareOp.{CompareOp}
+use Rattle.sqlite_sql.specs.declared.ops.CompareOp.TheVariants.{Eq, Ge, Le}
+use Rattle.sqlite_sql.specs.Term.{Term, lit, col, op2}
+use Rattle.sqlite_sql.specs.Query.{Query, inner, end}
+use Rattle.sqlite_sql.specs.Program.{overlay}
+use Rattle.sqlite_tied.specs.Compute.{everything}
+use Rattle.sqlite.specs.Listing.{understood, reads_listing}
+use Rattle.sqlite.proofs.Callers.{IsPlain, command_of}
+use Rattle.ledger_sql.specs.Effects.{IsLedger}
+use Rattle.ledger_sql.specs.Queries.{IsReading}
+use Rattle.ledger_sql.proofs.SelectTexts.{ledger_with, ledger_is}
+
+-- so many columns of a table's row, from a place on
+abbrev pub columns_at : ℕ → ℕ → ℕ → List Term
+columns_at slot place zero = []
+columns_at slot place (suc many) = col slot place ∷ columns_at slot (place + 1) many
+
+-- the history of an account on one side of a time, with the transfers of these times
+abbrev pub entry_terms : CompareOp → List Term
+entry_terms bound =
+    op2 (Compare Eq Binary) (col 2 1) (col 0 0)
+    ∷ op2 (Compare Eq Binary) (col 2 14) (col 1 3)
+    ∷ op2 (Compare Eq Binary) (col 1 1) (col 0 0)
+    ∷ op2 (Compare Eq Binary) (col 1 2) (col 0 1)
+    ∷ op2 (Compare bound Binary) (col 1 3) (col 0 2)
+    ∷ []
+
+abbrev pub entry_query : CompareOp → Bool → Query
+entry_query bound descending = record {
+  from = inner 15 (inner 8 end);
+  filter = entry_terms bound;
+  group = None;
+  project = columns_at 1 2 6 ++ columns_at 2 2 14;
+  distinct = false;
+  collations = [];
+  order = (col 1 3, record { collation = Binary; descending = descending }) ∷ [];
+  limit = lit (Int (negsuc 0));
+  offset = lit (Int (pos 0));
+}
+
+pub record IsEntryText (sql : List ℕ) (schema : Schema) (bound : CompareOp) (descending : Bool) : Type 0 where
+  pub names : List (List ℕ)
+  pub is : command_of (understood schema sql) ≡ Select (record { lets = []; body = entry_query bound descending }) names
+  pub plain : IsPlain (understood schema sql)
+  pub unlisted : reads_listing schema sql ≡ false
+  pub history : (db : Trees) → overlay db [] 15 ≡ db 15
+  pub transfers : (db : Trees) → overlay db [] 8 ≡ db 8
+
+abbrev pub from_text : List ℕ
+from_text = codes "SELECT history.account, history.timestamp, history.dp, history.dd, history.cp, history.cc, transfer.id, transfer.debit, transfer.credit, transfer.amount, transfer.pending_id, transfer.user_data_128, transfer.user_data_64, transfer.user_data_32, transfer.timeout, transfer.ledger, transfer.code, transfer.flags, transfer.timestamp, transfer.at_clock FROM history JOIN transfer ON transfer.tenant = ?1 AND transfer.timestamp = history.timestamp WHERE history.tenant = ?1 AND history.account = ?2 AND history.timestamp >= ?3 ORDER BY history.timestamp"
+
+pub from_reads : IsReading from_text
+unfolding everything IsReading
+from_reads = (tt, refl)
+
+from_means : (more : List Table) (indexes : List Index) (views : List View) → IsEntryText from_text (ledger_with more indexes views) Ge false
+unfolding understood everything
+from_means more indexes views = record { names = _; is = refl; plain = (refl, refl); unlisted = refl; history = λ _. refl; transfers = λ _. refl }
+
+pub from_is : (s : Schema) → IsLedger s → IsEntryText from_text s Ge false
+from_is s h = subst (λ s. IsEntryText from_text s Ge false) (sym (ledger_is s h)) (from_means h.more s.indexes s.views)
+
+abbrev pub until_text : List ℕ
+until_text = codes "SELECT history.account, history.timestamp, history.dp, history.dd, history.cp, history.cc, transfer.id, transfer.debit, transfer.credit, transfer.amount, transfer.pending_id, transfer.user_data_128, transfer.user_data_64, transfer.user_data_32, transfer.timeout, transfer.ledger, transfer.code, transfer.flags, transfer.timestamp, transfer.at_clock FROM history JOIN transfer ON transfer.tenant = ?1 AND transfer.timestamp = history.timestamp WHERE history.tenant = ?1 AND history.account = ?2 AND history.timestamp <= ?3 ORDER BY history.timestamp DESC"
+
+pub until_reads : IsReading until_text
+unfolding everything IsReading
+until_reads = (tt, refl)
+
+until_means : (more : List Table) (indexes : List Index) (views : List View) → IsEntryText until_text (ledger_with more indexes views) Le true
+unfolding understood everything
+until_means more indexes views = record { names = _; is = refl; plain = (refl, refl); unlisted = refl; history = λ _. refl; transfers = λ _. refl }
+
+pub until_is : (s : Schema) → IsLedger s → IsEntryText until_text s Le true
+until_is s h = subst (λ s. IsEntryText until_text s Le true) (sym (ledger_is s h)) (until_means h.more s.indexes s.views)

@@ -1,0 +1,70 @@
+-- What a statement that writes rows or makes a table leaves, inside a transaction.
+use Rattle.std.proofs.Common.{◌≡◌, ℕ, inl, inr, List, cond, IsTrue, None, Ok, Result, OnOk, refl, sym, ap, ◌∙◌, arith}
+use Rattle.sqlite_value.specs.Order.{Row}
+use Rattle.sqlite_trees.specs.Tree.{Trees}
+use Rattle.sqlite_schema.specs.declared.schema.Schema.{Schema}
+use Rattle.sqlite_schema.specs.declared.command.Command.{Command}
+use Rattle.sqlite_schema.specs.declared.command.Command.TheVariants.{Insert, Update, CreateTable}
+use Rattle.sqlite.specs.Listing.{understood}
+use Rattle.sqlite.specs.State.{State, HasCleanDisk, Survives, CommitsBy, MayCommit, Writes, Executes}
+use Rattle.sqlite.specs.declared.error.Error.{Error}
+use Rattle.sqlite.proofs.StateLemmas.{survives_weaker}
+use Rattle.std.proofs.lemmas.Bool.{both_ways}
+use Rattle.ledger_sql.specs.Causes.{done_of}
+use Rattle.ledger_sql.specs.Frames.{Follows}
+use Rattle.ledger_sql.proofs.RunLemmas.{Stays, commits_as, done_ok, done_stays, follows_from}
+use Rattle.ledger_sql.specs.Effects.{WritesInside}
+use Rattle.sqlite.proofs.Callers.{IsPlain, command_of, statement_of}
+
+-- what stays where a statement has written inside a transaction
+pub wrote_inside : (old new : State) (command : Command) (text : List ℕ) (params : Row) (count : ℕ) → Writes old new None command text params count
+    → IsTrue old.in_transaction → new.now.schema ≡ old.now.schema → WritesInside old new
+wrote_inside old new command text params count w inside same = record {
+  schema = same;
+  shown = record {
+    was_open = w.shown.was_open;
+    is_open = w.shown.is_open;
+    now_is = refl;
+    committed_is = w.shown.committed_is ∙ ap (λ b. cond b old.committed new.now) inside;
+    mode = w.shown.mode ∙ inside;
+  };
+  marks = w.marks;
+}
+
+pub writes_stay : (old new : State) → WritesInside old new → Stays old new
+writes_stay old new w = record { was_open = w.shown.was_open; committed = w.shown.committed_is; unmarked = λ _ outside. absurd (let e = sym w.shown.mode ∙ outside in cc) }
+
+-- a command that writes rows commits nothing inside a transaction
+abbrev IsOnRows : Command → Type 0
+IsOnRows (Insert at from) = Unit {0}
+IsOnRows (Update at q) = Unit {0}
+IsOnRows CreateTable = Unit {0}
+IsOnRows _ = ⊥
+
+rows_commit : (s : State) (command : Command) (text : List ℕ) (params : Row) (db : Trees) → IsTrue s.in_transaction → IsOnRows command → ¬ MayCommit s None command text params db
+rows_commit s (Insert at from) text params db inside on (inl (inl is, _)) = absurd (cc)
+rows_commit s (Insert at from) text params db inside on (inl (inr is, _)) = absurd (let e = is.2 in cc)
+rows_commit s (Insert at from) text params db inside on (inr w) = both_ways _ w.0 inside
+rows_commit s (Update at q) text params db inside on (inl (inl is, _)) = absurd (cc)
+rows_commit s (Update at q) text params db inside on (inl (inr is, _)) = absurd (let e = is.2 in cc)
+rows_commit s (Update at q) text params db inside on (inr w) = both_ways _ w.0 inside
+rows_commit s CreateTable text params db inside on (inl (inl is, _)) = absurd (cc)
+rows_commit s CreateTable text params db inside on (inl (inr is, _)) = absurd (let e = is.2 in cc)
+rows_commit s CreateTable text params db inside on (inr w) = both_ways _ w.0 inside
+rows_commit s _ text params db inside on h = absurd on
+
+-- the clauses of a function that writes inside a transaction
+module _ (sql : List ℕ) (params : Row) (old new : State) where
+  pub statement_ok : (P : Type 0) → (HasCleanDisk old → (count : ℕ) → Executes sql params old new (Ok count) → P) → Survives old new (CommitsBy sql params old)
+      → (r : Result ℕ Error) → HasCleanDisk new → Executes sql params old new r → OnOk (done_of r) P
+  statement_ok P ok survives r clean = done_ok sql params old new P (ok (omega (arith, survives.clean, clean))) r
+
+  module _ (command : Command) (on : IsOnRows command) (P : Type 0) (stays : P → Stays old new)
+      (means : HasCleanDisk old → IsTrue old.in_transaction × ((schema : Schema) × (old.now.schema ≡ schema) × (command_of (understood schema sql) ≡ command) × IsPlain (understood schema sql)))
+      (ok : HasCleanDisk old → (count : ℕ) → Executes sql params old new (Ok count) → P) (survives : Survives old new (CommitsBy sql params old)) where
+    pub statement_follows : (r : Result ℕ Error) → (HasCleanDisk new → Executes sql params old new r) → Follows old new
+    statement_follows r ran =
+        let quiet : Survives old new (λ _. ⊥) = survives_weaker old new _ _ (λ clean db h.
+        let it = means (omega (arith, survives.clean, clean)) in
+        rows_commit old command (statement_of sql (understood it.1.0 sql)) params db it.0 on (commits_as sql params old it.1.0 it.1.1 command it.1.2 it.1.3 db h)) survives in
+        follows_from old new quiet (λ live. done_stays sql params old new P (ok (omega (arith, survives.clean, live.0))) r stays live.1 (ran live.0))

@@ -1,0 +1,15 @@
+pub mod Causes
+pub mod Columns
+pub mod Creating
+pub mod Effects
+pub mod Entries
+pub mod Frames
+pub mod Handing
+pub mod Queries
+pub mod Reading
+pub mod Rowids
+pub mod Schema
+pub mod Stages
+pub mod TableFaults
+pub mod TableRows
+pub mod Values

@@ -1,0 +1,24 @@
+//! The tables in SQLite: one function for each fixed text of SQL.
+#![tactic(auto)]
+
+pub mod adding;
+mod cause;
+pub mod creating;
+pub mod entries;
+mod entry_cells;
+mod entry_sink;
+pub mod finding;
+pub mod listing;
+mod owned;
+mod query;
+mod read;
+pub mod setting;
+pub mod stages;
+mod table_fault;
+#[cfg(test)]
+mod tests;
+
+pub use entry_cells::EntryCells;
+pub use entry_sink::EntrySink;
+pub use owned::Owned;
+pub use table_fault::TableFault;

@@ -1,0 +1,271 @@
+//! Tables read whole, in order of tenant and key, whatever version the file has. A table that the
+//! file lacks is told as missing, unless the store fails.
+
+ghost use Rattle.std.specs.Prelude.{◌≡◌, ◌≢◌, ◌⊎◌, Err, codes, string_bytes, IfOk, OnOk};
+ghost use Rattle.sqlite.specs.State.{HasCleanDisk, IsUnchanged, IsRolledBack};
+ghost use Rattle.sqlite.specs.Held.{state};
+ghost use Rattle.ledger_sql.specs.Effects.{StartsAs};
+ghost use Rattle.ledger_sql.specs.Frames.{IsKeptOrUndone, Follows};
+ghost use Rattle.ledger_sql.specs.Queries.{LacksTable};
+ghost use Rattle.ledger_sql.specs.Reading.{clock_cmp, account_cmp, transfer_cmp, balance_cmp, status_cmp, history_cmp, id_cmp, directory_cmp, ReadsTable, ReadsRows};
+ghost use Rattle.ledger_sql.specs.Schema.{after_tenant, list_schema, balance_schema, ledger_schema, clock_tree, account_tree, transfer_tree, balance_tree, status_tree, history_tree, failed_tree};
+ghost use Rattle.ledger_sql.specs.TableRows.{whole_table, directory_rows, clock_rows, account_rows, transfer_rows, balance_rows, status_rows, history_rows, failed_rows};
+ghost use Rattle.ledger_sql.specs.Values.{clock_values, directory_values, account_values, transfer_values, balance_values, status_values, history_values, id_values};
+
+use crate::owned::Owned;
+use crate::query::all_rows;
+use crate::table_fault::TableFault;
+use rows::{AccountCells, BalanceCells, DirectoryRow, HistoryCells, StatusCells, TransferCells};
+use sqlite::{Alter, Connection};
+use std::alloc::Global;
+
+/// The directory, in order of the tenants' numbers.
+pub fn directory<S: Alter>(
+    alloc: Global,
+    conn: &mut Connection<S>,
+) -> Result<Vec<DirectoryRow>, TableFault>
+    ensures whole { HasCleanDisk (state S.Store conn.new) →
+        StartsAs after_tenant.tables (state S.Store conn.old).now.schema → IfOk result (λ read.
+        ReadsRows (λ row. directory_values row.number (string_bytes row.name) row.digest)
+        directory_cmp (directory_rows (state S.Store conn.old).now.trees) read.items) }
+    ensures found { HasCleanDisk (state S.Store conn.new) →
+        StartsAs after_tenant.tables (state S.Store conn.old).now.schema →
+        result ≢ Err TableFault.Missing }
+    ensures lacking { HasCleanDisk (state S.Store conn.new) →
+        LacksTable (codes "tenant") (state S.Store conn.old).now.schema →
+        (result ≡ Err TableFault.Missing) ⊎
+        IsRolledBack (state S.Store conn.old) (state S.Store conn.new) }
+    ensures same { HasCleanDisk (state S.Store conn.new) → OnOk result
+        (IsUnchanged (state S.Store conn.old) (state S.Store conn.new)) }
+    ensures kept { HasCleanDisk (state S.Store conn.new) → IsKeptOrUndone
+        (state S.Store conn.old) (state S.Store conn.new) }
+    ensures follows { Follows (state S.Store conn.old) (state S.Store conn.new) }
+{
+    all_rows(
+        alloc,
+        conn,
+        "SELECT no, name, digest FROM tenant ORDER BY no",
+        &[],
+    )
+}
+
+/// Every tenant's clock, as the file has it, in nanoseconds, in order of tenant.
+pub fn list_clocks<S: Alter>(
+    alloc: Global,
+    conn: &mut Connection<S>,
+) -> Result<Vec<Owned<i64>>, TableFault>
+    ensures whole { HasCleanDisk (state S.Store conn.new) →
+        StartsAs list_schema.tables (state S.Store conn.old).now.schema → IfOk result (λ read.
+        ReadsTable clock_values clock_cmp
+        (whole_table clock_tree 0 1 (state S.Store conn.old).now.trees)
+        (λ tenant. clock_rows tenant (state S.Store conn.old).now.trees) read.items) }
+    ensures found { HasCleanDisk (state S.Store conn.new) →
+        StartsAs list_schema.tables (state S.Store conn.old).now.schema →
+        result ≢ Err TableFault.Missing }
+    ensures lacking { HasCleanDisk (state S.Store conn.new) →
+        LacksTable (codes "clock") (state S.Store conn.old).now.schema →
+        (result ≡ Err TableFault.Missing) ⊎
+        IsRolledBack (state S.Store conn.old) (state S.Store conn.new) }
+    ensures same { HasCleanDisk (state S.Store conn.new) → OnOk result
+        (IsUnchanged (state S.Store conn.old) (state S.Store conn.new)) }
+    ensures kept { HasCleanDisk (state S.Store conn.new) → IsKeptOrUndone
+        (state S.Store conn.old) (state S.Store conn.new) }
+    ensures follows { Follows (state S.Store conn.old) (state S.Store conn.new) }
+{
+    all_rows(
+        alloc,
+        conn,
+        "SELECT tenant, clock FROM clock ORDER BY tenant",
+        &[],
+    )
+}
+
+/// Every tenant's accounts, in order of tenant and id.
+pub fn list_accounts<S: Alter>(
+    alloc: Global,
+    conn: &mut Connection<S>,
+) -> Result<Vec<Owned<AccountCells>>, TableFault>
+    ensures whole { HasCleanDisk (state S.Store conn.new) →
+        StartsAs list_schema.tables (state S.Store conn.old).now.schema → IfOk result (λ read.
+        ReadsTable account_values account_cmp
+        (whole_table account_tree 1 8 (state S.Store conn.old).now.trees)
+        (λ tenant. account_rows tenant (state S.Store conn.old).now.trees) read.items) }
+    ensures found { HasCleanDisk (state S.Store conn.new) →
+        StartsAs list_schema.tables (state S.Store conn.old).now.schema →
+        result ≢ Err TableFault.Missing }
+    ensures lacking { HasCleanDisk (state S.Store conn.new) →
+        LacksTable (codes "account") (state S.Store conn.old).now.schema →
+        (result ≡ Err TableFault.Missing) ⊎
+        IsRolledBack (state S.Store conn.old) (state S.Store conn.new) }
+    ensures same { HasCleanDisk (state S.Store conn.new) → OnOk result
+        (IsUnchanged (state S.Store conn.old) (state S.Store conn.new)) }
+    ensures kept { HasCleanDisk (state S.Store conn.new) → IsKeptOrUndone
+        (state S.Store conn.old) (state S.Store conn.new) }
+    ensures follows { Follows (state S.Store conn.old) (state S.Store conn.new) }
+{
+    all_rows(
+        alloc,
+        conn,
+        "SELECT tenant, id, user_data_128, user_data_64, user_data_32, ledger, code, flags, \
+                timestamp FROM account ORDER BY tenant, id",
+        &[],
+    )
+}
+
+/// Every tenant's transfers, in order of tenant and id.
+pub fn list_transfers<S: Alter>(
+    alloc: Global,
+    conn: &mut Connection<S>,
+) -> Result<Vec<Owned<TransferCells>>, TableFault>
+    ensures whole { HasCleanDisk (state S.Store conn.new) →
+        StartsAs list_schema.tables (state S.Store conn.old).now.schema → IfOk result (λ read.
+        ReadsTable transfer_values transfer_cmp
+        (whole_table transfer_tree 1 14 (state S.Store conn.old).now.trees)
+        (λ tenant. transfer_rows tenant (state S.Store conn.old).now.trees) read.items) }
+    ensures found { HasCleanDisk (state S.Store conn.new) →
+        StartsAs list_schema.tables (state S.Store conn.old).now.schema →
+        result ≢ Err TableFault.Missing }
+    ensures lacking { HasCleanDisk (state S.Store conn.new) →
+        LacksTable (codes "transfer") (state S.Store conn.old).now.schema →
+        (result ≡ Err TableFault.Missing) ⊎
+        IsRolledBack (state S.Store conn.old) (state S.Store conn.new) }
+    ensures same { HasCleanDisk (state S.Store conn.new) → OnOk result
+        (IsUnchanged (state S.Store conn.old) (state S.Store conn.new)) }
+    ensures kept { HasCleanDisk (state S.Store conn.new) → IsKeptOrUndone
+        (state S.Store conn.old) (state S.Store conn.new) }
+    ensures follows { Follows (state S.Store conn.old) (state S.Store conn.new) }
+{
+    all_rows(
+        alloc,
+        conn,
+        "SELECT tenant, id, debit, credit, amount, pending_id, user_data_128, user_data_64, \
+                user_data_32, timeout, ledger, code, flags, timestamp, at_clock FROM transfer \
+                ORDER BY tenant, id",
+        &[],
+    )
+}
+
+/// Every tenant's balances, in order of tenant and account.
+pub fn list_balances<S: Alter>(
+    alloc: Global,
+    conn: &mut Connection<S>,
+) -> Result<Vec<Owned<BalanceCells>>, TableFault>
+    ensures whole { HasCleanDisk (state S.Store conn.new) →
+        StartsAs balance_schema.tables (state S.Store conn.old).now.schema → IfOk result (λ read.
+        ReadsTable balance_values balance_cmp
+        (whole_table balance_tree 1 5 (state S.Store conn.old).now.trees)
+        (λ tenant. balance_rows tenant (state S.Store conn.old).now.trees) read.items) }
+    ensures found { HasCleanDisk (state S.Store conn.new) →
+        StartsAs balance_schema.tables (state S.Store conn.old).now.schema →
+        result ≢ Err TableFault.Missing }
+    ensures lacking { HasCleanDisk (state S.Store conn.new) →
+        LacksTable (codes "balance") (state S.Store conn.old).now.schema →
+        (result ≡ Err TableFault.Missing) ⊎
+        IsRolledBack (state S.Store conn.old) (state S.Store conn.new) }
+    ensures same { HasCleanDisk (state S.Store conn.new) → OnOk result
+        (IsUnchanged (state S.Store conn.old) (state S.Store conn.new)) }
+    ensures kept { HasCleanDisk (state S.Store conn.new) → IsKeptOrUndone
+        (state S.Store conn.old) (state S.Store conn.new) }
+    ensures follows { Follows (state S.Store conn.old) (state S.Store conn.new) }
+{
+    all_rows(
+        alloc,
+        conn,
+        "SELECT tenant, account, dp, dd, cp, cc FROM balance ORDER BY tenant, account",
+        &[],
+    )
+}
+
+/// What has become of every tenant's pending transfers, in order of tenant and id.
+pub fn list_statuses<S: Alter>(
+    alloc: Global,
+    conn: &mut Connection<S>,
+) -> Result<Vec<Owned<StatusCells>>, TableFault>
+    ensures whole { HasCleanDisk (state S.Store conn.new) →
+        StartsAs balance_schema.tables (state S.Store conn.old).now.schema → IfOk result (λ read.
+        ReadsTable status_values status_cmp
+        (whole_table status_tree 1 3 (state S.Store conn.old).now.trees)
+        (λ tenant. status_rows tenant (state S.Store conn.old).now.trees) read.items) }
+    ensures found { HasCleanDisk (state S.Store conn.new) →
+        StartsAs balance_schema.tables (state S.Store conn.old).now.schema →
+        result ≢ Err TableFault.Missing }
+    ensures lacking { HasCleanDisk (state S.Store conn.new) →
+        LacksTable (codes "status") (state S.Store conn.old).now.schema →
+        (result ≡ Err TableFault.Missing) ⊎
+        IsRolledBack (state S.Store conn.old) (state S.Store conn.new) }
+    ensures same { HasCleanDisk (state S.Store conn.new) → OnOk result
+        (IsUnchanged (state S.Store conn.old) (state S.Store conn.new)) }
+    ensures kept { HasCleanDisk (state S.Store conn.new) → IsKeptOrUndone
+        (state S.Store conn.old) (state S.Store conn.new) }
+    ensures follows { Follows (state S.Store conn.old) (state S.Store conn.new) }
+{
+    all_rows(
+        alloc,
+        conn,
+        "SELECT tenant, transfer, state, due FROM status ORDER BY tenant, transfer",
+        &[],
+    )
+}
+
+/// Every tenant's history, in order of tenant, account and timestamp.
+pub fn list_history<S: Alter>(
+    alloc: Global,
+    conn: &mut Connection<S>,
+) -> Result<Vec<Owned<HistoryCells>>, TableFault>
+    ensures whole { HasCleanDisk (state S.Store conn.new) →
+        StartsAs balance_schema.tables (state S.Store conn.old).now.schema → IfOk result (λ read.
+        ReadsTable history_values history_cmp
+        (whole_table history_tree 1 6 (state S.Store conn.old).now.trees)
+        (λ tenant. history_rows tenant (state S.Store conn.old).now.trees) read.items) }
+    ensures found { HasCleanDisk (state S.Store conn.new) →
+        StartsAs balance_schema.tables (state S.Store conn.old).now.schema →
+        result ≢ Err TableFault.Missing }
+    ensures lacking { HasCleanDisk (state S.Store conn.new) →
+        LacksTable (codes "history") (state S.Store conn.old).now.schema →
+        (result ≡ Err TableFault.Missing) ⊎
+        IsRolledBack (state S.Store conn.old) (state S.Store conn.new) }
+    ensures same { HasCleanDisk (state S.Store conn.new) → OnOk result
+        (IsUnchanged (state S.Store conn.old) (state S.Store conn.new)) }
+    ensures kept { HasCleanDisk (state S.Store conn.new) → IsKeptOrUndone
+        (state S.Store conn.old) (state S.Store conn.new) }
+    ensures follows { Follows (state S.Store conn.old) (state S.Store conn.new) }
+{
+    all_rows(
+        alloc,
+        conn,
+        "SELECT tenant, account, timestamp, dp, dd, cp, cc FROM history ORDER BY tenant, \
+                account, timestamp",
+        &[],
+    )
+}
+
+/// The ids of every tenant's failed transfers, in order of tenant and id.
+pub fn list_failed<S: Alter>(
+    alloc: Global,
+    conn: &mut Connection<S>,
+) -> Result<Vec<Owned<[u8; 16]>>, TableFault>
+    ensures whole { HasCleanDisk (state S.Store conn.new) →
+        StartsAs ledger_schema.tables (state S.Store conn.old).now.schema → IfOk result (λ read.
+        ReadsTable id_values id_cmp
+        (whole_table failed_tree 1 1 (state S.Store conn.old).now.trees)
+        (λ tenant. failed_rows tenant (state S.Store conn.old).now.trees) read.items) }
+    ensures found { HasCleanDisk (state S.Store conn.new) →
+        StartsAs ledger_schema.tables (state S.Store conn.old).now.schema →
+        result ≢ Err TableFault.Missing }
+    ensures lacking { HasCleanDisk (state S.Store conn.new) →
+        LacksTable (codes "failed") (state S.Store conn.old).now.schema →
+        (result ≡ Err TableFault.Missing) ⊎
+        IsRolledBack (state S.Store conn.old) (state S.Store conn.new) }
+    ensures same { HasCleanDisk (state S.Store conn.new) → OnOk result
+        (IsUnchanged (state S.Store conn.old) (state S.Store conn.new)) }
+    ensures kept { HasCleanDisk (state S.Store conn.new) → IsKeptOrUndone
+        (state S.Store conn.old) (state S.Store conn.new) }
+    ensures follows { Follows (state S.Store conn.old) (state S.Store conn.new) }
+{
+    all_rows(
+        alloc,
+        conn,
+        "SELECT tenant, id FROM failed ORDER BY tenant, id",
+        &[],
+    )
+}

@@ -1,0 +1,85 @@
+//! Queries, whatever their text is.
+
+ghost use Rattle.std.specs.Prelude.{◌≡◌, ◌⊎◌, Err, map, IfOk, OnOk};
+ghost use Rattle.sqlite.specs.Values.{bound};
+ghost use Rattle.sqlite.specs.State.{HasCleanDisk, IsUnchanged, IsRolledBack, Shown};
+ghost use Rattle.sqlite.specs.Held.{state};
+ghost use Rattle.ledger_sql.specs.Frames.{IsKeptOrUndone, Follows};
+ghost use Rattle.ledger_sql.specs.Queries.{IsReading, NamesNoTable, found_of, Finds};
+
+use crate::cause::table_fault;
+use crate::read::{ReadRow, read_row};
+use crate::table_fault::TableFault;
+use records::Unavailable;
+use sqlite::types::ValueRef;
+use sqlite::{Alter, Connection, Error, Row};
+use std::alloc::Global;
+
+/// The first row of a query's answer, if it has one.
+pub(crate) fn first_row<S: Alter>(
+    conn: &mut Connection<S>,
+    text: &str,
+    params: &[ValueRef<'_>],
+) -> Result<Option<Row>, TableFault>
+    requires { IsReading text.now }
+    ensures ok { HasCleanDisk (state S.Store conn.new) → IfOk result
+        (Finds text.now (bound params.now) (state S.Store conn.old) (state S.Store conn.new)) }
+    ensures missing { HasCleanDisk (state S.Store conn.new) → result ≡ Err TableFault.Missing →
+        NamesNoTable (state S.Store conn.old).now.schema text.now }
+    ensures lacking { HasCleanDisk (state S.Store conn.new) →
+        NamesNoTable (state S.Store conn.old).now.schema text.now →
+        (result ≡ Err TableFault.Missing) ⊎
+        IsRolledBack (state S.Store conn.old) (state S.Store conn.new) }
+    ensures same { HasCleanDisk (state S.Store conn.new) → OnOk result
+        (IsUnchanged (state S.Store conn.old) (state S.Store conn.new)) }
+    ensures kept { HasCleanDisk (state S.Store conn.new) → IsKeptOrUndone
+        (state S.Store conn.old) (state S.Store conn.new) }
+    ensures follows { Follows (state S.Store conn.old) (state S.Store conn.new) }
+{
+    found(conn.query_row(text, params))
+}
+
+/// All rows of a query's answer, read.
+pub(crate) fn all_rows<S: Alter, T: ReadRow>(
+    alloc: Global,
+    conn: &mut Connection<S>,
+    text: &str,
+    params: &[ValueRef<'_>],
+) -> Result<Vec<T>, TableFault>
+    requires { IsReading text.now }
+    ensures ok { HasCleanDisk (state S.Store conn.new) → IfOk result
+        (λ read. Shown text.now (bound params.now) (state S.Store conn.old)
+        (state S.Store conn.new) (map T.values read.items)) }
+    ensures missing { HasCleanDisk (state S.Store conn.new) → result ≡ Err TableFault.Missing →
+        NamesNoTable (state S.Store conn.old).now.schema text.now }
+    ensures lacking { HasCleanDisk (state S.Store conn.new) →
+        NamesNoTable (state S.Store conn.old).now.schema text.now →
+        (result ≡ Err TableFault.Missing) ⊎
+        IsRolledBack (state S.Store conn.old) (state S.Store conn.new) }
+    ensures same { HasCleanDisk (state S.Store conn.new) → OnOk result
+        (IsUnchanged (state S.Store conn.old) (state S.Store conn.new)) }
+    ensures kept { HasCleanDisk (state S.Store conn.new) → IsKeptOrUndone
+        (state S.Store conn.old) (state S.Store conn.new) }
+    ensures follows { Follows (state S.Store conn.old) (state S.Store conn.new) }
+{
+    let mut read = Vec::new(alloc);
+    let mut rows = conn.query(text, params)?;
+    'rows: for _ in 0..u64::MAX {
+        let Some(row) = rows.next()? else {
+            return Ok(read);
+        };
+        read.push(read_row(row)?)?;
+    }
+    Err(TableFault::Unavailable(Unavailable::Size))
+}
+
+/// That there is no row is an answer too.
+fn found(answer: Result<Row, Error>) -> Result<Option<Row>, TableFault>
+    ensures { result ≡ found_of answer }
+{
+    match answer {
+        Ok(row) => Ok(Some(row)),
+        Err(Error::QueryReturnedNoRows) => Ok(None),
+        Err(error) => Err(table_fault(error)),
+    }
+}
