@@ -1,0 +1,13 @@
+pub mod KeyedRows
+pub mod HeldMaps
+pub mod HeldStatuses
+pub mod DueRows
+pub mod NextEntry
+pub mod Released
+pub mod ReplayedValid
+pub mod EntriesPush
+pub mod ReplaysOfValid
+pub mod AppliedEntry
+pub mod GivenTransfer
+pub mod SameByKey
+pub mod ToldRows

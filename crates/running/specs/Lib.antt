@@ -1,0 +1,5 @@
+pub mod Holds
+pub mod Running
+pub mod Releasing
+pub mod Entries
+pub mod Refused

@@ -1,0 +1,81 @@
+ghost use Rattle.std.specs.Prelude.{◌≡◌, IfOk, IfErr};
+ghost use Rattle.records.specs.Machine.{new_machine};
+ghost use Rattle.running.specs.declared.replaying.ReplayFault.TheVariants.{Memory};
+ghost use Rattle.running.specs.Entries.{AreNext, IsFirstRefused, machine_of, ReplayedIsValid, ValidReplays, FailedIdsStandApart};
+ghost use Rattle.running.specs.Refused.{IfRefused};
+ghost use Rattle.running.specs.Running.{IsRunning};
+
+use crate::{Entry, Running};
+use engine::valid_exactly_entry_by_entry;
+use rows::read_in_order;
+use std::alloc::{AllocError, Global};
+use std::error::Error;
+use std::fmt;
+
+/// Why entries were not replayed.
+#[derive(Clone, Copy, Debug, PartialEq, Eq)]
+pub enum ReplayFault {
+    /// The entry at this place, from 0, is not accepted behind those before it.
+    Refused(usize),
+    /// Memory ran out.
+    Memory,
+}
+
+impl fmt::Display for ReplayFault {
+    fn fmt<W: fmt::Write>(&self, f: &mut fmt::Formatter<W>) -> fmt::Result {
+        match self {
+            ReplayFault::Refused(place) => write!(f, "entry {place} is not accepted"),
+            ReplayFault::Memory => write!(f, "out of memory"),
+        }
+    }
+}
+
+impl Error for ReplayFault {}
+
+impl From<AllocError> for ReplayFault {
+    ghost from_gives = { λ _ e. e ≡ Memory };
+
+    fn from(_e: AllocError) -> ReplayFault {
+        ReplayFault::Memory
+    }
+}
+
+/// A tenant from its entries alone: each is judged by its own fields behind those before it, at its
+/// own clock. The first that is not accepted is told by its place.
+pub fn replay(alloc: Global, entries: &[Entry]) -> Result<Running, ReplayFault>
+    ensures accepted { IfOk result
+        (λ r. AreNext new_machine entries.now × IsRunning (machine_of entries.now) r) }
+    ensures refused { IfErr result
+        (λ fault. IfRefused fault (IsFirstRefused new_machine entries.now)) }
+{
+    let mut running = Running::new(alloc);
+    for (place, entry) in entries.iter().enumerate() {
+        let accepted = running.apply(entry)?;
+        if !accepted {
+            return Err(ReplayFault::Refused(place));
+        }
+    }
+    Ok(running)
+}
+
+/// What entries are replayed to is valid, at every clock that it can come to. It does nothing, as
+/// the other laws.
+pub fn replayed_is_valid()
+    ensures { ReplayedIsValid }
+{}
+
+/// The accounts and transfers of a valid machine, in order of timestamp, are replayed to that
+/// machine.
+pub fn valid_replays()
+    ensures { ValidReplays }
+{
+    valid_exactly_entry_by_entry();
+    read_in_order::<Entry>();
+}
+
+/// Failed ids tell nothing of a machine's entries, so that they can be looked at apart.
+pub fn failed_ids_stand_apart()
+    ensures { FailedIdsStandApart }
+{
+    valid_exactly_entry_by_entry();
+}

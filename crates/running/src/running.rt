@@ -1,0 +1,116 @@
+ghost use Rattle.std.specs.Prelude.{◌≡◌, List, [], ◌∷◌, ◌++◌, None, OnOk};
+ghost use Rattle.records.specs.declared.transfer.Transfer.{Transfer};
+ghost use Rattle.records.specs.Machine.{Machine, new_machine, transfer_with};
+ghost use Rattle.records.specs.Accepted.{IsAccepted};
+ghost use Rattle.records.specs.Valid.{IsNextAccount, with_account, with_transfer};
+ghost use Rattle.rows.specs.Changes.{new_history};
+ghost use Rattle.running.specs.Holds.{HoldsTransfers};
+ghost use Rattle.running.specs.Running.{IsRunning};
+
+use crate::accounts::{open, set_both};
+use crate::statuses::Statuses;
+use records::{Accepted, Account, AccountWithBalances, Transfer};
+use rows::{HistoryRow, account_rows, transfer_rows};
+use std::alloc::{AllocError, Global};
+use std::collections::BTreeMap;
+
+/// One tenant's ledger at its clock, with what is found by a search: accounts with their balances,
+/// transfers, and the states of pending transfers. No id has failed in it. After an error it is of
+/// no more use.
+#[derive(Debug, Drop)]
+pub struct Running {
+    // The clock, in nanoseconds.
+    pub(crate) clock: u64,
+    // The greatest timestamp of an entry, or 0 without one.
+    pub(crate) last: u64,
+    pub(crate) accounts: BTreeMap<u128, AccountWithBalances>,
+    pub(crate) transfers: BTreeMap<u128, Transfer>,
+    pub(crate) statuses: Statuses,
+    // In order of entry.
+    pub(crate) history: Vec<HistoryRow>,
+}
+
+impl Running {
+    /// A new tenant.
+    pub fn new(alloc: Global) -> Running
+        ensures { IsRunning new_machine result }
+    {
+        Running {
+            clock: 0,
+            last: 0,
+            accounts: BTreeMap::new(alloc),
+            transfers: BTreeMap::new(alloc),
+            statuses: Statuses::new(alloc),
+            history: Vec::new(alloc),
+        }
+    }
+
+    /// The clock, in nanoseconds.
+    pub fn clock(&self) -> u64
+        ensures { (m : Machine) → IsRunning m self.now → result ≡ m.clock }
+    {
+        self.clock
+    }
+
+    /// The next entry is an account.
+    pub fn open_account(&mut self, account: &Account) -> Result<(), AllocError>
+        ensures { OnOk result
+            ((m : Machine) →
+            IsRunning m self.old → IsNextAccount m account.now →
+            IsRunning (with_account m account.now) self.new) }
+    {
+        account_rows();
+        open(&mut self.accounts, account)?;
+        self.last = account.timestamp;
+        Ok(())
+    }
+
+    /// The next entry is a transfer, with what is told of it.
+    pub fn keep_transfer(&mut self, accepted: &Accepted) -> Result<(), AllocError>
+        requires { (m : Machine) × IsRunning m self.old × IsAccepted m accepted.now }
+        ensures { OnOk result
+            ((m : Machine) →
+            IsRunning m self.old → IsAccepted m accepted.now →
+            IsRunning (with_transfer m accepted.now.stored) self.new) }
+    {
+        transfer_rows();
+        let stored = accepted.stored;
+        self.statuses.end_by(accepted.ends)?;
+        self.statuses.add_new(&stored)?;
+        keep(&mut self.transfers, &stored)?;
+        let debit = accepted.debit_after;
+        let credit = accepted.credit_after;
+        set_both(&mut self.accounts, &stored, debit, credit)?;
+        tell(&mut self.history, accepted)?;
+        self.last = stored.timestamp;
+        Ok(())
+    }
+}
+
+fn keep(map: &mut BTreeMap<u128, Transfer>, transfer: &Transfer) -> Result<(), AllocError>
+    ensures { OnOk result
+        ((transfers : List Transfer) →
+        HoldsTransfers transfers map.old → transfer_with transfer.now.id transfers ≡ None →
+        HoldsTransfers (transfers ++ transfer.now ∷ []) map.new) }
+{
+    map.insert(transfer.id, *transfer)?;
+    Ok(())
+}
+
+// The two history rows of an accepted transfer.
+fn tell(history: &mut Vec<HistoryRow>, accepted: &Accepted) -> Result<(), AllocError>
+    ensures { OnOk result (history.new.items ≡ history.old.items ++ new_history accepted.now) }
+{
+    let stored = accepted.stored;
+    history.push(HistoryRow {
+        account: stored.debit_account_id,
+        timestamp: stored.timestamp,
+        balances: accepted.debit_after,
+    })?;
+    history.push(HistoryRow {
+        account: stored.credit_account_id,
+        timestamp: stored.timestamp,
+        balances: accepted.credit_after,
+    })?;
+    Ok(())
+}
