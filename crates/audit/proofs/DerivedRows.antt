@@ -1,0 +1,122 @@
+-- The rows that a version prescribes, in order of key.
+use Rattle.std.proofs.Common.{◌≡◌, ◌<◌, ◌≤◌, ◌+◌, ◌*◌, ◌^◌, ℕ, zero, suc, Bool, true, false, cond, List, [], ◌∷◌, ◌++◌, take, length, get_or, Result, Ok, Err, IfOk, inl, inr, refl, sym, ap, ◌∙◌, subst, arith, is_lt}
+use Rattle.std.specs.List.Sorted.{IsPermutation, IsSortedByKey}
+use Rattle.std.specs.Ordering.{nat_cmp, ordering_then}
+use Rattle.std.proofs.lemmas.Bool.{both_ways}
+use Rattle.std.proofs.lemmas.Bool.Decides.{leb_tells, nat_tests}
+use Rattle.std.proofs.lemmas.List.Elements.{All-get_or}
+use Rattle.std.proofs.lemmas.List.Sorted.{IsPermutation-refl, IsPermutation-sym, IsPermutation-trans}
+use Rattle.std.proofs.Math.Seq.{take-append_seam}
+use Rattle.records.specs.Machine.{Machine}
+use Rattle.rows.specs.Prescribed.{rows_for, since, balance_rows, status_rows, history_rows}
+use Rattle.rows.specs.SameRows.{AreSameRows}
+use Rattle.rows.specs.Tables.{HasDistinctKeys, IsAscendingBy}
+use Rattle.rows.specs.TypedRows.{TypedRows}
+use Rattle.audit.specs.Order.{in_order}
+use Rattle.audit.proofs.InOrderLemmas.{OneOrder, in_order_same, in_order_up}
+
+-- the rows of a table that a version has, and of one that it lacks
+pub since_on : {A : Type 0} (first version : ℕ) (rows : List A) → first ≤ version → since first version rows ≡ rows
+since_on first version rows le = elim (leb_tells first version) [
+  | inl h ↦ ap (λ (b : Bool). cond b rows []) h.0
+  | inr h ↦ absurd (let less = h.1 in omega (arith, le, less))
+]
+
+pub since_off : {A : Type 0} (first version : ℕ) (rows : List A) → version < first → since first version rows ≡ []
+since_off first version rows less = elim (leb_tells first version) [
+  | inl h ↦ absurd (let le = h.1 in omega (arith, le, less))
+  | inr h ↦ ap (λ (b : Bool). cond b rows []) h.0
+]
+
+pub record HasDerived (version : ℕ) (m : Machine) : Type 0 where
+  pub balances : (rows_for version m).balances ≡ balance_rows m
+  pub statuses : (rows_for version m).statuses ≡ status_rows m
+  pub history : (rows_for version m).history ≡ history_rows m
+
+pub has_derived : (version : ℕ) (m : Machine) → 2 ≤ version → HasDerived version m
+unfolding rows_for
+has_derived version m le = record {
+  balances = since_on 2 version (balance_rows m) le;
+  statuses = since_on 2 version (status_rows m) le;
+  history = since_on 2 version (history_rows m) le;
+}
+
+pub record LacksDerived (version : ℕ) (m : Machine) : Type 0 where
+  pub balances : (rows_for version m).balances ≡ []
+  pub statuses : (rows_for version m).statuses ≡ []
+  pub history : (rows_for version m).history ≡ []
+
+pub lacks_derived : (version : ℕ) (m : Machine) → version < 2 → LacksDerived version m
+unfolding rows_for
+lacks_derived version m less = record {
+  balances = since_off 2 version (balance_rows m) less;
+  statuses = since_off 2 version (status_rows m) less;
+  history = since_off 2 version (history_rows m) less;
+}
+
+pub themselves : (rows : TypedRows) → AreSameRows rows rows
+themselves rows = record {
+  clock = refl;
+  accounts = IsPermutation-refl rows.accounts;
+  transfers = IsPermutation-refl rows.transfers;
+  balances = IsPermutation-refl rows.balances;
+  statuses = IsPermutation-refl rows.statuses;
+  history = IsPermutation-refl rows.history;
+  failed = IsPermutation-refl rows.failed;
+}
+
+-- ascending rows, place by place
+pub up_at : {A : Type 0} (key : A → ℕ) (xs : List A) (i j : ℕ) (d : A) → IsAscendingBy key xs → i < j → j < length xs → key (get_or xs i d) < key (get_or xs j d)
+up_at key [] i j d up less within = absurd (omega (arith, within))
+up_at key (x ∷ xs) zero zero d up less within = absurd (omega (arith, less))
+up_at key (x ∷ xs) zero (suc j) d up less within = All-get_or (λ y. key x < key y) xs j d (omega (arith, within)) up.0
+up_at key (x ∷ xs) (suc i) zero d up less within = absurd (omega (arith, less))
+up_at key (x ∷ xs) (suc i) (suc j) d up less within = up_at key xs i j d up.1 (omega (arith, less)) (omega (arith, within))
+
+not_less : (a b : ℕ) → a < b → is_lt (nat_cmp b a) ≡ false
+not_less a b less = grind (arith, nat_tests)
+
+pub ascending_is_sorted : {A : Type 0} (key : A → ℕ) (xs : List A) → IsAscendingBy key xs → IsSortedByKey key nat_cmp xs
+ascending_is_sorted key xs up k d low within = not_less (key (get_or xs k d)) (key (get_or xs (k + 1) d)) (up_at key xs k (k + 1) d up (omega arith) within)
+
+-- the only order
+pub ordered : {A : Type 0} → OneOrder A → (key : A → ℕ) (xs ys : List A) → HasDistinctKeys key xs → IsPermutation xs ys → IsSortedByKey key nat_cmp ys → ys ≡ in_order key xs
+ordered one key xs ys once same sorted =
+    sym (one key (in_order key xs) ys (in_order_up key xs once) (IsPermutation-trans (in_order key xs) xs ys (IsPermutation-sym xs (in_order key xs) (in_order_same key xs)) same) sorted)
+
+-- two facts of what a call makes, if it makes it
+pub both_ok : {V E : Type 0} (made : Result V E) (P Q R : V → Type 0) → ((v : V) → P v → Q v → R v) → IfOk made P → IfOk made Q → IfOk made R
+both_ok (Ok v) P Q R step p q = step v p q
+both_ok (Err e) P Q R step p q = p
+
+-- the order of accounts and then of timestamps is that of one number
+is_less : (a b : ℕ) → a < b → is_lt (nat_cmp a b) ≡ true
+is_less a b less = grind (arith, nat_tests)
+
+first_less : (a b t u : ℕ) → a < b → is_lt (ordering_then (nat_cmp a b) (nat_cmp t u)) ≡ true
+first_less a b t u less = grind (arith, nat_tests)
+
+second_less : (a t u : ℕ) → t < u → is_lt (ordering_then (nat_cmp a a) (nat_cmp t u)) ≡ true
+second_less a t u less = grind (arith, nat_tests)
+
+pair_less : (a b t u : ℕ) → t < 2 ^ 64 → u < 2 ^ 64 → a * 2 ^ 64 + t < b * 2 ^ 64 + u → is_lt (ordering_then (nat_cmp a b) (nat_cmp t u)) ≡ true
+pair_less a b t u short_t short_u less = elim (leb_tells b a) [
+  | inr h ↦ first_less a b t u h.1
+  | inl h ↦
+      let le = h.1 in
+      let same : b ≡ a = omega (arith, less, short_t, short_u, le) in
+      subst (λ (n : ℕ). is_lt (ordering_then (nat_cmp a n) (nat_cmp t u)) ≡ true) (sym same) (second_less a t u (omega (arith, less, same)))
+]
+
+not_less_eq : (a b : ℕ) → b ≤ a → is_lt (nat_cmp a b) ≡ false
+not_less_eq a b le = grind (arith, nat_tests)
+
+pub key_not_less : (a b t u : ℕ) → t < 2 ^ 64 → u < 2 ^ 64 → is_lt (ordering_then (nat_cmp a b) (nat_cmp t u)) ≡ false → is_lt (nat_cmp (a * 2 ^ 64 + t) (b * 2 ^ 64 + u)) ≡ false
+key_not_less a b t u short_t short_u not = elim (leb_tells (b * 2 ^ 64 + u) (a * 2 ^ 64 + t)) [
+  | inl h ↦ not_less_eq (a * 2 ^ 64 + t) (b * 2 ^ 64 + u) h.1
+  | inr h ↦ absurd (both_ways (is_lt (ordering_then (nat_cmp a b) (nat_cmp t u))) not (pair_less a b t u short_t short_u h.1))
+]
+
+-- a list that was sorted in place is as long as before
+pub whole : {A : Type 0} (ys rest : List A) (n : ℕ) → n ≡ length ys → take n (ys ++ rest) ≡ ys
+whole ys rest n same = ap (λ k. take k (ys ++ rest)) same ∙ take-append_seam ys rest

@@ -1,0 +1,16 @@
+pub mod FirstPlaces
+pub mod InOrderLemmas
+pub mod EntriesApart
+pub mod DerivedRows
+pub mod RefusedRows
+pub mod Stages
+pub mod FirstDamage
+pub mod StableCells
+pub mod ToldMachine
+pub mod GoodFailed
+pub mod SoundRows
+pub mod Readable
+pub mod OwnTimes
+pub mod PassedFailed
+pub mod PassedRows
+pub mod WorkedDamage

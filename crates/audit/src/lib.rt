@@ -1,0 +1,23 @@
+//! The audit of a file's rows: whether each tenant's are those of a valid machine, and if not, what
+//! is wrong where.
+#![tactic(auto)]
+
+mod cells;
+mod checking;
+mod damage;
+mod derived;
+mod entries;
+mod failed;
+mod law;
+mod replayed;
+mod shape;
+mod tables;
+mod tenant;
+#[cfg(test)]
+mod tests;
+mod times;
+mod told;
+
+pub use checking::check;
+pub use damage::{AuditFault, Damage, DamageKind};
+pub use law::sound_rows_pass;

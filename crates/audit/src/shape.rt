@@ -1,0 +1,103 @@
+//! Rows with cells that cannot be read.
+
+ghost use Rattle.std.specs.Prelude.{◌≡◌, ℕ, ℤ, List, IsTrue};
+ghost use Rattle.std.specs.Bool.{Decides};
+ghost use Rattle.rows.specs.TypedRows.{lists_of};
+ghost use Rattle.audit.specs.Order.{IsBadRow, IsFirstPlace, lesser_place};
+ghost use Rattle.audit.specs.Shapes.{HasOneClock, IsMisshapen};
+
+use rows::{AccountCells, HistoryCells, StatusCells, TenantRows, TransferCells};
+
+/// A row whose cells may be out of shape.
+trait Shaped {
+    ghost use Rattle.std.specs.Bool.{Decides};
+
+    ghost IsShaped: { Self → Type 0 };
+
+    // Whether all cells can be read.
+    fn is_shaped(&self) -> bool
+        ensures { Decides result (IsShaped self.now) };
+}
+
+impl Shaped for AccountCells {
+    ghost use Rattle.audit.specs.Shapes.{IsAccountRow};
+
+    ghost IsShaped = { IsAccountRow };
+
+    fn is_shaped(&self) -> bool {
+        self.to_account().is_some()
+    }
+}
+
+impl Shaped for TransferCells {
+    ghost use Rattle.audit.specs.Shapes.{IsTransferRow};
+
+    ghost IsShaped = { IsTransferRow };
+
+    fn is_shaped(&self) -> bool {
+        self.to_transfer().is_some()
+    }
+}
+
+impl Shaped for StatusCells {
+    ghost use Rattle.audit.specs.Shapes.{IsStatusRow};
+
+    ghost IsShaped = { IsStatusRow };
+
+    fn is_shaped(&self) -> bool {
+        0 <= self.state && 0 <= self.due
+    }
+}
+
+impl Shaped for HistoryCells {
+    ghost use Rattle.audit.specs.Shapes.{IsHistoryRow};
+
+    ghost IsShaped = { IsHistoryRow };
+
+    fn is_shaped(&self) -> bool {
+        0 <= self.timestamp
+    }
+}
+
+/// The first place at which a row cannot be read.
+pub(crate) fn first_misshapen(rows: &TenantRows) -> Option<usize>
+    ensures { IsFirstPlace (IsMisshapen (lists_of rows.now)) result }
+{
+    let entries = first(
+        first_bad_row(&rows.accounts),
+        first_bad_row(&rows.transfers),
+    );
+    let derived = first(first_bad_row(&rows.statuses), first_bad_row(&rows.history));
+    first(first_without_clock(&rows.clocks), first(entries, derived))
+}
+
+fn first_bad_row<R: Shaped>(rows: &[R]) -> Option<usize>
+    ensures { IsFirstPlace (IsBadRow R.IsShaped rows.now) result }
+{
+    for (place, row) in rows.iter().enumerate() {
+        if !row.is_shaped() {
+            return Some(place);
+        }
+    }
+    None
+}
+
+fn first_without_clock(clocks: &[i64]) -> Option<usize>
+    ensures { IsFirstPlace (λ place. (place ≡ 0) × (HasOneClock clocks.now → ⊥)) result }
+{
+    match clocks {
+        [clock] if 0 <= *clock => None,
+        _ => Some(0),
+    }
+}
+
+// The lesser of two places.
+pub(crate) fn first(a: Option<usize>, b: Option<usize>) -> Option<usize>
+    ensures { result ≡ lesser_place a b }
+{
+    match (a, b) {
+        (Some(a), Some(b)) => Some(a.min(b)),
+        (None, b) => b,
+        (a, None) => a,
+    }
+}

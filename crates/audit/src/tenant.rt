@@ -1,0 +1,139 @@
+//! The first damage of one tenant.
+
+ghost use Rattle.std.specs.Prelude.{◌≡◌, ℕ, Some, IfOk, IfNone};
+ghost use Rattle.rows.specs.TypedRows.{lists_of};
+ghost use Rattle.running.specs.Entries.{machine_of};
+ghost use Rattle.running.specs.Running.{IsRunning};
+ghost use Rattle.audit.specs.Damage.{Finds};
+ghost use Rattle.audit.specs.Shapes.{IsMisshapen};
+ghost use Rattle.audit.specs.Sound.{AreSound};
+ghost use Rattle.audit.specs.Stages.{IsClearBelow, FindsBelow};
+ghost use Rattle.audit.specs.Table.{IsBadTime};
+ghost use Rattle.audit.specs.Told.{Tells, typed_of, entries_told, machine_told};
+
+use crate::DamageKind;
+use crate::derived::settle_if_it_can;
+use crate::entries::entries;
+use crate::failed::first_bad_failed;
+use crate::replayed::{Replayed, replay_told};
+use crate::shape::first_misshapen;
+use crate::tables::{first_bad_balance, first_bad_history, first_bad_status};
+use crate::times::first_bad_time;
+use crate::told::Told;
+use rows::{TenantRows, cells_tell_rows, keys_are_distinct};
+use running::{Running, failed_ids_stand_apart};
+use std::alloc::{AllocError, Global};
+
+/// What is wrong in a tenant's rows.
+#[derive(Clone, Copy, Debug, PartialEq, Eq)]
+pub(crate) struct Found {
+    pub(crate) kind: DamageKind,
+    pub(crate) place: usize,
+}
+
+/// The first damage of a tenant's rows in this version of the schema.
+pub(crate) fn find(
+    alloc: Global,
+    version: u32,
+    rows: &TenantRows,
+) -> Result<Option<Found>, AllocError>
+    ensures first { IfOk result (Finds version (lists_of rows.now)) }
+    ensures sound { IfOk result (λ found. IfNone found (AreSound version (lists_of rows.now))) }
+{
+    cells_tell_rows();
+    if let Some(place) = first_misshapen(rows) {
+        return Ok(damage_at(DamageKind::Shape, place));
+    }
+    let told = Told::read(alloc, rows)?;
+    let time = first_bad_time(alloc, &told)?;
+    if let Some(place) = time {
+        return Ok(damage_at(DamageKind::Timestamp, place));
+    }
+    find_in_entries(alloc, version, rows, &told)
+}
+
+fn damage_at(kind: DamageKind, place: usize) -> Option<Found>
+    ensures { result ≡ Some (record { kind = kind; place = place }) }
+{
+    Some(Found { kind, place })
+}
+
+fn find_in_entries(
+    alloc: Global,
+    version: u32,
+    rows: &TenantRows,
+    told: &Told,
+) -> Result<Option<Found>, AllocError>
+    requires tells { Tells (lists_of rows.now) (typed_of told.now) }
+    requires shapes { (place : ℕ) → IsMisshapen (lists_of rows.now) place → ⊥ }
+    requires times { (place : ℕ) → IsBadTime (typed_of told.now) place → ⊥ }
+    ensures first { IfOk result (Finds version (lists_of rows.now)) }
+    ensures sound { IfOk result (λ found. IfNone found (AreSound version (lists_of rows.now))) }
+{
+    cells_tell_rows();
+    let entries = entries(alloc, told)?;
+    match replay_told(alloc, told, &entries)? {
+        Replayed::Refused(place) => Ok(damage_at(DamageKind::Entry, place)),
+        Replayed::Accepted(running) => find_behind(alloc, version, rows, told, running),
+    }
+}
+
+// Behind the entries.
+fn find_behind(
+    alloc: Global,
+    version: u32,
+    rows: &TenantRows,
+    told: &Told,
+    running: Running,
+) -> Result<Option<Found>, AllocError>
+    requires tells { Tells (lists_of rows.now) (typed_of told.now) }
+    requires clear { IsClearBelow version (lists_of rows.now) 4 }
+    requires running { IsRunning (machine_of (entries_told (typed_of told.now))) running }
+    ensures first { IfOk result (Finds version (lists_of rows.now)) }
+    ensures sound { IfOk result (λ found. IfNone found (AreSound version (lists_of rows.now))) }
+{
+    cells_tell_rows();
+    keys_are_distinct();
+    failed_ids_stand_apart();
+    let mut running = running;
+    let came = settle_if_it_can(&mut running, told.clock)?;
+    let in_tables = find_in_tables(alloc, version, rows, told, &running)?;
+    if let Some(found) = in_tables {
+        return Ok(Some(found));
+    }
+    if !came {
+        return Ok(damage_at(DamageKind::Clock, 0));
+    }
+    match first_bad_failed(version, &told.failed, &running) {
+        Some(place) => Ok(damage_at(DamageKind::FailedId, place)),
+        None => Ok(None),
+    }
+}
+
+// In the rows that the machine prescribes.
+fn find_in_tables(
+    alloc: Global,
+    version: u32,
+    rows: &TenantRows,
+    told: &Told,
+    running: &Running,
+) -> Result<Option<Found>, AllocError>
+    requires tells { Tells (lists_of rows.now) (typed_of told.now) }
+    requires clear { IsClearBelow version (lists_of rows.now) 4 }
+    requires running { IsRunning (machine_told (typed_of told.now)) running.now }
+    ensures { IfOk result (FindsBelow version (lists_of rows.now) 7) }
+{
+    let balance = first_bad_balance(alloc, version, rows, told, running)?;
+    if let Some(place) = balance {
+        return Ok(damage_at(DamageKind::Balance, place));
+    }
+    let status = first_bad_status(alloc, version, rows, told, running)?;
+    if let Some(place) = status {
+        return Ok(damage_at(DamageKind::Status, place));
+    }
+    let history = first_bad_history(alloc, version, rows, told, running)?;
+    match history {
+        Some(place) => Ok(damage_at(DamageKind::History, place)),
+        None => Ok(None),
+    }
+}
