@@ -1,0 +1,136 @@
+-- What the mark of a batch does to it.
+use Rattle.std.proofs.Common.{◌≡◌, ℤ, inl, inr, List, [], ◌∷◌, ◌++◌, None, Ok, IsSome, IsTrue, true, false, refl, sym, ap, subst, subst₂, ◌∙◌, arith}
+use Rattle.chain.specs.Tables.{Leaves, marking, marked_or, unmarked}
+use Rattle.sqlite_trees.specs.declared.store.Store.{Ghosts}
+use Rattle.sqlite.specs.Effect.{Database}
+use Rattle.sqlite.specs.State.{State, Savepoint, HasCleanDisk}
+use Rattle.sqlite.specs.Held.{Held, state}
+use Rattle.ledger_sql.specs.Frames.{Live, Follows}
+use Rattle.ledger_sql.specs.Stages.{the_mark, IsMarked, HasMarked, HasGoneBack, HasReleased}
+use Rattle.stored_tables.specs.InBatch.{IsInBatch, IsBatchOf, AreMarks, IsUsable, shown, marked_in}
+use Rattle.stored_tables.specs.MachineOf.{machine_of}
+use Rattle.stored_tables.specs.Meaning.{batch_meaning}
+
+-- no machine is marked, so there is no mark
+no_marks : (tenant : ℤ) (marks : List Savepoint) → marked_in tenant marks ≡ None → marks ≡ []
+no_marks tenant [] none = refl
+no_marks tenant (mark ∷ marks) none = absurd (cc)
+
+-- a machine is marked, so there is one
+one_mark : (tenant : ℤ) (begun : Database) (marks : List Savepoint) → AreMarks tenant begun marks → IsSome (marked_in tenant marks)
+    → (db : Database) × (marks ≡ the_mark db ∷ []) × IsBatchOf tenant begun db
+one_mark tenant begun marks (inl none) some = absurd (let e : false ≡ true = subst (λ ms. IsSome (marked_in tenant ms)) none some in cc)
+one_mark tenant begun marks (inr one) some = one
+
+module _ (tenant : ℤ) (old new : State) where
+  marked_state : (shown tenant old).marked ≡ None → HasMarked old new → shown tenant new ≡ marking (shown tenant old)
+  unfolding shown
+  marked_state none has =
+      let alone : new.marks ≡ the_mark old.now ∷ [] = has.marks ∙ ap (λ ms. ms ++ the_mark old.now ∷ []) (no_marks tenant old.marks none) in
+      λ i. record {
+        now = machine_of tenant (has.now i).trees;
+        begun = machine_of tenant (has.committed i).trees;
+        marked = marked_in tenant (alone i);
+      }
+
+  marked_batch : (shown tenant old).marked ≡ None → IsInBatch tenant old → HasMarked old new → IsInBatch tenant new
+  unfolding shown
+  marked_batch none was has =
+      let alone : new.marks ≡ the_mark old.now ∷ [] = has.marks ∙ ap (λ ms. ms ++ the_mark old.now ∷ []) (no_marks tenant old.marks none) in
+      record {
+        is_open = has.is_open;
+        mode = has.mode;
+        now = subst₂ (IsBatchOf tenant) (sym has.committed) (sym has.now) was.now;
+        marks = inr (old.now, alone, subst (λ begun. IsBatchOf tenant begun old.now) (sym has.committed) was.now);
+      }
+
+  -- the mark of a batch in which a machine is marked
+  pub mark_of : IsInBatch tenant old → IsSome (shown tenant old).marked → (db : Database) × (old.marks ≡ the_mark db ∷ []) × IsBatchOf tenant old.committed db
+  unfolding shown
+  mark_of was some = one_mark tenant old.committed old.marks was.marks some
+
+  back_state : (db : Database) → old.marks ≡ the_mark db ∷ [] → HasGoneBack old new
+      → shown tenant new ≡ record (shown tenant old) { now = marked_or (shown tenant old).now (shown tenant old).marked }
+  unfolding shown
+  back_state db marks has =
+      let there : machine_of tenant new.now.trees ≡ marked_or (machine_of tenant old.now.trees) (marked_in tenant old.marks) =
+      ap (λ (d : Database). machine_of tenant d.trees) (has.back [] db marks) ∙ sym (ap (λ ms. marked_or (machine_of tenant old.now.trees) (marked_in tenant ms)) marks) in
+      λ i. record {
+        now = there i;
+        begun = machine_of tenant (has.committed i).trees;
+        marked = marked_in tenant (has.marks i);
+      }
+
+  back_batch : (db : Database) → old.marks ≡ the_mark db ∷ [] → IsBatchOf tenant old.committed db → IsInBatch tenant old → HasGoneBack old new → IsInBatch tenant new
+  back_batch db marks its was has = record {
+    is_open = has.is_open;
+    mode = has.mode;
+    now = subst₂ (IsBatchOf tenant) (sym has.committed) (sym (has.back [] db marks)) its;
+    marks = subst₂ (AreMarks tenant) (sym has.committed) (sym has.marks) was.marks;
+  }
+
+  released_state : (db : Database) → old.marks ≡ the_mark db ∷ [] → HasReleased old new → shown tenant new ≡ unmarked (shown tenant old)
+  unfolding shown
+  released_state db marks has =
+      let none : new.marks ≡ [] = has.marks [] db marks in
+      λ i. record {
+        now = machine_of tenant (has.now i).trees;
+        begun = machine_of tenant (has.committed i).trees;
+        marked = marked_in tenant (none i);
+      }
+
+  released_batch : (db : Database) → old.marks ≡ the_mark db ∷ [] → IsInBatch tenant old → HasReleased old new → IsInBatch tenant new
+  released_batch db marks was has = record {
+    is_open = has.is_open;
+    mode = has.mode;
+    now = subst₂ (IsBatchOf tenant) (sym has.committed) (sym has.now) was.now;
+    marks = inl (has.marks [] db marks);
+  }
+
+module _ {S : Type 0} (store : Ghosts S) (tenant : ℤ) (old : Held S) (usable : IsUsable tenant (state store old)) where
+  -- in a batch a disk that was honest is live
+  pub live_now : HasCleanDisk (state store old) → Live (state store old)
+  live_now clean = (clean, (usable clean).is_open)
+
+  pub inside : HasCleanDisk (state store old) → IsTrue (state store old).in_transaction
+  inside clean = (usable clean).mode
+
+  pub has_mark : (Live (state store old) → IsSome (shown tenant (state store old)).marked) → HasCleanDisk (state store old) → IsMarked (state store old)
+  has_mark some clean =
+      let mark = mark_of tenant (state store old) (state store old) (usable clean) (some (live_now clean)) in
+      ([], mark.0, record { mode = inside clean; marks = mark.1 })
+
+  module _ {X : Type 0} (x : X) (new : Held S) (follows : Follows (state store old) (state store new)) where
+    was_clean : HasCleanDisk (state store new) → HasCleanDisk (state store old)
+    was_clean clean = omega (arith, follows.survives.clean, clean)
+
+    pub marks : (Live (state store old) → (shown tenant (state store old)).marked ≡ None) → (HasCleanDisk (state store new) → HasMarked (state store old) (state store new))
+        → Leaves {S = Held S} {X = X} (batch_meaning store tenant) old new (Ok x) marking
+    marks none has = record {
+      state = λ live. marked_state tenant (state store old) (state store new) (none (live_now (was_clean live.0))) (has live.0);
+      usable = λ clean. marked_batch tenant (state store old) (state store new) (none (live_now (was_clean clean))) (usable (was_clean clean)) (has clean);
+      undone = λ live. tt;
+      follows = follows;
+    }
+
+    module _ (some : Live (state store old) → IsSome (shown tenant (state store old)).marked) where
+      the_one : HasCleanDisk (state store new) → (db : Database) × ((state store old).marks ≡ the_mark db ∷ []) × IsBatchOf tenant (state store old).committed db
+      the_one clean = mark_of tenant (state store old) (state store old) (usable (was_clean clean)) (some (live_now (was_clean clean)))
+
+      pub goes_back : (HasCleanDisk (state store new) → HasGoneBack (state store old) (state store new))
+          → Leaves {S = Held S} {X = X} (batch_meaning store tenant) old new (Ok x) (λ s. record s { now = marked_or s.now s.marked })
+      goes_back has = record {
+        state = λ live. let mark = the_one live.0 in back_state tenant (state store old) (state store new) mark.0 mark.1 (has live.0);
+        usable = λ clean. let mark = the_one clean in back_batch tenant (state store old) (state store new) mark.0 mark.1 mark.2 (usable (was_clean clean)) (has clean);
+        undone = λ live. tt;
+        follows = follows;
+      }
+
+      pub releases : (HasCleanDisk (state store new) → HasReleased (state store old) (state store new))
+          → Leaves {S = Held S} {X = X} (batch_meaning store tenant) old new (Ok x) unmarked
+      releases has = record {
+        state = λ live. let mark = the_one live.0 in released_state tenant (state store old) (state store new) mark.0 mark.1 (has live.0);
+        usable = λ clean. let mark = the_one clean in released_batch tenant (state store old) (state store new) mark.0 mark.1 (usable (was_clean clean)) (has clean);
+        undone = λ live. tt;
+        follows = follows;
+      }

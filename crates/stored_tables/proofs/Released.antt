@@ -1,0 +1,145 @@
+-- One transfer after the other is released.
+use Rattle.std.proofs.Common.{◌≡◌, ℕ, ℤ, true, false, List, [], ◌∷◌, ◌++◌, append_assoc, Option, Some, None, Result, OnOk, IsSome, refl, sym, ap, subst, ◌∙◌}
+use Rattle.std.specs.List.Sorted.{IsPermutation}
+use Rattle.std.specs.Option.{option_map_or}
+use Rattle.std.proofs.lemmas.List.Sorted.{IsPermutation-trans, IsPermutation-append_right}
+use Rattle.std.proofs.lemmas.Result.{on_ok_weaker}
+use Rattle.sqlite_trees.specs.Tree.{Trees}
+use Rattle.sqlite.specs.Effect.{Database}
+use Rattle.sqlite.specs.State.{State, IsUnchanged}
+use Rattle.records.specs.declared.balances.Balances.{Balances}
+use Rattle.records.specs.declared.transfer.Transfer.{Transfer}
+use Rattle.records.specs.declared.unavailable.Unavailable.{Unavailable}
+use Rattle.records.specs.Machine.{Machine, has_id, transfer_with}
+use Rattle.records.specs.Valid.{IsValid}
+use Rattle.rows.specs.declared.status_row.StatusRow.{StatusRow}
+use Rattle.records.specs.declared.facts.PendingState.TheVariants.{Expired}
+use Rattle.rows.specs.Changes.{set_state, with_expired}
+use Rattle.rows.specs.Keyed.{row_with}
+use Rattle.rows.specs.Prescribed.{rows_for}
+use Rattle.rows.specs.TypedRows.{TypedRows}
+use Rattle.rows.specs.Settling.{rows_when, rows_released, due_ids, is_due_row, IsNextRelease}
+use Rattle.ledger_sql.specs.Effects.{IsInside}
+use Rattle.stored_tables.specs.Frames.{KeepsOthers}
+use Rattle.stored_tables.specs.Moves.{Moves, IsStatusOf}
+use Rattle.stored_tables.specs.Releasing.{AreApart, CanExpire, Expires, IsReleased, IsLess, ReleasesOne}
+use Rattle.stored_tables.proofs.Apart.{apart_expired}
+use Rattle.stored_tables.proofs.DueRows.{due_in, expires, gone, not_due, not_in_fewer}
+use Rattle.stored_tables.proofs.Writing.{writes_after_same}
+
+-- what is next to be released
+abbrev pub NextReleases : Type 0
+NextReleases =
+    (m : Machine) (clock : ℕ) (done rest : List ℕ) (id : ℕ) → IsValid m → IsPermutation (due_ids clock (rows_for 3 m)) (done ++ id ∷ rest)
+    → (t : Transfer) × (debit : Balances) × (credit : Balances) × IsNextRelease m done id t debit credit
+
+-- the list of transfers stays as one after the other is released
+same_transfers : (m : Machine) (done : List ℕ) → (rows_released m done).transfers ≡ m.transfers
+unfolding rows_when
+same_transfers m done = refl
+
+is_some : {A : Type 0} (o : Option A) (x : A) → o ≡ Some x → IsSome o
+is_some o x is = subst IsSome (sym is) refl
+
+-- the statuses after an expiry
+due_after : (clock : ℕ) (t : Transfer) (debit credit : Balances) (rows : TypedRows) → due_ids clock (with_expired t debit credit rows) ≡ due_in clock (set_state t.id Expired rows.statuses)
+unfolding with_expired
+due_after clock t debit credit rows = refl
+
+module _ (next : NextReleases) (clock id : ℕ) (m : Machine) (done : List ℕ) (valid : IsValid m) (was : IsReleased clock m done) (row : StatusRow) (found : row_with (λ r. r.transfer) id (rows_released m done).statuses ≡ Some row) (due : is_due_row clock row ≡ true) where
+  abbrev rows : TypedRows
+  rows = rows_released m done
+
+  abbrev rest : List ℕ
+  rest = due_in clock (set_state id Expired rows.statuses)
+
+  fewer : IsPermutation (due_ids clock rows) (id ∷ rest)
+  fewer = expires clock id rows.statuses row (was.apart.statuses id) found due
+
+  split : IsPermutation (due_ids clock (rows_for 3 m)) (done ++ id ∷ rest)
+  split = IsPermutation-trans (due_ids clock (rows_for 3 m)) (done ++ due_ids clock rows) (done ++ id ∷ rest) was.split (IsPermutation-append_right done (due_ids clock rows) (id ∷ rest) fewer)
+
+  the_next : (t : Transfer) × (debit : Balances) × (credit : Balances) × IsNextRelease m done id t debit credit
+  the_next = next m clock done rest id valid split
+
+  module _ (t : Transfer) (debit credit : Balances) (is : IsNextRelease m done id t debit credit) where
+    can : CanExpire t debit credit rows
+    can = record {
+      apart = was.apart;
+      found = ap (transfer_with t.id) (same_transfers m done) ∙ ap (λ k. transfer_with k m.transfers) is.id_is ∙ is.found;
+      debit_found = is.debit_found;
+      credit_found = is.credit_found;
+      has_status = is_some (row_with (λ (r : StatusRow). r.transfer) t.id rows.statuses) row (ap (λ k. row_with (λ (r : StatusRow). r.transfer) k rows.statuses) is.id_is ∙ found);
+    }
+
+    abbrev more : List ℕ
+    more = done ++ id ∷ []
+
+    left : due_ids clock (rows_released m more) ≡ rest
+    left = ap (due_ids clock) is.leaves ∙ due_after clock t debit credit rows ∙ ap (λ k. due_in clock (set_state k Expired rows.statuses)) is.id_is
+
+    released : IsReleased clock m more
+    released = record {
+      split = subst (IsPermutation (due_ids clock (rows_for 3 m))) (sym (append_assoc done (id ∷ []) rest) ∙ ap (λ ids. more ++ ids) (sym left)) split;
+      apart = subst AreApart (sym is.leaves) (apart_expired t debit credit rows can);
+    }
+
+    less : IsLess clock id m done more
+    less = record {
+      gone = ap (has_id id) left ∙ gone clock id rows.statuses;
+      fewer = λ other lacks. ap (has_id other) left ∙ not_in_fewer other id (due_ids clock rows) rest fewer lacks;
+    }
+
+pub keeps_itself : (tenant : ℤ) (trees : Trees) → KeepsOthers tenant trees trees
+keeps_itself tenant trees = record {
+  version = refl;
+  directory = refl;
+  others = λ other away. record { clock = refl; accounts = refl; transfers = refl; balances = refl; statuses = refl; history = refl; failed = refl };
+}
+
+-- whether something is due
+due_some : (clock : ℕ) (found : Option StatusRow) → option_map_or (is_due_row clock) found false ≡ true → (row : StatusRow) × (found ≡ Some row) × (is_due_row clock row ≡ true)
+due_some clock None due = absurd (cc)
+due_some clock (Some row) due = (row, refl, due)
+
+due_none : (clock : ℕ) (found : Option StatusRow) (row : StatusRow) → option_map_or (is_due_row clock) found false ≡ false → found ≡ Some row → is_due_row clock row ≡ false
+due_none clock found row not is = sym (ap (λ o. option_map_or (is_due_row clock) o false) is) ∙ not
+
+module _ (tenant : ℤ) (clock id : ℕ) (found : Option StatusRow) (s0 s1 : State) (told : IsStatusOf tenant id s0.now.trees found) (same : IsUnchanged s0 s1) where
+  -- nothing is due, and nothing changes
+  pub passes : IsInside s0 → option_map_or (is_due_row clock) found false ≡ false → ReleasesOne tenant clock id s0 s1
+  passes inside not = record {
+    inside = record {
+      schema = ap (λ (db : Database). db.schema) same.0.now_is;
+      shown = record { was_open = same.0.was_open; is_open = same.0.is_open; now_is = refl; committed_is = same.0.committed_is; mode = same.0.mode ∙ inside.mode };
+      marks = same.2;
+    };
+    step = λ m done valid was num held.
+        let is = told (rows_released m done) held was.apart.statuses_fit was.apart.statuses in (
+          done,
+          was,
+          record { gone = not_due clock id (rows_released m done).statuses (was.apart.statuses id) (λ row there. due_none clock found row not (is ∙ there)); fewer = λ other lacks. lacks },
+          subst (λ (db : Database). Moves tenant (rows_released m done) s0.now.trees db.trees) (sym same.0.now_is) (record { numbered = num; others = keeps_itself tenant s0.now.trees; rows = held }),
+        );
+  }
+
+  -- the transfer is due, and expires
+  module _ (next : NextReleases) (s2 : State) (due : option_map_or (is_due_row clock) found false ≡ true) where
+    lets_expire : Expires tenant id s1 s2 → ReleasesOne tenant clock id s0 s2
+    lets_expire expiry = record {
+      inside = (writes_after_same tenant (λ rows. ⊥) (λ rows. rows) s0 s1 s2 same (record { inside = expiry.inside; moves = λ rows can. absurd can })).inside;
+      step = λ m done valid was num held.
+          let row = due_some clock found due in
+          let there = sym (told (rows_released m done) held was.apart.statuses_fit was.apart.statuses) ∙ row.1 in
+          let it = the_next next clock id m done valid was row.0 there row.2 in
+          let all = writes_after_same tenant (CanExpire it.0 it.1 it.2) (with_expired it.0 it.1 it.2) s0 s1 s2 same (expiry.writes it.0 it.1 it.2 it.3.id_is) in (
+            done ++ id ∷ [],
+            released next clock id m done valid was row.0 there row.2 it.0 it.1 it.2 it.3,
+            less next clock id m done valid was row.0 there row.2 it.0 it.1 it.2 it.3,
+            subst (λ (rows : TypedRows). Moves tenant rows s0.now.trees s2.now.trees) (sym it.3.leaves)
+                (all.moves (rows_released m done) (can next clock id m done valid was row.0 there row.2 it.0 it.1 it.2 it.3) num held),
+          );
+    }
+
+    pub releases : (r : Result (Unit {0}) Unavailable) → OnOk r (Expires tenant id s1 s2) → OnOk r (ReleasesOne tenant clock id s0 s2)
+    releases r expiry = on_ok_weaker r lets_expire expiry

@@ -1,0 +1,156 @@
+-- All that is due is released.
+use Rattle.std.proofs.Common.{◌≡◌, ℕ, ◌<◌, ◌≤◌, ◌^◌, ℤ, Bool, true, false, eqb, ◌&&◌, ◌||◌, List, [], ◌∷◌, ◌++◌, append-nil, Option, Some, None, IsTrue, refl, sym, ap, subst, ◌∙◌, arith}
+use Rattle.std.specs.List.{AllByRecursion, list_any, filter}
+use Rattle.std.specs.List.Sorted.{IsPermutation}
+use Rattle.std.specs.Prelude.{All}
+use Rattle.std.proofs.lemmas.Bool.Decides.{Decides-eqb, nat_tests}
+use Rattle.std.proofs.lemmas.List.Elements.{recursion_from_All}
+use Rattle.std.proofs.lemmas.List.Folds.{list_any-append}
+use Rattle.std.proofs.lemmas.List.Sorted.{IsPermutation-refl, list_any-IsPermutation}
+use Rattle.sqlite.specs.State.{State}
+use Rattle.records.specs.declared.facts.PendingState.{PendingState}
+use Rattle.records.specs.declared.facts.PendingState.TheVariants.{Open, Posted, Voided, Expired}
+use Rattle.records.specs.Due.{has_come}
+use Rattle.records.specs.Fate.{is_open}
+use Rattle.records.specs.Machine.{Machine, has_id}
+use Rattle.records.specs.Valid.{IsValid}
+use Rattle.rows.specs.declared.status_row.StatusRow.{StatusRow}
+use Rattle.rows.specs.Prescribed.{rows_for}
+use Rattle.rows.specs.Settling.{rows_released, due_ids}
+use Rattle.rows.specs.TypedRows.{TypedRows}
+use Rattle.rows.specs.Widths.{AreStorable, IsStorableStatus}
+use Rattle.rows.specs.Tables.{AreKeyed}
+use Rattle.rows.specs.SameRows.{AreSameRows}
+use Rattle.ledger_sql.specs.Effects.{IsInside, WritesInside}
+use Rattle.stored_tables.specs.Covers.{IsCovered, Covers}
+use Rattle.stored_tables.specs.Frames.{AreNumbered}
+use Rattle.stored_tables.specs.Holds.{HoldsRows}
+use Rattle.stored_tables.specs.Moves.{Moves}
+use Rattle.stored_tables.specs.Releasing.{AreApart, IsReleased, IsLess, ReleasesOne, ReleasesDue}
+use Rattle.stored_tables.proofs.DueKeys.{finds, is_within, holds_within}
+use Rattle.stored_tables.proofs.DueRows.{due_row}
+use Rattle.stored_tables.proofs.Released.{keeps_itself}
+use Rattle.stored_tables.proofs.RowsTell.{same_themselves}
+use Rattle.stored_tables.proofs.Writing.{inside_then, others_then}
+
+-- of these keys no transfer is left
+pub record ReleasesSeen (tenant : ℤ) (clock : ℕ) (seen : List (ℕ × ℕ)) (old new : State) : Type 0 where
+  pub inside : WritesInside old new
+  pub all :
+      (m : Machine) → IsValid m → AreNumbered old.now.trees → HoldsRows tenant (rows_for 3 m) old.now.trees → (done : List ℕ)
+      × IsReleased clock m done
+      × AllByRecursion (λ key. has_id key.1 (due_ids clock (rows_released m done)) ≡ false) seen
+      × Moves tenant (rows_released m done) old.now.trees new.now.trees
+
+abbrev pub NoneReleased : Type 0
+NoneReleased = (m : Machine) → rows_released m [] ≡ rows_for 3 m
+
+abbrev pub RowsFit : Type 0
+RowsFit = (version : ℕ) (m : Machine) → IsValid m → AreStorable (rows_for version m)
+
+abbrev pub KeysAreDistinct : Type 0
+KeysAreDistinct = (m : Machine) (rows : TypedRows) → IsValid m → AreSameRows (rows_for 3 m) rows → AreKeyed rows
+
+-- the rows of a machine are apart
+apart_for : RowsFit → KeysAreDistinct → (m : Machine) → IsValid m → AreApart (rows_for 3 m)
+apart_for fit keyed m valid =
+    let fits = fit 3 m valid in
+    let keys = keyed m (rows_for 3 m) valid (same_themselves (rows_for 3 m)) in
+    record {
+      transfers_fit = fits.transfers;
+      transfers = keys.transfers;
+      balances_fit = fits.balances;
+      balances = keys.balances;
+      statuses_fit = fits.statuses;
+      statuses = keys.statuses;
+    }
+
+module _ (tenant : ℤ) (clock : ℕ) where
+  -- at the beginning
+  pub seen_none : NoneReleased → RowsFit → KeysAreDistinct → (s : State) → IsInside s → IsTrue s.is_open → ReleasesSeen tenant clock [] s s
+  seen_none first fit keyed s inside is_open = record {
+    inside = record { schema = refl; shown = record { was_open = is_open; is_open = is_open; now_is = refl; committed_is = refl; mode = inside.mode }; marks = refl };
+    all = λ m valid num held. (
+      [],
+      record {
+        split = subst (λ (rows : TypedRows). IsPermutation (due_ids clock (rows_for 3 m)) (due_ids clock rows)) (sym (first m)) (IsPermutation-refl (due_ids clock (rows_for 3 m)));
+        apart = subst AreApart (sym (first m)) (apart_for fit keyed m valid);
+      },
+      tt,
+      record { numbered = num; others = keeps_itself tenant s.now.trees; rows = subst (λ (rows : TypedRows). HoldsRows tenant rows s.now.trees) (sym (first m)) held },
+    );
+  }
+
+  -- none of the keys that were seen comes back
+  none_back : (id : ℕ) (m : Machine) (done more : List ℕ) → IsLess clock id m done more → (seen : List (ℕ × ℕ)) (key : ℕ × ℕ) → key.1 ≡ id → AllByRecursion (λ key. has_id key.1 (due_ids clock (rows_released m done)) ≡ false) seen
+      → AllByRecursion (λ key. has_id key.1 (due_ids clock (rows_released m more)) ≡ false) (seen ++ key ∷ [])
+  none_back id m done more less [] key is all = (ap (λ k. has_id k (due_ids clock (rows_released m more))) is ∙ less.gone, tt)
+  none_back id m done more less (first ∷ seen) key is all = (less.fewer first.1 all.0, none_back id m done more less seen key is all.1)
+
+  -- one key more
+  pub seen_more : (seen : List (ℕ × ℕ)) (key : ℕ × ℕ) (s0 s1 s2 : State) → ReleasesSeen tenant clock seen s0 s1 → ReleasesOne tenant clock key.1 s1 s2 → ReleasesSeen tenant clock (seen ++ key ∷ []) s0 s2
+  seen_more seen key s0 s1 s2 before one = record {
+    inside = inside_then s0 s1 s2 before.inside one.inside;
+    all = λ m valid num held.
+        let was = before.all m valid num held in
+        let then = one.step m was.0 valid was.1 was.3.numbered was.3.rows in (
+          then.0,
+          then.1,
+          none_back key.1 m was.0 then.0 then.2 seen key refl was.2,
+          record { numbered = then.3.numbered; others = others_then tenant s0.now.trees s1.now.trees s2.now.trees was.3.others then.3.others; rows = then.3.rows },
+        );
+  }
+
+open_row : (state : PendingState) (come : Bool) → (is_open state && come) ≡ true → (state ≡ Open) × (come ≡ true)
+open_row Open come due = (refl, due)
+open_row Posted come due = absurd (cc)
+open_row Voided come due = absurd (cc)
+open_row Expired come due = absurd (cc)
+
+due_time : (due : Option ℕ) (clock : ℕ) → has_come due clock ≡ true → (time : ℕ) × (due ≡ Some time) × (time ≤ clock)
+due_time None clock come = absurd (cc)
+due_time (Some time) clock come = (time, refl, grind (arith, nat_tests))
+
+behind : (a b : Bool) → b ≡ true → (a || b) ≡ true
+behind true b h = refl
+behind false b h = h
+
+itself : (k : ℕ) → eqb k k ≡ true
+itself k = (Decides-eqb k k).1 refl
+
+module _ (clock : ℕ) (m : Machine) (done : List ℕ) (keys : List (ℕ × ℕ)) (fit : All IsStorableStatus (rows_for 3 m).statuses) (covers : Covers (λ key. list_any (finds key) keys) m) (released : IsReleased clock m done)
+    (seen : AllByRecursion (λ key. has_id key.1 (due_ids clock (rows_released m done)) ≡ false) (filter (is_within (clock, 340282366920938463463374607431768211455)) keys)) where
+  abbrev IsKnown : StatusRow → Type 0
+  IsKnown row = IsCovered (λ key. list_any (finds key) keys) row × IsStorableStatus row
+
+  known : (rows : List StatusRow) → AllByRecursion (IsCovered (λ key. list_any (finds key) keys)) rows → AllByRecursion IsStorableStatus rows → AllByRecursion IsKnown rows
+  known [] c f = tt
+  known (row ∷ rows) c f = ((c.0, f.0), known rows c.1 f.1)
+
+  not_left : (left : List ℕ) → due_ids clock (rows_released m done) ≡ left → left ≡ []
+  not_left [] is = refl
+  not_left (k ∷ ks) is =
+      let there : has_id k (due_ids clock (rows_released m done)) ≡ true = ap (has_id k) is ∙ ap (λ b. b || has_id k ks) (itself k) in
+      let was : has_id k (due_ids clock (rows_for 3 m)) ≡ true =
+      list_any-IsPermutation (λ other. eqb other k) (due_ids clock (rows_for 3 m)) (done ++ due_ids clock (rows_released m done)) released.split
+      ∙ list_any-append (λ other. eqb other k) done (due_ids clock (rows_released m done)) ∙ behind (has_id k done) (has_id k (due_ids clock (rows_released m done))) there in
+      let it = due_row clock k IsKnown (rows_for 3 m).statuses (known (rows_for 3 m).statuses (recursion_from_All _ (rows_for 3 m).statuses covers) (recursion_from_All IsStorableStatus (rows_for 3 m).statuses fit)) was in
+      let parts = open_row it.row.state (has_come it.row.due clock) it.due in
+      let time = due_time it.row.due clock parts.1 in
+      let narrow : it.row.transfer < 2 ^ 128 = it.holds.1.transfer in
+      let gone : has_id it.row.transfer (due_ids clock (rows_released m done)) ≡ false =
+      holds_within (λ key. has_id key.1 (due_ids clock (rows_released m done)) ≡ false) (clock, 340282366920938463463374607431768211455) (time.0, it.row.transfer) keys time.2 (omega arith) seen (it.holds.0 time.0 parts.0 time.1) in
+      absurd (let e : false ≡ true = sym gone ∙ ap (λ id. has_id id (due_ids clock (rows_released m done))) it.transfer ∙ there in cc)
+
+  pub all_done : IsPermutation (due_ids clock (rows_for 3 m)) done
+  all_done = subst (IsPermutation (due_ids clock (rows_for 3 m))) (ap (λ left. done ++ left) (not_left (due_ids clock (rows_released m done)) refl) ∙ append-nil done) released.split
+
+-- where all keys up to the clock were seen, all that is due is released
+pub seen_all : RowsFit → (tenant : ℤ) (clock : ℕ) (keys : List (ℕ × ℕ)) (s0 s1 : State) → ReleasesSeen tenant clock (filter (is_within (clock, 340282366920938463463374607431768211455)) keys) s0 s1
+    → ReleasesDue tenant clock (λ key. list_any (finds key) keys) s0 s1
+seen_all fit tenant clock keys s0 s1 seen = record {
+  inside = seen.inside;
+  all = λ m valid covers num held.
+      let it = seen.all m valid num held in
+      (it.0, all_done clock m it.0 keys (fit 3 m valid).statuses covers it.1 it.2, it.3);
+}

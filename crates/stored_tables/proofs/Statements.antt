@@ -1,0 +1,169 @@
+-- What each statement does to the rows of its tenant.
+use Rattle.std.proofs.Common.{◌≡◌, ℕ, ◌<◌, ◌^◌, ℤ, pos, Bool, true, not, eqb, List, [], ◌∷◌, ◌++◌, filter, Option, Some, option_map, IfSome, refl, sym, ap, subst, ◌∙◌}
+use Rattle.std.specs.List.{AllByRecursion}
+use Rattle.std.specs.List.Sorted.{IsPermutation}
+use Rattle.std.specs.Option.{option_to_list}
+use Rattle.std.proofs.lemmas.List.Elements.{recursion_from_All}
+use Rattle.amount.specs.Column.{column_of, IsOneToOne}
+use Rattle.sqlite_trees.proofs.ListLemmas.{all_weaker}
+use Rattle.sqlite_value.specs.Order.{Row}
+use Rattle.sqlite_trees.specs.Tree.{Trees}
+use Rattle.sqlite.specs.State.{State}
+use Rattle.sqlite.proofs.Callers.{one_permutation}
+use Rattle.records.specs.declared.account.Account.{Account}
+use Rattle.records.specs.declared.transfer.Transfer.{Transfer}
+use Rattle.rows.specs.declared.balance_row.BalanceRow.{BalanceRow}
+use Rattle.rows.specs.declared.status_row.StatusRow.{StatusRow}
+use Rattle.rows.specs.declared.history_row.HistoryRow.{HistoryRow}
+use Rattle.rows.specs.Cells.{account_cells, transfer_cells, balance_cells, status_cells, history_cells}
+use Rattle.records.specs.declared.facts.PendingState.{PendingState}
+use Rattle.rows.specs.Changes.{set_balances, set_state}
+use Rattle.rows.specs.Keyed.{row_with, changed}
+use Rattle.rows.specs.Widths.{IsStorableStatus}
+use Rattle.rows.specs.Tables.{HasDistinctKeys, without_key}
+use Rattle.ledger_sql.specs.Effects.{IsLedger, AddsRows, SetsRow, SetsOne, Picks}
+use Rattle.ledger_sql.specs.Rowids.{IsNumbered}
+use Rattle.ledger_sql.specs.TableRows.{clock_rows, account_rows, transfer_rows, balance_rows, status_rows, history_rows, failed_rows, has_id, with_id}
+use Rattle.ledger_sql.specs.Values.{clock_values, account_values, transfer_values, balance_values, status_values, history_values, id_values}
+use Rattle.stored_tables.specs.Moves.{Writes, Any, IsThere, HasStatus, IsStatusOf}
+use Rattle.stored_tables.proofs.RowMoves.{with_more, tells_id, one, found_row, with_changed, found_key, found_all, if_found, some_of}
+use Rattle.stored_tables.proofs.SameValues.{CellsTellRows, same_status}
+use Rattle.stored_tables.proofs.OneTableMoves.{StaysAside, clock_moved, account_moved, transfer_moved, balance_moved, status_moved, history_moved, failed_moved}
+
+-- what is known of rows with keys
+abbrev pub Alone : Type 0 → Type 0
+Alone R = (key : R → ℕ) (id : ℕ) (xs : List R) → HasDistinctKeys key xs → filter (λ row. eqb (key row) id) xs ≡ option_to_list (row_with key id xs)
+
+abbrev pub Replaced : Type 0 → Type 0
+Replaced R = (key : R → ℕ) (id : ℕ) (change : R → R) (xs : List R) (row : R) → HasDistinctKeys key xs → row_with key id xs ≡ Some row → IsPermutation (change row ∷ without_key key id xs) (changed key id change xs)
+
+module _ (tenant : ℤ) (old new : State) (ledger : IsLedger old.now.schema) where
+  abbrev was : Trees
+  was = old.now.trees
+
+  abbrev is : Trees
+  is = new.now.trees
+
+  added_aside : (rows : ℤ → Trees → List Row) (tree : ℕ) (added : List Row) → AddsRows rows tree tenant added old new → IsNumbered (was tree) → StaysAside rows tree tenant old new
+  added_aside rows tree added adds num = record { tables = adds.tables; others = adds.others; numbered = adds.numbered num }
+
+  pub account_added : (a : Account) → AddsRows account_rows 5 tenant (account_values (account_cells a) ∷ []) old new → Writes tenant Any (λ rows. record rows { accounts = rows.accounts ++ a ∷ [] }) old new
+  account_added a adds = record {
+    inside = adds.inside;
+    moves = λ rows can num held.
+        account_moved tenant rows old new ledger num held (rows.accounts ++ a ∷ []) (added_aside account_rows 5 _ adds num.1.1.1.0)
+        (with_more (λ row. account_values (account_cells row)) rows.accounts (a ∷ []) (account_rows tenant was) (account_rows tenant is) held.accounts adds.own);
+  }
+
+  pub transfer_added : (t : Transfer) → AddsRows transfer_rows 8 tenant (transfer_values (transfer_cells t) ∷ []) old new → Writes tenant Any (λ rows. record rows { transfers = rows.transfers ++ t ∷ [] }) old new
+  transfer_added t adds = record {
+    inside = adds.inside;
+    moves = λ rows can num held.
+        transfer_moved tenant rows old new ledger num held (rows.transfers ++ t ∷ []) (added_aside transfer_rows 8 _ adds num.1.1.1.1.0)
+        (with_more (λ row. transfer_values (transfer_cells row)) rows.transfers (t ∷ []) (transfer_rows tenant was) (transfer_rows tenant is) held.transfers adds.own);
+  }
+
+  pub balance_added : (b : BalanceRow) → AddsRows balance_rows 11 tenant (balance_values (balance_cells b) ∷ []) old new → Writes tenant Any (λ rows. record rows { balances = rows.balances ++ b ∷ [] }) old new
+  balance_added b adds = record {
+    inside = adds.inside;
+    moves = λ rows can num held.
+        balance_moved tenant rows old new ledger num held (rows.balances ++ b ∷ []) (added_aside balance_rows 11 _ adds num.1.1.1.1.1.0)
+        (with_more (λ row. balance_values (balance_cells row)) rows.balances (b ∷ []) (balance_rows tenant was) (balance_rows tenant is) held.balances adds.own);
+  }
+
+  pub status_added : (s : StatusRow) → AddsRows status_rows 13 tenant (status_values (status_cells s) ∷ []) old new → Writes tenant Any (λ rows. record rows { statuses = rows.statuses ++ s ∷ [] }) old new
+  status_added s adds = record {
+    inside = adds.inside;
+    moves = λ rows can num held.
+        status_moved tenant rows old new ledger num held (rows.statuses ++ s ∷ []) (added_aside status_rows 13 _ adds num.1.1.1.1.1.1.0)
+        (with_more (λ row. status_values (status_cells row)) rows.statuses (s ∷ []) (status_rows tenant was) (status_rows tenant is) held.statuses adds.own);
+  }
+
+  pub history_added : (d c : HistoryRow) → AddsRows history_rows 15 tenant (history_values (history_cells d) ∷ history_values (history_cells c) ∷ []) old new → Writes tenant Any (λ rows. record rows { history = rows.history ++ d ∷ c ∷ [] }) old new
+  history_added d c adds = record {
+    inside = adds.inside;
+    moves = λ rows can num held.
+        history_moved tenant rows old new ledger num held (rows.history ++ d ∷ c ∷ []) (added_aside history_rows 15 _ adds num.1.1.1.1.1.1.1.0)
+        (with_more (λ row. history_values (history_cells row)) rows.history (d ∷ c ∷ []) (history_rows tenant was) (history_rows tenant is) held.history adds.own);
+  }
+
+  pub failed_added : (id : ℕ) → AddsRows failed_rows 17 tenant (id_values (column_of id) ∷ []) old new → Writes tenant Any (λ rows. record rows { failed = rows.failed ++ id ∷ [] }) old new
+  failed_added id adds = record {
+    inside = adds.inside;
+    moves = λ rows can num held.
+        failed_moved tenant rows old new ledger num held (rows.failed ++ id ∷ []) (added_aside failed_rows 17 _ adds num.1.1.1.1.1.1.1.1.0)
+        (with_more (λ (other : ℕ). id_values (column_of other)) rows.failed (id ∷ []) (failed_rows tenant was) (failed_rows tenant is) held.failed adds.own);
+  }
+
+  set_aside : (rows : ℤ → Trees → List Row) (tree : ℕ) (test : Row → Bool) (values : Row) → SetsRow rows tree tenant test values old new → StaysAside rows tree tenant old new
+  set_aside rows tree test values sets = record { tables = sets.tables; others = sets.others; numbered = sets.numbered }
+
+  pub clock_set : (clock : ℕ) → SetsOne clock_rows 4 tenant (λ r. true) (clock_values (pos clock)) old new → Writes tenant Any (λ rows. record rows { clock = clock }) old new
+  clock_set clock sets = record {
+    inside = sets.inside;
+    moves = λ rows can num held.
+        let row = clock_values (pos rows.clock) in
+        let set = sets.one row (ap (filter (λ r. true)) held.clock) num.1.1.0 in
+        clock_moved tenant rows old new ledger num held clock (set_aside clock_rows 4 _ _ set)
+        (one_permutation (clock_values (pos clock)) (clock_rows tenant is) (subst (λ rs. IsPermutation (clock_values (pos clock) ∷ filter (λ r. not true) rs) (clock_rows tenant is)) held.clock set.own));
+  }
+
+  module _ (columns : IsOneToOne) where
+    tells : {R : Type 0} (values : R → Row) (key : R → ℕ) (id : ℕ) (xs : List R) → ((x : R) → has_id (column_of id) (values x) ≡ Rattle.std.specs.Str.bytes_eq (column_of (key x)) (column_of id)) → id < 2 ^ 128 → AllByRecursion (λ x. key x < 2 ^ 128) xs → AllByRecursion (λ x. has_id (column_of id) (values x) ≡ eqb (key x) id) xs
+    tells values key id xs shape fits all = all_weaker (λ x. key x < 2 ^ 128) (λ x. has_id (column_of id) (values x) ≡ eqb (key x) id) (λ x p. shape x ∙ tells_id columns (key x) id p fits) xs all
+
+    pub balance_set : Alone BalanceRow → Replaced BalanceRow → (row : BalanceRow) → SetsOne balance_rows 11 tenant (has_id (column_of row.account)) (balance_values (balance_cells row)) old new
+        → Writes tenant (λ rows. IsThere (λ r. r.account) row.account rows.balances) (λ rows. record rows { balances = set_balances row.account row.balances rows.balances }) old new
+    balance_set alone replaced row sets = record {
+      inside = sets.inside;
+      moves = λ rows can num held.
+          let values : BalanceRow → Row = λ r. balance_values (balance_cells r) in
+          let key : BalanceRow → ℕ = λ r. r.account in
+          let change : BalanceRow → BalanceRow = λ r. record r { balances = row.balances } in
+          let there = some_of (row_with key row.account rows.balances) can.found in
+          let r = there.0 in
+          let ids = recursion_from_All (λ x. key x < 2 ^ 128) rows.balances can.ids in
+          let is_key = found_key key row.account rows.balances r there.1 in
+          let fits : row.account < 2 ^ 128 = subst (λ n. n < 2 ^ 128) is_key (found_all (λ x. key x < 2 ^ 128) key row.account rows.balances r ids there.1) in
+          let told = tells values key row.account rows.balances (λ x. refl) fits ids in
+          let single = one values key row.account (has_id (column_of row.account)) rows.balances told (balance_rows tenant was) held.balances (alone key row.account rows.balances can.distinct) r there.1 in
+          let set = sets.one (values r) single num.1.1.1.1.1.0 in
+          let same : values (change r) ≡ values row = λ i. values (record { account = is_key i; balances = row.balances }) in
+          balance_moved tenant rows old new ledger num held (set_balances row.account row.balances rows.balances) (set_aside balance_rows 11 _ _ set)
+          (with_changed values key row.account (has_id (column_of row.account)) rows.balances told (balance_rows tenant was) held.balances change r (balance_rows tenant is)
+          (replaced key row.account change rows.balances r can.distinct there.1)
+          (subst (λ front. IsPermutation (front ∷ filter (λ x. not (has_id (column_of row.account) x)) (balance_rows tenant was)) (balance_rows tenant is)) (sym same) set.own));
+    }
+
+    -- the status row that was found is set to this state
+    pub state_set : Alone StatusRow → Replaced StatusRow → (id : ℕ) (state : PendingState) (row : StatusRow) (found : IsStatusOf tenant id was (Some row)) → SetsOne status_rows 13 tenant (has_id (column_of row.transfer)) (status_values (status_cells (record row { state = state }))) old new
+        → Writes tenant (λ rows. HasStatus id rows.statuses) (λ rows. record rows { statuses = set_state id state rows.statuses }) old new
+    state_set alone replaced id state row found sets = record {
+      inside = sets.inside;
+      moves = λ rows can num held.
+          let values : StatusRow → Row = λ r. status_values (status_cells r) in
+          let key : StatusRow → ℕ = λ r. r.transfer in
+          let change : StatusRow → StatusRow = λ r. record r { state = state } in
+          let there = sym (found rows held can.storable can.there.distinct) in
+          let ids = recursion_from_All (λ x. key x < 2 ^ 128) rows.statuses can.there.ids in
+          let is_key = found_key key id rows.statuses row there in
+          let fits : id < 2 ^ 128 = subst (λ n. n < 2 ^ 128) is_key (found_all (λ x. key x < 2 ^ 128) key id rows.statuses row ids there) in
+          let told = tells values key id rows.statuses (λ x. refl) fits ids in
+          let single = one values key id (has_id (column_of id)) rows.statuses told (status_rows tenant was) held.statuses (alone key id rows.statuses can.there.distinct) row there in
+          let own_set : SetsOne status_rows 13 tenant (has_id (column_of id)) (values (change row)) old new = subst (λ n. SetsOne status_rows 13 tenant (has_id (column_of n)) (values (change row)) old new) is_key sets in
+          let set = own_set.one (values row) single num.1.1.1.1.1.1.0 in
+          status_moved tenant rows old new ledger num held (set_state id state rows.statuses) (set_aside status_rows 13 _ _ set)
+          (with_changed values key id (has_id (column_of id)) rows.statuses told (status_rows tenant was) held.statuses change row (status_rows tenant is)
+          (replaced key id change rows.statuses row can.there.distinct there) set.own);
+    }
+
+    -- what is found under an id is the status row with this id
+    pub status_found : Alone StatusRow → CellsTellRows → (id : ℕ) (found : Option StatusRow) → id < 2 ^ 128 → IfSome found IsStorableStatus → Picks (with_id (column_of id) (status_rows tenant was)) (option_map (λ row. status_values (status_cells row)) found) → IsStatusOf tenant id was found
+    status_found alone cells id found fits storable picks = λ rows held all distinct.
+        let values : StatusRow → Row = λ r. status_values (status_cells r) in
+        let key : StatusRow → ℕ = λ r. r.transfer in
+        let by_one = recursion_from_All IsStorableStatus rows.statuses all in
+        let ids = all_weaker IsStorableStatus (λ x. key x < 2 ^ 128) (λ x (p : IsStorableStatus x). p.transfer) rows.statuses by_one in
+        let told = tells values key id rows.statuses (λ x. refl) fits ids in
+        found_row values key id (has_id (column_of id)) rows.statuses told (status_rows tenant was) held.statuses (alone key id rows.statuses distinct) IsStorableStatus (same_status cells) found
+        (if_found IsStorableStatus key id rows.statuses by_one) storable picks

@@ -1,0 +1,130 @@
+-- Moves of a tenant's rows one after the other, and the batch after them.
+use Rattle.std.proofs.Common.{◌≡◌, ℤ, Ok, refl, sym, ap, subst, subst₂, ◌∙◌, arith}
+use Rattle.sqlite_trees.specs.Tree.{Trees}
+use Rattle.sqlite_trees.specs.declared.store.Store.{Ghosts}
+use Rattle.sqlite.specs.Effect.{Database}
+use Rattle.sqlite.specs.State.{State, HasCleanDisk, IsUnchanged}
+use Rattle.sqlite.specs.Held.{Held, state}
+use Rattle.records.specs.Machine.{Machine}
+use Rattle.records.specs.Valid.{IsValid}
+use Rattle.chain.specs.Tables.{Leaves, on_now}
+use Rattle.rows.specs.Prescribed.{rows_for}
+use Rattle.rows.specs.TypedRows.{TypedRows}
+use Rattle.ledger_sql.specs.Effects.{IsLedger, IsInside, WritesInside}
+use Rattle.ledger_sql.specs.Frames.{Live, Follows}
+use Rattle.stored_tables.specs.Frames.{KeepsRows, KeepsOthers, AreNumbered}
+use Rattle.stored_tables.specs.Holds.{HoldsRows, HoldsMachine}
+use Rattle.stored_tables.specs.InBatch.{AreMarks, IsInBatch, IsUsable, shown, marked_in}
+use Rattle.stored_tables.specs.MachineOf.{machine_of}
+use Rattle.stored_tables.specs.Meaning.{batch_meaning}
+use Rattle.stored_tables.specs.Moves.{Moves, Writes}
+
+pub inside_then : (a b c : State) → WritesInside a b → WritesInside b c → WritesInside a c
+inside_then a b c f g = record {
+  schema = g.schema ∙ f.schema;
+  shown = record { was_open = f.shown.was_open; is_open = g.shown.is_open; now_is = refl; committed_is = g.shown.committed_is ∙ f.shown.committed_is; mode = g.shown.mode };
+  marks = g.marks ∙ f.marks;
+}
+
+keeps_then : (tenant : ℤ) (a b c : Trees) → KeepsRows tenant a b → KeepsRows tenant b c → KeepsRows tenant a c
+keeps_then tenant a b c f g = record {
+  clock = g.clock ∙ f.clock;
+  accounts = g.accounts ∙ f.accounts;
+  transfers = g.transfers ∙ f.transfers;
+  balances = g.balances ∙ f.balances;
+  statuses = g.statuses ∙ f.statuses;
+  history = g.history ∙ f.history;
+  failed = g.failed ∙ f.failed;
+}
+
+pub others_then : (tenant : ℤ) (a b c : Trees) → KeepsOthers tenant a b → KeepsOthers tenant b c → KeepsOthers tenant a c
+others_then tenant a b c f g = record {
+  version = g.version ∙ f.version;
+  directory = g.directory ∙ f.directory;
+  others = λ u ne. keeps_then u a b c (f.others u ne) (g.others u ne);
+}
+
+-- a write behind a write
+pub writes_then : (tenant : ℤ) (can next both : TypedRows → Type 0) (change more : TypedRows → TypedRows) (a b c : State) → Writes tenant can change a b → Writes tenant next more b c → ((rows : TypedRows) → both rows → can rows × next (change rows)) → Writes tenant both (λ rows. more (change rows)) a c
+writes_then tenant can next both change more a b c f g leads = record {
+  inside = inside_then a b c f.inside g.inside;
+  moves = λ rows may num held.
+      let ready = leads rows may in
+      let first = f.moves rows ready.0 num held in
+      let second = g.moves (change rows) ready.1 first.numbered first.rows in
+      record { numbered = second.numbered; others = others_then tenant a.now.trees b.now.trees c.now.trees first.others second.others; rows = second.rows };
+}
+
+-- a write behind a call that changed nothing
+pub writes_after_same : (tenant : ℤ) (can : TypedRows → Type 0) (change : TypedRows → TypedRows) (a b c : State) → IsUnchanged a b → Writes tenant can change b c → Writes tenant can change a c
+writes_after_same tenant can change a b c same w = record {
+  inside = record {
+    schema = w.inside.schema ∙ ap (λ (db : Database). db.schema) same.0.now_is;
+    shown = record { was_open = same.0.was_open; is_open = w.inside.shown.is_open; now_is = refl; committed_is = w.inside.shown.committed_is ∙ same.0.committed_is; mode = w.inside.shown.mode };
+    marks = w.inside.marks ∙ same.2;
+  };
+  moves = λ rows may num held.
+      subst (λ (db : Database). Moves tenant (change rows) db.trees c.now.trees) same.0.now_is
+      (w.moves rows may (subst (λ (db : Database). AreNumbered db.trees) (sym same.0.now_is) num) (subst (λ (db : Database). HoldsRows tenant rows db.trees) (sym same.0.now_is) held));
+}
+
+-- the transaction goes on
+pub still_inside : (a b : State) → IsInside a → WritesInside a b → IsInside b
+still_inside a b inside w = record { schema = subst IsLedger (sym w.schema) inside.schema; mode = w.shown.mode }
+
+pub is_inside : (tenant : ℤ) (s : State) → IsInBatch tenant s → IsInside s
+is_inside tenant s batch = record { schema = batch.now.ledger; mode = batch.mode }
+
+abbrev pub HeldMachines : Type 0
+HeldMachines = (tenant : ℤ) (m : Machine) (trees : Trees) → HoldsMachine tenant m trees → machine_of tenant trees ≡ m
+
+-- the rows may change so, and are then those of a machine that has changed so
+pub record IsChange (can : TypedRows → Type 0) (change : TypedRows → TypedRows) (step : Machine → Machine) (m : Machine) : Type 0 where
+  pub may : can (rows_for 3 m)
+  pub rows : rows_for 3 (step m) ≡ change (rows_for 3 m)
+  pub valid : IsValid (step m)
+
+module _ (held_machines : HeldMachines) (tenant : ℤ) (can : TypedRows → Type 0) (change : TypedRows → TypedRows) (step : Machine → Machine) (old new : State) (batch : IsInBatch tenant old) (w : Writes tenant can change old new) (is : IsChange can change step (machine_of tenant old.now.trees)) where
+  moved : Moves tenant (change (rows_for 3 (machine_of tenant old.now.trees))) old.now.trees new.now.trees
+  moved = w.moves (rows_for 3 (machine_of tenant old.now.trees)) is.may batch.now.numbered batch.now.holds.rows
+
+  holds : HoldsMachine tenant (step (machine_of tenant old.now.trees)) new.now.trees
+  holds = record { valid = is.valid; rows = subst (λ rows. HoldsRows tenant rows new.now.trees) (sym is.rows) moved.rows }
+
+  pub machine_after : machine_of tenant new.now.trees ≡ step (machine_of tenant old.now.trees)
+  machine_after = held_machines tenant (step (machine_of tenant old.now.trees)) new.now.trees holds
+
+  pub batch_after : IsInBatch tenant new
+  batch_after = record {
+    is_open = w.inside.shown.is_open;
+    mode = w.inside.shown.mode;
+    now = record {
+      ledger = subst IsLedger (sym w.inside.schema) batch.now.ledger;
+      schema = w.inside.schema ∙ batch.now.schema ∙ ap (λ (db : Database). db.schema) (sym w.inside.shown.committed_is);
+      numbered = moved.numbered;
+      holds = subst (λ m. HoldsMachine tenant m new.now.trees) (sym machine_after) holds;
+      others = subst (λ (db : Database). KeepsOthers tenant db.trees new.now.trees) (sym w.inside.shown.committed_is) (others_then tenant old.committed.trees old.now.trees new.now.trees batch.now.others moved.others);
+    };
+    marks = subst₂ (AreMarks tenant) (sym w.inside.shown.committed_is) (sym w.inside.marks) batch.marks;
+  }
+
+-- what a write leaves of the tenant's tables
+pub writes_leave : {S : Type 0} (store : Ghosts S) (tenant : ℤ) (old new : Held S) {X : Type 0} (x : X) (can : TypedRows → Type 0) (change : TypedRows → TypedRows) (step : Machine → Machine)
+    → HeldMachines → IsUsable tenant (state store old) → Follows (state store old) (state store new) → (HasCleanDisk (state store new) → Writes tenant can change (state store old) (state store new))
+    → (Live (state store old) → IsValid (shown tenant (state store old)).now → IsChange can change step (shown tenant (state store old)).now)
+    → Leaves {S = Held S} {X = X} (batch_meaning store tenant) old new (Ok x) (on_now step)
+unfolding shown
+writes_leave store tenant old new x can change step held_machines usable follows w is =
+    let clean_before : HasCleanDisk (state store new) → HasCleanDisk (state store old) = λ clean. omega (arith, follows.survives.clean, clean) in
+    let batch = λ (clean : HasCleanDisk (state store new)). usable (clean_before clean) in
+    let change_is = λ (clean : HasCleanDisk (state store new)). is (clean_before clean, (batch clean).is_open) (batch clean).now.holds.valid in
+    record {
+      state = λ live. λ i. record {
+        now = machine_after held_machines tenant can change step (state store old) (state store new) (batch live.0) (w live.0) (change_is live.0) i;
+        begun = machine_of tenant ((w live.0).inside.shown.committed_is i).trees;
+        marked = marked_in tenant ((w live.0).inside.marks i);
+      };
+      usable = λ clean. batch_after held_machines tenant can change step (state store old) (state store new) (batch clean) (w clean) (change_is clean);
+      undone = λ live. tt;
+      follows = follows;
+    }

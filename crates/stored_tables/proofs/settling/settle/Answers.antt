@@ -1,0 +1,30 @@
+use Rattle.std.proofs.Common.{◌≡◌, refl, arith}
+use Rattle.sqlite.specs.State.{HasCleanDisk}
+use Rattle.sqlite.specs.Held.{state}
+use Rattle.records.specs.Step.{at_clock}
+use Rattle.records.specs.Valid.IsValid.{later}
+use Rattle.rows.specs.Prescribed.{rows_for}
+use Rattle.ledger_sql.specs.Frames.{Live}
+use Rattle.stored_tables.specs.BatchLaws.{valid_now}
+use Rattle.stored_tables.specs.InBatch.{shown}
+use Rattle.stored_tables.proofs.Keeping.{gives_up}
+use Rattle.stored_tables.proofs.Writing.{writes_leave, is_inside}
+use Rattle.stored_tables.proofs.settling.settle.Goals as goal
+
+pub move_clock-requires : goal.move_clock-requires
+move_clock-requires g c = record { inside = λ clean. is_inside _ _ (c.requires.usable clean); «open» = λ clean. (c.requires.usable clean).is_open; bounded = c.requires.bounded }
+
+pub returns-in-Err : goal.returns-in-Err
+returns-in-Err g c = gives_up g.S.Store _ _ _ c.move_clock.new.conn _ _ c.move_clock.ensures.follows c.give_up.ensures.follows c.give_up.ensures.over
+
+pub returns-in-Ok : goal.returns-in-Ok
+returns-in-Ok g c =
+    let t = c.args.tenant.0 in
+    let clock = c.args.clock in
+    let s0 = state g.S.Store c.args.conn.now in
+    let m = (shown t s0).now in
+    let live : HasCleanDisk (state g.S.Store c.move_clock.new.conn) → Live s0 = λ clean.
+    let clean0 : HasCleanDisk s0 = omega (arith, c.move_clock.ensures.follows.survives.clean, clean) in (clean0, (c.requires.usable clean0).is_open) in
+    writes_leave g.S.Store t c.args.conn.now c.move_clock.new.conn _ (λ rows. rows ≡ rows_for 3 m) (λ rows. rows_for 3 (at_clock m clock)) (λ m. at_clock m clock) c.held_machines.ensures c.requires.usable c.move_clock.ensures.follows
+    (λ clean. c.in-Ok.ensures.ok clean m (valid_now t s0 (live clean) c.requires.usable) (c.requires.later (live clean)) (c.requires.covered (live clean)))
+    (λ live0 valid. record { may = refl; rows = refl; valid = later m clock valid (c.requires.later live0) c.requires.bounded })

@@ -1,0 +1,49 @@
+-- A connection in the batch of one tenant.
+use Rattle.std.specs.Prelude.{◌≡◌, ◌⊎◌, ℤ, List, [], ◌∷◌, Option, Some, None, IsTrue}
+use Rattle.records.specs.Machine.{Machine}
+use Rattle.chain.specs.Tables.{State as Meant}
+use Rattle.sqlite.specs.Effect.{Database}
+use Rattle.sqlite.specs.State.{State, Savepoint, HasCleanDisk}
+use Rattle.ledger_sql.specs.Effects.{IsLedger}
+use Rattle.ledger_sql.specs.Stages.{the_mark}
+use Rattle.stored_tables.specs.Frames.{KeepsOthers, AreNumbered}
+use Rattle.stored_tables.specs.Holds.{HoldsMachine}
+use Rattle.stored_tables.specs.MachineOf.{machine_of}
+
+-- what a tenant's batch has made of the database that was committed: the tenant's rows are a
+-- machine's, and all others are as they were
+pub record IsBatchOf (tenant : ℤ) (begun now : Database) : Type 0 where
+  pub ledger : IsLedger now.schema
+  pub schema : now.schema ≡ begun.schema
+  pub numbered : AreNumbered now.trees
+  pub holds : HoldsMachine tenant (machine_of tenant now.trees) now.trees
+  pub others : KeepsOthers tenant begun.trees now.trees
+
+-- one mark is open, of such a database, or none is
+abbrev pub AreMarks : ℤ → Database → List Savepoint → Type 0
+AreMarks tenant begun marks =
+    (marks ≡ []) ⊎ ((db : Database) × (marks ≡ the_mark db ∷ []) × IsBatchOf tenant begun db)
+
+-- in a transaction that is such a batch
+pub record IsInBatch (tenant : ℤ) (s : State) : Type 0 where
+  pub is_open : IsTrue s.is_open
+  pub mode : IsTrue s.in_transaction
+  pub now : IsBatchOf tenant s.committed s.now
+  pub marks : AreMarks tenant s.committed s.marks
+
+-- so it is as long as the disk was honest
+abbrev pub IsUsable : ℤ → State → Type 0
+IsUsable tenant s = HasCleanDisk s → IsInBatch tenant s
+
+-- the machine at the mark
+abbrev pub marked_in : ℤ → List Savepoint → Option Machine
+marked_in tenant [] = None
+marked_in tenant (mark ∷ marks) = Some (machine_of tenant mark.db.trees)
+
+-- the tenant's machine now, as it was committed, and at the mark
+unfoldable pub shown : ℤ → State → Meant
+shown tenant s = record {
+  now = machine_of tenant s.now.trees;
+  begun = machine_of tenant s.committed.trees;
+  marked = marked_in tenant s.marks;
+}

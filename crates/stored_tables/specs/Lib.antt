@@ -1,0 +1,9 @@
+pub mod BatchLaws
+pub mod Covers
+pub mod Frames
+pub mod Holds
+pub mod InBatch
+pub mod MachineOf
+pub mod Meaning
+pub mod Moves
+pub mod Releasing

@@ -1,0 +1,16 @@
+-- What a connection means in a tenant's batch.
+use Rattle.std.specs.Prelude.{ℤ}
+use Rattle.chain.specs.Tables.{Meaning}
+use Rattle.sqlite_trees.specs.declared.store.Store.{Ghosts}
+use Rattle.sqlite.specs.Held.{Held, state}
+use Rattle.ledger_sql.specs.Frames.{Live, Follows}
+use Rattle.stored_tables.specs.InBatch.{IsUsable, shown}
+
+-- the tenant's machines; calls are allowed inside the batch; nothing is committed
+abbrev pub batch_meaning : {S : Type 0} → Ghosts S → ℤ → Meaning (Held S)
+batch_meaning store tenant = record {
+  state = λ conn. shown tenant (state store conn);
+  is_usable = λ conn. IsUsable tenant (state store conn);
+  is_live = λ conn. Live (state store conn);
+  follows = λ old new. Follows (state store old) (state store new);
+}

@@ -1,0 +1,69 @@
+-- How the rows of one tenant move inside a transaction.
+use Rattle.std.specs.Prelude.{ℕ, ℤ, ◌<◌, ◌^◌, ◌≡◌, List, All, Option, Some, None, IsSome}
+use Rattle.sqlite_trees.specs.Tree.{Trees}
+use Rattle.sqlite.specs.State.{State}
+use Rattle.records.specs.declared.accepted.Accepted.{Accepted}
+use Rattle.records.specs.declared.accepted.Ending.{Ending}
+use Rattle.records.specs.declared.transfer.Transfer.{Transfer}
+use Rattle.engine.specs.EndingLaw.{ended_id}
+use Rattle.rows.specs.declared.balance_row.BalanceRow.{BalanceRow}
+use Rattle.rows.specs.declared.status_row.StatusRow.{StatusRow}
+use Rattle.rows.specs.Widths.{IsStorableStatus}
+use Rattle.rows.specs.Keyed.{row_with}
+use Rattle.rows.specs.Tables.{HasDistinctKeys}
+use Rattle.rows.specs.TypedRows.{TypedRows}
+use Rattle.ledger_sql.specs.Effects.{WritesInside}
+use Rattle.stored_tables.specs.Frames.{KeepsOthers, AreNumbered}
+use Rattle.stored_tables.specs.Holds.{HoldsRows}
+
+-- the tenant has these rows now, and all else is as it was
+pub record Moves (tenant : ℤ) (moved : TypedRows) (old new : Trees) : Type 0 where
+  pub numbered : AreNumbered new
+  pub others : KeepsOthers tenant old new
+  pub rows : HoldsRows tenant moved new
+
+-- the transaction goes on, and where the tenant's rows are such, they have changed so
+pub record Writes (tenant : ℤ) (can : TypedRows → Type 0) (change : TypedRows → TypedRows)
+    (old new : State) : Type 0 where
+  pub inside : WritesInside old new
+  pub moves :
+      (rows : TypedRows) → can rows → AreNumbered old.now.trees →
+      HoldsRows tenant rows old.now.trees →
+      Moves tenant (change rows) old.now.trees new.now.trees
+
+-- any rows
+abbrev pub Any : TypedRows → Type 0
+Any rows = Unit {0}
+
+-- in a table whose keys are ids that tell its rows apart, a row has this one
+pub record IsThere {R : Type 0} (key : R → ℕ) (id : ℕ) (rows : List R) : Type 0 where
+  pub ids : All (λ row. key row < 2 ^ 128) rows
+  pub distinct : HasDistinctKeys key rows
+  pub found : IsSome (row_with key id rows)
+
+-- the two accounts of a transfer have balance rows
+pub record HasBoth (t : Transfer) (rows : List BalanceRow) : Type 0 where
+  pub debit : IsThere (λ row. row.account) t.debit_account_id rows
+  pub credit : IsThere (λ row. row.account) t.credit_account_id rows
+
+-- a pending transfer with this id has a status row, and all status rows fit a file
+pub record HasStatus (id : ℕ) (rows : List StatusRow) : Type 0 where
+  pub there : IsThere (λ row. row.transfer) id rows
+  pub storable : All IsStorableStatus rows
+
+-- so has the one that is ended, if one is
+abbrev pub HasEnded : Option Ending → List StatusRow → Type 0
+HasEnded None rows = Unit {0}
+HasEnded (Some ending) rows = HasStatus (ended_id ending) rows
+
+-- what an accepted transfer changes is there
+pub record CanAccept (a : Accepted) (rows : TypedRows) : Type 0 where
+  pub balances : HasBoth a.stored rows.balances
+  pub ended : HasEnded a.ends rows.statuses
+
+-- what is found is the tenant's status row with this id, if there is one
+abbrev pub IsStatusOf : ℤ → ℕ → Trees → Option StatusRow → Type 0
+IsStatusOf tenant id trees found =
+    (rows : TypedRows) → HoldsRows tenant rows trees → All IsStorableStatus rows.statuses →
+    HasDistinctKeys (λ row. row.transfer) rows.statuses →
+    found ≡ row_with (λ row. row.transfer) id rows.statuses

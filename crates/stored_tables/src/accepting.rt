@@ -1,0 +1,107 @@
+//! What the ledger accepts of a tenant, and ids that failed for good.
+
+ghost use Rattle.std.specs.Prelude.{◌≡◌, ◌≤◌, None, OnOk};
+ghost use Rattle.std.specs.BTreeSet.{contains, IsSubset};
+ghost use Rattle.records.specs.Accepted.{IsAccepted};
+ghost use Rattle.records.specs.Machine.{with_failed};
+ghost use Rattle.records.specs.Step.{max_clock};
+ghost use Rattle.records.specs.Valid.{IsNextAccount, with_account, with_transfer};
+ghost use Rattle.chain.specs.Tables.{Leaves, FailsNow, on_now};
+ghost use Rattle.stored_tables.specs.Covers.{Covers};
+ghost use Rattle.stored_tables.specs.Meaning.{batch_meaning};
+
+use crate::batch::TenantNumber;
+use crate::due_times::remember;
+use crate::entries::{write_account, write_transfer};
+use crate::failing::give_up;
+use crate::laws::held_machines;
+use engine::endings_are_told;
+use ledger_sql::adding::add_failed;
+use records::{Accepted, Account, Unavailable};
+use rows::{
+    account_rows, changes_keep_same_rows, failed_rows, keys_are_distinct, rows_fit, single_rows,
+    transfer_rows,
+};
+use sqlite::{Alter, Connection};
+use std::collections::BTreeSet;
+
+/// Keeps an account.
+pub(crate) fn accept_account<S: Alter>(
+    conn: &mut Connection<S>,
+    tenant: TenantNumber,
+    account: &Account,
+) -> Result<(), Unavailable>
+    requires usable { (batch_meaning S.Store tenant.0).is_usable conn.old }
+    requires next { (batch_meaning S.Store tenant.0).is_live conn.old →
+        IsNextAccount ((batch_meaning S.Store tenant.0).state conn.old).now account.now }
+    requires bounded { account.now.timestamp ≤ max_clock }
+    ensures { Leaves (batch_meaning S.Store tenant.0) conn.old conn.new result
+        (on_now (λ m. with_account m account.now)) }
+{
+    held_machines();
+    account_rows();
+    match write_account(conn, tenant, account) {
+        Ok(()) => Ok(()),
+        Err(cause) => Err(give_up(conn, cause)),
+    }
+}
+
+/// Keeps a transfer, with the balances of its accounts and the state of the pending transfer that
+/// it ends. Where it is a pending one with a due time, the set has both first.
+pub(crate) fn accept_transfer<S: Alter>(
+    conn: &mut Connection<S>,
+    due_times: &mut BTreeSet<(u64, u128)>,
+    tenant: TenantNumber,
+    accepted: &Accepted,
+) -> Result<(), Unavailable>
+    requires usable { (batch_meaning S.Store tenant.0).is_usable conn.old }
+    requires next { (batch_meaning S.Store tenant.0).is_live conn.old →
+        IsAccepted ((batch_meaning S.Store tenant.0).state conn.old).now accepted.now }
+    requires bounded { accepted.now.stored.timestamp ≤ max_clock }
+    requires at_bounded { accepted.now.stored.at ≤ max_clock }
+    ensures leaves { Leaves (batch_meaning S.Store tenant.0) conn.old conn.new result
+        (on_now (λ m. with_transfer m accepted.now.stored)) }
+    ensures covers { (batch_meaning S.Store tenant.0).is_live conn.new → OnOk result
+        (Covers (contains ⟦<(u64, u128) as Ord>⟧.cmp due_times.old)
+        ((batch_meaning S.Store tenant.0).state conn.old).now →
+        Covers (contains ⟦<(u64, u128) as Ord>⟧.cmp due_times.new)
+        ((batch_meaning S.Store tenant.0).state conn.new).now) }
+    ensures grows { IsSubset ⟦<(u64, u128) as Ord>⟧.cmp due_times.old due_times.new }
+{
+    held_machines();
+    single_rows();
+    transfer_rows();
+    rows_fit();
+    keys_are_distinct();
+    endings_are_told();
+    if let Err(cause) = remember(due_times, &accepted.stored) {
+        return Err(give_up(conn, cause));
+    }
+    match write_transfer(conn, tenant, accepted) {
+        Ok(()) => Ok(()),
+        Err(cause) => Err(give_up(conn, cause)),
+    }
+}
+
+/// Keeps the id of a transfer that failed for good.
+pub(crate) fn record_failed<S: Alter>(
+    conn: &mut Connection<S>,
+    tenant: TenantNumber,
+    id: u128,
+) -> Result<(), Unavailable>
+    requires usable { (batch_meaning S.Store tenant.0).is_usable conn.old }
+    requires unmarked { (batch_meaning S.Store tenant.0).is_live conn.old →
+        ((batch_meaning S.Store tenant.0).state conn.old).marked ≡ None }
+    requires fails { (batch_meaning S.Store tenant.0).is_live conn.old →
+        FailsNow ((batch_meaning S.Store tenant.0).state conn.old).now id }
+    ensures { Leaves (batch_meaning S.Store tenant.0) conn.old conn.new result
+        (on_now (λ m. with_failed m id)) }
+{
+    held_machines();
+    failed_rows();
+    changes_keep_same_rows();
+    match add_failed(conn, tenant.0, id) {
+        Ok(()) => Ok(()),
+        Err(cause) => Err(give_up(conn, cause)),
+    }
+}

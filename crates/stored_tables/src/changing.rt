@@ -1,0 +1,98 @@
+//! Rows of a tenant that change inside its batch.
+
+ghost use Rattle.std.specs.Prelude.{OnOk, IfOk, IfSome};
+ghost use Rattle.sqlite.specs.State.{HasCleanDisk, IsUnchanged};
+ghost use Rattle.sqlite.specs.Held.{state};
+ghost use Rattle.rows.specs.Changes.{set_balances, set_both, set_state};
+ghost use Rattle.rows.specs.Widths.{IsStorableStatus};
+ghost use Rattle.ledger_sql.specs.Effects.{IsInside};
+ghost use Rattle.ledger_sql.specs.Frames.{Follows};
+ghost use Rattle.stored_tables.specs.Moves.{Writes, IsThere, HasBoth, HasStatus, IsStatusOf};
+
+use crate::batch::TenantNumber;
+use amount::columns_keep_order;
+use ledger_sql::finding::find_status;
+use ledger_sql::setting::{set_balance, set_status};
+use records::{Balances, PendingState, Transfer, Unavailable};
+use rows::{BalanceRow, StatusRow, cells_tell_rows, found_by_key};
+use sqlite::{Alter, Connection};
+
+/// Sets the balances of an account.
+pub(crate) fn set_balances<S: Alter>(
+    conn: &mut Connection<S>,
+    tenant: TenantNumber,
+    account: u128,
+    balances: Balances,
+) -> Result<(), Unavailable>
+    requires { HasCleanDisk (state S.Store conn.old) → IsInside (state S.Store conn.old) }
+    ensures ok { HasCleanDisk (state S.Store conn.new) → OnOk result
+        (Writes tenant.0 (λ rows. IsThere (λ row. row.account) account rows.balances)
+        (λ rows. record rows { balances = set_balances account balances rows.balances })
+        (state S.Store conn.old) (state S.Store conn.new)) }
+    ensures follows { Follows (state S.Store conn.old) (state S.Store conn.new) }
+{
+    columns_keep_order();
+    found_by_key::<BalanceRow>();
+    set_balance(conn, tenant.0, &BalanceRow { account, balances })
+}
+
+/// Sets the balances of a transfer's two accounts.
+pub(crate) fn set_both<S: Alter>(
+    conn: &mut Connection<S>,
+    tenant: TenantNumber,
+    transfer: &Transfer,
+    debit: Balances,
+    credit: Balances,
+) -> Result<(), Unavailable>
+    requires { HasCleanDisk (state S.Store conn.old) → IsInside (state S.Store conn.old) }
+    ensures ok { HasCleanDisk (state S.Store conn.new) → OnOk result
+        (Writes tenant.0 (λ rows. HasBoth transfer.now rows.balances)
+        (λ rows. record rows { balances = set_both transfer.now debit credit rows.balances })
+        (state S.Store conn.old) (state S.Store conn.new)) }
+    ensures follows { Follows (state S.Store conn.old) (state S.Store conn.new) }
+{
+    set_balances(conn, tenant, transfer.debit_account_id, debit)?;
+    set_balances(conn, tenant, transfer.credit_account_id, credit)
+}
+
+/// What is told of the pending transfer with this id, if there is one.
+pub(crate) fn status<S: Alter>(
+    conn: &mut Connection<S>,
+    tenant: TenantNumber,
+    id: u128,
+) -> Result<Option<StatusRow>, Unavailable>
+    requires { HasCleanDisk (state S.Store conn.old) → IsInside (state S.Store conn.old) }
+    ensures ok { HasCleanDisk (state S.Store conn.new) → IfOk result
+        (IsStatusOf tenant.0 id (state S.Store conn.old).now.trees) }
+    ensures fits { IfOk result (λ found. IfSome found IsStorableStatus) }
+    ensures same { HasCleanDisk (state S.Store conn.new) → OnOk result
+        (IsUnchanged (state S.Store conn.old) (state S.Store conn.new)) }
+    ensures follows { Follows (state S.Store conn.old) (state S.Store conn.new) }
+{
+    columns_keep_order();
+    cells_tell_rows();
+    found_by_key::<StatusRow>();
+    find_status(conn, tenant.0, id)
+}
+
+/// Sets what has become of a pending transfer. That it has no status is told as a disk that failed.
+pub(crate) fn set_state<S: Alter>(
+    conn: &mut Connection<S>,
+    tenant: TenantNumber,
+    id: u128,
+    to: PendingState,
+) -> Result<(), Unavailable>
+    requires { HasCleanDisk (state S.Store conn.old) → IsInside (state S.Store conn.old) }
+    ensures ok { HasCleanDisk (state S.Store conn.new) → OnOk result
+        (Writes tenant.0 (λ rows. HasStatus id rows.statuses)
+        (λ rows. record rows { statuses = set_state id to rows.statuses })
+        (state S.Store conn.old) (state S.Store conn.new)) }
+    ensures follows { Follows (state S.Store conn.old) (state S.Store conn.new) }
+{
+    columns_keep_order();
+    found_by_key::<StatusRow>();
+    match status(conn, tenant, id)? {
+        Some(row) => set_status(conn, tenant.0, &StatusRow { state: to, ..row }),
+        None => Err(Unavailable::Disk),
+    }
+}

@@ -1,0 +1,146 @@
+//! The rows of new accounts and transfers.
+
+ghost use Rattle.std.specs.Prelude.{◌++◌, ◌≤◌, IsTrue, OnOk};
+ghost use Rattle.records.specs.Step.{max_clock};
+ghost use Rattle.rows.specs.Changes.{with_opened, with_accepted, ended, new_statuses, new_history};
+ghost use Rattle.sqlite.specs.State.{HasCleanDisk};
+ghost use Rattle.sqlite.specs.Held.{state};
+ghost use Rattle.ledger_sql.specs.Effects.{IsInside};
+ghost use Rattle.ledger_sql.specs.Frames.{Follows};
+ghost use Rattle.stored_tables.specs.Moves.{Any, Writes, CanAccept, HasEnded};
+
+use crate::batch::TenantNumber;
+use crate::changing::{set_both, set_state};
+use engine::due;
+use ledger_sql::adding::{add_account, add_balance, add_history, add_status, add_transfer};
+use records::{Accepted, Account, Balances, Ending, PendingState, Transfer, Unavailable};
+use rows::{BalanceRow, HistoryRow, StatusRow};
+use sqlite::{Alter, Connection};
+
+/// Writes the rows of a new account.
+pub(crate) fn write_account<S: Alter>(
+    conn: &mut Connection<S>,
+    tenant: TenantNumber,
+    account: &Account,
+) -> Result<(), Unavailable>
+    requires inside { HasCleanDisk (state S.Store conn.old) → IsInside (state S.Store conn.old) }
+    requires bounded { account.now.timestamp ≤ max_clock }
+    ensures ok { HasCleanDisk (state S.Store conn.new) → OnOk result
+        (Writes tenant.0 Any (with_opened account.now) (state S.Store conn.old)
+        (state S.Store conn.new)) }
+    ensures follows { Follows (state S.Store conn.old) (state S.Store conn.new) }
+{
+    add_account(conn, tenant.0, account)?;
+    let balance = BalanceRow {
+        account: account.id,
+        balances: Balances::ZERO,
+    };
+    add_balance(conn, tenant.0, &balance)
+}
+
+/// Writes the rows of a new transfer: its own, the balances of its two accounts now and as history,
+/// and the state of the pending transfer that it ends or its own.
+pub(crate) fn write_transfer<S: Alter>(
+    conn: &mut Connection<S>,
+    tenant: TenantNumber,
+    accepted: &Accepted,
+) -> Result<(), Unavailable>
+    requires inside { HasCleanDisk (state S.Store conn.old) → IsInside (state S.Store conn.old) }
+    requires bounded { accepted.now.stored.timestamp ≤ max_clock }
+    requires at_bounded { accepted.now.stored.at ≤ max_clock }
+    ensures ok { HasCleanDisk (state S.Store conn.new) → OnOk result
+        (Writes tenant.0 (CanAccept accepted.now) (with_accepted accepted.now)
+        (state S.Store conn.old) (state S.Store conn.new)) }
+    ensures follows { Follows (state S.Store conn.old) (state S.Store conn.new) }
+{
+    let stored = &accepted.stored;
+    add_transfer(conn, tenant.0, stored)?;
+    set_both(
+        conn,
+        tenant,
+        stored,
+        accepted.debit_after,
+        accepted.credit_after,
+    )?;
+    end_pending(conn, tenant, &accepted.ends)?;
+    open_pending(conn, tenant, stored)?;
+    write_history(conn, tenant, accepted)
+}
+
+/// Sets the state of the pending transfer that is ended, if one is.
+fn end_pending<S: Alter>(
+    conn: &mut Connection<S>,
+    tenant: TenantNumber,
+    ends: &Option<Ending>,
+) -> Result<(), Unavailable>
+    requires inside { HasCleanDisk (state S.Store conn.old) → IsInside (state S.Store conn.old) }
+    requires open { HasCleanDisk (state S.Store conn.old) → IsTrue
+        (state S.Store conn.old).is_open }
+    ensures ok { HasCleanDisk (state S.Store conn.new) → OnOk result
+        (Writes tenant.0 (λ rows. HasEnded ends.now rows.statuses)
+        (λ rows. record rows { statuses = ended ends.now rows.statuses })
+        (state S.Store conn.old) (state S.Store conn.new)) }
+    ensures follows { Follows (state S.Store conn.old) (state S.Store conn.new) }
+{
+    match ends {
+        Some(Ending::Posted(id)) => set_state(conn, tenant, *id, PendingState::Posted),
+        Some(Ending::Voided(id)) => set_state(conn, tenant, *id, PendingState::Voided),
+        None => Ok(()),
+    }
+}
+
+/// Writes the status of a new transfer, if it is a pending one.
+fn open_pending<S: Alter>(
+    conn: &mut Connection<S>,
+    tenant: TenantNumber,
+    stored: &Transfer,
+) -> Result<(), Unavailable>
+    requires inside { HasCleanDisk (state S.Store conn.old) → IsInside (state S.Store conn.old) }
+    requires open { HasCleanDisk (state S.Store conn.old) → IsTrue
+        (state S.Store conn.old).is_open }
+    requires bounded { stored.now.timestamp ≤ max_clock }
+    ensures ok { HasCleanDisk (state S.Store conn.new) → OnOk result
+        (Writes tenant.0 Any
+        (λ rows. record rows { statuses = rows.statuses ++ new_statuses stored.now })
+        (state S.Store conn.old) (state S.Store conn.new)) }
+    ensures follows { Follows (state S.Store conn.old) (state S.Store conn.new) }
+{
+    if !stored.flags.is_pending() {
+        return Ok(());
+    }
+    stored.widths();
+    let row = StatusRow {
+        transfer: stored.id,
+        state: PendingState::Open,
+        due: due(stored),
+    };
+    add_status(conn, tenant.0, &row)
+}
+
+/// Writes the balances of a new transfer's two accounts as history.
+fn write_history<S: Alter>(
+    conn: &mut Connection<S>,
+    tenant: TenantNumber,
+    accepted: &Accepted,
+) -> Result<(), Unavailable>
+    requires inside { HasCleanDisk (state S.Store conn.old) → IsInside (state S.Store conn.old) }
+    requires bounded { accepted.now.stored.timestamp ≤ max_clock }
+    ensures ok { HasCleanDisk (state S.Store conn.new) → OnOk result
+        (Writes tenant.0 Any
+        (λ rows. record rows { history = rows.history ++ new_history accepted.now })
+        (state S.Store conn.old) (state S.Store conn.new)) }
+    ensures follows { Follows (state S.Store conn.old) (state S.Store conn.new) }
+{
+    let stored = &accepted.stored;
+    let debit = HistoryRow {
+        account: stored.debit_account_id,
+        timestamp: stored.timestamp,
+        balances: accepted.debit_after,
+    };
+    let credit = HistoryRow {
+        account: stored.credit_account_id,
+        timestamp: stored.timestamp,
+        balances: accepted.credit_after,
+    };
+    add_history(conn, tenant.0, &debit, &credit)
+}

@@ -1,0 +1,134 @@
+//! A pending transfer of a tenant expires.
+
+ghost use Rattle.std.specs.Prelude.{◌≡◌, OnOk, IfOk};
+ghost use Rattle.records.specs.declared.side.Side.TheVariants.{Debit, Credit};
+ghost use Rattle.engine.specs.After.{balances_released};
+ghost use Rattle.sqlite.specs.State.{HasCleanDisk, IsUnchanged};
+ghost use Rattle.sqlite.specs.Held.{state};
+ghost use Rattle.ledger_sql.specs.Effects.{IsInside};
+ghost use Rattle.ledger_sql.specs.Frames.{Follows};
+ghost use Rattle.stored_tables.specs.Moves.{Writes};
+ghost use Rattle.stored_tables.specs.Releasing.{Expires, IsExpiry, IsTransferOf, AreBalancesOf};
+ghost use Rattle.stored_tables.specs.Releasing.{HasExpiring, with_expiry};
+
+use crate::batch::TenantNumber;
+use crate::changing::{set_both, set_state};
+use crate::expiry::Expiry;
+use amount::{Amount, columns_keep_order};
+use engine::release;
+use ledger_sql::finding::{find_balance, find_transfer};
+use records::{Balances, PendingState, Transfer, Unavailable};
+use rows::{BalanceRow, cells_tell_rows, found_by_key};
+use sqlite::{Alter, Connection};
+
+/// Lets the pending transfer with this id expire, inside a transaction. That it or what belongs to
+/// it is missing is told as a disk that failed.
+pub(crate) fn expire<S: Alter>(
+    conn: &mut Connection<S>,
+    tenant: TenantNumber,
+    id: u128,
+) -> Result<(), Unavailable>
+    requires { HasCleanDisk (state S.Store conn.old) → IsInside (state S.Store conn.old) }
+    ensures ok { HasCleanDisk (state S.Store conn.new) → OnOk result
+        (Expires tenant.0 id (state S.Store conn.old) (state S.Store conn.new)) }
+    ensures follows { Follows (state S.Store conn.old) (state S.Store conn.new) }
+{
+    let expiry = expiry_of(conn, tenant, id)?;
+    write_expiry(conn, tenant, &expiry)
+}
+
+/// What is left once the transfer with this id expires.
+fn expiry_of<S: Alter>(
+    conn: &mut Connection<S>,
+    tenant: TenantNumber,
+    id: u128,
+) -> Result<Expiry, Unavailable>
+    requires { HasCleanDisk (state S.Store conn.old) → IsInside (state S.Store conn.old) }
+    ensures ok { HasCleanDisk (state S.Store conn.new) → IfOk result
+        (IsExpiry tenant.0 id (state S.Store conn.old).now.trees) }
+    ensures same { HasCleanDisk (state S.Store conn.new) → OnOk result
+        (IsUnchanged (state S.Store conn.old) (state S.Store conn.new)) }
+    ensures follows { Follows (state S.Store conn.old) (state S.Store conn.new) }
+{
+    let transfer = stored_transfer(conn, tenant, id)?;
+    let debit = stored_balances(conn, tenant, transfer.debit_account_id)?;
+    let credit = stored_balances(conn, tenant, transfer.credit_account_id)?;
+    let (debit, credit) = released(debit, credit, transfer.amount)?;
+    Ok(Expiry {
+        transfer,
+        debit,
+        credit,
+    })
+}
+
+/// The transfer with this id.
+fn stored_transfer<S: Alter>(
+    conn: &mut Connection<S>,
+    tenant: TenantNumber,
+    id: u128,
+) -> Result<Transfer, Unavailable>
+    requires { HasCleanDisk (state S.Store conn.old) → IsInside (state S.Store conn.old) }
+    ensures ok { HasCleanDisk (state S.Store conn.new) → IfOk result
+        (IsTransferOf tenant.0 id (state S.Store conn.old).now.trees) }
+    ensures same { HasCleanDisk (state S.Store conn.new) → OnOk result
+        (IsUnchanged (state S.Store conn.old) (state S.Store conn.new)) }
+    ensures follows { Follows (state S.Store conn.old) (state S.Store conn.new) }
+{
+    columns_keep_order();
+    found_by_key::<Transfer>();
+    find_transfer(conn, tenant.0, id)?.ok_or(Unavailable::Disk)
+}
+
+/// The balances of the account with this id.
+fn stored_balances<S: Alter>(
+    conn: &mut Connection<S>,
+    tenant: TenantNumber,
+    account: u128,
+) -> Result<Balances, Unavailable>
+    requires { HasCleanDisk (state S.Store conn.old) → IsInside (state S.Store conn.old) }
+    ensures ok { HasCleanDisk (state S.Store conn.new) → IfOk result
+        (AreBalancesOf tenant.0 account (state S.Store conn.old).now.trees) }
+    ensures same { HasCleanDisk (state S.Store conn.new) → OnOk result
+        (IsUnchanged (state S.Store conn.old) (state S.Store conn.new)) }
+    ensures follows { Follows (state S.Store conn.old) (state S.Store conn.new) }
+{
+    columns_keep_order();
+    cells_tell_rows();
+    found_by_key::<BalanceRow>();
+    match find_balance(conn, tenant.0, account)? {
+        Some(row) => Ok(row.balances),
+        None => Err(Unavailable::Disk),
+    }
+}
+
+/// The balances of a transfer's two accounts without its amount, which they hold. That they do not
+/// is told as a disk that failed.
+fn released(
+    debit: Balances,
+    credit: Balances,
+    amount: Amount,
+) -> Result<(Balances, Balances), Unavailable>
+    ensures debit { IfOk result (λ left. left.0 ≡ balances_released Debit debit amount) }
+    ensures credit { IfOk result (λ left. left.1 ≡ balances_released Credit credit amount) }
+{
+    if amount > debit.debits.pending || amount > credit.credits.pending {
+        return Err(Unavailable::Disk);
+    }
+    Ok(release(debit, credit, amount))
+}
+
+/// Writes what the expiry of a transfer leaves.
+fn write_expiry<S: Alter>(
+    conn: &mut Connection<S>,
+    tenant: TenantNumber,
+    expiry: &Expiry,
+) -> Result<(), Unavailable>
+    requires { HasCleanDisk (state S.Store conn.old) → IsInside (state S.Store conn.old) }
+    ensures ok { HasCleanDisk (state S.Store conn.new) → OnOk result
+        (Writes tenant.0 (HasExpiring expiry.now.transfer) (with_expiry expiry.now)
+        (state S.Store conn.old) (state S.Store conn.new)) }
+    ensures follows { Follows (state S.Store conn.old) (state S.Store conn.new) }
+{
+    set_both(conn, tenant, &expiry.transfer, expiry.debit, expiry.credit)?;
+    set_state(conn, tenant, expiry.transfer.id, PendingState::Expired)
+}

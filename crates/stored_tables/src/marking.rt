@@ -1,0 +1,71 @@
+//! The mark of a tenant's batch, which is a savepoint of its transaction.
+
+ghost use Rattle.std.specs.Prelude.{◌≡◌, None, IsSome, unwrap_or};
+ghost use Rattle.chain.specs.Tables.{Leaves, marking, marked_or, at_mark, unmarked, on_now};
+ghost use Rattle.stored_tables.specs.Meaning.{batch_meaning};
+
+use crate::batch::TenantNumber;
+use crate::failing::give_up;
+use ledger_sql::stages;
+use records::Unavailable;
+use sqlite::{Alter, Connection};
+
+/// Marks where to go back to.
+pub(crate) fn mark<S: Alter>(
+    conn: &mut Connection<S>,
+    tenant: TenantNumber,
+) -> Result<(), Unavailable>
+    requires usable { (batch_meaning S.Store tenant.0).is_usable conn.old }
+    requires unmarked { (batch_meaning S.Store tenant.0).is_live conn.old →
+        ((batch_meaning S.Store tenant.0).state conn.old).marked ≡ None }
+    ensures { Leaves (batch_meaning S.Store tenant.0) conn.old conn.new result marking }
+{
+    match stages::mark(conn) {
+        Ok(()) => Ok(()),
+        Err(cause) => Err(give_up(conn, cause)),
+    }
+}
+
+/// Goes back to the mark and closes it.
+pub(crate) fn back_to_mark<S: Alter>(
+    conn: &mut Connection<S>,
+    tenant: TenantNumber,
+) -> Result<(), Unavailable>
+    requires usable { (batch_meaning S.Store tenant.0).is_usable conn.old }
+    requires marked { (batch_meaning S.Store tenant.0).is_live conn.old →
+        IsSome ((batch_meaning S.Store tenant.0).state conn.old).marked }
+    ensures { Leaves (batch_meaning S.Store tenant.0) conn.old conn.new result at_mark }
+{
+    undo_to_mark(conn, tenant)?;
+    release_mark(conn, tenant)
+}
+
+/// Goes back to the mark, which stays.
+fn undo_to_mark<S: Alter>(conn: &mut Connection<S>, tenant: TenantNumber) -> Result<(), Unavailable>
+    requires usable { (batch_meaning S.Store tenant.0).is_usable conn.old }
+    requires marked { (batch_meaning S.Store tenant.0).is_live conn.old →
+        IsSome ((batch_meaning S.Store tenant.0).state conn.old).marked }
+    ensures { Leaves (batch_meaning S.Store tenant.0) conn.old conn.new result
+        (λ s. record s { now = marked_or s.now s.marked }) }
+{
+    match stages::back_to_mark(conn) {
+        Ok(()) => Ok(()),
+        Err(cause) => Err(give_up(conn, cause)),
+    }
+}
+
+/// Closes the mark and keeps what has come since.
+pub(crate) fn release_mark<S: Alter>(
+    conn: &mut Connection<S>,
+    tenant: TenantNumber,
+) -> Result<(), Unavailable>
+    requires usable { (batch_meaning S.Store tenant.0).is_usable conn.old }
+    requires marked { (batch_meaning S.Store tenant.0).is_live conn.old →
+        IsSome ((batch_meaning S.Store tenant.0).state conn.old).marked }
+    ensures { Leaves (batch_meaning S.Store tenant.0) conn.old conn.new result unmarked }
+{
+    match stages::release_mark(conn) {
+        Ok(()) => Ok(()),
+        Err(cause) => Err(give_up(conn, cause)),
+    }
+}

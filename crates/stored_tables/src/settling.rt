@@ -1,0 +1,140 @@
+//! The clock of a tenant, and what is due at it.
+
+ghost use Rattle.std.specs.Prelude.{◌≡◌, ◌≤◌, false, None, IsTrue, OnOk};
+ghost use Rattle.std.specs.BTreeSet.{contains};
+ghost use Rattle.std.specs.Option.{option_map_or};
+ghost use Rattle.records.specs.Due.{has_come};
+ghost use Rattle.records.specs.Step.{at_clock, max_clock};
+ghost use Rattle.rows.specs.Settling.{is_due_row};
+ghost use Rattle.sqlite.specs.State.{HasCleanDisk};
+ghost use Rattle.sqlite.specs.Held.{state};
+ghost use Rattle.ledger_sql.specs.Effects.{IsInside};
+ghost use Rattle.ledger_sql.specs.Frames.{Follows};
+ghost use Rattle.chain.specs.Tables.{Leaves, on_now};
+ghost use Rattle.stored_tables.specs.Covers.{Covers};
+ghost use Rattle.stored_tables.specs.Meaning.{batch_meaning};
+ghost use Rattle.stored_tables.specs.Releasing.{Expires, ReleasesOne, ReleasesDue, MovesClock};
+
+use crate::batch::TenantNumber;
+use crate::changing::status;
+use crate::expiring::expire;
+use crate::failing::give_up;
+use crate::laws::held_machines;
+use ledger_sql::setting::set_clock;
+use records::{PendingState, Unavailable};
+use rows::{StatusRow, clock_rows, keys_are_distinct, rows_fit};
+use sqlite::{Alter, Connection};
+use std::collections::BTreeSet;
+
+/// Sets the clock, in nanoseconds, and releases what is due at it: the transfers of the set that
+/// are due alone are looked at.
+pub(crate) fn settle<S: Alter>(
+    conn: &mut Connection<S>,
+    due: &BTreeSet<(u64, u128)>,
+    tenant: TenantNumber,
+    clock: u64,
+) -> Result<(), Unavailable>
+    requires usable { (batch_meaning S.Store tenant.0).is_usable conn.old }
+    requires covered { (batch_meaning S.Store tenant.0).is_live conn.old →
+        Covers (contains ⟦<(u64, u128) as Ord>⟧.cmp due.now)
+        ((batch_meaning S.Store tenant.0).state conn.old).now }
+    requires unmarked { (batch_meaning S.Store tenant.0).is_live conn.old →
+        ((batch_meaning S.Store tenant.0).state conn.old).marked ≡ None }
+    requires later { (batch_meaning S.Store tenant.0).is_live conn.old →
+        ((batch_meaning S.Store tenant.0).state conn.old).now.clock ≤ clock }
+    requires bounded { clock ≤ max_clock }
+    ensures { Leaves (batch_meaning S.Store tenant.0) conn.old conn.new result
+        (on_now (λ m. at_clock m clock)) }
+{
+    held_machines();
+    match move_clock(conn, due, tenant, clock) {
+        Ok(()) => Ok(()),
+        Err(cause) => Err(give_up(conn, cause)),
+    }
+}
+
+/// Releases what is due at the clock, and sets it.
+fn move_clock<S: Alter>(
+    conn: &mut Connection<S>,
+    due: &BTreeSet<(u64, u128)>,
+    tenant: TenantNumber,
+    clock: u64,
+) -> Result<(), Unavailable>
+    requires inside { HasCleanDisk (state S.Store conn.old) → IsInside (state S.Store conn.old) }
+    requires open { HasCleanDisk (state S.Store conn.old) → IsTrue
+        (state S.Store conn.old).is_open }
+    requires bounded { clock ≤ max_clock }
+    ensures ok { HasCleanDisk (state S.Store conn.new) → OnOk result
+        (MovesClock tenant.0 clock (contains ⟦<(u64, u128) as Ord>⟧.cmp due.now)
+        (state S.Store conn.old) (state S.Store conn.new)) }
+    ensures follows { Follows (state S.Store conn.old) (state S.Store conn.new) }
+{
+    clock_rows();
+    release_due(conn, due, tenant, clock)?;
+    set_clock(conn, tenant.0, clock)
+}
+
+/// Releases what is due at the clock.
+fn release_due<S: Alter>(
+    conn: &mut Connection<S>,
+    due: &BTreeSet<(u64, u128)>,
+    tenant: TenantNumber,
+    clock: u64,
+) -> Result<(), Unavailable>
+    requires inside { HasCleanDisk (state S.Store conn.old) → IsInside (state S.Store conn.old) }
+    requires open { HasCleanDisk (state S.Store conn.old) → IsTrue
+        (state S.Store conn.old).is_open }
+    ensures ok { HasCleanDisk (state S.Store conn.new) → OnOk result
+        (ReleasesDue tenant.0 clock (contains ⟦<(u64, u128) as Ord>⟧.cmp due.now)
+        (state S.Store conn.old) (state S.Store conn.new)) }
+    ensures follows { Follows (state S.Store conn.old) (state S.Store conn.new) }
+{
+    clock_rows();
+    rows_fit();
+    keys_are_distinct();
+    for entry in due.range(..=(clock, u128::MAX)) {
+        release_if_due(conn, tenant, clock, entry.1)?;
+    }
+    Ok(())
+}
+
+/// Releases a transfer that is open and due at the clock. A set of due times may have others.
+fn release_if_due<S: Alter>(
+    conn: &mut Connection<S>,
+    tenant: TenantNumber,
+    clock: u64,
+    id: u128,
+) -> Result<(), Unavailable>
+    requires { HasCleanDisk (state S.Store conn.old) → IsInside (state S.Store conn.old) }
+    ensures ok { HasCleanDisk (state S.Store conn.new) → OnOk result
+        (ReleasesOne tenant.0 clock id (state S.Store conn.old) (state S.Store conn.new)) }
+    ensures follows { Follows (state S.Store conn.old) (state S.Store conn.new) }
+{
+    clock_rows();
+    let found = status(conn, tenant, id)?;
+    if is_due(&found, clock) {
+        expire(conn, tenant, id)
+    } else {
+        Ok(())
+    }
+}
+
+/// Whether there is a transfer that is open and due at the clock.
+fn is_due(found: &Option<StatusRow>, clock: u64) -> bool
+    ensures { result ≡ option_map_or (is_due_row clock) found.now false }
+{
+    match found {
+        Some(row) => row.state == PendingState::Open && has_come(row.due, clock),
+        None => false,
+    }
+}
+
+/// Whether a due time has come.
+fn has_come(due: Option<u64>, clock: u64) -> bool
+    ensures { result ≡ has_come due clock }
+{
+    match due {
+        Some(due) => due <= clock,
+        None => false,
+    }
+}
