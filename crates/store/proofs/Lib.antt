@@ -1,0 +1,11 @@
+mod FileLemmas
+mod BatchLemmas
+mod TenantLemmas
+mod LedgerLemmas
+mod OutcomeLemmas
+mod EmptyLemmas
+mod ReadLemmas
+mod TakenLemmas
+mod JoinLemmas
+mod FreeLemmas
+mod JoinedLemmas

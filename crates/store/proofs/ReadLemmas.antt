@@ -1,0 +1,85 @@
+-- What a read of a store leaves.
+use Rattle.std.proofs.Common.{◌≡◌, ◌≢◌, ◌⊎◌, Bool, true, not, Result, Err, IsTrue, ◌↔◌, sym, ap, subst, ◌∙◌, arith}
+use Rattle.std.proofs.lemmas.Bool.{both_ways}
+use Rattle.records.specs.declared.unavailable.Unavailable.{Unavailable}
+use Rattle.records.specs.declared.unavailable.Unavailable.TheVariants.{Disk as DiskFailed}
+use Rattle.sqlite_disk.specs.declared.Disk as disk
+use Rattle.sqlite_store.specs.declared.store.FileStore.{FileStore}
+use Rattle.sqlite.specs.Effect.{Database}
+use Rattle.sqlite.specs.Files.{file_state}
+use Rattle.sqlite.specs.Held.{Held}
+use Rattle.sqlite.specs.State.{State, HasCleanDisk}
+use Rattle.ledger_sql.specs.Frames.{Live, Follows}
+use Rattle.store.specs.Directory.{tenants_in}
+use Rattle.store.specs.DueSets.{DueSets}
+use Rattle.store.specs.Resting.{IsSame, Serves, HoldsHere}
+use Rattle.store.specs.Stores.{IsUsable, IsUsableAt, IsLiveAt, IsHonestAt, tenants_at, may_find_at, Reads}
+use Rattle.store.specs.declared.place.Place.{Place}
+use Rattle.store.specs.declared.place.Place.TheVariants as at
+use Rattle.store.specs.declared.store.Store.{Store}
+use Rattle.store.proofs.OutcomeLemmas.{still_rests}
+
+live_before : (a b : State) → Follows a b → Live b → Live a
+live_before a b f live = (omega (arith, f.survives.clean, live.0), f.live live)
+
+-- a connection that serves holds ledgers
+pub holds_here : (sets : DueSets) (s : State) → Serves sets s → HoldsHere s
+holds_here sets s serves clean =
+    let now = serves clean in (now.0, now.1.quiet, now.1.ledgers)
+
+module _ {D : Type 0} (g : disk.Ghosts D) where
+  -- a store that answers serves
+  pub serves_open : (ready : Bool) (sets : DueSets) (place : Place D g) (conn : Held (FileStore D g))
+      → place ≡ at.Open conn → ready ≡ true → IsUsableAt ready sets place → Serves sets (file_state conn)
+  serves_open ready sets place conn is answers usable clean =
+      let here : IsUsableAt ready sets (at.Open conn) = subst (IsUsableAt ready sets) is usable in
+      let is_open = here.1 answers clean in
+      (is_open, here.0 (clean, is_open))
+
+  module _ {T : Type 0} (result : Result T Unavailable) (fault : Bool) (old new : Store D g)
+      (conn conn' : Held (FileStore D g)) (old_is : old.place ≡ at.Open conn)
+      (new_is : new.place ≡ at.Open conn') (same_due : new.due ≡ old.due)
+      (same_version : new.version ≡ old.version) (was_ready : old.ready ≡ true)
+      (now_ready : new.ready ≡ not fault) (told : IsTrue fault ↔ (result ≡ Err DiskFailed))
+      (usable : IsUsable old) (follows : Follows (file_state conn) (file_state conn'))
+      (same : Live (file_state conn') → IsSame (file_state conn) (file_state conn'))
+      (is_open : HasCleanDisk (file_state conn') → result ≢ Err DiskFailed → IsTrue (file_state conn').is_open) where
+    abbrev was_usable : IsUsableAt old.ready old.due (at.Open conn)
+    was_usable = subst (IsUsableAt old.ready old.due) old_is usable
+
+    unless_fault : new.ready ≡ true → result ≢ Err DiskFailed
+    unless_fault ready failed =
+        let yes_fault : fault ≡ true = told.1 failed in
+        absurd (both_ways _ (now_ready ∙ ap not yes_fault) ready)
+
+    usable_here : IsUsableAt new.ready old.due (at.Open conn')
+    usable_here = (
+      λ live. still_rests old.due (file_state conn) (file_state conn')
+          (was_usable.0 (live_before (file_state conn) (file_state conn') follows live)) (same live),
+      λ ready clean. is_open clean (unless_fault ready),
+    )
+
+    -- a read of the open database
+    pub reads_open : Reads old new result
+    reads_open = record {
+      answers = record {
+        usable = subst (λ sets. IsUsableAt new.ready sets new.place) (sym same_due)
+            (subst (IsUsableAt new.ready old.due) (sym new_is) usable_here);
+        follows = record {
+          lived = λ live. subst IsLiveAt (sym old_is)
+              (live_before (file_state conn) (file_state conn') follows (subst IsLiveAt new_is live));
+          unready = λ ready. was_ready;
+          version = same_version;
+        };
+        open_yet = λ honest no_fault. subst IsLiveAt (sym new_is)
+            (let clean = subst IsHonestAt new_is honest in (clean, is_open clean no_fault));
+        unready = λ failed. now_ready ∙ ap not (told.1 failed);
+      };
+      same = λ live digest.
+          ap (λ place. tenants_at place digest) new_is
+          ∙ ap (λ (db : Database). tenants_in db.trees digest) (same (subst IsLiveAt new_is live)).now
+          ∙ sym (ap (λ place. tenants_at place digest) old_is);
+      finds = λ honest db may. subst (λ place. may_find_at place db ⊎ ⊥) (sym old_is)
+          (follows.survives.crash (subst IsHonestAt new_is honest) db
+          (subst (λ place. may_find_at place db) new_is may));
+    }

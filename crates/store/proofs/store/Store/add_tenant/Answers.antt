@@ -1,0 +1,15 @@
+use Rattle.std.proofs.Common.{◌⊎◌, not, sym, subst, ap, ◌∙◌}
+use Rattle.store.specs.Joining.{Joined}
+use Rattle.store.specs.Stores.{may_find_at, OfDatabaseAt}
+use Rattle.store.proofs.JoinLemmas.{answered_disk}
+use Rattle.store.proofs.store.Store.add_tenant.Goals as goal
+
+pub returns-clause-finds : goal.returns-clause-finds
+returns-clause-finds g c honest db may =
+    subst (λ place. may_find_at place db
+    ⊎ OfDatabaseAt (λ old. Joined c.args.name.now c.args.digest.now old db) place) (sym c.in-Open.is)
+    (c.join-joined.ensures.survives.crash honest db may)
+
+pub returns-clause-disk : goal.returns-clause-disk
+returns-clause-disk g c is =
+    ap not (c.is_disk_fault.ensures.1 (answered_disk c.join-joined.result (sym c.joining_answer.ensures ∙ is)))

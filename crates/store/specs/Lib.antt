@@ -1,0 +1,9 @@
+pub mod Directory
+pub mod DueSets
+pub mod Found
+pub mod Joining
+pub mod Ledger
+pub mod Outcomes
+pub mod Resting
+pub mod Shape
+pub mod Stores

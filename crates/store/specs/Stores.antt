@@ -1,0 +1,134 @@
+-- What a store means: its tenants' machines, whether it answers, and what may be found in its files.
+use Rattle.std.specs.Prelude.{◌≡◌, ◌≢◌, ◌⊎◌, ℕ, Bool, false, None, Result, Err, IsTrue}
+use Rattle.sqlite_disk.specs.declared.Disk as disk
+use Rattle.sqlite_disk.specs.declared.Files.{Files}
+use Rattle.sqlite_trees.specs.Tree.{Trees}
+use Rattle.sqlite_wal.specs.Files.{outcomes}
+use Rattle.sqlite_wal.specs.Reads.{AreClean}
+use Rattle.sqlite_wal.specs.Recovery.{Image}
+use Rattle.sqlite.specs.Effect.{Database}
+use Rattle.sqlite.specs.Files.{HoldsDatabase, file_state}
+use Rattle.sqlite.specs.State.{HasCleanDisk}
+use Rattle.records.specs.declared.unavailable.Unavailable.{Unavailable}
+use Rattle.records.specs.declared.unavailable.Unavailable.TheVariants.{Disk as DiskFailed}
+use Rattle.chain.specs.Ledgers.{Tenants, KeepsAll}
+use Rattle.ledger_sql.specs.Frames.{Live}
+use Rattle.store.specs.Directory.{tenants_in}
+use Rattle.store.specs.DueSets.{DueSets}
+use Rattle.store.specs.Found.{IsSettled, Yields}
+use Rattle.store.specs.Resting.{IsResting}
+use Rattle.store.specs.declared.place.Place.{Place}
+use Rattle.store.specs.declared.place.Place.TheVariants as at
+use Rattle.store.specs.declared.store.Store.{Store}
+
+-- what two files may hold after a crash
+abbrev pub left_in : {D : Type 0} → disk.Ghosts D → Files D → Trees → Type 0
+left_in g files db = (image : Image) × outcomes g files.log files.db image × HoldsDatabase image db
+
+module _ {D : Type 0} {g : disk.Ghosts D} where
+  -- the database is open, and the disk was honest so far
+  abbrev pub IsLiveAt : Place D g → Type 0
+  IsLiveAt (at.Open conn) = Live (file_state conn)
+  IsLiveAt (at.Shut files) = ⊥
+
+  -- the disk was honest so far
+  abbrev pub IsHonestAt : Place D g → Type 0
+  IsHonestAt (at.Open conn) = HasCleanDisk (file_state conn)
+  IsHonestAt (at.Shut files) = AreClean g files.log files.db
+
+  -- each tenant's machine
+  abbrev pub tenants_at : Place D g → Tenants
+  tenants_at (at.Open conn) = tenants_in (file_state conn).now.trees
+  tenants_at (at.Shut files) = λ digest. None
+
+  -- what an opening may find there after a crash
+  abbrev pub may_find_at : Place D g → Trees → Type 0
+  may_find_at (at.Open conn) = (file_state conn).may_leave
+  may_find_at (at.Shut files) = left_in g files
+
+  -- the database, if it is open, holds ledgers and the sets cover them; where calls are answered it
+  -- is open
+  abbrev pub IsUsableAt : Bool → DueSets → Place D g → Type 0
+  IsUsableAt ready sets (at.Open conn) =
+      (Live (file_state conn) → IsResting sets (file_state conn))
+      × (IsTrue ready → HasCleanDisk (file_state conn) → IsTrue (file_state conn).is_open)
+  IsUsableAt ready sets (at.Shut files) = ready ≡ false
+
+  -- the store is open, on a disk that was honest so far
+  abbrev pub IsLive : Store D g → Type 0
+  IsLive store = IsLiveAt store.place
+
+  abbrev pub IsHonest : Store D g → Type 0
+  IsHonest store = IsHonestAt store.place
+
+  -- the machine of each tenant
+  abbrev pub tenants_of : Store D g → Tenants
+  tenants_of store = tenants_at store.place
+
+  -- the store's tables, as long as it is open, are those of valid machines
+  abbrev pub IsUsable : Store D g → Type 0
+  IsUsable store = IsUsableAt store.ready store.due store.place
+
+  -- what an opening may find in the store's files after a crash
+  abbrev pub may_find : Store D g → Trees → Type 0
+  may_find store = may_find_at store.place
+
+  -- what every run of calls keeps: what was lost stays so, and no reopening is among them
+  pub record Follows (old new : Store D g) : Type 0 where
+    pub lived : IsLive new → IsLive old
+    pub unready : IsTrue new.ready → IsTrue old.ready
+    pub version : new.version ≡ old.version
+
+  -- what an opening may find after a call: what it might have found before, or one of these
+  abbrev pub Goes : Store D g → Store D g → (Trees → Type 0) → Type 0
+  Goes old new X = IsHonest new → (db : Trees) → may_find new db → may_find old db ⊎ X db
+
+  -- something holds of the open database
+  abbrev pub OfDatabaseAt : (Database → Type 0) → Place D g → Type 0
+  OfDatabaseAt P (at.Open conn) = P (file_state conn).now
+  OfDatabaseAt P (at.Shut files) = ⊥
+
+  abbrev pub OfDatabase : (Database → Type 0) → Store D g → Type 0
+  OfDatabase P store = OfDatabaseAt P store.place
+
+  -- something holds of the open databases of two moments
+  abbrev pub OfDatabases : (Database → Database → Type 0) → Store D g → Store D g → Type 0
+  OfDatabases P old new = OfDatabase (λ before. OfDatabase (P before) new) old
+
+  -- a crash leaves what is there, and nothing else
+  abbrev pub IsSettledAt : Place D g → Type 0
+  IsSettledAt (at.Open conn) = IsSettled (file_state conn)
+  IsSettledAt (at.Shut files) = Unit {0}
+
+  abbrev pub IsSettledStore : Store D g → Type 0
+  IsSettledStore store = IsSettledAt store.place
+
+  -- the files that a store gives back: a crash leaves in them what may be found
+  abbrev pub GivesBackAt : Place D g → Files D → Type 0
+  GivesBackAt (at.Open conn) files = Yields g files (file_state conn).may_leave
+  GivesBackAt (at.Shut kept) files = files ≡ kept
+
+  abbrev pub GivesBack : Store D g → Files D → Type 0
+  GivesBack store = GivesBackAt store.place
+
+  -- calls are answered
+  abbrev pub IsReady : Store D g → Type 0
+  IsReady store = IsTrue store.ready
+
+  -- the version of the schema that the store knows of
+  abbrev pub version_of : Store D g → ℕ
+  version_of store = store.version
+
+  -- where a call is answered that the disk failed, no call is answered from then on; otherwise the
+  -- store is open, if the disk was honest
+  pub record Answers {T : Type 0} (old new : Store D g) (result : Result T Unavailable) : Type 0 where
+    pub usable : IsUsable new
+    pub follows : Follows old new
+    pub open_yet : IsHonest new → result ≢ Err DiskFailed → IsLive new
+    pub unready : result ≡ Err DiskFailed → new.ready ≡ false
+
+  -- a call that only reads keeps every machine, and what may be found
+  pub record Reads {T : Type 0} (old new : Store D g) (result : Result T Unavailable) : Type 0 where
+    pub answers : Answers old new result
+    pub same : IsLive new → KeepsAll (tenants_of old) (tenants_of new)
+    pub finds : Goes old new (λ db. ⊥)

@@ -1,0 +1,223 @@
+//! A store: the ledgers of many tenants in two files.
+
+ghost use Rattle.std.specs.Prelude.{◌≡◌, ◌≢◌, false, Err, is_some, IfOk, IfErr, IsTrue};
+ghost use Rattle.records.specs.declared.unavailable.Unavailable.TheVariants.{Disk as DiskFailed};
+ghost use Rattle.chain.specs.Ledgers.{IsRun};
+ghost use Rattle.chain.specs.declared.ledgers.BatchFault.TheVariants.{Unavailable as AreUnavailable};
+ghost use Rattle.sqlite.specs.Files.{image_of};
+ghost use Rattle.store.specs.Outcomes.{IsAfterBatch};
+ghost use Rattle.sqlite_wal.specs.Reads.{AreClean};
+ghost use Rattle.ledger_sql.specs.Creating.{IsEmptyLedger};
+ghost use Rattle.store.specs.Directory.{digest_in};
+ghost use Rattle.store.specs.Found.{FindsOurs, LeavesNew};
+ghost use Rattle.store.specs.Joining.{HasJoined, Joined};
+ghost use Rattle.store.specs.Stores.{IsLive, IsHonest, IsReady, tenants_of, version_of, GivesBack, IsUsable, Follows, Goes, OfDatabase, OfDatabases, IsSettledStore, Reads};
+ghost use Rattle.store.specs.declared.opening.OpenFault.TheVariants.{NotALedger};
+
+use crate::batches::{DueSets, batch_answer, in_batch};
+use crate::creating::fill_new;
+use crate::directory::{digest_of, knows};
+use crate::joining::{AddTenant, join, joining_answer};
+use crate::opening::{OpenFault, files_at, open_on};
+use crate::place::{Place, is_settled, shut};
+use crate::probe::is_disk_fault;
+use chain::{BatchFault, Work};
+use records::Unavailable;
+use sqlite::{Connection, FileStore, Files, Options};
+use sqlite_disk::{Disk, Start};
+use sqlite_std_file::FileFrom;
+use std::alloc::Global;
+use std::collections::BTreeMap;
+use tenants::TenantName;
+
+/// The version of the schema that a new ledger has.
+const CURRENT_VERSION: u32 = 3;
+
+/// The ledgers of many tenants in one database, in two files: a log and the database file.
+///
+/// From a fault of the disk on each call but `schema` and `close` answers that the disk failed.
+#[derive(Drop)]
+pub struct Store<D: Disk> {
+    place: Place<D>,
+    /// Whether calls are answered.
+    ready: bool,
+    version: u32,
+    due: DueSets,
+    alloc: Global,
+}
+
+impl<D: Disk + Drop> Store<D> {
+    /// Makes a ledger without tenants in files that hold no tables yet. They are given back where it
+    /// is refused: `NotALedger` where a table of a ledger is there, `Unreadable` where others are.
+    pub fn create(
+        alloc: Global,
+        files: Files<D>,
+        options: Options,
+    ) -> Result<Store<D>, (OpenFault, Files<D>)>
+        requires log { IsTrue (D.Disk.is_usable files.log) }
+        requires db { IsTrue (D.Disk.is_usable files.db) }
+        ensures usable { IfOk result IsUsable }
+        ensures ready { IfOk result IsReady }
+        ensures current { IfOk result (λ store. version_of store ≡ CURRENT_VERSION) }
+        ensures empty { IfOk result (λ store. IsHonest store → IsLive store
+            × OfDatabase (λ db. IsEmptyLedger db.trees) store) }
+        ensures refused { IfErr result (λ e. e.0 ≡ NotALedger → AreClean D.Disk e.1.log e.1.db
+            → FindsOurs (image_of D.Disk files)) }
+        ensures left { IfErr result (λ e. LeavesNew D.Disk files e.1) }
+    {
+        let conn = fill_new(open_on(alloc, files, options)?)?;
+        Ok(Store {
+            place: Place::Open(conn),
+            ready: true,
+            version: CURRENT_VERSION,
+            due: BTreeMap::new(alloc),
+            alloc,
+        })
+    }
+
+    /// The version of the schema that the store's making or its last opening set or found.
+    pub fn schema(&self) -> u32
+        ensures { result ≡ self.now.version }
+    {
+        self.version
+    }
+
+    /// A law: while the store is open, a crash leaves what is there, and nothing else.
+    pub fn is_settled(&self)
+        ensures { IsSettledStore self.now }
+    {
+        if let Place::Open(conn) = &self.place {
+            is_settled(conn);
+        }
+    }
+
+    /// Ends the store, and gives its files back, to be opened again.
+    pub fn close(self) -> Files<D>
+        ensures { GivesBack self result }
+    {
+        let Store {
+            place,
+            ready: _,
+            version: _,
+            due: _due,
+            alloc: _,
+        } = self;
+        match place {
+            Place::Open(conn) => shut(conn),
+            Place::Shut(files) => files,
+        }
+    }
+
+    /// Whether a tenant has this digest.
+    pub fn knows(&mut self, digest: &[u8; 32]) -> Result<bool, Unavailable>
+        requires { IsUsable self.old }
+        ensures value { IsLive self.new → IfOk result (λ known.
+            known ≡ is_some (tenants_of self.old digest.now)) }
+        ensures reads { Reads self.old self.new result }
+    {
+        if !self.ready {
+            return Err(Unavailable::Disk);
+        }
+        let Place::Open(conn) = &mut self.place else {
+            return Err(Unavailable::Disk);
+        };
+        let known = knows(conn, digest);
+        self.ready = !is_disk_fault(&known);
+        known
+    }
+
+    /// The digest of the tenant with this name.
+    pub fn digest_of(&mut self, name: &TenantName) -> Result<Option<[u8; 32]>, Unavailable>
+        requires { IsUsable self.old }
+        ensures value { IsLive self.new → IfOk result (λ digest.
+            OfDatabase (λ db. digest ≡ digest_in name.now db.trees) self.old) }
+        ensures reads { Reads self.old self.new result }
+    {
+        if !self.ready {
+            return Err(Unavailable::Disk);
+        }
+        let Place::Open(conn) = &mut self.place else {
+            return Err(Unavailable::Disk);
+        };
+        let digest = digest_of(conn, name);
+        self.ready = !is_disk_fault(&digest);
+        digest
+    }
+
+    /// Adds a tenant, whose machine is a new one.
+    pub fn add_tenant(&mut self, name: &TenantName, digest: &[u8; 32]) -> Result<(), AddTenant>
+        requires { IsUsable self.old }
+        ensures told { IsLive self.new → OfDatabases
+            (λ old new. HasJoined name.now digest.now old new result) self.old self.new }
+        ensures usable { IsUsable self.new }
+        ensures follows { Follows self.old self.new }
+        ensures open { IsHonest self.new → result ≢ Err (AddTenant.Unavailable DiskFailed)
+            → IsLive self.new }
+        ensures finds { Goes self.old self.new (λ db. OfDatabase
+            (λ old. Joined name.now digest.now old db) self.old) }
+        ensures disk { result ≡ Err (AddTenant.Unavailable DiskFailed)
+            → self.new.ready ≡ false }
+    {
+        if !self.ready {
+            return Err(AddTenant::Unavailable(Unavailable::Disk));
+        }
+        let Place::Open(conn) = &mut self.place else {
+            return Err(AddTenant::Unavailable(Unavailable::Disk));
+        };
+        let joined = join(self.alloc, conn, &mut self.due, name, digest);
+        self.ready = !is_disk_fault(&joined);
+        joining_answer(joined)
+    }
+
+    /// Runs a batch of work on the tables of the tenant with this digest, and keeps all of it or
+    /// nothing.
+    pub fn in_batch<W: Work + Drop>(
+        &mut self,
+        digest: &[u8; 32],
+        work: W,
+    ) -> Result<W::Output, BatchFault>
+        requires { IsUsable self.old }
+        ensures run { IsLive self.new → IsRun (W.gives work) digest.now (tenants_of self.old)
+            (tenants_of self.new) result }
+        ensures usable { IsUsable self.new }
+        ensures follows { Follows self.old self.new }
+        ensures open { IsHonest self.new → result ≢ Err (AreUnavailable DiskFailed)
+            → IsLive self.new }
+        ensures finds { Goes self.old self.new (λ db. OfDatabase
+            (λ old. IsAfterBatch (W.gives work) digest.now old db) self.old) }
+        ensures disk { result ≡ Err (AreUnavailable DiskFailed) → self.new.ready ≡ false }
+    {
+        if !self.ready {
+            return Err(BatchFault::Unavailable(Unavailable::Disk));
+        }
+        let Place::Open(conn) = &mut self.place else {
+            return Err(BatchFault::Unavailable(Unavailable::Disk));
+        };
+        let done = in_batch(conn, &mut self.due, digest, work);
+        self.ready = !is_disk_fault(&done);
+        batch_answer(done)
+    }
+}
+
+impl<St: Start> Store<FileFrom<St>> {
+    /// As `create`, at a path, whose two files are made where they are missing. `St` stands for what
+    /// they hold; which one it is matters to the clauses on values alone.
+    pub fn create_at(
+        rt: &HostRuntime,
+        path: &str,
+        start: St,
+        options: Options,
+    ) -> Result<Store<FileFrom<St>>, OpenFault>
+        ensures usable { IfOk result IsUsable }
+        ensures ready { IfOk result IsReady }
+        ensures current { IfOk result (λ store. version_of store ≡ CURRENT_VERSION) }
+        ensures empty { IfOk result (λ store. IsHonest store → IsLive store
+            × OfDatabase (λ db. IsEmptyLedger db.trees) store) }
+    {
+        let files = files_at(rt, path, start)?;
+        match Store::create(rt.alloc(), files, options) {
+            Ok(store) => Ok(store),
+            Err((fault, _files)) => Err(fault),
+        }
+    }
+}
