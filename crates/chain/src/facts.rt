@@ -1,7 +1,6 @@
 ghost use Rattle.std.specs.Prelude.{◌≡◌};
 ghost use Rattle.std.specs.Option.{option_map, option_and_then};
 ghost use Rattle.records.specs.Machine.{transfer_with};
-ghost use Rattle.records.specs.Sides.{event_account_on};
 ghost use Rattle.records.specs.Facts.{facts_of, with_pending_amount, pending_amount_in};
 ghost use Rattle.records.specs.Facts.{pending_transfer_in, account_id_of, account_in};
 ghost use Rattle.chain.specs.Tables.{Tells, Leaves, same};
@@ -28,8 +27,8 @@ pub fn transfer_facts<T: Tables>(
     let existing = existing_transfer(tables, ev.id)?;
     let failed = tables.failed(ev.id)?;
     let pending = pending_transfer(tables, ev)?;
-    let debit = account_of(tables, account_id(Side::Debit, ev, &pending))?;
-    let credit = account_of(tables, account_id(Side::Credit, ev, &pending))?;
+    let debit = account_of(tables, ev.account_id(Side::Debit, &pending))?;
+    let credit = account_of(tables, ev.account_id(Side::Credit, &pending))?;
     Ok(TransferFacts {
         existing,
         failed,
@@ -92,26 +91,6 @@ fn pending_transfer<T: Tables>(
     };
     let state = tables.pending_state(ev.pending_id)?;
     Ok(Some(PendingTransfer { transfer, state }))
-}
-
-// The account of an event on a side: its own, or for a post or void that of the pending transfer.
-fn account_id(side: Side, ev: &TransferEvent, pending: &Option<PendingTransfer>) -> Option<u128>
-    ensures { result ≡ account_id_of side ev.now pending.now }
-{
-    if ev.flags.is_post_or_void() {
-        pending.map(|pending| pending.transfer.account_on(side))
-    } else {
-        Some(own_account(side, ev))
-    }
-}
-
-fn own_account(side: Side, ev: &TransferEvent) -> u128
-    ensures { result ≡ event_account_on side ev.now }
-{
-    match side {
-        Side::Debit => ev.debit_account_id,
-        Side::Credit => ev.credit_account_id,
-    }
 }
 
 fn account_of<T: Tables>(

@@ -12,7 +12,7 @@ fn refusal(alloc: Global, words: &[&str]) -> Option<ErrorKind> {
 }
 
 #[test]
-fn reads_each_command(rt: HostRuntime) -> Result<(), Fail> {
+fn reads_what_is_answered(rt: HostRuntime) -> Result<(), Fail> {
     let alloc = rt.alloc();
     let none: [&str; 0] = [];
     assert_eq!(rt; command(alloc, none.as_slice())?, Command::Lists);
@@ -31,6 +31,12 @@ fn reads_each_command(rt: HostRuntime) -> Result<(), Fail> {
         requests: 1000,
     };
     assert_eq!(rt; command(alloc, words.as_slice())?, serve);
+    Ok(())
+}
+
+#[test]
+fn reads_what_is_done_to_a_file(rt: HostRuntime) -> Result<(), Fail> {
+    let alloc = rt.alloc();
     let words = [
         "tenant-add",
         "--db",
@@ -115,6 +121,12 @@ fn reads_numbers_to_their_bounds(rt: HostRuntime) -> Result<(), Fail> {
         requests: 18446744073709551615,
     };
     assert_eq!(rt; command(alloc, words.as_slice())?, most);
+    Ok(())
+}
+
+#[test]
+fn refuses_numbers_beyond_their_bounds(rt: HostRuntime) -> Result<(), Fail> {
+    let alloc = rt.alloc();
     let wide = ["serve", "--db", "d", "--port", "65536", "--requests", "0"];
     assert_eq!(rt;
         refusal(alloc, wide.as_slice()),
@@ -172,6 +184,12 @@ fn refuses_missing_and_doubled_options(rt: HostRuntime) -> Result<(), Fail> {
             assert_eq!(rt; twice, Some(ErrorKind::ArgumentConflict), "{option}");
         }
     }
+    Ok(())
+}
+
+#[test]
+fn refuses_a_doubled_flag(rt: HostRuntime) -> Result<(), Fail> {
+    let alloc = rt.alloc();
     let twice = [
         "statement",
         "--db",

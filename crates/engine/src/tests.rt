@@ -180,7 +180,7 @@ fn keeps_failed_ids(rt: HostRuntime) {
 }
 
 #[test]
-fn keeps_sums_and_limits(rt: HostRuntime) {
+fn keeps_sums(rt: HostRuntime) {
     let max = u128::MAX;
     for (debit, credit, flags, want) in [
         (
@@ -218,7 +218,10 @@ fn keeps_sums_and_limits(rt: HostRuntime) {
         let told = refusal(&facts, &transfer(101, 1, 2, 1, flags));
         assert_eq!(rt; told, Some(want));
     }
+}
 
+#[test]
+fn keeps_limits(rt: HostRuntime) {
     let limited = between(found(3, 10, [50, 0, 0, 50]), found(2, 0, [0, 0, 50, 0]));
     let debits = refusal(&limited, &transfer(102, 3, 2, 1, 0));
     assert_eq!(rt; debits, Some(TransferResult::ExceedsCredits));

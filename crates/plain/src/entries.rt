@@ -8,7 +8,6 @@ ghost use Rattle.records.specs.Reads.{is_chosen, is_entry_of};
 ghost use Rattle.plain.specs.Prefixes.{PrefixesFit};
 
 use crate::balances::balances;
-use crate::filters::{is_chosen, is_entry_of, kind_of, side_of};
 use records::{AccountFilter, BalanceAt, Balances, StatementRow, Transfer};
 use std::alloc::{AllocError, Global};
 
@@ -34,7 +33,7 @@ pub(crate) fn balance_rows(
 {
     let mut rows = Vec::new(alloc);
     for (place, entry) in entries.iter().enumerate() {
-        if !is_chosen(asked, entry) {
+        if !asked.is_chosen(entry) {
             continue;
         }
         rows.push(BalanceAt {
@@ -57,14 +56,14 @@ pub(crate) fn statement_rows(
 {
     let mut rows = Vec::new(alloc);
     for (place, entry) in entries.iter().enumerate() {
-        if !is_entry_of(account, entry) {
+        if !entry.is_entry_of(account) {
             continue;
         }
         rows.push(StatementRow {
             timestamp: entry.timestamp,
             transfer_id: entry.id,
-            side: side_of(account, entry),
-            kind: kind_of(entry.flags),
+            side: entry.side_of(account),
+            kind: entry.flags.kind(),
             amount: entry.amount,
             balances: balances_after(entries, place, account),
         })?;

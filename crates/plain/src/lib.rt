@@ -7,8 +7,8 @@ mod book;
 mod book_ledgers;
 mod entries;
 mod fate;
-mod filters;
 mod hand_out;
+mod page;
 mod plain_tables;
 mod search;
 #[cfg(test)]

@@ -1,9 +1,11 @@
 ghost use Rattle.std.specs.Prelude.{◌≡◌};
-ghost use Rattle.records.specs.Sides.{account_on};
+ghost use Rattle.records.specs.Sides.{account_on, event_account_on};
+ghost use Rattle.records.specs.Facts.{account_id_of};
+ghost use Rattle.records.specs.Reads.{is_entry_of, side_of};
 ghost use Rattle.records.specs.Widths.{IsTransferInWidth, IsTransferEventInWidth};
 
 use crate::width::{fits_u16, fits_u32, fits_u64, fits_u128};
-use crate::{Side, TransferFlags};
+use crate::{PendingTransfer, Side, TransferFlags};
 use amount::Amount;
 
 /// A transfer as it was accepted: in a post or void the fields that it takes from its pending
@@ -62,6 +64,24 @@ impl Transfer {
         }
     }
 
+    /// Whether it has the account on either side.
+    pub fn is_entry_of(&self, account: u128) -> bool
+        ensures { result ≡ is_entry_of account self.now }
+    {
+        self.debit_account_id == account || self.credit_account_id == account
+    }
+
+    /// The side on which it has the account; credit where it has it on neither.
+    pub fn side_of(&self, account: u128) -> Side
+        ensures { result ≡ side_of account self.now }
+    {
+        if self.debit_account_id == account {
+            Side::Debit
+        } else {
+            Side::Credit
+        }
+    }
+
     /// Tells that each field is within its width. It does nothing.
     pub fn widths(&self)
         ensures { IsTransferInWidth self.now }
@@ -84,6 +104,29 @@ impl Transfer {
 }
 
 impl TransferEvent {
+    /// The account that it names on this side.
+    pub fn account_on(&self, side: Side) -> u128
+        ensures { result ≡ event_account_on side self.now }
+    {
+        let (debit, credit) = (self.debit_account_id, self.credit_account_id);
+        match side {
+            Side::Debit => debit,
+            Side::Credit => credit,
+        }
+    }
+
+    /// The account that it means on this side: the one that it names, or for a post or void that
+    /// of its pending transfer.
+    pub fn account_id(&self, side: Side, pending: &Option<PendingTransfer>) -> Option<u128>
+        ensures { result ≡ account_id_of side self.now pending.now }
+    {
+        if self.flags.is_post_or_void() {
+            pending.map(|pending| pending.transfer.account_on(side))
+        } else {
+            Some(self.account_on(side))
+        }
+    }
+
     /// Tells that each field is within its width. It does nothing.
     pub fn widths(&self)
         ensures { IsTransferEventInWidth self.now }

@@ -4,8 +4,9 @@ ghost use Rattle.records.specs.Flags.{is_balancing_debit, is_balancing_credit, i
 ghost use Rattle.records.specs.Flags.{is_post_or_void, has_reserved_transfer_flag};
 ghost use Rattle.records.specs.Flags.{are_transfer_flags_exclusive};
 ghost use Rattle.records.specs.Sides.{is_balancing_on};
+ghost use Rattle.records.specs.Reads.{kind_of};
 
-use crate::Side;
+use crate::{Kind, Side};
 
 /// The 16 flag bits of a transfer: 0 linked, 1 pending, 2 post a pending transfer, 3 void a pending
 /// transfer, 4 balancing debit, 5 balancing credit. The other bits are reserved. A transfer with
@@ -54,6 +55,21 @@ impl TransferFlags {
         ensures { result ≡ is_balancing_credit self }
     {
         (self.0 >> 5) % 2 == 1
+    }
+
+    /// What kind of transfer it is that has them.
+    pub fn kind(self) -> Kind
+        ensures { result ≡ kind_of self }
+    {
+        if self.is_post() {
+            Kind::Post
+        } else if self.is_void() {
+            Kind::Void
+        } else if self.is_pending() {
+            Kind::Pending
+        } else {
+            Kind::Single
+        }
     }
 
     /// Whether the event posts or voids a pending transfer.

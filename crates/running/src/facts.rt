@@ -1,7 +1,6 @@
 ghost use Rattle.std.specs.Prelude.{◌≡◌};
 ghost use Rattle.std.specs.Option.{option_map, option_and_then};
 ghost use Rattle.records.specs.Machine.{Machine, transfer_with};
-ghost use Rattle.records.specs.Sides.{event_account_on};
 ghost use Rattle.records.specs.Facts.{facts_of, account_in, state_in, pending_transfer_in, with_pending_amount, pending_amount_in, account_id_of};
 ghost use Rattle.running.specs.Running.{IsRunning};
 
@@ -45,8 +44,8 @@ impl Running {
     {
         let existing = self.existing(ev.id);
         let pending = self.pending_transfer(ev);
-        let debit = self.account_of(account_id(Side::Debit, ev, &pending));
-        let credit = self.account_of(account_id(Side::Credit, ev, &pending));
+        let debit = self.account_of(ev.account_id(Side::Debit, &pending));
+        let credit = self.account_of(ev.account_id(Side::Credit, &pending));
         TransferFacts {
             existing,
             failed: false,
@@ -108,24 +107,4 @@ fn state_of(row: Option<StatusRow>) -> Option<PendingState>
     ensures { result ≡ option_map (λ row. row.state) row }
 {
     row.map(|row| row.state)
-}
-
-// The account of an event on a side: its own, or for a post or void that of the pending transfer.
-fn account_id(side: Side, ev: &TransferEvent, pending: &Option<PendingTransfer>) -> Option<u128>
-    ensures { result ≡ account_id_of side ev.now pending.now }
-{
-    if ev.flags.is_post_or_void() {
-        pending.map(|pending| pending.transfer.account_on(side))
-    } else {
-        Some(own_account(side, ev))
-    }
-}
-
-fn own_account(side: Side, ev: &TransferEvent) -> u128
-    ensures { result ≡ event_account_on side ev.now }
-{
-    match side {
-        Side::Debit => ev.debit_account_id,
-        Side::Credit => ev.credit_account_id,
-    }
 }

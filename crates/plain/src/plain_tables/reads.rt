@@ -7,7 +7,7 @@ ghost use Rattle.records.specs.Reads.{history_balances_of, statement_of};
 
 use super::PlainTables;
 use crate::entries::{balance_rows, statement_rows};
-use crate::filters::{is_chosen, page};
+use crate::page::page;
 use crate::search::{find_account, find_transfer};
 use chain::Listed;
 use engine::sums_fit;
@@ -80,7 +80,7 @@ impl PlainTables {
             .transfers
             .iter()
             .copied()
-            .filter(|entry| is_chosen(asked, entry))
+            .filter(|entry| asked.is_chosen(entry))
             .collect(alloc)?;
         Ok(page(asked, chosen))
     }

@@ -4,7 +4,7 @@ use records::{AccountEvent, AccountFlags, TransferEvent, TransferFlags};
 use std::test::Fail;
 
 #[test]
-fn reads_every_field(rt: HostRuntime) -> Result<(), Fail> {
+fn reads_every_field_of_a_transfer(rt: HostRuntime) -> Result<(), Fail> {
     let body = concat!(
         r#"[{"id":"1","debit_account_id":"2","credit_account_id":"3","amount":"4","#,
         r#""pending_id":"5","user_data_128":"340282366920938463463374607431768211455","#,
@@ -28,7 +28,11 @@ fn reads_every_field(rt: HostRuntime) -> Result<(), Fail> {
         timestamp: 9,
     };
     assert_eq!(rt; events.as_slice(), [event].as_slice());
+    Ok(())
+}
 
+#[test]
+fn reads_every_field_of_an_account(rt: HostRuntime) -> Result<(), Fail> {
     let body = concat!(
         r#"[{"id":"1","debits_pending":"2","debits_posted":"3","credits_pending":"4","#,
         r#""credits_posted":"5","user_data_128":"6","user_data_64":"7","user_data_32":8,"#,

@@ -47,13 +47,16 @@ fn tells_results(rt: HostRuntime) -> Result<(), Fail> {
 }
 
 #[test]
-fn tells_accounts(rt: HostRuntime) -> Result<(), Fail> {
+fn tells_no_accounts(rt: HostRuntime) -> Result<(), Fail> {
     let outcome = Outcome::Accounts {
         clock: 4,
         accounts: Vec::new(rt.alloc()).into(),
     };
-    is_json(&rt, &outcome, "27", r#"{"accounts":[],"clock":"4"}"#)?;
+    is_json(&rt, &outcome, "27", r#"{"accounts":[],"clock":"4"}"#)
+}
 
+#[test]
+fn tells_accounts(rt: HostRuntime) -> Result<(), Fail> {
     let plain = AccountWithBalances {
         account: Account {
             id: 1,
@@ -93,43 +96,47 @@ fn tells_accounts(rt: HostRuntime) -> Result<(), Fail> {
     is_json(&rt, &outcome, "492", body)
 }
 
+/// A post.
+const SMALL: Transfer = Transfer {
+    id: 5,
+    debit_account_id: 3,
+    credit_account_id: 2,
+    amount: Amount::MAX,
+    pending_id: 7,
+    user_data_128: 10,
+    user_data_64: 12,
+    user_data_32: 11,
+    timeout: 8,
+    ledger: 6,
+    code: 1,
+    flags: TransferFlags(4),
+    timestamp: 9,
+    at: 13,
+};
+
+/// A transfer whose fields are as wide as they can be, all but its amount.
+const LARGE: Transfer = Transfer {
+    id: u128::MAX,
+    debit_account_id: u128::MAX,
+    credit_account_id: u128::MAX,
+    amount: Amount::ZERO,
+    pending_id: u128::MAX,
+    user_data_128: u128::MAX,
+    user_data_64: u64::MAX,
+    user_data_32: u32::MAX,
+    timeout: u32::MAX,
+    ledger: u32::MAX,
+    code: u16::MAX,
+    flags: TransferFlags(u16::MAX),
+    timestamp: u64::MAX,
+    at: u64::MAX,
+};
+
 #[test]
 fn tells_transfers(rt: HostRuntime) -> Result<(), Fail> {
-    let small = Transfer {
-        id: 5,
-        debit_account_id: 3,
-        credit_account_id: 2,
-        amount: Amount::MAX,
-        pending_id: 7,
-        user_data_128: 10,
-        user_data_64: 12,
-        user_data_32: 11,
-        timeout: 8,
-        ledger: 6,
-        code: 1,
-        flags: TransferFlags(4),
-        timestamp: 9,
-        at: 13,
-    };
-    let large = Transfer {
-        id: u128::MAX,
-        debit_account_id: u128::MAX,
-        credit_account_id: u128::MAX,
-        amount: Amount::ZERO,
-        pending_id: u128::MAX,
-        user_data_128: u128::MAX,
-        user_data_64: u64::MAX,
-        user_data_32: u32::MAX,
-        timeout: u32::MAX,
-        ledger: u32::MAX,
-        code: u16::MAX,
-        flags: TransferFlags(u16::MAX),
-        timestamp: u64::MAX,
-        at: u64::MAX,
-    };
     let outcome = Outcome::Transfers {
         clock: 9,
-        transfers: Vec::from_slice(rt.alloc(), &[small, large])?.into(),
+        transfers: Vec::from_slice(rt.alloc(), &[SMALL, LARGE])?.into(),
     };
     let body = concat!(
         r#"{"clock":"9","transfers":[{"amount":"340282366920938463463374607431768211455","#,

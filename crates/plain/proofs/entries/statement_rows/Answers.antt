@@ -26,10 +26,10 @@ loop-place-preserved c =
     c.loop-place-test.true c.index-entries-place.is
     (grind (arith, c.if-not-is_entry_of.false, c.is_entry_of.ensures))
     (c.in_ok-push.ensures.items
-    ∙ ap (λ (side : Side). rows ++ shown side c.kind_of.result c.balances_after.result ∷ [])
+    ∙ ap (λ (side : Side). rows ++ shown side c.kind.result c.balances_after.result ∷ [])
     c.side_of.ensures
     ∙ ap (λ (kind : Kind). rows
-    ++ shown (side_of c.args.account entry) kind c.balances_after.result ∷ []) c.kind_of.ensures
+    ++ shown (side_of c.args.account entry) kind c.balances_after.result ∷ []) c.kind.ensures
     ∙ ap (λ (b : Balances). rows
     ++ shown (side_of c.args.account entry) (kind_of entry.flags) b ∷ [])
     (c.balances_after.ensures entry c.index-entries-place.is))

@@ -1,4 +1,4 @@
-use Rattle.std.proofs.Common.{◌∙◌, ap, refl, sym, ◌≤◌, ◌-◌, ◌++◌, length, take, drop, append_assoc, arith, rules}
+use Rattle.std.proofs.Common.{◌∙◌, ap, ◌≤◌, ◌-◌, ◌++◌, length, take, drop, append_assoc, arith, rules}
 use Rattle.std.proofs.lemmas.List.{take-append-drop, take_all, length-drop}
 use Rattle.std.proofs.KnownBytes.{Appends-trans}
 use Rattle.records.proofs.drain.put_all.Goals as goal
