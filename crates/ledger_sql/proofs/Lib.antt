@@ -29,3 +29,5 @@ pub mod VersionText
 pub mod MissingLemmas
 pub mod MissingTexts
 pub mod StreamLemmas
+pub mod FillLemmas
+pub mod FillTexts

@@ -39,7 +39,7 @@ use Rattle.ledger_sql.proofs.AnswerLemmas.{plain_query}
 use Rattle.ledger_sql.proofs.KeyLemmas.{filter_both}
 use Rattle.ledger_sql.proofs.PutLemmas.{put_more, put_aside}
 use Rattle.ledger_sql.proofs.ReplaceLemmas.{taken_out, not_missed, numbered_put, numbered_out, one_mapped, int_of}
-use Rattle.ledger_sql.proofs.UpdateLemmas.{HasUpdated, updated, update_schema}
+use Rattle.ledger_sql.proofs.UpdateLemmas.{HasUpdated, no_works, updated, update_schema}
 
 -- no value equals two numbers
 pub one_number : (tenant other : ℤ) (v : Value) → other ≢ tenant → is_int tenant v ≡ true → is_int other v ≡ false
@@ -110,7 +110,7 @@ module _ (sql : List ℕ) (at : ℕ) (terms set : List Term) (tree : ℕ) (t : T
 
     set_inside : WritesInside old new
     set_inside =
-        let up = update_schema sql good old new inside.schema at tree ours t text.listed terms set text.is text.plain here count ran in
+        let up = update_schema sql good old new at tree (no_works old.now.schema inside.schema tree ours) t text.listed terms set text.is text.plain here count ran in
         wrote_inside old new _ _ _ _ up.1 inside.mode up.0
 
     module _ (row : Row) (one : filter test (view tenant old.now.trees) ≡ row ∷ []) (num : IsNumbered (old.now.trees tree)) where
@@ -141,8 +141,8 @@ module _ (sql : List ℕ) (at : ℕ) (terms set : List Term) (tree : ℕ) (t : T
       abbrev ys : List Row
       ys = without_rowid id_of.0 rows
 
-      abbrev up : HasUpdated sql good old new inside.schema at tree ours t text.listed terms set text.is text.plain here r
-      up = (updated sql good old new inside.schema at tree ours t text.listed terms set text.is text.plain here count ran r (passing ∙ one_row.1)).0
+      abbrev up : HasUpdated sql good old new at tree (no_works old.now.schema inside.schema tree ours) t text.listed terms set text.is text.plain here r
+      up = (updated sql good old new at tree (no_works old.now.schema inside.schema tree ours) t text.listed terms set text.is text.plain here count ran r (passing ∙ one_row.1)).0
 
       id_path : id_in (column r 0) ≡ id_of.0
       id_path = ap id_in id_of.1

@@ -31,7 +31,7 @@ use Rattle.sqlite.specs.Does.{Tally}
 use Rattle.sqlite.specs.Rows.{Written}
 use Rattle.sqlite.specs.State.{State, Writes, Executes}
 use Rattle.sqlite.proofs.Callers.{IsPlain, command_of, statement_of, runs_as, one_step, one_permutation}
-use Rattle.ledger_sql.specs.Schema.{ledger_schema, table, to_tenant}
+use Rattle.ledger_sql.specs.Schema.{ledger_schema, balance_schema, table, to_tenant}
 use Rattle.ledger_sql.specs.Effects.{IsLedger, is_stranger}
 use Rattle.ledger_sql.proofs.RunLemmas.{went, same_value}
 use Rattle.ledger_sql.proofs.InsertLemmas.{placed}
@@ -144,9 +144,19 @@ module _ (s : Schema) (h : IsLedger s) (tree : ℕ) (ours : list_any (λ t. t.tr
   pub no_works : (olds news : List Row) → works s Enforced 0 tree olds news ≡ []
   no_works olds news = idle_tables s tree olds news s.tables (subst (λ ts. AllByRecursion (λ t. AllByRecursion (IsIdleRef s tree) t.references) ts) (sym h.tables) own_tables)
 
+-- ---- a file of the balance schema, without strangers
+
+pub no_older_works : (s : Schema) → s ≡ balance_schema → (olds news : List Row) → works s Enforced 0 0 olds news ≡ []
+no_older_works s is olds news =
+    subst (λ s. works s Enforced 0 0 olds news ≡ []) (sym is) (idle_tables balance_schema 0 olds news balance_schema.tables
+    (tt, (tt, ((still 0, tt), ((still 1, tt), ((still 1, tt), ((still 1, tt), ((still 1, tt), ((still 1, tt), tt)))))))))
+  where
+    still : (place : ℕ) → IsIdleRef balance_schema 0 (to_tenant place)
+    still place = inl (refl, refl)
+
 -- ---- the statement
 
-module _ (sql : List ℕ) (params : Row) (old new : State) (h : IsLedger old.now.schema) (at tree : ℕ) (ours : list_any (λ t. t.tree == tree) ledger_schema.tables ≡ true) (t : Table)
+module _ (sql : List ℕ) (params : Row) (old new : State) (at tree : ℕ) (idle : (olds news : List Row) → works old.now.schema Enforced 0 tree olds news ≡ []) (t : Table)
     (listed : slice_get old.now.schema.tables at ≡ Some (placed tree (table t.name t.columns t.key t.primary t.uniques t.checks t.references))) (terms set : List Term)
     (is : command_of (understood old.now.schema sql) ≡ Update at (record { lets = []; body = plain_query tree terms (col 1 0 ∷ col 1 0 ∷ set) [] })) (plain : IsPlain (understood old.now.schema sql))
     (here : (db : Trees) → overlay db [] tree ≡ db tree) where
@@ -180,7 +190,7 @@ module _ (sql : List ℕ) (params : Row) (old new : State) (h : IsLedger old.now
       let moved : IsPermutation (map show (filter passes (db tree))) given.0 = answered tree terms (col 1 0 ∷ col 1 0 ∷ set) [] here db params given.0 (given.1.answer Null) in
       let rows : given.0 ≡ show r ∷ [] = one_permutation (show r) given.0 (subst (λ xs. IsPermutation (map show xs) given.0) one moved) in
       let edit : List Row → Edit = λ rows. edit_of db it (ids_of rows) Given 1 rows in
-      let none = no_works schema h tree ours (taken_by db (edit given.0)) (edit given.0).news in (
+      let none = idle (taken_by db (edit given.0)) (edit given.0).news in (
         record {
           next = written.0;
           applies = subst (λ rows. Applies schema Enforced db (edit rows) written.0) rows (one_step schema Enforced db written.0 (edit given.0) none written.1);

@@ -1,5 +1,5 @@
--- What the UPDATE of the version means, and what it replaces.
-use Rattle.std.proofs.Common.{◌≡◌, ◌≢◌, ℕ, ℤ, pos, List, [], ◌∷◌, map, filter, not, codes, true, cond, IsTrue, Ok, Result, OnOk, refl, sym, ap, subst, ◌∙◌}
+-- What the UPDATEs of the version mean, and what they replace.
+use Rattle.std.proofs.Common.{◌≡◌, ◌≢◌, ℕ, ℤ, pos, List, [], ◌∷◌, map, filter, not, codes, true, cond, IsTrue, None, Ok, Result, OnOk, refl, sym, ap, subst, ◌∙◌}
 use Rattle.std.specs.List.{AllByRecursion}
 use Rattle.std.proofs.lemmas.Cmp.{tied_itself}
 use Rattle.std.specs.Ordering.{is_eq}
@@ -10,6 +10,7 @@ use Rattle.sqlite_trees.specs.Tree.{Trees, rowid, has_rowid, put_row, without_ro
 use Rattle.sqlite_trees.specs.View as store
 use Rattle.sqlite_sql.specs.Term.{Term, lit, col, eval_all}
 use Rattle.sqlite_schema.specs.declared.command.Command.TheVariants.{Update}
+use Rattle.sqlite_schema.specs.declared.schema.Keys.TheVariants.{Enforced}
 use Rattle.sqlite_schema.specs.declared.schema.Kind.TheVariants.{Integer}
 use Rattle.sqlite_schema.specs.declared.schema.Schema.{Schema}
 use Rattle.sqlite_schema.specs.declared.schema.Table.{Table}
@@ -17,16 +18,18 @@ use Rattle.sqlite_schema.specs.declared.schema.Index.{Index}
 use Rattle.sqlite_schema.specs.declared.schema.View.{View}
 use Rattle.sqlite_rules.specs.Cast.{cast, cast_all}
 use Rattle.sqlite_rules.specs.Edit.{id_in}
+use Rattle.sqlite_rules.specs.Action.{works}
 use Rattle.sqlite_tied.specs.Compute.{everything}
 use Rattle.sqlite.specs.declared.error.Error.{Error}
 use Rattle.sqlite.specs.Listing.{understood}
-use Rattle.sqlite.specs.State.{State, HasCleanDisk, Survives, CommitsBy, Executes}
-use Rattle.sqlite.proofs.Callers.{IsPlain, command_of}
+use Rattle.sqlite.specs.State.{State, HasCleanDisk, Survives, CommitsBy, Writes, Executes}
+use Rattle.sqlite.proofs.Callers.{IsPlain, command_of, statement_of}
 use Rattle.ledger_sql.specs.Causes.{done_of}
+use Rattle.ledger_sql.specs.Creating.{IsMaking}
 use Rattle.ledger_sql.specs.Effects.{IsLedger, IsInside, WritesInside, HasVersion, SetsVersion}
 use Rattle.ledger_sql.specs.Frames.{Follows}
 use Rattle.ledger_sql.specs.Rowids.{IsNumbered}
-use Rattle.ledger_sql.specs.Schema.{schema_table}
+use Rattle.ledger_sql.specs.Schema.{schema_table, balance_schema}
 use Rattle.ledger_sql.specs.TableRows.{cells_from, version_rows}
 use Rattle.ledger_sql.proofs.AddLemmas.{cast_null, cast_whole}
 use Rattle.ledger_sql.proofs.WriteLemmas.{wrote_inside, statement_ok, statement_follows, writes_stay}
@@ -34,20 +37,7 @@ use Rattle.ledger_sql.proofs.AnswerLemmas.{plain_query}
 use Rattle.ledger_sql.proofs.ReplaceLemmas.{numbered_put, numbered_out, one_mapped, int_of}
 use Rattle.ledger_sql.proofs.SelectTexts.{ledger_with, ledger_is}
 use Rattle.ledger_sql.proofs.SetLemmas.{IsUpdateText}
-use Rattle.ledger_sql.proofs.UpdateLemmas.{HasUpdated, updated, update_schema}
-
-abbrev pub set_version_text : List ℕ
-set_version_text = codes "UPDATE schema SET version = 3"
-
-abbrev set_version_set : List Term
-set_version_set = lit Null ∷ lit (Int (pos 3)) ∷ []
-
-set_version_means : (more : List Table) (indexes : List Index) (views : List View) → IsUpdateText set_version_text (ledger_with more indexes views) 0 [] set_version_set 0 schema_table
-unfolding understood everything
-set_version_means more indexes views = record { is = refl; plain = (refl, refl); listed = refl }
-
-set_version_is : (s : Schema) → IsLedger s → IsUpdateText set_version_text s 0 [] set_version_set 0 schema_table
-set_version_is s h = subst (λ s. IsUpdateText set_version_text s 0 [] set_version_set 0 schema_table) (sym (ledger_is s h)) (set_version_means h.more s.indexes s.views)
+use Rattle.ledger_sql.proofs.UpdateLemmas.{HasUpdated, no_works, no_older_works, updated, update_schema}
 
 -- a table of one row has none left without it
 one_out : (r : Row) (id : ℤ) → rowid r ≡ Int id → without_rowid id (r ∷ []) ≡ []
@@ -55,59 +45,111 @@ one_out r id is =
     let same : has_rowid id r ≡ true = ap (λ v. is_eq (value_cmp v (Int id))) is ∙ ap is_eq (tied_itself value_cmp_total (Int id)) in
     ap (λ b. cond (not b) (r ∷ []) []) same
 
-module _ (old new : State) where
-  module _ (inside : IsInside old) (count : ℕ) (ran : Executes set_version_text [] old new (Ok count)) where
-    text : IsUpdateText set_version_text old.now.schema 0 [] set_version_set 0 schema_table
-    text = set_version_is old.now.schema inside.schema
+abbrev version_set : ℤ → List Term
+version_set version = lit Null ∷ lit (Int version) ∷ []
 
-    version_inside : WritesInside old new
-    version_inside =
-        let up = update_schema set_version_text [] old new inside.schema 0 0 refl schema_table text.listed [] set_version_set text.is text.plain (λ _. refl) count ran in
-        wrote_inside old new _ _ _ _ up.1 inside.mode up.0
+-- the text sets the version
+abbrev IsVersionText : List ℕ → ℤ → Schema → Type 0
+IsVersionText sql version schema = IsUpdateText sql schema 0 [] (version_set version) 0 schema_table
 
-    module _ (was : Row) (one : version_rows old.now.trees ≡ was ∷ []) (num : IsNumbered (old.now.trees 0)) where
-      one_row : (r : Row) × (old.now.trees 0 ≡ r ∷ []) × (cells_from 2 1 r ≡ was)
-      one_row = one_mapped (cells_from 2 1) (old.now.trees 0) was one
+module _ (sql : List ℕ) (version : ℤ) (old new : State) (text : IsVersionText sql version old.now.schema) (idle : (olds news : List Row) → works old.now.schema Enforced 0 0 olds news ≡ [])
+    (mode : IsTrue old.in_transaction) (count : ℕ) (ran : Executes sql [] old new (Ok count)) where
+  wrote : (new.now.schema ≡ old.now.schema) × Writes old new None (Update 0 (record { lets = []; body = plain_query 0 [] (col 1 0 ∷ col 1 0 ∷ version_set version) [] })) (statement_of sql (understood old.now.schema sql)) [] count
+  wrote = update_schema sql [] old new 0 0 idle schema_table text.listed [] (version_set version) text.is text.plain (λ _. refl) count ran
 
-      abbrev r : Row
-      r = one_row.0
+  version_inside : WritesInside old new
+  version_inside = wrote_inside old new _ _ _ _ wrote.1 mode wrote.0
 
-      id_of : (id : ℤ) × (rowid r ≡ Int id)
-      id_of = int_of (rowid r) (subst (AllByRecursion (λ x. IsTrue (store.is_int (rowid x)))) one_row.1 num.whole).0
+  module _ (was : Row) (one : version_rows old.now.trees ≡ was ∷ []) (num : IsNumbered (old.now.trees 0)) where
+    one_row : (r : Row) × (old.now.trees 0 ≡ r ∷ []) × (cells_from 2 1 r ≡ was)
+    one_row = one_mapped (cells_from 2 1) (old.now.trees 0) was one
 
-      abbrev row : Row
-      row = Int id_of.0 ∷ Null ∷ Int (pos 3) ∷ []
+    abbrev r : Row
+    r = one_row.0
 
-      abbrev up : HasUpdated set_version_text [] old new inside.schema 0 0 refl schema_table text.listed [] set_version_set text.is text.plain (λ _. refl) r
-      up = (updated set_version_text [] old new inside.schema 0 0 refl schema_table text.listed [] set_version_set text.is text.plain (λ _. refl) count ran r (ap (filter (λ _. true)) one_row.1)).0
+    id_of : (id : ℤ) × (rowid r ≡ Int id)
+    id_of = int_of (rowid r) (subst (AllByRecursion (λ x. IsTrue (store.is_int (rowid x)))) one_row.1 num.whole).0
 
-      id_path : id_in (column r 0) ≡ id_of.0
-      id_path = ap id_in id_of.1
+    abbrev row : Row
+    row = Int id_of.0 ∷ Null ∷ Int version ∷ []
 
-      row_path : cast Integer (column r 0) ∷ cast_all schema_table.columns (eval_all set_version_set ([] ∷ r ∷ [])) ≡ row
-      row_path i = (ap (cast Integer) id_of.1 ∙ cast_whole id_of.0) i ∷ cast_null i ∷ cast_whole (pos 3) i ∷ []
+    abbrev up : HasUpdated sql [] old new 0 0 idle schema_table text.listed [] (version_set version) text.is text.plain (λ _. refl) r
+    up = (updated sql [] old new 0 0 idle schema_table text.listed [] (version_set version) text.is text.plain (λ _. refl) count ran r (ap (filter (λ _. true)) one_row.1)).0
 
-      new_tree : new.now.trees 0 ≡ row ∷ []
-      new_tree = ap (λ (t : Trees). t 0) up.trees ∙ up.applies.rows ∙ (λ i. put_row (row_path i) (without_rowid (id_path i) (one_row.1 i))) ∙ ap (put_row row) (one_out r id_of.0 id_of.1)
+    id_path : id_in (column r 0) ≡ id_of.0
+    id_path = ap id_in id_of.1
 
-      pub has_version : HasVersion (pos 3) old new
-      has_version = record {
-        version_is = ap (map (cells_from 2 1)) new_tree;
-        tables = subst (λ (trees : Trees). AllByRecursion (λ u. u.tree ≢ 0 → trees u.tree ≡ old.now.trees u.tree) old.now.schema.tables) (sym up.trees) up.applies.tables;
-        numbered = subst IsNumbered (sym new_tree) (numbered_put row [] refl (subst IsNumbered (one_out r id_of.0 id_of.1) (numbered_out id_of.0 (r ∷ []) (subst IsNumbered one_row.1 num))));
-      }
+    row_path : cast Integer (column r 0) ∷ cast_all schema_table.columns (eval_all (version_set version) ([] ∷ r ∷ [])) ≡ row
+    row_path i = (ap (cast Integer) id_of.1 ∙ cast_whole id_of.0) i ∷ cast_null i ∷ cast_whole version i ∷ []
 
-  version_by : HasCleanDisk old → (HasCleanDisk old → IsInside old) → (count : ℕ) → Executes set_version_text [] old new (Ok count) → SetsVersion (pos 3) old new
-  version_by clean inside count ran = record { inside = version_inside (inside clean) count ran; one = has_version (inside clean) count ran }
+    new_tree : new.now.trees 0 ≡ row ∷ []
+    new_tree = ap (λ (t : Trees). t 0) up.trees ∙ up.applies.rows ∙ (λ i. put_row (row_path i) (without_rowid (id_path i) (one_row.1 i))) ∙ ap (put_row row) (one_out r id_of.0 id_of.1)
 
-  module _ (inside : HasCleanDisk old → IsInside old) (survives : Survives old new (CommitsBy set_version_text [] old)) where
-    meant : HasCleanDisk old → IsTrue old.in_transaction
-        × ((schema : Schema) × (old.now.schema ≡ schema) × (command_of (understood schema set_version_text) ≡ Update 0 (record { lets = []; body = plain_query 0 [] (col 1 0 ∷ col 1 0 ∷ set_version_set) [] })) × IsPlain (understood schema set_version_text))
-    meant clean = let it = inside clean in let text = set_version_is old.now.schema it.schema in (it.mode, (old.now.schema, refl, text.is, text.plain))
+    has_version : HasVersion version old new
+    has_version = record {
+      version_is = ap (map (cells_from 2 1)) new_tree;
+      tables = subst (λ (trees : Trees). AllByRecursion (λ u. u.tree ≢ 0 → trees u.tree ≡ old.now.trees u.tree) old.now.schema.tables) (sym up.trees) up.applies.tables;
+      numbered = subst IsNumbered (sym new_tree) (numbered_put row [] refl (subst IsNumbered (one_out r id_of.0 id_of.1) (numbered_out id_of.0 (r ∷ []) (subst IsNumbered one_row.1 num))));
+    }
 
-    pub set_version_ok : (r : Result ℕ Error) → HasCleanDisk new → Executes set_version_text [] old new r → OnOk (done_of r) (SetsVersion (pos 3) old new)
-    set_version_ok = statement_ok set_version_text [] old new (SetsVersion (pos 3) old new) (λ clean. version_by clean inside) survives
+  sets_version : SetsVersion version old new
+  sets_version = record { inside = version_inside; sound = wrote.1.sound; one = has_version }
 
-    pub set_version_follows : (r : Result ℕ Error) → (HasCleanDisk new → Executes set_version_text [] old new r) → Follows old new
-    set_version_follows = statement_follows set_version_text [] old new (Update 0 (record { lets = []; body = plain_query 0 [] (col 1 0 ∷ col 1 0 ∷ set_version_set) [] })) tt (SetsVersion (pos 3) old new)
-        (λ a. writes_stay old new a.inside) meant (λ clean. version_by clean inside) survives
+-- the clauses of a function of such a text, over the schemas that it is meant for
+module _ (sql : List ℕ) (version : ℤ) (Over : Schema → Type 0) (means : (s : Schema) → Over s → IsVersionText sql version s) (idle : (s : Schema) → Over s → (olds news : List Row) → works s Enforced 0 0 olds news ≡ [])
+    (old new : State) (inside : HasCleanDisk old → Over old.now.schema × IsTrue old.in_transaction) (survives : Survives old new (CommitsBy sql [] old)) where
+  version_by : HasCleanDisk old → (count : ℕ) → Executes sql [] old new (Ok count) → SetsVersion version old new
+  version_by clean count ran = let it = inside clean in sets_version sql version old new (means old.now.schema it.0) (idle old.now.schema it.0) it.1 count ran
+
+  meant : HasCleanDisk old → IsTrue old.in_transaction
+      × ((schema : Schema) × (old.now.schema ≡ schema) × (command_of (understood schema sql) ≡ Update 0 (record { lets = []; body = plain_query 0 [] (col 1 0 ∷ col 1 0 ∷ version_set version) [] })) × IsPlain (understood schema sql))
+  meant clean = let it = inside clean in let text = means old.now.schema it.0 in (it.1, (old.now.schema, refl, text.is, text.plain))
+
+  version_ok : (r : Result ℕ Error) → HasCleanDisk new → Executes sql [] old new r → OnOk (done_of r) (SetsVersion version old new)
+  version_ok = statement_ok sql [] old new (SetsVersion version old new) version_by survives
+
+  version_follows : (r : Result ℕ Error) → (HasCleanDisk new → Executes sql [] old new r) → Follows old new
+  version_follows = statement_follows sql [] old new (Update 0 (record { lets = []; body = plain_query 0 [] (col 1 0 ∷ col 1 0 ∷ version_set version) [] })) tt (SetsVersion version old new)
+      (λ a. writes_stay old new a.inside) meant version_by survives
+
+-- the current version
+abbrev pub set_version_text : List ℕ
+set_version_text = codes "UPDATE schema SET version = 3"
+
+set_version_means : (more : List Table) (indexes : List Index) (views : List View) → IsVersionText set_version_text (pos 3) (ledger_with more indexes views)
+unfolding understood everything
+set_version_means more indexes views = record { is = refl; plain = (refl, refl); listed = refl }
+
+set_version_is : (s : Schema) → IsLedger s → IsVersionText set_version_text (pos 3) s
+set_version_is s h = subst (IsVersionText set_version_text (pos 3)) (sym (ledger_is s h)) (set_version_means h.more s.indexes s.views)
+
+module _ (old new : State) (inside : HasCleanDisk old → IsInside old) (survives : Survives old new (CommitsBy set_version_text [] old)) where
+  both : HasCleanDisk old → IsLedger old.now.schema × IsTrue old.in_transaction
+  both clean = let it = inside clean in (it.schema, it.mode)
+
+  pub set_version_ok : (r : Result ℕ Error) → HasCleanDisk new → Executes set_version_text [] old new r → OnOk (done_of r) (SetsVersion (pos 3) old new)
+  set_version_ok = version_ok set_version_text (pos 3) IsLedger set_version_is (λ s h. no_works s h 0 refl) old new both survives
+
+  pub set_version_follows : (r : Result ℕ Error) → (HasCleanDisk new → Executes set_version_text [] old new r) → Follows old new
+  set_version_follows = version_follows set_version_text (pos 3) IsLedger set_version_is (λ s h. no_works s h 0 refl) old new both survives
+
+-- the version of the balance schema
+abbrev pub balance_version_text : List ℕ
+balance_version_text = codes "UPDATE schema SET version = 2"
+
+balance_version_means : IsVersionText balance_version_text (pos 2) balance_schema
+unfolding understood everything
+balance_version_means = record { is = refl; plain = (refl, refl); listed = refl }
+
+balance_version_is : (s : Schema) → s ≡ balance_schema → IsVersionText balance_version_text (pos 2) s
+balance_version_is s is = subst (IsVersionText balance_version_text (pos 2)) (sym is) balance_version_means
+
+module _ (old new : State) (making : HasCleanDisk old → IsMaking balance_schema old) (survives : Survives old new (CommitsBy balance_version_text [] old)) where
+  made : HasCleanDisk old → (old.now.schema ≡ balance_schema) × IsTrue old.in_transaction
+  made clean = let it = making clean in (it.schema_is, it.mode)
+
+  pub balance_version_ok : (r : Result ℕ Error) → HasCleanDisk new → Executes balance_version_text [] old new r → OnOk (done_of r) (SetsVersion (pos 2) old new)
+  balance_version_ok = version_ok balance_version_text (pos 2) (λ s. s ≡ balance_schema) balance_version_is no_older_works old new made survives
+
+  pub balance_version_follows : (r : Result ℕ Error) → (HasCleanDisk new → Executes balance_version_text [] old new r) → Follows old new
+  balance_version_follows = version_follows balance_version_text (pos 2) (λ s. s ≡ balance_schema) balance_version_is no_older_works old new made survives

@@ -23,11 +23,12 @@ use Rattle.ledger_sql.specs.declared.owned.Owned.{Owned}
 use Rattle.ledger_sql.specs.declared.table_fault.TableFault.{TableFault}
 use Rattle.ledger_sql.specs.Schema.{schema_tree}
 use Rattle.ledger_sql.specs.TableRows.{is_int, cells_from, whole_table, version_rows}
+use Rattle.ledger_sql.specs.Values.{version_values}
 use Rattle.ledger_sql.specs.Queries.{NamesNoTable}
 use Rattle.ledger_sql.specs.Reading.{id_cmp, by_tenant, owned_values, own_rows, ReadsTable, ReadsRows}
-use Rattle.ledger_sql.proofs.AnswerLemmas.{IsOrderedBy, all_shown, all_ordered}
+use Rattle.ledger_sql.proofs.AnswerLemmas.{IsPlainText, IsOrderedBy, all_shown, all_ordered}
 use Rattle.ledger_sql.proofs.KeyLemmas.{columns_from, columns_shown, map_same}
-use Rattle.ledger_sql.proofs.WholeTexts.{IsWhole}
+use Rattle.ledger_sql.proofs.WholeTexts.{IsWhole, version_text}
 
 all_pass : {A : Type 0} (xs : List A) → filter (λ _. true) xs ≡ xs
 all_pass [] = refl
@@ -99,6 +100,16 @@ by_id_and_time t u a b m n = (λ i. ordering_then (value_cmp-Int t u i) (orderin
 
 pub version_view : (db : Trees) → map (λ (r : Row). eval_all (columns_from 2 1) ([] ∷ r ∷ [])) (filter (λ (r : Row). list_all (holds ([] ∷ r ∷ [])) []) (db schema_tree)) ≡ version_rows db
 version_view db = ap (map (λ (r : Row). column r 2 ∷ [])) (all_pass (db schema_tree))
+
+-- all versions that a file has
+pub versions_read : (schema : Schema) (text : IsPlainText version_text schema 0 [] (columns_from 2 1) []) (old new : State)
+    → old.now.schema ≡ schema → {Y E : Type 0} (items_of : Y → List ℤ) (got : Result Y E)
+    → IfOk got (λ y. Shown version_text [] old new (map version_values (items_of y)))
+    → IfOk got (λ y. IsPermutation (version_rows old.now.trees) (map version_values (items_of y)))
+versions_read schema text old new has items_of (Err e) ok = tt
+versions_read schema text old new has items_of (Ok y) ok =
+    subst (λ rows. IsPermutation rows (map version_values (items_of y))) (version_view old.now.trees)
+    (all_shown version_text schema 0 [] (columns_from 2 1) [] text [] old new has (map version_values (items_of y)) ok)
 
 -- a text that is understood names no table that is missing
 pub never_missing : (sql : List ℕ) (schema : Schema) → IsPlain (understood schema sql) → ¬ NamesNoTable schema sql

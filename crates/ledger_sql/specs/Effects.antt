@@ -8,6 +8,7 @@ use Rattle.sqlite_trees.specs.Tree.{Trees}
 use Rattle.sqlite_schema.specs.Names.{same_name}
 use Rattle.sqlite_schema.specs.declared.schema.Table.{Table}
 use Rattle.sqlite_schema.specs.declared.schema.Schema.{Schema}
+use Rattle.sqlite.specs.Effect.{IsDatabase}
 use Rattle.sqlite.specs.State.{State, Shows}
 use Rattle.ledger_sql.specs.Rowids.{IsNumbered}
 use Rattle.ledger_sql.specs.Schema.{ledger_schema, schema_tree}
@@ -93,8 +94,10 @@ pub record HasVersion (version : ℤ) (old new : State) : Type 0 where
   pub tables : OthersStay schema_tree old new
   pub numbered : IsNumbered (new.now.trees schema_tree)
 
--- the transaction goes on, and the one version of the file is replaced
+-- the transaction goes on, what it sees keeps every rule of its tables, and the one version of the
+-- file is replaced
 pub record SetsVersion (version : ℤ) (old new : State) : Type 0 where
   pub inside : WritesInside old new
+  pub sound : IsDatabase new.now
   pub one : (was : Row) → version_rows old.now.trees ≡ was ∷ []
       → IsNumbered (old.now.trees schema_tree) → HasVersion version old new

@@ -15,8 +15,7 @@ mod read;
 pub mod setting;
 pub mod stages;
 mod table_fault;
-#[cfg(test)]
-mod tests;
+pub mod upgrading;
 
 pub use entry_cells::EntryCells;
 pub use entry_sink::EntrySink;

@@ -1,16 +1,16 @@
 //! Tables read whole, in order of tenant and key, whatever version the file has. A table that the
 //! file lacks is told as missing, unless the store fails.
 
-ghost use Rattle.std.specs.Prelude.{◌≡◌, ◌≢◌, ◌⊎◌, Err, codes, string_bytes, IfOk, OnOk};
+ghost use Rattle.std.specs.Prelude.{◌≡◌, ◌≢◌, ◌⊎◌, Err, map, codes, string_bytes, IfOk, OnOk, IsPermutation};
 ghost use Rattle.sqlite.specs.State.{HasCleanDisk, IsUnchanged, IsRolledBack};
 ghost use Rattle.sqlite.specs.Held.{state};
 ghost use Rattle.ledger_sql.specs.Effects.{StartsAs};
 ghost use Rattle.ledger_sql.specs.Frames.{IsKeptOrUndone, Follows};
 ghost use Rattle.ledger_sql.specs.Queries.{LacksTable};
 ghost use Rattle.ledger_sql.specs.Reading.{clock_cmp, account_cmp, transfer_cmp, balance_cmp, status_cmp, history_cmp, id_cmp, directory_cmp, ReadsTable, ReadsRows};
-ghost use Rattle.ledger_sql.specs.Schema.{after_tenant, list_schema, balance_schema, ledger_schema, clock_tree, account_tree, transfer_tree, balance_tree, status_tree, history_tree, failed_tree};
-ghost use Rattle.ledger_sql.specs.TableRows.{whole_table, directory_rows, clock_rows, account_rows, transfer_rows, balance_rows, status_rows, history_rows, failed_rows};
-ghost use Rattle.ledger_sql.specs.Values.{clock_values, directory_values, account_values, transfer_values, balance_values, status_values, history_values, id_values};
+ghost use Rattle.ledger_sql.specs.Schema.{after_schema, after_tenant, list_schema, balance_schema, ledger_schema, clock_tree, account_tree, transfer_tree, balance_tree, status_tree, history_tree, failed_tree};
+ghost use Rattle.ledger_sql.specs.TableRows.{version_rows, whole_table, directory_rows, clock_rows, account_rows, transfer_rows, balance_rows, status_rows, history_rows, failed_rows};
+ghost use Rattle.ledger_sql.specs.Values.{version_values, clock_values, directory_values, account_values, transfer_values, balance_values, status_values, history_values, id_values};
 
 use crate::owned::Owned;
 use crate::query::all_rows;
@@ -18,6 +18,31 @@ use crate::table_fault::TableFault;
 use rows::{AccountCells, BalanceCells, DirectoryRow, HistoryCells, StatusCells, TransferCells};
 use sqlite::{Alter, Connection};
 use std::alloc::Global;
+
+/// The versions of the schema that a file names: one, where it is a ledger.
+pub fn list_versions<S: Alter>(
+    alloc: Global,
+    conn: &mut Connection<S>,
+) -> Result<Vec<i64>, TableFault>
+    ensures whole { HasCleanDisk (state S.Store conn.new) →
+        StartsAs after_schema.tables (state S.Store conn.old).now.schema → IfOk result (λ read.
+        IsPermutation (version_rows (state S.Store conn.old).now.trees)
+        (map version_values read.items)) }
+    ensures found { HasCleanDisk (state S.Store conn.new) →
+        StartsAs after_schema.tables (state S.Store conn.old).now.schema →
+        result ≢ Err TableFault.Missing }
+    ensures lacking { HasCleanDisk (state S.Store conn.new) →
+        LacksTable (codes "schema") (state S.Store conn.old).now.schema →
+        (result ≡ Err TableFault.Missing) ⊎
+        IsRolledBack (state S.Store conn.old) (state S.Store conn.new) }
+    ensures same { HasCleanDisk (state S.Store conn.new) → OnOk result
+        (IsUnchanged (state S.Store conn.old) (state S.Store conn.new)) }
+    ensures kept { HasCleanDisk (state S.Store conn.new) → IsKeptOrUndone
+        (state S.Store conn.old) (state S.Store conn.new) }
+    ensures follows { Follows (state S.Store conn.old) (state S.Store conn.new) }
+{
+    all_rows(alloc, conn, "SELECT version FROM schema", &[])
+}
 
 /// The directory, in order of the tenants' numbers.
 pub fn directory<S: Alter>(

@@ -1,17 +1,16 @@
 //! The base of the model in a file: one tenant with the accounts 1 to 4, of ledger 7 and code 10.
 
-ghost use Rattle.std.specs.Prelude.{◌≡◌, ◌+◌, IsTrue};
+ghost use Rattle.std.specs.Prelude.{◌≡◌, ◌+◌};
 
 use super::calls::{
-    Conn, Done, add_account, add_balance, add_clock, add_history, add_status, add_tenant,
-    add_transfer, begin, make_tables,
+    Done, add_account, add_balance, add_clock, add_history, add_status, add_tenant, add_transfer,
+    begin, make_tables,
 };
 use super::unclaimed::Unclaimed;
 use amount::Amount;
 use records::{Account, AccountFlags, Balances, PendingState, Sums, Transfer, TransferFlags};
 use rows::{BalanceRow, HistoryRow, StatusRow};
-use sqlite::{Connection, Files, Options};
-use sqlite_disk::{Disk, Memory};
+use sqlite::Connection;
 
 pub const DIGEST: [u8; 32] = [0x66; 32];
 
@@ -95,32 +94,8 @@ pub fn history(account: u32, timestamp: u32, debits: u32, credits: u32) -> Histo
     }
 }
 
-/// A connection to these files.
-pub fn over<D: Disk + Drop>(
-    rt: &HostRuntime,
-    files: Files<Unclaimed<D>>,
-) -> Result<Conn<D>, sqlite::Error>
-    requires log { IsTrue (D.Disk.is_usable files.log.inner) }
-    requires db { IsTrue (D.Disk.is_usable files.db.inner) }
-{
-    match Connection::open_files(rt.alloc(), files, Options::new(7)) {
-        Ok(conn) => Ok(conn),
-        Err((error, _)) => Err(error),
-    }
-}
-
-pub fn in_memory(rt: &HostRuntime) -> Result<Conn<Memory>, sqlite::Error> {
-    over(
-        rt,
-        Files {
-            log: Unclaimed::new(Memory::new(rt.alloc())),
-            db: Unclaimed::new(Memory::new(rt.alloc())),
-        },
-    )
-}
-
 /// Writes the base in a transaction, which stays open.
-pub fn write_base<D: Disk>(conn: &mut Conn<D>) -> Done {
+pub fn write_base<S: Unclaimed>(conn: &mut Connection<S>) -> Done {
     begin(conn)?;
     make_tables(conn)?;
     add_tenant(conn, 1, "North", &DIGEST)?;
@@ -133,7 +108,7 @@ pub fn write_base<D: Disk>(conn: &mut Conn<D>) -> Done {
 }
 
 /// Writes the rows that a pending transfer adds.
-pub fn write_pending<D: Disk>(conn: &mut Conn<D>, id: u32, timestamp: u32) -> Done {
+pub fn write_pending<S: Unclaimed>(conn: &mut Connection<S>, id: u32, timestamp: u32) -> Done {
     add_transfer(conn, 1, &pending(id, timestamp))?;
     add_status(conn, 1, &status(id, PendingState::Open, timestamp))?;
     add_history(

@@ -1,0 +1,109 @@
+//! The rows that an upgrade computes, written into the tables of the balance schema inside the
+//! transaction that made these, and that schema's version.
+
+ghost use Rattle.std.specs.Prelude.{pos, [], ◌∷◌, OnOk, OnErr};
+ghost use Rattle.sqlite.specs.State.{HasCleanDisk};
+ghost use Rattle.sqlite.specs.Held.{state};
+ghost use Rattle.ledger_sql.specs.Creating.{IsMaking};
+ghost use Rattle.ledger_sql.specs.Effects.{AddsRows, SetsVersion};
+ghost use Rattle.ledger_sql.specs.Frames.{IsKeptOrUndone, Follows};
+ghost use Rattle.ledger_sql.specs.Schema.{balance_schema, balance_tree, status_tree, history_tree};
+ghost use Rattle.ledger_sql.specs.TableRows.{balance_rows, status_rows, history_rows};
+ghost use Rattle.ledger_sql.specs.Values.{balance_values, status_values, history_values};
+
+use crate::cause::done;
+use records::Unavailable;
+use rows::{BalanceCells, HistoryCells, StatusCells};
+use sqlite::{Alter, Connection, params};
+
+/// Adds the balances of a tenant's account.
+pub fn fill_balance<S: Alter>(
+    conn: &mut Connection<S>,
+    tenant: i64,
+    cells: &BalanceCells,
+) -> Result<(), Unavailable>
+    requires { HasCleanDisk (state S.Store conn.old) → IsMaking balance_schema
+        (state S.Store conn.old) }
+    ensures ok { HasCleanDisk (state S.Store conn.new) → OnOk result
+        (AddsRows balance_rows balance_tree tenant (balance_values cells.now ∷ [])
+        (state S.Store conn.old) (state S.Store conn.new)) }
+    ensures err { HasCleanDisk (state S.Store conn.new) → OnErr result
+        (IsKeptOrUndone (state S.Store conn.old) (state S.Store conn.new)) }
+    ensures follows { Follows (state S.Store conn.old) (state S.Store conn.new) }
+{
+    done(conn.execute(
+        "INSERT INTO balance (tenant, account, dp, dd, cp, cc) VALUES (?1, ?2, ?3, ?4, ?5, ?6)",
+        params![
+            tenant,
+            cells.account.as_slice(),
+            cells.dp.as_slice(),
+            cells.dd.as_slice(),
+            cells.cp.as_slice(),
+            cells.cc.as_slice()
+        ],
+    ))
+}
+
+/// Adds what has become of a tenant's pending transfer.
+pub fn fill_status<S: Alter>(
+    conn: &mut Connection<S>,
+    tenant: i64,
+    cells: &StatusCells,
+) -> Result<(), Unavailable>
+    requires { HasCleanDisk (state S.Store conn.old) → IsMaking balance_schema
+        (state S.Store conn.old) }
+    ensures ok { HasCleanDisk (state S.Store conn.new) → OnOk result
+        (AddsRows status_rows status_tree tenant (status_values cells.now ∷ [])
+        (state S.Store conn.old) (state S.Store conn.new)) }
+    ensures err { HasCleanDisk (state S.Store conn.new) → OnErr result
+        (IsKeptOrUndone (state S.Store conn.old) (state S.Store conn.new)) }
+    ensures follows { Follows (state S.Store conn.old) (state S.Store conn.new) }
+{
+    done(conn.execute(
+        "INSERT INTO status (tenant, transfer, state, due) VALUES (?1, ?2, ?3, ?4)",
+        params![tenant, cells.transfer.as_slice(), cells.state, cells.due],
+    ))
+}
+
+/// Adds a tenant's account's balances after one of its entries.
+pub fn fill_history<S: Alter>(
+    conn: &mut Connection<S>,
+    tenant: i64,
+    cells: &HistoryCells,
+) -> Result<(), Unavailable>
+    requires { HasCleanDisk (state S.Store conn.old) → IsMaking balance_schema
+        (state S.Store conn.old) }
+    ensures ok { HasCleanDisk (state S.Store conn.new) → OnOk result
+        (AddsRows history_rows history_tree tenant (history_values cells.now ∷ [])
+        (state S.Store conn.old) (state S.Store conn.new)) }
+    ensures err { HasCleanDisk (state S.Store conn.new) → OnErr result
+        (IsKeptOrUndone (state S.Store conn.old) (state S.Store conn.new)) }
+    ensures follows { Follows (state S.Store conn.old) (state S.Store conn.new) }
+{
+    done(conn.execute(
+        "INSERT INTO history (tenant, account, timestamp, dp, dd, cp, cc) VALUES (?1, ?2, ?3, \
+            ?4, ?5, ?6, ?7)",
+        params![
+            tenant,
+            cells.account.as_slice(),
+            cells.timestamp,
+            cells.dp.as_slice(),
+            cells.dd.as_slice(),
+            cells.cp.as_slice(),
+            cells.cc.as_slice()
+        ],
+    ))
+}
+
+/// Sets the version of the file to that of the balance schema.
+pub fn set_balance_version<S: Alter>(conn: &mut Connection<S>) -> Result<(), Unavailable>
+    requires { HasCleanDisk (state S.Store conn.old) → IsMaking balance_schema
+        (state S.Store conn.old) }
+    ensures ok { HasCleanDisk (state S.Store conn.new) → OnOk result
+        (SetsVersion (pos 2) (state S.Store conn.old) (state S.Store conn.new)) }
+    ensures err { HasCleanDisk (state S.Store conn.new) → OnErr result
+        (IsKeptOrUndone (state S.Store conn.old) (state S.Store conn.new)) }
+    ensures follows { Follows (state S.Store conn.old) (state S.Store conn.new) }
+{
+    done(conn.execute("UPDATE schema SET version = 2", &[]))
+}
