@@ -1,0 +1,4 @@
+mod FitLemmas
+mod LedgerLemmas
+mod PlainLemmas
+mod StartLemmas

@@ -1,0 +1,17 @@
+//! Whether the tables that a file has are those of a ledger, without reading a row.
+#![tactic(auto)]
+
+mod checks;
+mod columns;
+mod fits;
+mod forms;
+mod keys;
+mod ledger;
+mod references;
+mod shape;
+mod strangers;
+mod tables;
+#[cfg(test)]
+mod tests;
+
+pub use shape::{has_balances, has_lists, is_balances, is_ledger, is_lists};
