@@ -14,3 +14,4 @@ pub mod OwnTimes
 pub mod PassedFailed
 pub mod PassedRows
 pub mod WorkedDamage
+pub mod NewerRows

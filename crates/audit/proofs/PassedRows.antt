@@ -61,17 +61,17 @@ module _ (laws : Laws) (version : ℕ) (rows : FileRows) (m : Machine) (valid : 
   abbrev told : TypedRows
   told = told_of r.typed
 
-  fits : AreStorable r.typed
+  pub fits : AreStorable r.typed
   fits = storable (rows_for version m) r.typed r.same (laws.fit version m valid)
 
   valid_lists : IsValidEntryByEntry m
   valid_lists = (laws.entry_by_entry m).0 valid
 
-  times : (place : ℕ) → IsToldWrong version rows told kind.Timestamp place → ⊥
+  pub times : (place : ℕ) → IsToldWrong version rows told kind.Timestamp place → ⊥
   unfolding rows_for
   times place wrong = no_bad_time m told valid_lists.timestamps (laws.accounts_up m valid) (laws.transfers_up m valid) r.same.accounts r.same.transfers place wrong
 
-  replayed : Replays (entries_told told) m
+  pub replayed : Replays (entries_told told) m
   unfolding rows_for
   replayed =
       let stored = map Opened told.accounts ++ map Moved told.transfers in
@@ -84,21 +84,21 @@ module _ (laws : Laws) (version : ℕ) (rows : FileRows) (m : Machine) (valid : 
             (in_order_same time_of stored);
       })
 
-  same_clock : told.clock ≡ m.clock
+  pub same_clock : told.clock ≡ m.clock
   unfolding rows_for
   same_clock = sym r.same.clock
 
-  can_come : CanCome (machine_of (entries_told told)) told.clock
+  pub can_come : CanCome (machine_of (entries_told told)) told.clock
   can_come =
       let later = replayed.no_later in
       let bounded = valid_lists.clock.bounded in
       let same = same_clock in
       record { later = omega (arith, later, same); bounded = omega (arith, bounded, same) }
 
-  machine_is : machine_told told ≡ record m { failed = [] }
+  pub machine_is : machine_told told ≡ record m { failed = [] }
   machine_is = told_clock (machine_of (entries_told told)) told.clock can_come ∙ ap (at_clock (machine_of (entries_told told))) same_clock ∙ replayed.same
 
-  told_valid : IsValid (machine_told told)
+  pub told_valid : IsValid (machine_told told)
   told_valid = subst IsValid (sym (told_clock (machine_of (entries_told told)) told.clock can_come)) (laws.replayed (entries_told told) told.clock replayed.next can_come)
 
   all_next : All (IsNextFailed (machine_told told)) m.failed

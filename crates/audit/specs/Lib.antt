@@ -6,3 +6,4 @@ pub mod Damage
 pub mod Sound
 pub mod Stages
 pub mod Replayed
+pub mod Newer

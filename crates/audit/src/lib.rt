@@ -9,8 +9,10 @@ mod derived;
 mod entries;
 mod failed;
 mod law;
+mod newer;
 mod replayed;
 mod shape;
+mod sound_law;
 mod tables;
 mod tenant;
 #[cfg(test)]
@@ -21,3 +23,4 @@ mod told;
 pub use checking::check;
 pub use damage::{AuditFault, Damage, DamageKind};
 pub use law::sound_rows_pass;
+pub use newer::rows_in_version;

@@ -1,0 +1,43 @@
+use Rattle.std.proofs.Common.{◌≡◌, ◌<◌, ℕ, List, map, sym, subst}
+use Rattle.records.specs.Machine.{Machine}
+use Rattle.records.specs.Valid.{IsValid}
+use Rattle.rows.specs.declared.balance_cells.BalanceCells.{BalanceCells}
+use Rattle.rows.specs.declared.status_cells.StatusCells.{StatusCells}
+use Rattle.rows.specs.declared.history_cells.HistoryCells.{HistoryCells}
+use Rattle.rows.specs.Cells.{balance_cells, status_cells, history_cells}
+use Rattle.rows.specs.Prescribed.{rows_for}
+use Rattle.rows.specs.Tables.{history_key}
+use Rattle.rows.specs.TypedRows.{FileRows, lists_of}
+use Rattle.audit.specs.Newer.{none_failed, with_derived, DerivedRowsAreTheirs}
+use Rattle.audit.specs.Order.{in_order}
+use Rattle.audit.specs.Sound.{AreRowsOf}
+use Rattle.audit.proofs.newer.rows_in_version.Goals as goal
+
+module _ (theirs : DerivedRowsAreTheirs) (version to : ℕ) (rows : FileRows) (less : version < 3) (m : Machine) (valid : IsValid m) (are : AreRowsOf version m rows)
+    (balances : List BalanceCells) (statuses : List StatusCells) (history : List HistoryCells)
+    (b : balances ≡ map balance_cells (in_order (λ row. row.account) (rows_for to (none_failed m)).balances))
+    (s : statuses ≡ map status_cells (in_order (λ row. row.transfer) (rows_for to (none_failed m)).statuses))
+    (h : history ≡ map history_cells (in_order history_key (rows_for to (none_failed m)).history)) where
+  theirs_too : AreRowsOf to (none_failed m) (record rows { balances = balances; statuses = statuses; history = history })
+  theirs_too =
+      let is : with_derived to (none_failed m) rows ≡ record rows { balances = balances; statuses = statuses; history = history } =
+      λ i. record rows { balances = sym b i; statuses = sym s i; history = sym h i } in
+      subst (AreRowsOf to (none_failed m)) is (theirs version to rows m less valid are)
+
+pub returns-clause-same : goal.returns-clause-same
+returns-clause-same c m valid are =
+    let running = c.in_ok-running.ensures m valid are in
+    theirs_too c.sound_rows_lead.ensures.derived c.args.version c.args.to (lists_of c.args.rows) c.requires.older m valid are c.in_ok-balances.balances.items c.in_ok-statuses.statuses.items c.in_ok-history.history.items
+    (c.in_ok-balances.ensures (none_failed m) running) (c.in_ok-statuses.ensures (none_failed m) running) (c.in_ok-history.ensures (none_failed m) running)
+
+pub returns-clause-sound : goal.returns-clause-sound
+returns-clause-sound c =
+    let m = c.requires.sound.0 in
+    let valid = c.requires.sound.1 in
+    let are = c.requires.sound.2 in
+    let running = c.in_ok-running.ensures m valid are in (
+      none_failed m,
+      c.sound_rows_lead.ensures.valid m valid,
+      theirs_too c.sound_rows_lead.ensures.derived c.args.version c.args.to (lists_of c.args.rows) c.requires.older m valid are c.in_ok-balances.balances.items c.in_ok-statuses.statuses.items c.in_ok-history.history.items
+          (c.in_ok-balances.ensures (none_failed m) running) (c.in_ok-statuses.ensures (none_failed m) running) (c.in_ok-history.ensures (none_failed m) running),
+    )

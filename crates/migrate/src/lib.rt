@@ -1,0 +1,9 @@
+//! Migration: a ledger from an older version of the schema to a newer one. Each tenant's machine
+//! stays, and its rows become those that it prescribes in the newer version.
+#![tactic(auto)]
+
+mod newer;
+#[cfg(test)]
+mod tests;
+
+pub use newer::rows_in_version;
