@@ -1,0 +1,8 @@
+pub mod AccountRows
+pub mod AccountOrder
+pub mod AccountEntries
+pub mod PageGrowth
+pub mod PageTimes
+pub mod PageValue
+pub mod StatementRows
+pub mod StatementValue

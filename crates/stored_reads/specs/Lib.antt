@@ -1,0 +1,6 @@
+pub mod Bounds
+pub mod Idle
+pub mod Entries
+pub mod Handing
+pub mod Pages
+pub mod Rows

@@ -1,0 +1,83 @@
+//! What a tenant has, found by a whole key.
+
+ghost use Rattle.std.specs.Prelude.{◌≡◌, IfOk, OnOk};
+ghost use Rattle.records.specs.Machine.{account_with};
+ghost use Rattle.records.specs.Balances.{balances_in};
+ghost use Rattle.sqlite.specs.Held.{state};
+ghost use Rattle.sqlite.specs.State.{HasCleanDisk, IsUnchanged};
+ghost use Rattle.ledger_sql.specs.Frames.{IsKeptOrUndone, Follows};
+ghost use Rattle.stored_reads.specs.Idle.{CanRead, machine_at};
+
+use ledger_sql::finding::{find_account, find_clock};
+use records::{Account, Unavailable};
+use sqlite::{Alter, Connection};
+use stored_tables::{TenantNumber, point_reads};
+
+/// A tenant's clock, in nanoseconds, and one of its accounts.
+#[derive(Clone, Copy, Debug, PartialEq, Eq)]
+pub(crate) struct AccountAtClock {
+    pub(crate) clock: u64,
+    pub(crate) account: Option<Account>,
+}
+
+/// The clock, in nanoseconds.
+pub(crate) fn clock<S: Alter>(
+    conn: &mut Connection<S>,
+    tenant: TenantNumber,
+) -> Result<u64, Unavailable>
+    requires { CanRead tenant.0 (state S.Store conn.old) }
+    ensures value { HasCleanDisk (state S.Store conn.new) → IfOk result (λ clock.
+        clock ≡ (machine_at tenant.0 (state S.Store conn.old)).clock) }
+    ensures same { HasCleanDisk (state S.Store conn.new) → OnOk result
+        (IsUnchanged (state S.Store conn.old) (state S.Store conn.new)) }
+    ensures kept { HasCleanDisk (state S.Store conn.new) → IsKeptOrUndone
+        (state S.Store conn.old) (state S.Store conn.new) }
+    ensures follows { Follows (state S.Store conn.old) (state S.Store conn.new) }
+{
+    point_reads();
+    match find_clock(conn, tenant.0)? {
+        Some(clock) => Ok(clock),
+        None => Err(Unavailable::Disk),
+    }
+}
+
+/// The account with this id.
+pub(crate) fn account<S: Alter>(
+    conn: &mut Connection<S>,
+    tenant: TenantNumber,
+    id: u128,
+) -> Result<Option<Account>, Unavailable>
+    requires { CanRead tenant.0 (state S.Store conn.old) }
+    ensures value { HasCleanDisk (state S.Store conn.new) → IfOk result (λ account.
+        account ≡ account_with id (machine_at tenant.0 (state S.Store conn.old)).accounts) }
+    ensures same { HasCleanDisk (state S.Store conn.new) → OnOk result
+        (IsUnchanged (state S.Store conn.old) (state S.Store conn.new)) }
+    ensures kept { HasCleanDisk (state S.Store conn.new) → IsKeptOrUndone
+        (state S.Store conn.old) (state S.Store conn.new) }
+    ensures follows { Follows (state S.Store conn.old) (state S.Store conn.new) }
+{
+    point_reads();
+    find_account(conn, tenant.0, id)
+}
+
+/// The clock, and the account with this id.
+pub(crate) fn account_at_clock<S: Alter>(
+    conn: &mut Connection<S>,
+    tenant: TenantNumber,
+    id: u128,
+) -> Result<AccountAtClock, Unavailable>
+    requires { CanRead tenant.0 (state S.Store conn.old) }
+    ensures clock { HasCleanDisk (state S.Store conn.new) → IfOk result (λ found.
+        found.clock ≡ (machine_at tenant.0 (state S.Store conn.old)).clock) }
+    ensures account { HasCleanDisk (state S.Store conn.new) → IfOk result (λ found.
+        found.account ≡ account_with id (machine_at tenant.0 (state S.Store conn.old)).accounts) }
+    ensures same { HasCleanDisk (state S.Store conn.new) → OnOk result
+        (IsUnchanged (state S.Store conn.old) (state S.Store conn.new)) }
+    ensures kept { HasCleanDisk (state S.Store conn.new) → IsKeptOrUndone
+        (state S.Store conn.old) (state S.Store conn.new) }
+    ensures follows { Follows (state S.Store conn.old) (state S.Store conn.new) }
+{
+    let clock = clock(conn, tenant)?;
+    let account = account(conn, tenant, id)?;
+    Ok(AccountAtClock { clock, account })
+}
