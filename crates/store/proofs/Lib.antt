@@ -5,7 +5,19 @@ mod LedgerLemmas
 mod OutcomeLemmas
 mod EmptyLemmas
 mod ReadLemmas
+pub mod WholeLemmas
+mod Passed
 mod TakenLemmas
 mod JoinLemmas
 mod FreeLemmas
 mod JoinedLemmas
+mod OpenedLemmas
+mod OrderedTables
+mod RisingRows
+mod RuledRows
+mod HeldMachines
+mod OpenedLedger
+mod KeptSets
+mod ReopenLemmas
+mod LookupLemmas
+mod TenantReadLemmas

@@ -112,7 +112,7 @@ sets_after number old now sets sets' set tenant ledgers batch found others cover
           )
     ]
 
-still_quiet : (old new : State) → IsQuiet old → IsSame old new → IsQuiet new
+pub still_quiet : (old new : State) → IsQuiet old → IsSame old new → IsQuiet new
 still_quiet old new quiet same = record {
   mode = same.mode;
   settled = same.now ∙ quiet.settled ∙ sym same.committed;

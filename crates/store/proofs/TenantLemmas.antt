@@ -1,5 +1,6 @@
 -- How the tenants of a database are found.
 use Rattle.std.proofs.Common.{◌≡◌, ◌≢◌, ℕ, ◌≤◌, ℤ, ◌⊎◌, inl, inr, Bool, true, false, cond, Option, Some, None, is_some, option_map, List, [], ◌∷◌, map, filter, length, refl, sym, ap, subst, ◌∙◌, arith}
+use Rattle.std.specs.List.{AllByRecursion}
 use Rattle.std.proofs.lemmas.Bool.Decides.{Decides-int_eq}
 use Rattle.std.proofs.lemmas.Slice.Eq.{bytes_eq-Decides}
 use Rattle.std.proofs.lemmas.List.Elements.{All-cons, All-nil}
@@ -91,9 +92,15 @@ pub digest_found : (name : List ℕ) (trees : Trees) (found : Option DirectoryRo
 digest_found name trees found digest few picks is = is ∙ found_digest name trees found few picks
 
 -- a row is among some rows
-abbrev Among : Row → List Row → Type 0
+abbrev pub Among : Row → List Row → Type 0
 Among row [] = ⊥
 Among row (other ∷ rows) = (row ≡ other) ⊎ Among row rows
+
+-- what holds of each row holds of one that is among them
+pub all_among : (P : Row → Type 0) (rows : List Row) (row : Row) → AllByRecursion P rows → Among row rows → P row
+all_among P [] row all is = absurd is
+all_among P (other ∷ rows) row all (inl same) = subst P (sym same) all.0
+all_among P (other ∷ rows) row all (inr later) = all_among P rows row all.1 later
 
 filter_head : (p : Row → Bool) (rows : List Row) (row : Row) (rest : List Row)
     → filter p rows ≡ row ∷ rest → Among row rows × (p row ≡ true)

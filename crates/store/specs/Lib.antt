@@ -1,9 +1,14 @@
 pub mod Directory
 pub mod DueSets
+pub mod Faults
 pub mod Found
 pub mod Joining
 pub mod Ledger
+pub mod Opened
 pub mod Outcomes
 pub mod Resting
 pub mod Shape
 pub mod Stores
+pub mod Whole
+pub mod TenantReads
+pub mod StoreLaws

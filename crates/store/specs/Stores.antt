@@ -7,7 +7,7 @@ use Rattle.sqlite_wal.specs.Files.{outcomes}
 use Rattle.sqlite_wal.specs.Reads.{AreClean}
 use Rattle.sqlite_wal.specs.Recovery.{Image}
 use Rattle.sqlite.specs.Effect.{Database}
-use Rattle.sqlite.specs.Files.{HoldsDatabase, file_state}
+use Rattle.sqlite.specs.Files.{HoldsDatabase, AreFoundIn, file_state}
 use Rattle.sqlite.specs.State.{HasCleanDisk}
 use Rattle.records.specs.declared.unavailable.Unavailable.{Unavailable}
 use Rattle.records.specs.declared.unavailable.Unavailable.TheVariants.{Disk as DiskFailed}
@@ -21,9 +21,12 @@ use Rattle.store.specs.declared.place.Place.{Place}
 use Rattle.store.specs.declared.place.Place.TheVariants as at
 use Rattle.store.specs.declared.store.Store.{Store}
 
--- what two files may hold after a crash
+-- what an opening may find in two files after a crash: what an outcome holds, where that is a
+-- database at all
 abbrev pub left_in : {D : Type 0} → disk.Ghosts D → Files D → Trees → Type 0
-left_in g files db = (image : Image) × outcomes g files.log files.db image × HoldsDatabase image db
+left_in g files db =
+    (image : Image) × outcomes g files.log files.db image × AreFoundIn image db
+    × ((other : Trees) → HoldsDatabase image other → db ≡ other)
 
 module _ {D : Type 0} {g : disk.Ghosts D} where
   -- the database is open, and the disk was honest so far
@@ -72,6 +75,14 @@ module _ {D : Type 0} {g : disk.Ghosts D} where
   -- what an opening may find in the store's files after a crash
   abbrev pub may_find : Store D g → Trees → Type 0
   may_find store = may_find_at store.place
+
+  -- the store is open, and its database is one of these
+  abbrev pub FindsAt : (Trees → Type 0) → Place D g → Type 0
+  FindsAt X (at.Open conn) = IsTrue (file_state conn).is_open × ∥ X (file_state conn).now.trees ∥₁
+  FindsAt X (at.Shut files) = ⊥
+
+  abbrev pub Finds : Store D g → (Trees → Type 0) → Type 0
+  Finds store X = FindsAt X store.place
 
   -- what every run of calls keeps: what was lost stays so, and no reopening is among them
   pub record Follows (old new : Store D g) : Type 0 where

@@ -1,19 +1,32 @@
 //! The ledgers of many tenants in one database: batches of work, and what a crash leaves of them.
 #![tactic(auto)]
 
+mod at_path;
+mod auditing;
 mod batches;
 mod creating;
 mod directory;
+mod due_sets;
 mod joining;
+mod ledgers;
+mod lookups;
 mod once_failing;
+mod opened;
 mod opening;
 mod place;
 mod probe;
+mod reads;
+mod reopening;
 mod shape;
+mod standing;
 mod store;
+mod tenant_reads;
 #[cfg(test)]
 mod tests;
+mod whole_rows;
+mod whole_tables;
 
+pub use auditing::{Audit, FullAudit};
 pub use joining::AddTenant;
 pub use once_failing::OnceFailing;
 pub use opening::OpenFault;

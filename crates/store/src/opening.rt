@@ -1,12 +1,15 @@
 //! How the database of a store is opened.
 
-ghost use Rattle.std.specs.Prelude.{◌≢◌, IsTrue, IfOk, IfErr};
+ghost use Rattle.std.specs.Prelude.{◌≡◌, ◌≢◌, true, false, IsTrue, IfOk, IfErr};
 ghost use Rattle.sqlite.specs.State.{HasCleanDisk};
 ghost use Rattle.sqlite.specs.Files.{file_state, image_of};
-ghost use Rattle.sqlite_std_file.specs.File.{file_is_usable};
+ghost use Rattle.sqlite_std_file.specs.File.{file_is_usable, IsFresh};
+ghost use Rattle.sqlite_wal.specs.Reads.{AreClean};
 ghost use Rattle.store.specs.Found.{IsOpenAt, LeavesUnopened};
 
 use crate::place::is_settled;
+use audit::{AuditFault, Damage};
+use ledger_sql::TableFault;
 use records::Unavailable;
 use sqlite::{Connection, Error, ErrorCode, FileStore, Files, Options};
 use sqlite_disk::{Disk, Start};
@@ -16,11 +19,54 @@ use std::alloc::Global;
 /// Why a store was not opened.
 #[derive(Clone, Copy, Debug, PartialEq, Eq)]
 pub enum OpenFault {
-    /// The database refuses the files, or the ledger's tables do not come first in them.
+    /// The database refuses the files, or the ledger's tables do not come first in them, or are
+    /// not made as a ledger's.
     Unreadable,
     /// The files hold something else.
     NotALedger,
+    /// The ledger has to be migrated first.
+    OldSchema,
+    /// A later program made the ledger.
+    NewerSchema,
+    /// A tenant's rows are those of no valid machine: the first such place.
+    Damaged(Damage),
     Unavailable(Unavailable),
+}
+
+impl From<Unavailable> for OpenFault {
+    ghost use Rattle.store.specs.declared.opening.OpenFault.TheVariants.{Unavailable as IsUnavailable};
+
+    ghost from_gives = { λ cause fault. fault ≡ IsUnavailable cause };
+
+    fn from(cause: Unavailable) -> OpenFault {
+        OpenFault::Unavailable(cause)
+    }
+}
+
+impl From<TableFault> for OpenFault {
+    ghost use Rattle.store.specs.Faults.{open_fault_of};
+
+    ghost from_gives = { λ cause fault. fault ≡ open_fault_of cause };
+
+    fn from(cause: TableFault) -> OpenFault {
+        match cause {
+            TableFault::Missing => OpenFault::NotALedger,
+            TableFault::Unavailable(cause) => OpenFault::Unavailable(cause),
+        }
+    }
+}
+
+impl From<AuditFault> for OpenFault {
+    ghost use Rattle.store.specs.Faults.{damage_fault};
+
+    ghost from_gives = { λ cause fault. fault ≡ damage_fault cause };
+
+    fn from(cause: AuditFault) -> OpenFault {
+        match cause {
+            AuditFault::Damaged(damage) => OpenFault::Damaged(damage),
+            AuditFault::Memory => OpenFault::Unavailable(Unavailable::Memory),
+        }
+    }
 }
 
 /// What an error at an opening means to the ledger.
@@ -49,6 +95,8 @@ pub(crate) fn open_on<D: Disk + Drop>(
     requires db { IsTrue (D.Disk.is_usable files.db) }
     ensures opened { IfOk result (λ conn. HasCleanDisk (file_state conn)
         → IsOpenAt (image_of D.Disk files) (file_state conn)) }
+    ensures honest { IfOk result (λ conn. HasCleanDisk (file_state conn)
+        → AreClean D.Disk files.log files.db) }
     ensures fault { IfErr result (λ e. e.0 ≢ OpenFault.NotALedger) }
     ensures left { IfErr result (λ e. LeavesUnopened D.Disk files e.1) }
 {
@@ -69,6 +117,7 @@ pub(crate) fn files_at<St: Start>(
 ) -> Result<Files<FileFrom<St>>, OpenFault>
     ensures log { IfOk result (λ files. IsTrue (file_is_usable St.Start files.log)) }
     ensures db { IfOk result (λ files. IsTrue (file_is_usable St.Start files.db)) }
+    ensures fresh { IfOk result (λ files. IsFresh true files.log × IsFresh false files.db) }
 {
     if path == ":memory:" || path.starts_with("file:") {
         return Err(OpenFault::Unreadable);

@@ -33,7 +33,7 @@ pub(crate) fn judged<S: Alter, T>(
 }
 
 /// Why a call failed, asked outside a transaction.
-fn cause<S: Alter>(conn: &mut Connection<S>, why: Unavailable) -> Unavailable
+pub(crate) fn cause<S: Alter>(conn: &mut Connection<S>, why: Unavailable) -> Unavailable
     ensures open { HasCleanDisk (state S.Store conn.new) → result ≢ Disk
         → IsTrue (state S.Store conn.new).is_open }
     ensures same { Live (state S.Store conn.new) → IsQuiet (state S.Store conn.old)

@@ -32,7 +32,7 @@ fn has_ours(schema: &Schema) -> bool
 }
 
 /// Whether a ledger has a table of this name.
-fn is_ours(name: &[u8]) -> bool
+pub(crate) fn is_ours(name: &[u8]) -> bool
     ensures { result ≡ is_ours name.now }
 {
     same_name(b"schema", name)

@@ -11,39 +11,47 @@ ghost use Rattle.ledger_sql.specs.Creating.{IsEmptyLedger};
 ghost use Rattle.store.specs.Directory.{digest_in};
 ghost use Rattle.store.specs.Found.{FindsOurs, LeavesNew};
 ghost use Rattle.store.specs.Joining.{HasJoined, Joined};
+ghost use Rattle.store.specs.Opened.{IsOpenedOn, LeavesRefused};
 ghost use Rattle.store.specs.Stores.{IsLive, IsHonest, IsReady, tenants_of, version_of, GivesBack, IsUsable, Follows, Goes, OfDatabase, OfDatabases, IsSettledStore, Reads};
+ghost use Rattle.store.specs.Whole.{AreAllRows, AreRowsOf};
 ghost use Rattle.store.specs.declared.opening.OpenFault.TheVariants.{NotALedger};
 
+use crate::auditing::Audit;
 use crate::batches::{DueSets, batch_answer, in_batch};
 use crate::creating::fill_new;
 use crate::directory::{digest_of, knows};
 use crate::joining::{AddTenant, join, joining_answer};
-use crate::opening::{OpenFault, files_at, open_on};
+use crate::opened::examine;
+use crate::opening::{OpenFault, open_on};
 use crate::place::{Place, is_settled, shut};
 use crate::probe::is_disk_fault;
+use crate::whole_rows::{all_rows, rows_of};
 use chain::{BatchFault, Work};
 use records::Unavailable;
+use rows::{AllRows, TenantRows, rows_fit};
 use sqlite::{Connection, FileStore, Files, Options};
-use sqlite_disk::{Disk, Start};
-use sqlite_std_file::FileFrom;
+use sqlite_disk::Disk;
 use std::alloc::Global;
 use std::collections::BTreeMap;
+use stored_tables::held_machines;
 use tenants::TenantName;
 
 /// The version of the schema that a new ledger has.
-const CURRENT_VERSION: u32 = 3;
+pub(crate) const CURRENT_VERSION: u32 = 3;
 
 /// The ledgers of many tenants in one database, in two files: a log and the database file.
 ///
 /// From a fault of the disk on each call but `schema` and `close` answers that the disk failed.
 #[derive(Drop)]
 pub struct Store<D: Disk> {
-    place: Place<D>,
+    pub(crate) place: Place<D>,
     /// Whether calls are answered.
-    ready: bool,
-    version: u32,
-    due: DueSets,
-    alloc: Global,
+    pub(crate) ready: bool,
+    pub(crate) version: u32,
+    pub(crate) due: DueSets,
+    /// How the files were opened, and are opened again.
+    pub(crate) options: Options,
+    pub(crate) alloc: Global,
 }
 
 impl<D: Disk + Drop> Store<D> {
@@ -71,8 +79,45 @@ impl<D: Disk + Drop> Store<D> {
             ready: true,
             version: CURRENT_VERSION,
             due: BTreeMap::new(alloc),
+            options,
             alloc,
         })
+    }
+
+    /// Opens the ledger in two files, once all of it was looked at. They are given back where it is
+    /// refused.
+    pub fn open<A: Audit>(
+        alloc: Global,
+        files: Files<D>,
+        options: Options,
+        audit: &A,
+    ) -> Result<Store<D>, (OpenFault, Files<D>)>
+        requires log { IsTrue (D.Disk.is_usable files.log) }
+        requires db { IsTrue (D.Disk.is_usable files.db) }
+        ensures usable { IfOk result IsUsable }
+        ensures ready { IfOk result IsReady }
+        ensures current { IfOk result (λ store. version_of store ≡ CURRENT_VERSION) }
+        ensures opened { IfOk result (λ store. IsHonest store
+            → IsOpenedOn (image_of D.Disk files) store) }
+        ensures honest { IfOk result (λ store. IsHonest store
+            → AreClean D.Disk files.log files.db) }
+        ensures left { IfErr result (λ e. LeavesRefused D.Disk files e.1) }
+    {
+        rows_fit();
+        held_machines();
+        let mut conn = open_on(alloc, files, options)?;
+        let version = CURRENT_VERSION;
+        match examine(alloc, &mut conn, audit) {
+            Ok(due) => Ok(Store {
+                place: Place::Open(conn),
+                ready: true,
+                version,
+                due,
+                options,
+                alloc,
+            }),
+            Err(fault) => Err((fault, shut(conn))),
+        }
     }
 
     /// The version of the schema that the store's making or its last opening set or found.
@@ -80,6 +125,13 @@ impl<D: Disk + Drop> Store<D> {
         ensures { result ≡ self.now.version }
     {
         self.version
+    }
+
+    /// Whether calls are answered: not from a fault of the disk on, until the store is reopened.
+    pub fn is_ready(&self) -> bool
+        ensures { result ≡ self.now.ready }
+    {
+        self.ready
     }
 
     /// A law: while the store is open, a crash leaves what is there, and nothing else.
@@ -93,13 +145,15 @@ impl<D: Disk + Drop> Store<D> {
 
     /// Ends the store, and gives its files back, to be opened again.
     pub fn close(self) -> Files<D>
-        ensures { GivesBack self result }
+        ensures back { GivesBack self result }
+        ensures honest { AreClean D.Disk result.log result.db → IsHonest self }
     {
         let Store {
             place,
             ready: _,
             version: _,
             due: _due,
+            options: _,
             alloc: _,
         } = self;
         match place {
@@ -124,6 +178,42 @@ impl<D: Disk + Drop> Store<D> {
         let known = knows(conn, digest);
         self.ready = !is_disk_fault(&known);
         known
+    }
+
+    /// All rows, tenant by tenant, as the file has them.
+    pub fn all_rows(&mut self) -> Result<AllRows, Unavailable>
+        requires { IsUsable self.old }
+        ensures value { IsLive self.new → IfOk result (λ rows. OfDatabase
+            (λ db. AreAllRows (version_of self.old) db.trees rows) self.old) }
+        ensures reads { Reads self.old self.new result }
+    {
+        if !self.ready {
+            return Err(Unavailable::Disk);
+        }
+        let Place::Open(conn) = &mut self.place else {
+            return Err(Unavailable::Disk);
+        };
+        let rows = all_rows(self.alloc, conn, self.version);
+        self.ready = !is_disk_fault(&rows);
+        rows
+    }
+
+    /// The rows of the tenant with this digest, if there is one. All tables are read for it.
+    pub fn rows_of(&mut self, digest: &[u8; 32]) -> Result<Option<TenantRows>, Unavailable>
+        requires { IsUsable self.old }
+        ensures value { IsLive self.new → IfOk result (λ rows. OfDatabase
+            (λ db. AreRowsOf (version_of self.old) digest.now db.trees rows) self.old) }
+        ensures reads { Reads self.old self.new result }
+    {
+        if !self.ready {
+            return Err(Unavailable::Disk);
+        }
+        let Place::Open(conn) = &mut self.place else {
+            return Err(Unavailable::Disk);
+        };
+        let rows = rows_of(self.alloc, conn, self.version, digest);
+        self.ready = !is_disk_fault(&rows);
+        rows
     }
 
     /// The digest of the tenant with this name.
@@ -196,28 +286,5 @@ impl<D: Disk + Drop> Store<D> {
         let done = in_batch(conn, &mut self.due, digest, work);
         self.ready = !is_disk_fault(&done);
         batch_answer(done)
-    }
-}
-
-impl<St: Start> Store<FileFrom<St>> {
-    /// As `create`, at a path, whose two files are made where they are missing. `St` stands for what
-    /// they hold; which one it is matters to the clauses on values alone.
-    pub fn create_at(
-        rt: &HostRuntime,
-        path: &str,
-        start: St,
-        options: Options,
-    ) -> Result<Store<FileFrom<St>>, OpenFault>
-        ensures usable { IfOk result IsUsable }
-        ensures ready { IfOk result IsReady }
-        ensures current { IfOk result (λ store. version_of store ≡ CURRENT_VERSION) }
-        ensures empty { IfOk result (λ store. IsHonest store → IsLive store
-            × OfDatabase (λ db. IsEmptyLedger db.trees) store) }
-    {
-        let files = files_at(rt, path, start)?;
-        match Store::create(rt.alloc(), files, options) {
-            Ok(store) => Ok(store),
-            Err((fault, _files)) => Err(fault),
-        }
     }
 }

@@ -1,10 +1,17 @@
 use Rattle.std.proofs.Common.{sym, subst, refl}
-use Rattle.store.specs.Stores.{GivesBackAt}
+use Rattle.store.specs.Stores.{GivesBackAt, IsHonestAt}
 use Rattle.store.proofs.store.Store.close.Goals as goal
 
-pub returns-in-Open : goal.returns-in-Open
-returns-in-Open g c =
+pub returns-in-Open-clause-back : goal.returns-in-Open-clause-back
+returns-in-Open-clause-back g c =
     subst (λ place. GivesBackAt place c.shut.result) (sym c.in-Open.is) c.shut.ensures.left
 
-pub returns : goal.returns
-returns g c = subst (λ place. GivesBackAt place c.in-Shut.files) (sym c.in-Shut.is) refl
+pub returns-in-Open-clause-honest : goal.returns-in-Open-clause-honest
+returns-in-Open-clause-honest g c clean =
+    subst (λ place. IsHonestAt place) (sym c.in-Open.is) (c.shut.ensures.honest clean)
+
+pub returns-clause-back : goal.returns-clause-back
+returns-clause-back g c = subst (λ place. GivesBackAt place c.in-Shut.files) (sym c.in-Shut.is) refl
+
+pub returns-clause-honest : goal.returns-clause-honest
+returns-clause-honest g c clean = subst (λ place. IsHonestAt place) (sym c.in-Shut.is) clean

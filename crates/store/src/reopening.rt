@@ -1,0 +1,77 @@
+//! How a store is opened again.
+
+ghost use Rattle.std.specs.Prelude.{◌≡◌, false, OnOk, OnErr};
+ghost use Rattle.store.specs.Stores.{IsHonest, IsLive, IsReady, IsUsable};
+ghost use Rattle.store.specs.Stores.{Finds, may_find, version_of};
+
+use crate::Store;
+use crate::auditing::Audit;
+use crate::opening::OpenFault;
+use crate::place::Place;
+use crate::store::CURRENT_VERSION;
+use core::mem::replace_with;
+use records::Unavailable;
+use sqlite::{Files, Options};
+use sqlite_disk::Disk;
+use std::alloc::Global;
+use std::collections::BTreeMap;
+
+impl<D: Disk + Drop> Store<D> {
+    /// Opens the store again, on what its files hold, as after a crash. Where it is refused, calls
+    /// are answered no more until it is opened again.
+    pub fn reopen<A: Audit>(&mut self, audit: &A) -> Result<(), OpenFault>
+        ensures usable { IsUsable self.new }
+        ensures ready { OnOk result (IsReady self.new) }
+        ensures current { OnOk result (version_of self.new ≡ CURRENT_VERSION) }
+        ensures found { IsHonest self.new → OnOk result (Finds self.new (may_find self.old)) }
+        ensures honest { IsHonest self.new → OnOk result (IsHonest self.old) }
+        ensures refused { OnErr result (self.new.ready ≡ false) }
+        ensures shut { OnErr result (IsLive self.new → ⊥) }
+    {
+        replace_with(self, audit, reopened)
+    }
+}
+
+/// The store opened again, or with its files in hand.
+fn reopened<D: Disk + Drop, A: Audit>(
+    store: Store<D>,
+    audit: &A,
+) -> (Store<D>, Result<(), OpenFault>)
+    ensures usable { IsUsable result.0 }
+    ensures ready { OnOk result.1 (IsReady result.0) }
+    ensures current { OnOk result.1 (version_of result.0 ≡ CURRENT_VERSION) }
+    ensures found { IsHonest result.0 → OnOk result.1 (Finds result.0 (may_find store)) }
+    ensures honest { IsHonest result.0 → OnOk result.1 (IsHonest store) }
+    ensures refused { OnErr result.1 (result.0.ready ≡ false) }
+    ensures shut { OnErr result.1 (IsLive result.0 → ⊥) }
+{
+    let alloc = store.alloc;
+    let options = store.options;
+    let version = store.version;
+    let files = store.close();
+    if !(files.log.may_be_used() && files.db.may_be_used()) {
+        return (
+            unopened(alloc, version, options, files),
+            Err(OpenFault::Unavailable(Unavailable::Disk)),
+        );
+    }
+    match Store::open(alloc, files, options, audit) {
+        Ok(store) => (store, Ok(())),
+        Err((fault, left)) => (unopened(alloc, version, options, left), Err(fault)),
+    }
+}
+
+/// A store that is not opened, with its files in hand.
+fn unopened<D: Disk>(alloc: Global, version: u32, options: Options, files: Files<D>) -> Store<D>
+    ensures place { result.place ≡ Place.Shut files }
+    ensures ready { result.ready ≡ false }
+{
+    Store {
+        place: Place::Shut(files),
+        ready: false,
+        version,
+        due: BTreeMap::new(alloc),
+        options,
+        alloc,
+    }
+}
