@@ -152,6 +152,12 @@ IsServed t gives first written most ledgers moments written_now (Err (Read numbe
 IsServed t gives first written most ledgers moments written_now (Err (Write number)) =
     HasFailedToWrite t gives first written number ledgers moments written_now
 
+-- how many replies were written whole
+abbrev pub replies_in : Result ℕ ServeFault → ℕ
+replies_in (Ok number) = number
+replies_in (Err (Read number)) = number
+replies_in (Err (Write number)) = number
+
 -- whether the reader failed
 abbrev pub is_read_fault : Result ℕ ServeFault → Bool
 is_read_fault (Ok number) = false

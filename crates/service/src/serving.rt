@@ -1,6 +1,7 @@
 //! Serves a connection: one message after the other.
-ghost use Rattle.std.specs.Prelude.{◌≡◌, true, false};
-ghost use Rattle.service.specs.Connections.{connection, IsServed, is_read_fault, is_write_fault};
+ghost use Rattle.std.specs.Prelude.{◌≡◌, ◌≤◌, true, false};
+ghost use Rattle.service.specs.Connections.{connection, IsServed, replies_in};
+ghost use Rattle.service.specs.Connections.{is_read_fault, is_write_fault};
 
 use crate::exchanging::{Exchanged, exchange, write};
 use crate::moments::Moments;
@@ -37,6 +38,7 @@ pub fn serve<L: Ledgers, R: Source, W: Drain, C: Moments>(
     ensures served { IsServed L.means C.gives
         (connection ledgers.old (R.left reader.old) moments.old true) (W.written writer.old) most
         ledgers.new moments.new (W.written writer.new) result }
+    ensures few { replies_in result ≤ most }
     ensures reader_failed { R.failed reader.new ≡ is_read_fault result }
     ensures writer_failed { W.failed writer.new ≡ is_write_fault result }
     ensures usable { L.means.is_usable ledgers.new }

@@ -87,45 +87,47 @@ fn shows_statements(rt: HostRuntime) -> Result<(), Fail> {
     Ok(())
 }
 
+/// A hold of a second, its post once that is over, and a transfer.
+const EXPIRING: [Step; 3] = [
+    (
+        "/transfers",
+        concat!(
+            "[{\"id\":\"100\",\"debit_account_id\":\"1\",\"credit_account_id\":\"2\",",
+            "\"amount\":\"100\",\"ledger\":7,\"code\":1,\"flags\":2,\"timeout\":1}]"
+        ),
+        0,
+        "{\"clock\":\"5\",\"results\":[{\"number\":0,\"result\":\"ok\",\"timestamp\":\"5\"}]}",
+    ),
+    (
+        "/transfers",
+        concat!(
+            "[{\"id\":\"101\",\"pending_id\":\"100\",\"flags\":4,",
+            "\"amount\":\"340282366920938463463374607431768211455\"}]"
+        ),
+        1000000004,
+        concat!(
+            "{\"clock\":\"1000000005\",\"results\":[{\"number\":34,",
+            "\"result\":\"pending_transfer_expired\",\"timestamp\":\"1000000005\"}]}"
+        ),
+    ),
+    (
+        "/transfers",
+        concat!(
+            "[{\"id\":\"102\",\"debit_account_id\":\"1\",\"credit_account_id\":\"2\",",
+            "\"amount\":\"10\",\"ledger\":7,\"code\":1}]"
+        ),
+        0,
+        concat!(
+            "{\"clock\":\"1000000006\",\"results\":[",
+            "{\"number\":0,\"result\":\"ok\",\"timestamp\":\"1000000006\"}]}"
+        ),
+    ),
+];
+
 #[test]
 fn shows_what_has_expired(rt: HostRuntime) -> Result<(), Fail> {
     let mut firms = Firms::base(&rt, rt.alloc(), FIRST)?;
-    let steps = [
-        (
-            "/transfers",
-            concat!(
-                "[{\"id\":\"100\",\"debit_account_id\":\"1\",\"credit_account_id\":\"2\",",
-                "\"amount\":\"100\",\"ledger\":7,\"code\":1,\"flags\":2,\"timeout\":1}]"
-            ),
-            0,
-            "{\"clock\":\"5\",\"results\":[{\"number\":0,\"result\":\"ok\",\"timestamp\":\"5\"}]}",
-        ),
-        (
-            "/transfers",
-            concat!(
-                "[{\"id\":\"101\",\"pending_id\":\"100\",\"flags\":4,",
-                "\"amount\":\"340282366920938463463374607431768211455\"}]"
-            ),
-            1000000004,
-            concat!(
-                "{\"clock\":\"1000000005\",\"results\":[{\"number\":34,",
-                "\"result\":\"pending_transfer_expired\",\"timestamp\":\"1000000005\"}]}"
-            ),
-        ),
-        (
-            "/transfers",
-            concat!(
-                "[{\"id\":\"102\",\"debit_account_id\":\"1\",\"credit_account_id\":\"2\",",
-                "\"amount\":\"10\",\"ledger\":7,\"code\":1}]"
-            ),
-            0,
-            concat!(
-                "{\"clock\":\"1000000006\",\"results\":[",
-                "{\"number\":0,\"result\":\"ok\",\"timestamp\":\"1000000006\"}]}"
-            ),
-        ),
-    ];
-    firms.run(&rt, FIRST, &steps)?;
+    firms.run(&rt, FIRST, &EXPIRING)?;
     let message = get(rt.alloc(), "/statement/1", FIRST)?;
     let body = format!(in rt.alloc();
         "{HEADER}5,100,debit,pending,100,100,0,0,0\n1000000006,102,debit,single,10,0,10,0,0\n"

@@ -1,0 +1,4 @@
+mod OwnDeedLemmas
+mod CourseLemmas
+mod RetryLemmas
+mod ReplyLemmas

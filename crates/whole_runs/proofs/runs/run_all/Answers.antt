@@ -1,0 +1,27 @@
+use Rattle.std.proofs.Common.{ℕ, ◌+◌, ap, ◌∙◌, arith}
+use Rattle.whole_runs.proofs.CourseLemmas.{none_yet, run_on, answered_on}
+use Rattle.whole_runs.proofs.runs.run_all.Goals as goal
+
+pub loop-step-init : goal.loop-step-init
+loop-step-init g c = record {
+  run = λ live.
+      rw c.in_ok-answers.ensures.items
+      (none_yet g.L.Reopening.means c.args.ledgers.now live c.is_settled.ensures);
+  answered = rw c.in_ok-answers.ensures.items tt;
+  count = c.in_ok-answers.ensures.len;
+  room = c.in_ok-answers.ensures.exact;
+  usable = c.requires;
+}
+
+pub loop-step-preserved : goal.loop-step-preserved
+loop-step-preserved g c = record {
+  run = λ live.
+      run_on g.L.Reopening.means _ _ _ _ _ _ _ _ _ (omega arith) c.step-item.is
+      c.push_reserved.ensures.items (c.loop-step.invariant.run live) c.run_step.ensures.makes;
+  answered =
+      answered_on _ _ _ _ _ _ (omega arith) c.step-item.is c.push_reserved.ensures.items
+      c.loop-step.invariant.answered c.run_step.ensures.answer;
+  count = c.push_reserved.ensures.len ∙ ap (λ (n : ℕ). n + 1) c.loop-step.invariant.count;
+  room = c.push_reserved.ensures.capacity ∙ c.loop-step.invariant.room;
+  usable = c.run_step.ensures.usable;
+}

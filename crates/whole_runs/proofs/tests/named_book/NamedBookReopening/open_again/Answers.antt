@@ -1,0 +1,6 @@
+use Rattle.std.proofs.Common.{refl}
+use Rattle.whole_runs.proofs.tests.named_book.NamedBookReopening.open_again.Goals as goal
+
+pub returns-clause-opened : goal.returns-clause-opened
+returns-clause-opened c =
+    record { member = λ live. ∣ (λ digest. refl) ∣₁; found = λ found keeps. (tt, keeps) }

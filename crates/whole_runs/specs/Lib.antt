@@ -1,0 +1,5 @@
+pub mod Events
+pub mod Courses
+pub mod OwnDeeds
+pub mod Reopenings
+pub mod Retries

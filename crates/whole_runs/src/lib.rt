@@ -1,0 +1,14 @@
+//! Whole runs: every list of requests, new tenants and reopenings, and what each tenant sees of it.
+#![tactic(auto)]
+
+mod laws;
+mod reopening;
+mod runs;
+mod steps;
+#[cfg(test)]
+mod tests;
+
+pub use laws::{retries_add_nothing, runs_serve_each_alone, stays_failed};
+pub use reopening::Reopening;
+pub use runs::run_all;
+pub use steps::{Answer, Step};

@@ -1,0 +1,52 @@
+//! Runs a list of steps.
+ghost use Rattle.std.specs.Prelude.{◌≡◌, ◌<◌, ◌++◌, ◌∷◌, [], IfOk, OnErr, vec_len, vec_capacity};
+ghost use Rattle.std.specs.List.{AllZip};
+ghost use Rattle.whole_runs.specs.Reopenings.{StepMakes, HasRun, IsAnswerTo};
+
+use crate::reopening::Reopening;
+use crate::steps::{Answer, Step};
+use std::alloc::Global;
+use wire::NoMemory;
+
+// Runs one step.
+fn run_step<L: Reopening>(alloc: Global, ledgers: &mut L, step: &Step) -> Answer
+    requires { L.means.is_usable ledgers.old }
+    ensures makes { StepMakes L.means ledgers.old step.now result ledgers.new }
+    ensures answer { IsAnswerTo step.now result }
+    ensures usable { L.means.is_usable ledgers.new }
+{
+    match step {
+        Step::Request(bytes, moment) => {
+            Answer::Replied(ledgers.reply_to(alloc, bytes.as_slice(), *moment))
+        }
+        Step::AddTenant(name, digest) => Answer::Added(ledgers.join(name, digest)),
+        Step::Reopen => Answer::Reopened(ledgers.open_again()),
+    }
+}
+
+/// Runs steps in turn, each with one answer. After a reopening that is refused the next step is
+/// run.
+///
+/// As long as the disk is honest, each tenant's replies other than `unavailable` and its machine
+/// are those of its own requests alone: of those that were answered, and of those that were not and
+/// that the next opening finds done. Room for all answers is made first: where memory lacks for it,
+/// no step is run.
+pub fn run_all<L: Reopening>(
+    alloc: Global,
+    ledgers: &mut L,
+    steps: &[Step],
+) -> Result<Vec<Answer>, NoMemory>
+    requires { L.means.is_usable ledgers.old }
+    ensures run { L.means.is_live ledgers.old → IfOk result (λ answers.
+        HasRun L.means ledgers.old steps.now answers.items ledgers.new) }
+    ensures answered { IfOk result (λ answers. AllZip IsAnswerTo steps.now answers.items) }
+    ensures unrun { OnErr result (ledgers.new ≡ ledgers.old) }
+    ensures usable { L.means.is_usable ledgers.new }
+{
+    let mut answers = Vec::with_capacity(alloc, steps.len())?;
+    ledgers.is_settled();
+    for step in steps {
+        answers.push_reserved(run_step(alloc, ledgers, step));
+    }
+    Ok(answers)
+}

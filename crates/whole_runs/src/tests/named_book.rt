@@ -1,0 +1,71 @@
+ghost use Rattle.chain.specs.Ledgers.{AreValid, KeepsAll};
+ghost use Rattle.plain.specs.BookLedgers.{machines_in};
+
+use crate::Reopening;
+use ledger_http::{Reply, meanings_are_unique};
+use plain::{Book, PlainTables};
+use records::Unavailable;
+use service::respond;
+use std::alloc::Global;
+use store::{AddTenant, OpenFault};
+use tenants::TenantName;
+
+/// Ledgers over lists, whose tenants have names. They are opened again as they are.
+#[derive(Drop)]
+pub(crate) struct NamedBook {
+    alloc: Global,
+    book: Book,
+    names: Vec<TenantName>,
+}
+
+impl NamedBook {
+    /// No tenant yet.
+    pub(crate) fn new(alloc: Global) -> NamedBook
+        ensures { AreValid (machines_in result.book) }
+    {
+        NamedBook {
+            alloc,
+            book: Book::new(alloc),
+            names: Vec::new(alloc),
+        }
+    }
+}
+
+impl Reopening for NamedBook {
+    ghost means = { record {
+      tenants = λ named. machines_in named.book;
+      is_usable = λ named. AreValid (machines_in named.book);
+      is_live = λ named. Unit {0};
+      may_find = λ named found. KeepsAll (machines_in named.book) found;
+    } };
+
+    fn is_settled(&self) {}
+
+    fn reply_to(&mut self, alloc: Global, bytes: &[u8], moment: u64) -> Reply {
+        meanings_are_unique();
+        respond(alloc, &mut self.book, bytes, moment)
+    }
+
+    fn join(&mut self, name: &TenantName, digest: &[u8; 32]) -> Result<(), AddTenant> {
+        if self.names.iter().any(|other| other == name) {
+            return Err(AddTenant::NameTaken);
+        }
+        if self.book.holds(digest) {
+            return Err(AddTenant::DigestTaken);
+        }
+        if self.names.push(*name).is_err() {
+            return Err(AddTenant::Unavailable(Unavailable::Memory));
+        }
+        match self.book.add(*digest, PlainTables::new(self.alloc)) {
+            Ok(()) => Ok(()),
+            Err(why) => {
+                self.names.pop();
+                Err(AddTenant::Unavailable(why))
+            }
+        }
+    }
+
+    fn open_again(&mut self) -> Result<(), OpenFault> {
+        Ok(())
+    }
+}
