@@ -14,6 +14,7 @@ test:
 bench:
 	bench/run
 	bench/messages
+	bench/storage
 
 alloc:
 	bench/alloc
