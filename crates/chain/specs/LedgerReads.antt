@@ -78,6 +78,15 @@ is_refused (Err fault.UnknownKey) = false
 is_refused (Err fault.NoAccount) = false
 is_refused (Err fault.NoHistory) = false
 
+-- a read is answered, if only by a fault of the tenant's own
+abbrev pub IsTold : {A : Type 0} → Result A ReadFault → Type 0
+IsTold (Ok answer) = Unit {0}
+IsTold (Err (fault.Unavailable why)) = ⊥
+IsTold (Err (fault.Sink why)) = ⊥
+IsTold (Err fault.UnknownKey) = Unit {0}
+IsTold (Err fault.NoAccount) = Unit {0}
+IsTold (Err fault.NoHistory) = Unit {0}
+
 -- a read changes no tenant's machine, and calls are still allowed
 pub record Reads {S : Type 0} (t : LedgersMeaning S) (old new : S) : Type 0 where
   pub same : t.is_live new → KeepsAll (t.tenants old) (t.tenants new)

@@ -1,5 +1,5 @@
 -- The ledgers of many tenants: the machine of each, and what a call for one of them leaves.
-use Rattle.std.specs.Prelude.{◌≡◌, ◌≢◌, ℕ, List, Option, Some, None, Result, Ok, Err, OnOk}
+use Rattle.std.specs.Prelude.{◌≡◌, ◌≢◌, ◌⊎◌, ℕ, List, Option, Some, None, Result, Ok, Err, OnOk}
 use Rattle.records.specs.declared.unavailable.Unavailable.{Unavailable}
 use Rattle.records.specs.Machine.{Machine}
 use Rattle.records.specs.Valid.{IsValid}
@@ -13,12 +13,14 @@ abbrev pub Tenants : Type 0
 Tenants = List ℕ → Option Machine
 
 -- what the ledgers of many tenants mean: their machines, whether calls are allowed, whether the
--- ledgers are live, and what every run of calls keeps
+-- ledgers are live, what every run of calls keeps, and which machines may be found where what the
+-- ledgers stand on is opened again
 pub record LedgersMeaning (S : Type 0) : Type 1 where
   pub tenants : S → Tenants
   pub is_usable : S → Type 0
   pub is_live : S → Type 0
   pub follows : S → S → Type 0
+  pub may_find : S → Tenants → Type 0
 
 -- every tenant's machine is valid
 abbrev pub AreValid : Tenants → Type 0
@@ -56,3 +58,27 @@ abbrev pub IsRun :
 IsRun gives digest old new (Ok output) = IsDone gives digest old new output
 IsRun gives digest old new (Err UnknownKey) = (old digest ≡ None) × KeepsAll old new
 IsRun gives digest old new (Err (AreUnavailable why)) = KeepsAll old new
+
+-- what may be found after a call: what might have been found before, or machines that it leads to;
+-- and only in live ledgers, where the call was answered
+pub record Finds {S : Type 0} (t : LedgersMeaning S) (answered : Type 0)
+    (LeadsTo : Tenants → Tenants → Type 0) (old new : S) : Type 0 where
+  pub found :
+      (found : Tenants) → t.may_find new found →
+      t.may_find old found ⊎ (t.is_live old × LeadsTo (t.tenants old) found)
+  pub live : answered → (found : Tenants) → t.may_find new found → t.is_live new
+
+-- a batch was run, or there is no such tenant
+abbrev pub IsAnswered : {O : Type 0} → Result O BatchFault → Type 0
+IsAnswered (Ok output) = Unit {0}
+IsAnswered (Err UnknownKey) = Unit {0}
+IsAnswered (Err (AreUnavailable why)) = ⊥
+
+-- machines that a batch leads to, whatever its output
+abbrev pub LeadsBy :
+    {O : Type 0} → (Machine → O → Machine → Type 0) → List ℕ → Tenants → Tenants → Type 0
+LeadsBy {O} gives digest old found = (output : O) × IsDone gives digest old found output
+
+-- there is nothing that a question leads to
+abbrev pub LeadsNowhere : Tenants → Tenants → Type 0
+LeadsNowhere old found = ⊥

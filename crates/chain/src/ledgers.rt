@@ -1,8 +1,9 @@
-ghost use Rattle.std.specs.Prelude.{◌≡◌, false, IfOk, is_some};
+ghost use Rattle.std.specs.Prelude.{◌≡◌, false, IfOk, IsOk, is_some};
 ghost use Rattle.records.specs.Reads.{Found, found_accounts, found_transfers};
 ghost use Rattle.records.specs.Reads.{history_answer, history_balances_answer, statement_answer};
-ghost use Rattle.chain.specs.Ledgers.{LedgersMeaning, AreValid, KeepsAll, IsRun};
-ghost use Rattle.chain.specs.LedgerReads.{seen_in, IsListed, HandsOut, is_refused, Reads};
+ghost use Rattle.chain.specs.Ledgers.{LedgersMeaning, AreValid, KeepsAll, IsRun, Finds};
+ghost use Rattle.chain.specs.Ledgers.{IsAnswered, LeadsBy, LeadsNowhere};
+ghost use Rattle.chain.specs.LedgerReads.{seen_in, IsListed, HandsOut, is_refused, Reads, IsTold};
 ghost use Rattle.chain.specs.declared.ledgers.BatchFault.TheVariants as batch_fault;
 
 use crate::{Listed, ReadFault, Work};
@@ -32,8 +33,8 @@ impl From<Unavailable> for BatchFault {
 /// Ledgers that lose what they stand on, as a store whose disk fails, are no longer live: what they
 /// answer from then on says nothing of any tenant.
 pub trait Ledgers {
-    // The machine of each tenant; whether calls are allowed; whether the ledgers are live; and what
-    // every run of calls keeps.
+    // The machine of each tenant; whether calls are allowed; whether the ledgers are live; what
+    // every run of calls keeps; and which machines an opening may find.
     ghost means: { LedgersMeaning Self };
 
     /// Runs a batch of work on one tenant's tables, and keeps all of it or nothing.
@@ -46,6 +47,8 @@ pub trait Ledgers {
         ensures run { means.is_live self.new →
             IsRun (W.gives work) digest.now (means.tenants self.old) (means.tenants self.new)
             result }
+        ensures finds { Finds means (IsAnswered result) (LeadsBy (W.gives work) digest.now)
+            self.old self.new }
         ensures usable { means.is_usable self.new }
         ensures follows { means.follows self.old self.new };
 
@@ -56,6 +59,7 @@ pub trait Ledgers {
             IfOk result (λ known. known ≡ is_some (means.tenants self.old digest.now)) }
         ensures same { means.is_live self.new
             → KeepsAll (means.tenants self.old) (means.tenants self.new) }
+        ensures finds { Finds means (IsOk result) LeadsNowhere self.old self.new }
         ensures usable { means.is_usable self.new }
         ensures follows { means.follows self.old self.new };
 
@@ -71,6 +75,7 @@ pub trait Ledgers {
         ensures told { means.is_live self.new → IsListed
             (seen_in (λ m. Found (found_accounts m ids.now)) (means.tenants self.old digest.now))
             result }
+        ensures finds { Finds means (IsTold result) KeepsAll self.old self.new }
         ensures reads { Reads means self.old self.new };
 
     /// The transfers with these ids, in the order asked. An id asked twice is answered twice.
@@ -84,6 +89,7 @@ pub trait Ledgers {
         ensures told { means.is_live self.new → IsListed
             (seen_in (λ m. Found (found_transfers m ids.now)) (means.tenants self.old digest.now))
             result }
+        ensures finds { Finds means (IsTold result) KeepsAll self.old self.new }
         ensures reads { Reads means self.old self.new };
 
     /// The transfers that a filter asks for.
@@ -96,6 +102,7 @@ pub trait Ledgers {
         requires { means.is_usable self.old }
         ensures told { means.is_live self.new → IsListed
             (seen_in (λ m. history_answer m asked.now) (means.tenants self.old digest.now)) result }
+        ensures finds { Finds means (IsTold result) KeepsAll self.old self.new }
         ensures reads { Reads means self.old self.new };
 
     /// The balances of the account after each transfer that a filter asks for.
@@ -109,6 +116,7 @@ pub trait Ledgers {
         ensures told { means.is_live self.new → IsListed
             (seen_in (λ m. history_balances_answer m asked.now) (means.tenants self.old digest.now))
             result }
+        ensures finds { Finds means (IsTold result) KeepsAll self.old self.new }
         ensures reads { Reads means self.old self.new };
 
     /// Hands the account's statement to a sink, row by row, in this order. After a fault the sink
@@ -127,6 +135,7 @@ pub trait Ledgers {
             (seen_in (λ m. statement_answer m account order) (means.tenants self.old digest.now))
             sink.old sink.new result }
         ensures refused { S.refused sink.new ≡ is_refused result }
+        ensures finds { Finds means (IsTold result) KeepsAll self.old self.new }
         ensures reads { Reads means self.old self.new };
 
     /// No call at all is a run of calls.

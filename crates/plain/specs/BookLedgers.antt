@@ -1,5 +1,5 @@
--- A book as the ledgers of many tenants: it is always live, and may be called where all its
--- machines are valid.
+-- A book as the ledgers of many tenants: it is always live, may be called where all its machines are
+-- valid, and stands on nothing that could be opened again.
 use Rattle.std.specs.Prelude.{List}
 use Rattle.chain.specs.Ledgers.{Tenants, LedgersMeaning, AreValid}
 use Rattle.plain.specs.declared.book.Tenant.{Tenant}
@@ -16,4 +16,5 @@ book_meaning = record {
   is_usable = λ book. AreValid (machines_in book);
   is_live = λ book. Unit {0};
   follows = λ old new. Unit {0};
+  may_find = λ book found. ⊥;
 }

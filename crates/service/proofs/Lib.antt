@@ -7,3 +7,4 @@ pub mod Isolation
 pub mod ConnectionRuns
 pub mod OwnRequestsLemmas
 pub mod ConnectionEventsLemmas
+pub mod FindingLemmas

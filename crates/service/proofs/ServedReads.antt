@@ -14,7 +14,7 @@ use Rattle.wire.specs.Told.{outcome_text}
 use Rattle.service.specs.Served.{left_by, served_to}
 use Rattle.service.specs.Replies.{AnswersTenant, Serves, unavailable}
 
-left_alone :
+pub left_alone :
     (request : Request) (moment : ℕ) → ((m : Machine) → left_by m moment request ≡ m) →
     (tenant : Option Machine) → (served_to tenant (Ok request) moment).left ≡ tenant
 left_alone request moment same None = refl

@@ -9,7 +9,8 @@ use Rattle.ledger_http.specs.ReplyText.{refusal_text, reply_text}
 use Rattle.ledger_http.specs.Message.{HasHead, first_message, Begins}
 use Rattle.ledger_http.specs.Question.{Question, asked_of}
 use Rattle.service.specs.Served.{served}
-use Rattle.service.specs.Replies.{AnswersTenant, unavailable}
+use Rattle.service.specs.Replies.{AnswersTenant, IsLeft, unavailable}
+use Rattle.wire.specs.Meaning.{meaning_of}
 
 -- a message is refused before any tenant is looked up, and nothing changes
 pub record Refuses (old new : Tenants) (refusal : Refusal) (text : List ℕ) : Type 0 where
@@ -41,6 +42,23 @@ pub record RefusesEarly (bytes : List ℕ) (reply : Reply) : Type 0 where
       (refusal : Refusal) → asked_of bytes head ≡ Err refusal → reply ≢ unavailable →
       reply_text reply ≡ refusal_text refusal
   pub whole : reply ≡ unavailable → IsOk (first_message bytes head)
+
+-- the bytes ask a question, and it is answered
+pub record IsAnswered (bytes : List ℕ) (reply : Reply) : Type 0 where
+  pub asks : (head : Option RequestHead) → HasHead bytes head → IsOk (asked_of bytes head)
+  pub available : reply ≢ unavailable
+
+-- the machines after what the bytes ask was done
+abbrev pub IsLeftByAsked : Result Question Refusal → ℕ → Tenants → Tenants → Type 0
+IsLeftByAsked (Ok question) moment old found =
+    IsLeft (sha256 question.key) (meaning_of question.route question.account question.body) moment
+    old found
+IsLeftByAsked (Err refusal) moment old found = ⊥
+
+abbrev pub IsLeftBy : List ℕ → ℕ → Tenants → Tenants → Type 0
+IsLeftBy bytes moment old found =
+    (head : Option RequestHead) × HasHead bytes head
+    × IsLeftByAsked (asked_of bytes head) moment old found
 
 -- the question is asked by the tenant with this digest
 abbrev pub IsAsking : Result Question Refusal → List ℕ → Type 0

@@ -1,11 +1,12 @@
 //! Answers one tenant's request.
 ghost use Rattle.std.specs.Prelude.{◌≡◌, ◌≢◌, ◌≤◌, ℕ, List, Result, Ok, Err, length};
+ghost use Rattle.chain.specs.Ledgers.{Finds, LeadsNowhere};
 ghost use Rattle.sha2.specs.Sha256.{sha256};
 ghost use Rattle.ledger_http.specs.declared.refusal.Refusal.{Refusal};
 ghost use Rattle.wire.specs.declared.request.Request.{Request};
 ghost use Rattle.wire.specs.Meaning.{meaning_of, HasFew};
 ghost use Rattle.wire.specs.declared.request.Request.TheVariants.{Accounts, Transfers};
-ghost use Rattle.service.specs.Replies.{Serves, batch_reply};
+ghost use Rattle.service.specs.Replies.{Serves, IsLeft, batch_reply, unavailable};
 
 use crate::batches::{AccountBatch, TransferBatch};
 use crate::reading::{
@@ -40,6 +41,8 @@ fn accounts<L: Ledgers>(
     requires few { length events ≤ 1000 }
     ensures serves { L.means.is_live ledgers.new → Serves (L.means.tenants ledgers.old)
         (L.means.tenants ledgers.new) digest.now (Ok (Accounts events)) moment result }
+    ensures finds { Finds L.means (result ≢ unavailable)
+        (IsLeft digest.now (Ok (Accounts events)) moment) ledgers.old ledgers.new }
     ensures usable { L.means.is_usable ledgers.new }
     ensures follows { L.means.follows ledgers.old ledgers.new }
 {
@@ -62,6 +65,8 @@ fn transfers<L: Ledgers>(
     requires few { length events ≤ 1000 }
     ensures serves { L.means.is_live ledgers.new → Serves (L.means.tenants ledgers.old)
         (L.means.tenants ledgers.new) digest.now (Ok (Transfers events)) moment result }
+    ensures finds { Finds L.means (result ≢ unavailable)
+        (IsLeft digest.now (Ok (Transfers events)) moment) ledgers.old ledgers.new }
     ensures usable { L.means.is_usable ledgers.new }
     ensures follows { L.means.follows ledgers.old ledgers.new }
 {
@@ -85,6 +90,8 @@ fn serve_request<L: Ledgers>(
     requires few { HasFew request }
     ensures serves { L.means.is_live ledgers.new → Serves (L.means.tenants ledgers.old)
         (L.means.tenants ledgers.new) digest.now (Ok request) moment result }
+    ensures finds { Finds L.means (result ≢ unavailable)
+        (IsLeft digest.now (Ok request) moment) ledgers.old ledgers.new }
     ensures usable { L.means.is_usable ledgers.new }
     ensures follows { L.means.follows ledgers.old ledgers.new }
 {
@@ -123,6 +130,7 @@ fn refuse<L: Ledgers>(ledgers: &mut L, digest: &[u8; 32], refusal: Refusal) -> R
         → (refusal ≢ Refusal.Unavailable → meaning ≡ Err refusal)
         → Serves (L.means.tenants ledgers.old) (L.means.tenants ledgers.new) digest.now meaning
         moment result }
+    ensures finds { Finds L.means (result ≢ unavailable) LeadsNowhere ledgers.old ledgers.new }
     ensures usable { L.means.is_usable ledgers.new }
     ensures follows { L.means.follows ledgers.old ledgers.new }
 {
@@ -147,6 +155,9 @@ pub(crate) fn answer<L: Ledgers>(
     ensures serves { L.means.is_live ledgers.new → Serves (L.means.tenants ledgers.old)
         (L.means.tenants ledgers.new) (sha256 asked.now.key)
         (meaning_of asked.now.route asked.now.account.now asked.now.body.now) moment result }
+    ensures finds { Finds L.means (result ≢ unavailable) (IsLeft (sha256 asked.now.key)
+        (meaning_of asked.now.route asked.now.account.now asked.now.body.now) moment) ledgers.old
+        ledgers.new }
     ensures usable { L.means.is_usable ledgers.new }
     ensures follows { L.means.follows ledgers.old ledgers.new }
 {

@@ -2,7 +2,8 @@
 ghost use Rattle.wire.specs.declared.request.Request.TheVariants.{LookupAccounts, LookupTransfers};
 ghost use Rattle.wire.specs.declared.request.Request.TheVariants.{HistoryTransfers};
 ghost use Rattle.wire.specs.declared.request.Request.TheVariants.{HistoryBalances, Statement};
-ghost use Rattle.chain.specs.LedgerReads.{Reads};
+ghost use Rattle.chain.specs.Ledgers.{Finds, KeepsAll};
+ghost use Rattle.chain.specs.LedgerReads.{Reads, IsTold};
 ghost use Rattle.service.specs.Reading.{ShowsTo};
 
 use chain::{Ledgers, ReadFault};
@@ -20,6 +21,7 @@ pub(crate) fn looked_up_accounts<L: Ledgers>(
     requires { L.means.is_usable ledgers.old }
     ensures told { L.means.is_live ledgers.new
         → ShowsTo (L.means.tenants ledgers.old digest.now) (LookupAccounts ids.now) result }
+    ensures finds { Finds L.means (IsTold result) KeepsAll ledgers.old ledgers.new }
     ensures reads { Reads L.means ledgers.old ledgers.new }
 {
     let found = ledgers.lookup_accounts(alloc, digest, ids)?;
@@ -38,6 +40,7 @@ pub(crate) fn looked_up_transfers<L: Ledgers>(
     requires { L.means.is_usable ledgers.old }
     ensures told { L.means.is_live ledgers.new
         → ShowsTo (L.means.tenants ledgers.old digest.now) (LookupTransfers ids.now) result }
+    ensures finds { Finds L.means (IsTold result) KeepsAll ledgers.old ledgers.new }
     ensures reads { Reads L.means ledgers.old ledgers.new }
 {
     let found = ledgers.lookup_transfers(alloc, digest, ids)?;
@@ -56,6 +59,7 @@ pub(crate) fn history_of_transfers<L: Ledgers>(
     requires { L.means.is_usable ledgers.old }
     ensures told { L.means.is_live ledgers.new
         → ShowsTo (L.means.tenants ledgers.old digest.now) (HistoryTransfers asked.now) result }
+    ensures finds { Finds L.means (IsTold result) KeepsAll ledgers.old ledgers.new }
     ensures reads { Reads L.means ledgers.old ledgers.new }
 {
     let found = ledgers.history_transfers(alloc, digest, asked)?;
@@ -74,6 +78,7 @@ pub(crate) fn history_of_balances<L: Ledgers>(
     requires { L.means.is_usable ledgers.old }
     ensures told { L.means.is_live ledgers.new
         → ShowsTo (L.means.tenants ledgers.old digest.now) (HistoryBalances asked.now) result }
+    ensures finds { Finds L.means (IsTold result) KeepsAll ledgers.old ledgers.new }
     ensures reads { Reads L.means ledgers.old ledgers.new }
 {
     let found = ledgers.history_balances(alloc, digest, asked)?;
@@ -93,6 +98,7 @@ pub(crate) fn statement<L: Ledgers>(
     requires { L.means.is_usable ledgers.old }
     ensures told { L.means.is_live ledgers.new
         → ShowsTo (L.means.tenants ledgers.old digest.now) (Statement account) result }
+    ensures finds { Finds L.means (IsTold result) KeepsAll ledgers.old ledgers.new }
     ensures reads { Reads L.means ledgers.old ledgers.new }
 {
     rows_make_a_statement::<Streamed<Vec<u8>>>();

@@ -1,4 +1,5 @@
-ghost use Rattle.service.specs.Responds.{Responds, RefusesEarly};
+ghost use Rattle.chain.specs.Ledgers.{Finds};
+ghost use Rattle.service.specs.Responds.{Responds, RefusesEarly, IsAnswered, IsLeftBy};
 
 use crate::answering::answer;
 use chain::Ledgers;
@@ -15,6 +16,8 @@ pub fn respond<L: Ledgers>(alloc: Global, ledgers: &mut L, bytes: &[u8], moment:
     ensures responds { L.means.is_live ledgers.new → Responds (L.means.tenants ledgers.old)
         (L.means.tenants ledgers.new) bytes.now moment result }
     ensures early { RefusesEarly bytes.now result }
+    ensures finds { Finds L.means (IsAnswered bytes.now result) (IsLeftBy bytes.now moment)
+        ledgers.old ledgers.new }
     ensures usable { L.means.is_usable ledgers.new }
     ensures follows { L.means.follows ledgers.old ledgers.new }
 {

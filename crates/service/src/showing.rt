@@ -4,6 +4,7 @@ ghost use Rattle.ledger_http.specs.ReplyText.{reply_text};
 ghost use Rattle.wire.specs.declared.outcome.Outcome.{Outcome};
 ghost use Rattle.wire.specs.Told.{outcome_text};
 ghost use Rattle.service.specs.Replies.{unavailable};
+ghost use Rattle.chain.specs.LedgerReads.{IsTold};
 ghost use Rattle.service.specs.Reading.{Shows, refusal_of};
 
 use chain::ReadFault;
@@ -31,8 +32,9 @@ fn refusal_of(fault: ReadFault) -> Refusal
 
 /// The reply to a read.
 pub(crate) fn reply_to_read(alloc: Global, read: Result<Outcome, ReadFault>) -> Reply
-    ensures { (told : Outcome) → Shows told read → result ≢ unavailable
+    ensures shows { (told : Outcome) → Shows told read → result ≢ unavailable
         → reply_text result ≡ outcome_text told }
+    ensures told { result ≢ unavailable → IsTold read }
 {
     match read {
         Ok(outcome) => match reply_to(alloc, outcome) {

@@ -21,7 +21,12 @@ use Rattle.stored_tables.specs.Frames.{KeepsRows}
 use Rattle.stored_tables.specs.Holds.{HoldsMachine}
 use Rattle.records.specs.declared.unavailable.Unavailable.{Unavailable}
 use Rattle.records.specs.declared.unavailable.Unavailable.TheVariants.{Disk}
-use Rattle.store.specs.Joining.{Joins, joining_answer}
+use Rattle.sqlite.specs.State.{HasCleanDisk, Survives}
+use Rattle.sqlite.proofs.StateLemmas.{survives_then}
+use Rattle.ledger_sql.specs.Frames.{Follows}
+use Rattle.stored_tables.specs.BatchLaws.{follows_then}
+use Rattle.store.specs.Directory.{IsLeastFree}
+use Rattle.store.specs.Joining.{Joins, Joined, AreTaken, joining_answer}
 use Rattle.store.specs.declared.joining.AddTenant.TheVariants.{Unavailable as IsUnavailable}
 use Rattle.store.specs.declared.joining.Taken.{Taken}
 use Rattle.store.specs.declared.joining.Taken.TheVariants.{Name, Digest}
@@ -241,3 +246,29 @@ answered_disk (Ok None) is = absurd (cc)
 answered_disk (Ok (Some Name)) is = absurd (cc)
 answered_disk (Ok (Some Digest)) is = absurd (cc)
 answered_disk (Err why) is = let same : why ≡ Disk = cc in ap Err same
+
+-- what a crash may leave of a tenant that is joining, whose name and digest nobody has
+pub join_survives :
+    (old mid1 mid2 new : State) (number : ℕ) (name digest : List ℕ) →
+    Follows old mid1 → Follows mid1 mid2 →
+    Survives mid2 new
+    (λ trees. Joins number name digest mid2.now (record { schema = mid2.now.schema; trees = trees })) →
+    (HasCleanDisk mid1 → AreTaken name digest old.now.trees None) →
+    (HasCleanDisk mid1 → mid1.now ≡ old.now) → (HasCleanDisk mid2 → mid2.now ≡ mid1.now) →
+    (HasCleanDisk mid2 → IsLeastFree number mid1.now.trees) →
+    Survives old new (Joined name digest old.now)
+join_survives old mid1 mid2 new number name digest one two three untaken same1 same2 least =
+    survives_then old mid2 new _ _ _ (λ _ db none. absurd none)
+    (λ clean db joins.
+    let clean2 : HasCleanDisk mid2 = omega (arith, three.clean, clean) in
+    let clean1 : HasCleanDisk mid1 = omega (arith, two.survives.clean, clean2) in (
+      untaken clean1,
+      record {
+        number = number;
+        least = subst (λ (at : Database). IsLeastFree number at.trees) (same1 clean1) (least clean2);
+        joins = subst
+            (λ (at : Database). Joins number name digest at (record { schema = at.schema; trees = db }))
+            (same2 clean2 ∙ same1 clean1) joins;
+      },
+    ))
+    (follows_then old mid1 mid2 one two).survives three

@@ -1,5 +1,5 @@
 -- A database that a tenant has joined.
-use Rattle.std.proofs.Common.{◌≡◌, ◌≢◌, ◌⊎◌, inl, inr, ℕ, ◌≤◌, ℤ, pos, Bool, true, false, cond, Some, List, [], ◌∷◌, map, filter, length, refl, sym, ap, subst, ◌∙◌, arith}
+use Rattle.std.proofs.Common.{◌≡◌, ◌≢◌, ◌⊎◌, inl, inr, ℕ, ◌≤◌, ℤ, pos, Bool, true, false, cond, Option, Some, None, option_map, List, [], ◌∷◌, map, filter, length, refl, sym, ap, subst, ◌∙◌, arith}
 use Rattle.std.specs.BTreeMap.{get}
 use Rattle.std.specs.BTreeSet.{contains}
 use Rattle.std.specs.List.Sorted.{IsPermutation}
@@ -22,9 +22,9 @@ use Rattle.ledger_sql.specs.Values.{directory_values}
 use Rattle.stored_tables.specs.Covers.{IsCovered}
 use Rattle.stored_tables.specs.Holds.{HoldsMachine}
 use Rattle.stored_tables.specs.MachineOf.{machine_of, account_of, transfer_of, clock_of, wide}
-use Rattle.store.specs.Directory.{with_number, with_name, with_digest, first_number, number_of}
+use Rattle.store.specs.Directory.{with_number, with_name, with_digest, first_number, number_of, tenants_in}
 use Rattle.store.specs.DueSets.{DueSet, DueSets, due_cmp, CoversMachine, AreCovered}
-use Rattle.store.specs.Joining.{Joins}
+use Rattle.store.specs.Joining.{Joins, AddsTenant}
 use Rattle.store.specs.Ledger.{HoldsLedgers}
 use Rattle.store.proofs.FreeLemmas.{no_row, same_short}
 use Rattle.store.proofs.LedgerLemmas.{same_number, machine_kept, held_kept, none_kept}
@@ -153,6 +153,40 @@ module _ (number : ℕ) (name digest : List ℕ) (old new : Database) (ledgers :
       | inl same ↦ absurd (has_entry (subst (λ n. with_number n new.trees ≡ []) same none))
       | inr differs ↦ none_kept n old.trees new.trees (joins.others n differs)
           (ledgers.owned n (sym (same_other n differs) ∙ none))
+    ];
+  }
+
+  none_before : tenants_in old.trees digest ≡ None
+  unfolding number_of
+  none_before = ap (λ rows. option_map (λ n. machine_of n old.trees) (first_number rows)) no_digest
+
+  own_after : tenants_in new.trees digest ≡ Some new_machine
+  own_after = elim (number_new digest) [
+    | inl own ↦
+        ap (option_map (λ n. machine_of n new.trees)) own.1
+        ∙ ap Some (machine_new (pos number) new.trees (joins.holds (ledgers.owned (pos number) free)))
+    | inr other ↦ absurd (other.0 refl)
+  ]
+
+  kept_after : (d : List ℕ) (was : Option ℤ) → number_of d old.trees ≡ was
+      → number_of d new.trees ≡ number_of d old.trees
+      → tenants_in new.trees d ≡ tenants_in old.trees d
+  kept_after d None is same =
+      ap (option_map (λ n. machine_of n new.trees)) (same ∙ is)
+      ∙ sym (ap (option_map (λ n. machine_of n old.trees)) is)
+  kept_after d (Some n) is same =
+      ap (option_map (λ n. machine_of n new.trees)) (same ∙ is)
+      ∙ ap Some (machine_kept n old.trees new.trees (joins.others n (not_free d n is)))
+      ∙ sym (ap (option_map (λ n. machine_of n old.trees)) is)
+
+  -- the tenant has a new machine, and every other machine is as before
+  pub adds_tenant : AddsTenant digest (tenants_in old.trees) (tenants_in new.trees)
+  adds_tenant = record {
+    none = none_before;
+    own = own_after;
+    others = λ d differs. elim (number_new d) [
+      | inl own ↦ absurd (differs own.0)
+      | inr other ↦ kept_after d (number_of d old.trees) refl other.1
     ];
   }
 

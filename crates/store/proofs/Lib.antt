@@ -11,6 +11,7 @@ mod TakenLemmas
 mod JoinLemmas
 mod FreeLemmas
 mod JoinedLemmas
+mod FillLemmas
 mod OpenedLemmas
 mod OrderedTables
 mod RisingRows
@@ -21,3 +22,8 @@ mod KeptSets
 mod ReopenLemmas
 mod LookupLemmas
 mod TenantReadLemmas
+mod FindsLemmas
+mod UpgradeLemmas
+mod OlderLemmas
+mod RaiseLemmas
+mod MigratingLemmas

@@ -22,6 +22,9 @@ use Rattle.store.proofs.OutcomeLemmas.{still_rests}
 live_before : (a b : State) → Follows a b → Live b → Live a
 live_before a b f live = (omega (arith, f.survives.clean, live.0), f.live live)
 
+clean_before : (a b : State) → Follows a b → HasCleanDisk b → HasCleanDisk a
+clean_before a b f clean = omega (arith, f.survives.clean, clean)
+
 -- a connection that serves holds ledgers
 pub holds_here : (sets : DueSets) (s : State) → Serves sets s → HoldsHere s
 holds_here sets s serves clean =
@@ -68,6 +71,8 @@ module _ {D : Type 0} (g : disk.Ghosts D) where
         follows = record {
           lived = λ live. subst IsLiveAt (sym old_is)
               (live_before (file_state conn) (file_state conn') follows (subst IsLiveAt new_is live));
+          honest = λ honest. subst IsHonestAt (sym old_is) (clean_before (file_state conn) (file_state conn')
+              follows (subst IsHonestAt new_is honest));
           unready = λ ready. was_ready;
           version = same_version;
         };

@@ -9,8 +9,9 @@ use Rattle.ledger_sql.specs.TableRows.{directory_rows}
 use Rattle.ledger_sql.specs.Values.{directory_values}
 use Rattle.stored_tables.specs.Frames.{KeepsRows, AreNumbered}
 use Rattle.stored_tables.specs.Holds.{HoldsMachine}
-use Rattle.store.specs.Directory.{IsLeastFree, with_name, with_digest}
-use Rattle.store.specs.Ledger.{HasNoRows}
+use Rattle.chain.specs.Ledgers.{Tenants, KeepsOthers}
+use Rattle.store.specs.Directory.{IsLeastFree, with_name, with_digest, tenants_in}
+use Rattle.store.specs.Ledger.{HasNoRows, HoldsLedgers}
 use Rattle.store.specs.declared.joining.AddTenant.{AddTenant}
 use Rattle.store.specs.declared.joining.AddTenant.TheVariants.{NameTaken, DigestTaken, Unavailable as IsUnavailable}
 use Rattle.store.specs.declared.joining.Taken.{Taken}
@@ -42,7 +43,21 @@ pub record IsJoined (name digest : List ℕ) (old new : Database) : Type 0 where
 -- so a crash may leave it
 abbrev pub Joined : List ℕ → List ℕ → Database → Trees → Type 0
 Joined name digest old trees =
-    IsJoined name digest old (record { schema = old.schema; trees = trees })
+    AreTaken name digest old.trees None
+    × IsJoined name digest old (record { schema = old.schema; trees = trees })
+
+-- a tenant has a new machine, where it had none, and every other machine is as before
+pub record AddsTenant (digest : List ℕ) (old new : Tenants) : Type 0 where
+  pub none : old digest ≡ None
+  pub own : new digest ≡ Some new_machine
+  pub others : KeepsOthers digest old new
+
+-- so it is of a tenant that has joined
+abbrev pub JoiningAddsOne : Type 0
+JoiningAddsOne =
+    (name digest : List ℕ) (old new : Database) → HoldsLedgers old
+    → AreTaken name digest old.trees None → IsJoined name digest old new
+    → AddsTenant digest (tenants_in old.trees) (tenants_in new.trees)
 
 -- what the adding of a tenant answers
 abbrev pub joining_answer : Result (Option Taken) Unavailable → Result (Unit {0}) AddTenant

@@ -9,6 +9,8 @@ pub mod Outcomes
 pub mod Resting
 pub mod Shape
 pub mod Stores
+pub mod Upgrading
 pub mod Whole
 pub mod TenantReads
 pub mod StoreLaws
+pub mod Migrating

@@ -10,7 +10,7 @@ use Rattle.stored_tables.specs.MachineOf.{machine_of}
 use Rattle.store.specs.Directory.{number_of, tenants_in}
 use Rattle.store.specs.DueSets.{DueSets}
 use Rattle.store.specs.Ledger.{HoldsLedgers}
-use Rattle.store.specs.Stores.{IsUsable, IsUsableAt, IsLive, IsLiveAt, Follows, tenants_of, tenants_at}
+use Rattle.store.specs.Stores.{IsUsable, IsUsableAt, IsLive, IsLiveAt, Follows, FindsTenants, tenants_of, tenants_at}
 use Rattle.store.specs.declared.place.Place.{Place}
 use Rattle.store.specs.declared.place.Place.TheVariants as at
 use Rattle.store.specs.declared.store.Store.{Store}
@@ -34,16 +34,23 @@ module _ {D : Type 0} {g : disk.Ghosts D} where
     is_usable = λ store. IsUsable store;
     is_live = λ store. IsLive store;
     follows = λ old new. Follows old new;
+    may_find = λ store found. FindsTenants store found;
   }
 
   -- no call at all is a run of calls
   pub follows_itself : (a : Store D g) → Follows a a
-  follows_itself a = record { lived = λ live. live; unready = λ ready. ready; version = refl }
+  follows_itself a = record {
+    lived = λ live. live;
+    honest = λ honest. honest;
+    unready = λ ready. ready;
+    version = refl;
+  }
 
   -- a run of calls behind another is one
   pub follows_then : (a b c : Store D g) → Follows a b → Follows b c → Follows a c
   follows_then a b c first second = record {
     lived = λ live. first.lived (second.lived live);
+    honest = λ honest. first.honest (second.honest honest);
     unready = λ ready. first.unready (second.unready ready);
     version = second.version ∙ first.version;
   }

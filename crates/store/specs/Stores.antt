@@ -1,5 +1,5 @@
 -- What a store means: its tenants' machines, whether it answers, and what may be found in its files.
-use Rattle.std.specs.Prelude.{◌≡◌, ◌≢◌, ◌⊎◌, ℕ, Bool, false, None, Result, Err, IsTrue}
+use Rattle.std.specs.Prelude.{◌≡◌, ◌≢◌, ◌⊎◌, ℕ, List, Bool, false, None, Result, Err, IsTrue}
 use Rattle.sqlite_disk.specs.declared.Disk as disk
 use Rattle.sqlite_disk.specs.declared.Files.{Files}
 use Rattle.sqlite_trees.specs.Tree.{Trees}
@@ -76,6 +76,13 @@ module _ {D : Type 0} {g : disk.Ghosts D} where
   abbrev pub may_find : Store D g → Trees → Type 0
   may_find store = may_find_at store.place
 
+  -- the machines of a database that an opening may find
+  pub record FindsTenants (store : Store D g) (found : Tenants) : Type 0 where
+    pub honest : IsHonest store
+    pub db : Trees
+    pub may : may_find store db
+    pub agrees : (digest : List ℕ) → found digest ≡ tenants_in db digest
+
   -- the store is open, and its database is one of these
   abbrev pub FindsAt : (Trees → Type 0) → Place D g → Type 0
   FindsAt X (at.Open conn) = IsTrue (file_state conn).is_open × ∥ X (file_state conn).now.trees ∥₁
@@ -87,6 +94,7 @@ module _ {D : Type 0} {g : disk.Ghosts D} where
   -- what every run of calls keeps: what was lost stays so, and no reopening is among them
   pub record Follows (old new : Store D g) : Type 0 where
     pub lived : IsLive new → IsLive old
+    pub honest : IsHonest new → IsHonest old
     pub unready : IsTrue new.ready → IsTrue old.ready
     pub version : new.version ≡ old.version
 

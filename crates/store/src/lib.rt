@@ -7,9 +7,13 @@ mod batches;
 mod creating;
 mod directory;
 mod due_sets;
+mod filling;
 mod joining;
+mod laws;
 mod ledgers;
 mod lookups;
+mod migrating;
+mod older;
 mod once_failing;
 mod opened;
 mod opening;
@@ -23,11 +27,13 @@ mod store;
 mod tenant_reads;
 #[cfg(test)]
 mod tests;
+mod upgrading;
 mod whole_rows;
 mod whole_tables;
 
 pub use auditing::{Audit, FullAudit};
 pub use joining::AddTenant;
+pub use laws::joining_adds_one;
 pub use once_failing::OnceFailing;
 pub use opening::OpenFault;
 pub use store::Store;

@@ -247,6 +247,7 @@ impl<D: Disk + Drop> Store<D> {
             (λ old. Joined name.now digest.now old db) self.old) }
         ensures disk { result ≡ Err (AddTenant.Unavailable DiskFailed)
             → self.new.ready ≡ false }
+        ensures unready { self.old.ready ≡ false → self.new ≡ self.old }
     {
         if !self.ready {
             return Err(AddTenant::Unavailable(Unavailable::Disk));
@@ -276,6 +277,7 @@ impl<D: Disk + Drop> Store<D> {
         ensures finds { Goes self.old self.new (λ db. OfDatabase
             (λ old. IsAfterBatch (W.gives work) digest.now old db) self.old) }
         ensures disk { result ≡ Err (AreUnavailable DiskFailed) → self.new.ready ≡ false }
+        ensures unready { self.old.ready ≡ false → self.new ≡ self.old }
     {
         if !self.ready {
             return Err(BatchFault::Unavailable(Unavailable::Disk));

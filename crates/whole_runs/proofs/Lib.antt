@@ -2,3 +2,5 @@ mod OwnDeedLemmas
 mod CourseLemmas
 mod RetryLemmas
 mod ReplyLemmas
+mod SameRowsLemmas
+mod StoreLemmas

@@ -32,12 +32,12 @@ use Rattle.whole_runs.specs.OwnDeeds.{Own, Told, Untold, if_own, own_deed, own_d
 use Rattle.whole_runs.specs.OwnDeeds.{own_replies, after_own, after_all, told_of, told_in_turn}
 use Rattle.whole_runs.specs.OwnDeeds.{RunsServeEachAlone}
 
-told_unavailable : (reply : Reply) → is_unavailable reply ≡ true → reply ≡ unavailable
+pub told_unavailable : (reply : Reply) → is_unavailable reply ≡ true → reply ≡ unavailable
 told_unavailable (Whole bytes) is = absurd (cc)
 told_unavailable (Fixed Unavailable) is = refl
 told_unavailable (Fixed refusal) is = absurd (cc)
 
-told_available : (reply : Reply) → is_unavailable reply ≡ false → reply ≢ unavailable
+pub told_available : (reply : Reply) → is_unavailable reply ≡ false → reply ≢ unavailable
 told_available reply is same = true≢false (sym (ap is_unavailable same) ∙ is)
 
 pub after_more :

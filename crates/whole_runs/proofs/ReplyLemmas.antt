@@ -1,13 +1,22 @@
 -- A reply, as what happened.
-use Rattle.std.proofs.Common.{◌≡◌, ℕ, List, Option, subst}
+use Rattle.std.proofs.Common.{◌≡◌, ◌≢◌, ◌⊎◌, inl, inr, ℕ, Bool, true, false, List, Option, Result}
+use Rattle.std.proofs.Common.{Ok, Err, IsOk, refl, sym, subst}
 use Rattle.httparse.specs.Grammar.{RequestHead}
-use Rattle.chain.specs.Ledgers.{Tenants}
+use Rattle.chain.specs.Ledgers.{LedgersMeaning, Tenants, KeepsAll, Finds}
+use Rattle.ledger_http.specs.declared.refusal.Refusal.{Refusal}
 use Rattle.ledger_http.specs.declared.reply.Reply.{Reply}
 use Rattle.ledger_http.specs.ReplyText.{reply_text}
 use Rattle.ledger_http.specs.Message.{HasHead}
-use Rattle.ledger_http.specs.Question.{asked_of}
+use Rattle.ledger_http.specs.Question.{Question, asked_of}
 use Rattle.service.specs.OwnRequests as message
+use Rattle.service.specs.OwnRequests.{is_unavailable}
+use Rattle.service.specs.Replies.{unavailable}
 use Rattle.service.specs.Responds.{Answers, Responds, RefusesEarly}
+use Rattle.service.specs.Responds.{IsAnswered, IsLeftBy, IsLeftByAsked}
+use Rattle.whole_runs.specs.Events.{Asked, Replied, IsStill}
+use Rattle.whole_runs.specs.Reopenings.{run_meaning, FoundAfter, As_now, As_before, As_done}
+use Rattle.whole_runs.specs.Reopenings.{Replies}
+use Rattle.whole_runs.proofs.OwnDeedLemmas.{told_unavailable, told_available}
 
 -- bytes have one head
 abbrev pub HeadsAreUnique : Type 0
@@ -32,3 +41,110 @@ happens_so unique old new bytes moment reply early r = record {
       (unique bytes r.head early.head r.has early.has) (r.answered available);
   same = r.same;
 }
+
+still_unavailable :
+    (event : message.Event) → event.reply ≡ unavailable → IsStill (Replied event)
+still_unavailable event is tenants =
+    record { answered = λ available. absurd (available is); same = λ u digest. refl }
+
+module _ {S : Type 0} (t : LedgersMeaning S) (unique : HeadsAreUnique) (old new : S)
+    (bytes : List ℕ) (moment : ℕ) (reply : Reply) (early : RefusesEarly bytes reply) where
+  abbrev event : message.Event
+  event = event_of bytes moment reply early
+
+  still_refused :
+      (refusal : Refusal) → asked_of bytes early.head ≡ Err refusal → IsStill (Replied event)
+  still_refused refusal is tenants = record {
+    answered = λ available.
+        subst
+        (λ (asked : Result Question Refusal).
+        Answers tenants tenants asked moment (reply_text reply))
+        (sym is)
+        (record { told = early.refused refusal is available; same = λ digest. refl });
+    same = λ u digest. refl;
+  }
+
+  found_lost :
+      (asked : Result Question Refusal) (found : Tenants) → asked_of bytes early.head ≡ asked →
+      reply ≡ unavailable → t.is_live old → IsLeftByAsked asked moment (t.tenants old) found →
+      FoundAfter (run_meaning t) old (Replied event) new found
+  found_lost (Ok question) found is untold live left =
+      As_done (Asked question moment)
+      (λ i. record { asked = is i; moment = moment; reply = untold i })
+      live (record { own = left.own; others = left.others })
+  found_lost (Err refusal) found is untold live left = absurd left
+
+  module _ (finds : Finds t (IsAnswered bytes reply) (IsLeftBy bytes moment) old new)
+      (settled :
+      t.is_live new → (found : Tenants) → t.may_find new found → KeepsAll (t.tenants new) found)
+    where
+      at_head :
+          (found : Tenants) → IsLeftBy bytes moment (t.tenants old) found →
+          IsLeftByAsked (asked_of bytes early.head) moment (t.tenants old) found
+      at_head found left =
+          subst
+          (λ (head : Option RequestHead).
+          IsLeftByAsked (asked_of bytes head) moment (t.tenants old) found)
+          (unique bytes left.0 early.head left.1 early.has) left.2
+
+      found_untold :
+          (found : Tenants) → reply ≡ unavailable →
+          t.may_find old found ⊎ (t.is_live old × IsLeftBy bytes moment (t.tenants old) found) →
+          FoundAfter (run_meaning t) old (Replied event) new found
+      found_untold found untold (inl before) = As_before (still_unavailable event untold) before
+      found_untold found untold (inr done) =
+          found_lost (asked_of bytes early.head) found refl untold done.0 (at_head found done.1)
+
+      found_refused :
+          (found : Tenants) (refusal : Refusal) → asked_of bytes early.head ≡ Err refusal →
+          t.may_find old found ⊎ (t.is_live old × IsLeftBy bytes moment (t.tenants old) found) →
+          FoundAfter (run_meaning t) old (Replied event) new found
+      found_refused found refusal is (inl before) = As_before (still_refused refusal is) before
+      found_refused found refusal is (inr done) =
+          absurd
+          (subst
+          (λ (asked : Result Question Refusal). IsLeftByAsked asked moment (t.tenants old) found) is
+          (at_head found done.1))
+
+      found_told :
+          (asked : Result Question Refusal) (found : Tenants) → asked_of bytes early.head ≡ asked →
+          reply ≢ unavailable → t.may_find new found →
+          FoundAfter (run_meaning t) old (Replied event) new found
+      found_told (Ok question) found is available may =
+          let live =
+          finds.live
+          (record {
+            asks = λ head has.
+                subst (λ (h : Option RequestHead). IsOk (asked_of bytes h))
+                (unique bytes early.head head early.has has)
+                (subst (λ (asked : Result Question Refusal). IsOk asked) (sym is) refl);
+            available = available;
+          })
+          found may in
+          As_now live (settled live found may)
+      found_told (Err refusal) found is available may =
+          found_refused found refusal is (finds.found found may)
+
+      found_by :
+          (untold : Bool) (found : Tenants) → is_unavailable reply ≡ untold →
+          t.may_find new found → FoundAfter (run_meaning t) old (Replied event) new found
+      found_by true found is may =
+          found_untold found (told_unavailable reply is) (finds.found found may)
+      found_by false found is may =
+          found_told (asked_of bytes early.head) found refl (told_available reply is) may
+
+      -- a response, as a step of a run
+      pub replies_so :
+          (t.is_live new → Responds (t.tenants old) (t.tenants new) bytes moment reply) →
+          (t.is_live new → t.is_live old) → Replies (run_meaning t) old bytes moment reply new
+      replies_so responds lived = record {
+        event = event;
+        is = record { head = early.head; has = early.has; is = refl };
+        moves = record {
+          happens = λ live.
+              happens_so unique (t.tenants old) (t.tenants new) bytes moment reply early
+              (responds live);
+          lived = lived;
+          found = λ found may. found_by (is_unavailable reply) found refl may;
+        };
+      }

@@ -1,5 +1,5 @@
 -- A tenant's machine in the course of a run is later than the one that it had before.
-use Rattle.std.proofs.Common.{◌≡◌, ℕ, List, [], ◌∷◌, ◌++◌, Option, Some, Result, Ok, Err, refl, sym}
+use Rattle.std.proofs.Common.{◌≡◌, ℕ, List, [], ◌∷◌, Option, Some, Result, Ok, Err, refl, sym}
 use Rattle.std.proofs.Common.{ap, ◌∙◌, subst}
 use Rattle.std.specs.List.{AllZip}
 use Rattle.records.specs.declared.reply.EventResult.{EventResult}

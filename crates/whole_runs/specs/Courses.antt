@@ -1,5 +1,5 @@
 -- The course of a run: its steps, its answers, and what happened.
-use Rattle.std.specs.Prelude.{◌≡◌, ℕ, List, [], ◌∷◌, ◌++◌, Option, Result, Ok, Err}
+use Rattle.std.specs.Prelude.{◌≡◌, ℕ, List, [], ◌∷◌, ◌++◌, Option, Ok, Err}
 use Rattle.httparse.specs.Grammar.{RequestHead}
 use Rattle.chain.specs.Ledgers.{Tenants}
 use Rattle.ledger_http.specs.declared.reply.Reply.{Reply}

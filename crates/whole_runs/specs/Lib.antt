@@ -3,3 +3,4 @@ pub mod Courses
 pub mod OwnDeeds
 pub mod Reopenings
 pub mod Retries
+pub mod SameRows

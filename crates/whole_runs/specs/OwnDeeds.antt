@@ -1,7 +1,7 @@
 -- What one tenant sees of a whole run: its own requests that were answered, and those that were not
 -- and yet found done.
 use Rattle.std.specs.Prelude.{◌≡◌, ℕ, List, [], ◌∷◌, ◌++◌, bytes_eq, Option, Some, None}
-use Rattle.std.specs.Prelude.{Result, Ok, Err, if◌then◌else◌}
+use Rattle.std.specs.Prelude.{Ok, Err, if◌then◌else◌}
 use Rattle.std.specs.List.{flat_map}
 use Rattle.records.specs.Machine.{Machine}
 use Rattle.chain.specs.Ledgers.{Tenants}

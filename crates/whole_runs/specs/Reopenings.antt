@@ -1,6 +1,6 @@
 -- What each step of a run promises of ledgers that can be opened again, and what a run does.
-use Rattle.std.specs.Prelude.{◌≡◌, ℕ, List, Option, Result, Ok, Err}
-use Rattle.chain.specs.Ledgers.{Tenants, KeepsAll}
+use Rattle.std.specs.Prelude.{ℕ, List, Result, Ok, Err}
+use Rattle.chain.specs.Ledgers.{LedgersMeaning, Tenants, KeepsAll}
 use Rattle.ledger_http.specs.declared.reply.Reply.{Reply}
 use Rattle.service.specs.OwnRequests as message
 use Rattle.store.specs.declared.opening.OpenFault.{OpenFault}
@@ -18,6 +18,15 @@ pub record RunMeaning (S : Type 0) : Type 1 where
   pub is_usable : S → Type 0
   pub is_live : S → Type 0
   pub may_find : S → Tenants → Type 0
+
+-- the same of ledgers that answer messages
+abbrev pub run_meaning : {S : Type 0} → LedgersMeaning S → RunMeaning S
+run_meaning t = record {
+  tenants = t.tenants;
+  is_usable = t.is_usable;
+  is_live = t.is_live;
+  may_find = t.may_find;
+}
 
 -- while the ledgers are live, an opening finds what is there
 abbrev pub IsSettled : {S : Type 0} → RunMeaning S → S → Type 0

@@ -18,6 +18,7 @@ pub trait Reopening {
 
     /// A law: while the ledgers are live, an opening finds what is there.
     fn is_settled(&self)
+        requires { means.is_usable self.now }
         ensures { IsSettled means self.now };
 
     /// The reply to the first message of `bytes`, at a moment in nanoseconds.

@@ -1,6 +1,7 @@
 use super::fixture::*;
 use chain::{BatchFault, BatchReply, Ledgers, ReadFault, Tables, Work};
 use records::{AccountFilter, FilterFlags, Order, TransferResult, Unavailable};
+use samples::transfer;
 use std::test::Fail;
 
 // Runs a batch and wants memory at its end.

@@ -3,12 +3,12 @@ ghost use Rattle.chain.specs.Ledgers.{AreValid};
 ghost use Rattle.plain.specs.BookLedgers.{machines_in};
 
 use crate::{Book, PlainTables};
-use amount::Amount;
 use chain::{BatchReply, Ledgers, Tables, Work, run_accounts, run_transfers};
 use records::{
-    AccountEvent, AccountFlags, AccountResult, Balances, RowSink, SinkFault, StatementRow, Sums,
-    TransferEvent, TransferFlags, TransferResult, Unavailable,
+    AccountEvent, AccountResult, RowSink, SinkFault, StatementRow, TransferEvent, TransferResult,
+    Unavailable,
 };
+use samples::{KEEPS_HISTORY, LIMITS_DEBITS, account};
 use std::alloc::Global;
 use std::test::Fail;
 
@@ -20,74 +20,6 @@ pub const OTHER: [u8; 32] = [2; 32];
 
 /// The digest of no firm.
 pub const NOBODY: [u8; 32] = [3; 32];
-
-/// The flags of a transfer.
-pub const PENDING: u16 = 2;
-
-pub const POST: u16 = 4;
-
-pub const BALANCING_DEBIT: u16 = 16;
-
-/// The flags of account 3: it limits its debits and keeps history.
-pub const LIMITED_WITH_HISTORY: u16 = 10;
-
-// An account of ledger 7 and code 10.
-fn account(id: u128, flags: u16) -> AccountEvent {
-    AccountEvent {
-        id,
-        ledger: 7,
-        code: 10,
-        flags: AccountFlags(flags),
-        ..AccountEvent::default()
-    }
-}
-
-/// A transfer of ledger 7 and code 1, from a debit account to a credit account.
-pub fn transfer(id: u128, (debit, credit): (u128, u128), amount: u128) -> TransferEvent {
-    TransferEvent {
-        id,
-        debit_account_id: debit,
-        credit_account_id: credit,
-        amount: Amount::new(amount),
-        ledger: 7,
-        code: 1,
-        ..TransferEvent::default()
-    }
-}
-
-/// A post of a pending transfer.
-pub fn post(id: u128, pending_id: u128, amount: u128) -> TransferEvent {
-    TransferEvent {
-        id,
-        pending_id,
-        amount: Amount::new(amount),
-        flags: TransferFlags(POST),
-        ..TransferEvent::default()
-    }
-}
-
-/// The event with these flags.
-pub fn with(flags: u16, event: TransferEvent) -> TransferEvent {
-    TransferEvent {
-        flags: TransferFlags(flags),
-        ..event
-    }
-}
-
-/// Balances, by debits and credits, the pending sum first.
-pub fn balances(debits: (u128, u128), credits: (u128, u128)) -> Balances {
-    Balances {
-        debits: sums(debits),
-        credits: sums(credits),
-    }
-}
-
-fn sums((pending, posted): (u128, u128)) -> Sums {
-    Sums {
-        pending: Amount::new(pending),
-        posted: Amount::new(posted),
-    }
-}
 
 /// A batch of accounts; events beyond the thousandth are left out.
 #[derive(Drop)]
@@ -136,7 +68,7 @@ pub fn base(alloc: Global) -> Result<Book, Fail>
     let accounts = [
         account(1, 0),
         account(2, 0),
-        account(3, LIMITED_WITH_HISTORY),
+        account(3, LIMITS_DEBITS + KEEPS_HISTORY),
         account(4, 0),
     ];
     let opening = Opening {

@@ -10,6 +10,7 @@ use records::{
     Account, AccountFilter, AccountWithBalances, BalanceAt, FilterFlags, Kind, Order, Side,
     SinkFault, StatementRow, Transfer, TransferEvent, TransferFlags,
 };
+use samples::{BALANCING_DEBIT, PENDING, POST, balances, post, transfer, with};
 use std::alloc::Global;
 use std::test::Fail;
 

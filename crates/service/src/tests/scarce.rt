@@ -113,6 +113,7 @@ impl Ledgers for ScarceLedger {
           (λ digest. if bytes_eq digest l.digest then Some l.scarce.tables.now else None);
       is_live = λ l. Unit {0};
       follows = λ a b. Unit {0};
+      may_find = λ l found. ⊥;
     } };
 
     fn in_batch<W: Work + Drop>(

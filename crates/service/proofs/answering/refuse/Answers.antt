@@ -1,4 +1,5 @@
-use Rattle.std.proofs.Common.{sym, ◌∙◌}
+use Rattle.std.proofs.Common.{refl, sym, ◌∙◌}
+use Rattle.service.proofs.FindingLemmas.{finds_on}
 use Rattle.service.proofs.ServedReads.{serves_refused, serves_unknown, serves_unavailable}
 use Rattle.service.proofs.answering.refuse.Goals as goal
 
@@ -15,3 +16,18 @@ pub returns-else-known-clause-serves : goal.returns-else-known-clause-serves
 returns-else-known-clause-serves g c live meaning moment means =
     serves_unknown _ _ _ _ _ (sym (c.in-Ok.ensures.value live) ∙ c.if-known.false)
     (c.knows.ensures.same live)
+
+pub returns-in_default-clause-finds : goal.returns-in_default-clause-finds
+returns-in_default-clause-finds g c =
+    finds_on g.L.Ledgers.means _ _ _ _ _ _ (λ available. absurd (available refl))
+    (λ was now nowhere. nowhere) c.knows.ensures.finds
+
+pub returns-then-known-clause-finds : goal.returns-then-known-clause-finds
+returns-then-known-clause-finds g c =
+    finds_on g.L.Ledgers.means _ _ _ _ _ _ (λ available. refl) (λ was now nowhere. nowhere)
+    c.in-Ok.ensures.finds
+
+pub returns-else-known-clause-finds : goal.returns-else-known-clause-finds
+returns-else-known-clause-finds g c =
+    finds_on g.L.Ledgers.means _ _ _ _ _ _ (λ available. refl) (λ was now nowhere. nowhere)
+    c.in-Ok.ensures.finds

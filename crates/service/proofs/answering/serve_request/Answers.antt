@@ -1,5 +1,6 @@
 use Rattle.std.proofs.Common.{refl, ◌∙◌, ap, sym}
 use Rattle.wire.specs.declared.request.Request.TheVariants.{LookupAccounts, LookupTransfers}
+use Rattle.service.proofs.FindingLemmas.{finds_by_read}
 use Rattle.service.proofs.ServedReads.{serves_by_read}
 use Rattle.service.proofs.answering.serve_request.Goals as goal
 
@@ -7,31 +8,63 @@ pub returns-in-LookupAccounts-clause-serves : goal.returns-in-LookupAccounts-cla
 returns-in-LookupAccounts-clause-serves g c live =
     serves_by_read _ _ _ _ _ _ _ (c.in-LookupAccounts.is ∙ ap LookupAccounts
     (sym c.as_slice.ensures)) (λ m. refl) (c.looked_up_accounts.ensures.reads.same live)
-    (λ ne. c.reply_to_read.ensures _ (c.looked_up_accounts.ensures.told live _) ne)
+    (λ ne. c.reply_to_read.ensures.shows _ (c.looked_up_accounts.ensures.told live _) ne)
 
 pub returns-in-LookupTransfers-clause-serves : goal.returns-in-LookupTransfers-clause-serves
 returns-in-LookupTransfers-clause-serves g c live =
     serves_by_read _ _ _ _ _ _ _ (c.in-LookupTransfers.is ∙ ap LookupTransfers
     (sym c.as_slice-in-LookupTransfers.ensures)) (λ m. refl)
     (c.looked_up_transfers.ensures.reads.same live)
-    (λ ne. c.reply_to_read-in-LookupTransfers.ensures _ (c.looked_up_transfers.ensures.told live _)
-    ne)
+    (λ ne. c.reply_to_read-in-LookupTransfers.ensures.shows _
+    (c.looked_up_transfers.ensures.told live _) ne)
 
 pub returns-in-HistoryTransfers-clause-serves : goal.returns-in-HistoryTransfers-clause-serves
 returns-in-HistoryTransfers-clause-serves g c live =
     serves_by_read _ _ _ _ _ _ _ c.in-HistoryTransfers.is (λ m. refl)
     (c.history_of_transfers.ensures.reads.same live)
-    (λ ne. c.reply_to_read-in-HistoryTransfers.ensures _
+    (λ ne. c.reply_to_read-in-HistoryTransfers.ensures.shows _
     (c.history_of_transfers.ensures.told live _) ne)
 
 pub returns-in-HistoryBalances-clause-serves : goal.returns-in-HistoryBalances-clause-serves
 returns-in-HistoryBalances-clause-serves g c live =
     serves_by_read _ _ _ _ _ _ _ c.in-HistoryBalances.is (λ m. refl)
     (c.history_of_balances.ensures.reads.same live)
-    (λ ne. c.reply_to_read-in-HistoryBalances.ensures _ (c.history_of_balances.ensures.told live _)
-    ne)
+    (λ ne. c.reply_to_read-in-HistoryBalances.ensures.shows _
+    (c.history_of_balances.ensures.told live _) ne)
 
 pub returns-in-Statement-clause-serves : goal.returns-in-Statement-clause-serves
 returns-in-Statement-clause-serves g c live =
     serves_by_read _ _ _ _ _ _ _ c.in-Statement.is (λ m. refl) (c.statement.ensures.reads.same live)
-    (λ ne. c.reply_to_read-in-Statement.ensures _ (c.statement.ensures.told live _) ne)
+    (λ ne. c.reply_to_read-in-Statement.ensures.shows _ (c.statement.ensures.told live _) ne)
+
+pub returns-in-LookupAccounts-clause-finds : goal.returns-in-LookupAccounts-clause-finds
+returns-in-LookupAccounts-clause-finds g c =
+    finds_by_read g.L.Ledgers.means _ _ _ _ _ _ _ _
+    (c.in-LookupAccounts.is ∙ ap LookupAccounts (sym c.as_slice.ensures))
+    (λ m. refl) c.reply_to_read.ensures.told c.looked_up_accounts.ensures.finds
+
+pub returns-in-LookupTransfers-clause-finds : goal.returns-in-LookupTransfers-clause-finds
+returns-in-LookupTransfers-clause-finds g c =
+    finds_by_read g.L.Ledgers.means _ _ _ _ _ _ _ _
+    (c.in-LookupTransfers.is
+    ∙ ap LookupTransfers (sym c.as_slice-in-LookupTransfers.ensures))
+    (λ m. refl) c.reply_to_read-in-LookupTransfers.ensures.told c.looked_up_transfers.ensures.finds
+
+pub returns-in-HistoryTransfers-clause-finds : goal.returns-in-HistoryTransfers-clause-finds
+returns-in-HistoryTransfers-clause-finds g c =
+    finds_by_read g.L.Ledgers.means _ _ _ _ _ _ _ _
+    c.in-HistoryTransfers.is
+    (λ m. refl) c.reply_to_read-in-HistoryTransfers.ensures.told
+    c.history_of_transfers.ensures.finds
+
+pub returns-in-HistoryBalances-clause-finds : goal.returns-in-HistoryBalances-clause-finds
+returns-in-HistoryBalances-clause-finds g c =
+    finds_by_read g.L.Ledgers.means _ _ _ _ _ _ _ _
+    c.in-HistoryBalances.is
+    (λ m. refl) c.reply_to_read-in-HistoryBalances.ensures.told c.history_of_balances.ensures.finds
+
+pub returns-in-Statement-clause-finds : goal.returns-in-Statement-clause-finds
+returns-in-Statement-clause-finds g c =
+    finds_by_read g.L.Ledgers.means _ _ _ _ _ _ _ _
+    c.in-Statement.is
+    (λ m. refl) c.reply_to_read-in-Statement.ensures.told c.statement.ensures.finds

@@ -1,7 +1,10 @@
 use Rattle.std.proofs.Common.{refl, sym, ap, ◌∙◌}
+use Rattle.records.specs.declared.transfer.Transfer.{Transfer}
 use Rattle.records.specs.Reads.{history_answer}
+use Rattle.chain.specs.declared.reads.Listed.{Listed}
 use Rattle.wire.specs.declared.outcome.Outcome.TheVariants as told
 use Rattle.wire.specs.declared.request.Request.TheVariants.{HistoryTransfers}
+use Rattle.service.proofs.FindingLemmas as finding
 use Rattle.service.proofs.ShownReads.{told_as_seen, told_as_fault, told_on}
 use Rattle.service.proofs.reading.history_of_transfers.Goals as goal
 
@@ -19,3 +22,9 @@ returns-clause-told g c live moment =
     told.Transfers _ _ (record { tells = λ m. refl })
     (c.in_ok-found.ensures.told live)
     ∙ ap (told.Transfers c.in_ok-found.found.clock) (sym c.into.ensures)
+
+pub returns-in_err-found-clause-finds : goal.returns-in_err-found-clause-finds
+returns-in_err-found-clause-finds g c =
+    finding.finds_on g.L.Ledgers.means _ _ _ _ _ _
+    (finding.told_on (Listed Transfer) c.from_residual.result _ c.from_residual.ensures.1)
+    (λ was now nowhere. nowhere) c.in_err-found.ensures.finds

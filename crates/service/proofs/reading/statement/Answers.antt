@@ -7,6 +7,7 @@ use Rattle.records.specs.Streamed.{stream_inside}
 use Rattle.statement.specs.Text.{statement_text}
 use Rattle.wire.specs.declared.outcome.Outcome.TheVariants as told
 use Rattle.wire.specs.declared.request.Request.TheVariants.{Statement}
+use Rattle.service.proofs.FindingLemmas as finding
 use Rattle.service.proofs.ShownReads.{told_as_seen}
 use Rattle.service.proofs.reading.statement.Goals as goal
 
@@ -32,3 +33,8 @@ returns-in-Ok-clause-told g c live moment =
     (λ clock rows. told.Statement (statement_text rows)) _ _ (record { tells = λ m. refl })
     handed.is
     ∙ ap told.Statement (sym text)
+
+pub returns-in-Err-clause-finds : goal.returns-in-Err-clause-finds
+returns-in-Err-clause-finds g c =
+    finding.finds_on g.L.Ledgers.means _ _ _ _ _ _ (λ told. absurd told)
+    (λ was now nowhere. nowhere) c.in_ok-each_statement_row.ensures.finds

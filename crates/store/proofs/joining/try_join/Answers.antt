@@ -8,6 +8,7 @@ use Rattle.store.specs.DueSets.{AreCovered}
 use Rattle.store.specs.Joining.{AreTaken, Joins}
 use Rattle.store.specs.Ledger.{HoldsLedgers}
 use Rattle.store.proofs.FreeLemmas.{none_there}
+use Rattle.store.proofs.JoinLemmas.{join_survives}
 use Rattle.store.proofs.JoinedLemmas.{ledgers_joined, sets_joined, sets_more}
 use Rattle.store.proofs.joining.try_join.Goals as goal
 
@@ -67,3 +68,31 @@ returns-clause-resting g c live =
           rests.ledgers taken.0 taken.1 free joins c.args.due.now c.insert.new.self c.new.result rests.covered
           written.1 written.2;
     }
+
+pub returns-in_err-join_as-clause-survives : goal.returns-in_err-join_as-clause-survives
+returns-in_err-join_as-clause-survives g c =
+    let none : c.in_ok-taken.taken ≡ None =
+    none_there c.in_ok-taken.taken (sym c.is_some.ensures ∙ c.if-is_some.false) in
+    join_survives (state g.S.Store c.args.conn.now) (state g.S.Store c.what_is_taken.new.conn)
+    (state g.S.Store c.free_number.new.conn) (state g.S.Store c.join_as.new.conn) c.in_ok-number.number
+    c.args.name.now c.args.digest.now c.in_ok-taken.ensures.follows c.in_ok-number.ensures.follows
+    c.in_err-join_as.ensures.survives
+    (λ clean1. subst (AreTaken c.args.name.now c.args.digest.now (state g.S.Store c.args.conn.now).now.trees)
+    none (c.in_ok-taken.ensures.told clean1))
+    (λ clean1. (c.in_ok-taken.ensures.same (clean1, c.in_ok-taken.ensures.open clean1)).now)
+    (λ clean2. (c.in_ok-number.ensures.same (clean2, c.in_ok-number.ensures.open clean2)).now)
+    (λ clean2. (c.in_ok-number.ensures.least clean2))
+
+pub returns-clause-survives : goal.returns-clause-survives
+returns-clause-survives g c =
+    let none : c.in_ok-taken.taken ≡ None =
+    none_there c.in_ok-taken.taken (sym c.is_some.ensures ∙ c.if-is_some.false) in
+    join_survives (state g.S.Store c.args.conn.now) (state g.S.Store c.what_is_taken.new.conn)
+    (state g.S.Store c.free_number.new.conn) (state g.S.Store c.join_as.new.conn) c.in_ok-number.number
+    c.args.name.now c.args.digest.now c.in_ok-taken.ensures.follows c.in_ok-number.ensures.follows
+    c.in_ok-join_as.ensures.survives
+    (λ clean1. subst (AreTaken c.args.name.now c.args.digest.now (state g.S.Store c.args.conn.now).now.trees)
+    none (c.in_ok-taken.ensures.told clean1))
+    (λ clean1. (c.in_ok-taken.ensures.same (clean1, c.in_ok-taken.ensures.open clean1)).now)
+    (λ clean2. (c.in_ok-number.ensures.same (clean2, c.in_ok-number.ensures.open clean2)).now)
+    (λ clean2. (c.in_ok-number.ensures.least clean2))

@@ -1,4 +1,3 @@
-use Rattle.records.specs.Step.{step_machine}
 use Rattle.wire.specs.declared.request.Request.TheVariants.{Accounts, Transfers}
 use Rattle.whole_runs.proofs.RetryLemmas.{LaterLaws, asked_later}
 use Rattle.whole_runs.proofs.laws.retries_add_nothing.Goals as goal

@@ -1,4 +1,6 @@
+use Rattle.store.specs.TenantReads.{LooksUp}
 use Rattle.records.specs.Reads.{found_transfers}
+use Rattle.store.proofs.FindsLemmas.{finds_batch, finds_looked}
 use Rattle.store.proofs.LookupLemmas.{looks_up_keeps}
 use Rattle.store.proofs.ledgers.StoreLedgers.lookup_transfers.Goals as goal
 
@@ -10,3 +12,11 @@ returns-clause-reads g c = record {
   usable = c.in_batch.ensures.usable;
   follows = c.in_batch.ensures.follows;
 }
+
+pub returns-clause-finds : goal.returns-clause-finds
+returns-clause-finds g c =
+    finds_looked found_transfers c.args.ids.now c.args.digest.now c.args.self.now c.in_batch.new.self
+    c.in_batch.result c.read_answer.result c.read_answer.ensures
+    (finds_batch (LooksUp found_transfers c.args.ids.now) c.args.digest.now c.args.self.now
+    c.in_batch.new.self c.requires c.in_batch.ensures.follows c.in_batch.ensures.finds
+    c.in_batch.result c.in_batch.ensures.unready c.in_batch.ensures.open)

@@ -1,0 +1,113 @@
+-- What may be found after a request.
+use Rattle.std.proofs.Common.{◌≡◌, ◌≢◌, ◌⊎◌, inl, inr, ℕ, List, Option, Some, Result, Ok, Err, refl}
+use Rattle.std.proofs.Common.{sym, ap, ◌∙◌, subst}
+use Rattle.std.specs.Result.{IsErrAnd}
+use Rattle.records.specs.Machine.{Machine}
+use Rattle.chain.specs.declared.ledgers.BatchFault.{BatchFault}
+use Rattle.chain.specs.declared.ledgers.BatchFault.TheVariants as batch
+use Rattle.chain.specs.declared.reads.ReadFault.{ReadFault}
+use Rattle.chain.specs.declared.reads.ReadFault.TheVariants as fault
+use Rattle.chain.specs.LedgerReads.{IsTold}
+use Rattle.chain.specs.Ledgers.{Tenants, LedgersMeaning, KeepsAll, Finds, IsAnswered, LeadsBy}
+use Rattle.ledger_http.specs.declared.reply.Reply.{Reply}
+use Rattle.ledger_http.specs.declared.reply.Reply.TheVariants.{Fixed}
+use Rattle.wire.specs.declared.outcome.Outcome.{Outcome}
+use Rattle.wire.specs.declared.request.Request.{Request}
+use Rattle.service.specs.Served.{left_by, served_to}
+use Rattle.service.specs.Reading.{refusal_of}
+use Rattle.service.specs.Replies.{Gives, IsLeft, batch_reply, unavailable}
+use Rattle.service.proofs.ServedReads.{left_alone}
+
+led :
+    {S : Type 0} (t : LedgersMeaning S) (old : S) (X Y : Tenants → Tenants → Type 0)
+    (found : Tenants) → ((was now : Tenants) → X was now → Y was now) →
+    t.may_find old found ⊎ (t.is_live old × X (t.tenants old) found) →
+    t.may_find old found ⊎ (t.is_live old × Y (t.tenants old) found)
+led t old X Y found leads (inl before) = inl before
+led t old X Y found leads (inr done) = inr (done.0, leads (t.tenants old) found done.1)
+
+-- a call that is answered in other words, and leads to the same machines
+pub finds_on :
+    {S : Type 0} (t : LedgersMeaning S) (old new : S) (A B : Type 0)
+    (X Y : Tenants → Tenants → Type 0) →
+    (B → A) → ((was now : Tenants) → X was now → Y was now) → Finds t A X old new →
+    Finds t B Y old new
+finds_on t old new A B X Y answered leads f = record {
+  found = λ found may. led t old X Y found leads (f.found found may);
+  live = λ b. f.live (answered b);
+}
+
+-- no call at all
+pub finds_same :
+    {S : Type 0} (t : LedgersMeaning S) (ledgers : S) (A : Type 0)
+    (X : Tenants → Tenants → Type 0) → (A → ⊥) → Finds t A X ledgers ledgers
+finds_same t ledgers A X unanswered = record {
+  found = λ found may. inl may;
+  live = λ answered. absurd (unanswered answered);
+}
+
+batch_answered :
+    (result : Result Reply BatchFault) → batch_reply result ≢ unavailable → IsAnswered result
+batch_answered (Ok reply) available = tt
+batch_answered (Err batch.UnknownKey) available = tt
+batch_answered (Err (batch.Unavailable why)) available = available refl
+
+batch_leads :
+    (request : Request) (moment : ℕ) (digest : List ℕ) (was now : Tenants) →
+    LeadsBy (Gives request moment) digest was now → IsLeft digest (Ok request) moment was now
+batch_leads request moment digest was now leads = record {
+  own =
+      leads.1.holds
+      ∙ (ap (λ (m : Machine). Some m) leads.1.given.left
+      ∙ ap (λ (tenant : Option Machine). (served_to tenant (Ok request) moment).left)
+      (sym leads.1.held));
+  others = leads.1.others;
+}
+
+-- a batch
+pub finds_by_batch :
+    {S : Type 0} (t : LedgersMeaning S) (old new : S) (request : Request) (moment : ℕ)
+    (digest : List ℕ) (result : Result Reply BatchFault) (reply : Reply) →
+    reply ≡ batch_reply result →
+    Finds t (IsAnswered result) (LeadsBy (Gives request moment) digest) old new →
+    Finds t (reply ≢ unavailable) (IsLeft digest (Ok request) moment) old new
+finds_by_batch t old new request moment digest result reply is =
+    finds_on t old new (IsAnswered result) (reply ≢ unavailable)
+    (LeadsBy (Gives request moment) digest) (IsLeft digest (Ok request) moment)
+    (λ available. batch_answered result (λ u. available (is ∙ u)))
+    (batch_leads request moment digest)
+
+kept_left :
+    (digest : List ℕ) (asked request : Request) (moment : ℕ) → asked ≡ request →
+    ((m : Machine) → left_by m moment request ≡ m) → (was now : Tenants) → KeepsAll was now →
+    IsLeft digest (Ok asked) moment was now
+kept_left digest asked request moment is same was now keeps =
+    subst (λ (r : Request). IsLeft digest (Ok r) moment was now) (sym is) (record {
+      own = keeps digest ∙ sym (left_alone request moment same (was digest));
+      others = λ other differs. keeps other;
+    })
+
+-- a read
+pub finds_by_read :
+    {S : Type 0} (t : LedgersMeaning S) (old new : S) (asked request : Request) (moment : ℕ)
+    (digest : List ℕ) (A B : Type 0) → asked ≡ request →
+    ((m : Machine) → left_by m moment request ≡ m) → (B → A) → Finds t A KeepsAll old new →
+    Finds t B (IsLeft digest (Ok asked) moment) old new
+finds_by_read t old new asked request moment digest A B is same answered =
+    finds_on t old new A B KeepsAll (IsLeft digest (Ok asked) moment) answered
+    (kept_left digest asked request moment is same)
+
+-- a read that fails as another one did
+pub told_on :
+    {A : Type 0} (B : Type 0) (result : Result A ReadFault) (why : ReadFault) →
+    IsErrAnd result (λ fault. fault ≡ why) → IsTold result → IsTold {A = B} (Err why)
+told_on B (Ok answer) why is told = absurd is
+told_on B (Err f) why is told = subst (λ (f : ReadFault). IsTold {A = B} (Err f)) is told
+
+pub fault_told :
+    (why : ReadFault) → Fixed (refusal_of why) ≢ unavailable → IsTold {A = Outcome} (Err why)
+fault_told fault.UnknownKey available = tt
+fault_told (fault.Unavailable why) available = available refl
+fault_told fault.NoAccount available = tt
+fault_told fault.NoHistory available = tt
+fault_told (fault.Sink why) available = available refl

@@ -1,0 +1,160 @@
+-- What an opening may find after a call, as the machines of tenants.
+use Rattle.std.proofs.Common.{◌≡◌, ◌≢◌, ◌⊎◌, inl, inr, ℕ, Bool, true, false, List, Result, Ok, Err, IsOk, refl, sym, subst, ◌∙◌}
+use Rattle.std.proofs.lemmas.Bool.{cases_Bool, both_ways}
+use Rattle.records.specs.declared.unavailable.Unavailable.{Unavailable}
+use Rattle.records.specs.declared.unavailable.Unavailable.TheVariants.{Disk as DiskFailed}
+use Rattle.records.specs.Machine.{Machine}
+use Rattle.sqlite_disk.specs.declared.Disk as disk
+use Rattle.sqlite_trees.specs.Tree.{Trees}
+use Rattle.sqlite.specs.Effect.{Database}
+use Rattle.chain.specs.declared.ledgers.BatchFault.{BatchFault}
+use Rattle.chain.specs.declared.ledgers.BatchFault.TheVariants as batch_fault
+use Rattle.chain.specs.declared.reads.Listed.{Listed}
+use Rattle.chain.specs.declared.reads.ReadFault.{ReadFault}
+use Rattle.chain.specs.declared.reads.ReadFault.TheVariants as fault
+use Rattle.chain.specs.Ledgers.{Tenants, KeepsAll, Finds, IsAnswered, LeadsBy}
+use Rattle.chain.specs.LedgerReads.{IsTold}
+use Rattle.store.specs.Directory.{tenants_in}
+use Rattle.store.specs.DueSets.{DueSets}
+use Rattle.store.specs.Outcomes.{IsAfterBatch}
+use Rattle.store.specs.StoreLaws.{store_meaning}
+use Rattle.store.specs.Stores.{IsUsable, IsUsableAt, IsLive, IsLiveAt, IsHonest, IsHonestAt, tenants_of, tenants_at}
+use Rattle.store.specs.Stores.{FindsTenants, Follows, Goes, OfDatabase, OfDatabaseAt, Reads, may_find}
+use Rattle.store.specs.TenantReads.{reach_of, read_answer, LooksUp}
+use Rattle.store.specs.declared.place.Place.{Place}
+use Rattle.store.specs.declared.place.Place.TheVariants as at
+use Rattle.store.specs.declared.store.Store.{Store}
+use Rattle.store.proofs.LookupLemmas.{looks_up_keeps}
+
+not_failed :
+    {O : Type 0} (result : Result O BatchFault) → IsAnswered result →
+    result ≢ Err (batch_fault.Unavailable DiskFailed)
+not_failed (Ok output) answered is = cc
+not_failed (Err batch_fault.UnknownKey) answered is = cc
+not_failed (Err (batch_fault.Unavailable why)) answered is = absurd answered
+
+told_reached :
+    {A : Type 0} (result : Result A ReadFault) → IsTold result → reach_of result ≢ Err DiskFailed
+told_reached (Ok answer) told is = cc
+told_reached (Err (fault.Unavailable why)) told is = absurd told
+told_reached (Err (fault.Sink why)) told is = absurd told
+told_reached (Err fault.UnknownKey) told is = cc
+told_reached (Err fault.NoAccount) told is = cc
+told_reached (Err fault.NoHistory) told is = cc
+
+ok_reached : {A : Type 0} (result : Result A Unavailable) → IsOk result → result ≢ Err DiskFailed
+ok_reached (Ok answer) ok is = cc
+ok_reached (Err why) ok is = absurd (cc)
+
+looked_answered :
+    {A : Type 0} (result : Result A BatchFault) → IsTold (read_answer result) → IsAnswered result
+looked_answered (Ok answer) told = tt
+looked_answered (Err batch_fault.UnknownKey) told = tt
+looked_answered (Err (batch_fault.Unavailable why)) told = told
+
+module _ {D : Type 0} {g : disk.Ghosts D} where
+  -- a store whose calls are answered is open
+  live_at :
+      (ready : Bool) (sets : DueSets) (place : Place D g) → ready ≡ true →
+      IsUsableAt ready sets place → IsHonestAt place → IsLiveAt place
+  live_at ready sets (at.Open conn) answers usable clean = (clean, usable.1 answers clean)
+  live_at ready sets (at.Shut files) answers usable clean = absurd (both_ways ready usable answers)
+
+  leads_at :
+      {O : Type 0} (gives : Machine → O → Machine → Type 0) (digest : List ℕ) (place : Place D g)
+      (db : Trees) (found : Tenants) → ((d : List ℕ) → found d ≡ tenants_in db d) →
+      OfDatabaseAt (λ old. IsAfterBatch gives digest old db) place →
+      LeadsBy gives digest (tenants_at place) found
+  leads_at gives digest (at.Open conn) db found agrees after = (
+    after.output,
+    record {
+      before = after.done.before;
+      after = after.done.after;
+      held = after.done.held;
+      given = after.done.given;
+      holds = agrees digest ∙ after.done.holds;
+      others = λ other differs. agrees other ∙ after.done.others other differs;
+    },
+  )
+  leads_at gives digest (at.Shut files) db found agrees after = absurd after
+
+  module _ {O : Type 0} (gives : Machine → O → Machine → Type 0) (digest : List ℕ) (old new : Store D g)
+      (usable : IsUsable old) (follows : Follows old new)
+      (goes : Goes old new (λ db. OfDatabase (λ was. IsAfterBatch gives digest was db) old)) where
+    after_crash :
+        (found : Tenants) (f : FindsTenants new found) → old.ready ≡ true →
+        may_find old f.db ⊎ OfDatabase (λ was. IsAfterBatch gives digest was f.db) old →
+        FindsTenants old found ⊎ (IsLive old × LeadsBy gives digest (tenants_of old) found)
+    after_crash found f ready (inl before) = inl (record {
+      honest = follows.honest f.honest;
+      db = f.db;
+      may = before;
+      agrees = f.agrees;
+    })
+    after_crash found f ready (inr after) = inr (
+      live_at old.ready old.due old.place ready usable (follows.honest f.honest),
+      leads_at gives digest old.place f.db found f.agrees after,
+    )
+
+    -- after a batch
+    pub finds_batch :
+        (result : Result O BatchFault) → (old.ready ≡ false → new ≡ old)
+        → (IsHonest new → result ≢ Err (batch_fault.Unavailable DiskFailed) → IsLive new)
+        → Finds store_meaning (IsAnswered result) (LeadsBy gives digest) old new
+    finds_batch result unready open_yet = record {
+      found = λ found f. elim (cases_Bool old.ready) [
+        | inl ready ↦ after_crash found f ready (goes f.honest f.db f.may)
+        | inr shut ↦ inl (subst (λ (s : Store D g). FindsTenants s found) (unready shut) f)
+      ];
+      live = λ answered found f. open_yet f.honest (not_failed result answered);
+    }
+
+  -- after a call that only reads
+  pub finds_read :
+      {T : Type 0} (old new : Store D g) (result : Result T Unavailable) (told : Type 0)
+      (Leads : Tenants → Tenants → Type 0) → (told → result ≢ Err DiskFailed) → Reads old new result →
+      Finds store_meaning told Leads old new
+  finds_read old new result told Leads reached reads = record {
+    found = λ found f. elim (reads.finds f.honest f.db f.may) [
+      | inl before ↦ inl (record {
+        honest = reads.answers.follows.honest f.honest;
+        db = f.db;
+        may = before;
+        agrees = f.agrees;
+      })
+      | inr none ↦ absurd none
+    ];
+    live = λ is_told found f. reads.answers.open_yet f.honest (reached is_told);
+  }
+
+  pub finds_known :
+      {T : Type 0} (old new : Store D g) (result : Result T Unavailable)
+      (Leads : Tenants → Tenants → Type 0) → Reads old new result →
+      Finds store_meaning (IsOk result) Leads old new
+  finds_known old new result Leads = finds_read old new result (IsOk result) Leads (ok_reached result)
+
+  pub finds_told :
+      {A : Type 0} (old new : Store D g) (result : Result A ReadFault)
+      (Leads : Tenants → Tenants → Type 0) → Reads old new (reach_of result) →
+      Finds store_meaning (IsTold result) Leads old new
+  finds_told old new result Leads =
+      finds_read old new (reach_of result) (IsTold result) Leads (told_reached result)
+
+  -- after a look-up
+  pub finds_looked :
+      {A : Type 0} (found : Machine → List ℕ → List A) (ids digest : List ℕ) (old new : Store D g)
+      (result : Result (Listed A) BatchFault) (answer : Result (Listed A) ReadFault) →
+      answer ≡ read_answer result →
+      Finds store_meaning (IsAnswered result) (LeadsBy (LooksUp found ids) digest) old new →
+      Finds store_meaning (IsTold answer) KeepsAll old new
+  finds_looked {A} looks ids digest old new result answer is finds = record {
+    found = λ found f. elim (finds.found found f) [
+      | inl before ↦ inl before
+      | inr done ↦ inr (
+        done.0,
+        looks_up_keeps looks ids digest (tenants_of old) found (Ok done.1.0) done.1.1,
+      )
+    ];
+    live = λ told. finds.live (looked_answered result
+        (subst (λ (r : Result (Listed A) ReadFault). IsTold r) is told));
+  }

@@ -1,0 +1,8 @@
+use Rattle.store.proofs.FindsLemmas.{finds_batch}
+use Rattle.store.proofs.ledgers.StoreLedgers.in_batch.Goals as goal
+
+pub returns-clause-finds : goal.returns-clause-finds
+returns-clause-finds g c =
+    finds_batch (g.W.Work.gives c.args.work) c.args.digest.now c.args.self.now c.in_batch.new.self
+    c.requires c.in_batch.ensures.follows c.in_batch.ensures.finds c.in_batch.result
+    c.in_batch.ensures.unready c.in_batch.ensures.open

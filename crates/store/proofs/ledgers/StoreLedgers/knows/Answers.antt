@@ -1,0 +1,7 @@
+use Rattle.chain.specs.Ledgers.{LeadsNowhere}
+use Rattle.store.proofs.FindsLemmas.{finds_known}
+use Rattle.store.proofs.ledgers.StoreLedgers.knows.Goals as goal
+
+pub returns-clause-finds : goal.returns-clause-finds
+returns-clause-finds g c =
+    finds_known c.args.self.now c.knows.new.self c.knows.result LeadsNowhere c.knows.ensures.reads

@@ -1,0 +1,202 @@
+-- A store as ledgers that can be opened again.
+use Rattle.std.proofs.Common.{◌≡◌, ◌≢◌, ◌⊎◌, inl, inr, ℕ, Bool, true, false, List, Result, Ok, Err}
+use Rattle.std.proofs.Common.{OnOk, OnErr, refl, sym, ap, subst, ◌∙◌}
+use Rattle.std.proofs.Math.Logic.{∥∥₁_map}
+use Rattle.std.proofs.lemmas.Bool.{cases_Bool, both_ways}
+use Rattle.records.specs.declared.unavailable.Unavailable.TheVariants.{Disk as DiskFailed}
+use Rattle.sqlite_disk.specs.declared.Disk as disk
+use Rattle.sqlite_trees.specs.Tree.{Trees}
+use Rattle.sqlite.specs.Effect.{Database}
+use Rattle.sqlite.specs.Files.{file_state}
+use Rattle.chain.specs.Ledgers.{Tenants}
+use Rattle.store.specs.declared.joining.AddTenant.{AddTenant}
+use Rattle.store.specs.declared.joining.AddTenant.TheVariants.{NameTaken, DigestTaken, Unavailable}
+use Rattle.store.specs.declared.opening.OpenFault.{OpenFault}
+use Rattle.store.specs.declared.place.Place.{Place}
+use Rattle.store.specs.declared.place.Place.TheVariants as at
+use Rattle.store.specs.declared.store.Store.{Store}
+use Rattle.store.specs.Directory.{tenants_in}
+use Rattle.store.specs.DueSets.{DueSets}
+use Rattle.store.specs.Joining.{HasJoined, Joined, JoiningAddsOne}
+use Rattle.store.specs.StoreLaws.{store_meaning}
+use Rattle.store.specs.Stores.{IsUsable, IsUsableAt, IsLive, IsLiveAt, IsHonest, IsHonestAt}
+use Rattle.store.specs.Stores.{tenants_of, tenants_at, may_find, may_find_at, FindsTenants, Finds}
+use Rattle.store.specs.Stores.{FindsAt, Follows, Goes, OfDatabase, OfDatabaseAt, OfDatabases}
+use Rattle.store.specs.Stores.{IsSettledStore, IsSettledAt}
+use Rattle.whole_runs.specs.Events as event
+use Rattle.whole_runs.specs.Events.{Event, Added, Happens, IsDone, joined}
+use Rattle.whole_runs.specs.Reopenings.{run_meaning, IsSettled, FoundAfter, As_now, As_before}
+use Rattle.whole_runs.specs.Reopenings.{As_done, Moves, Reopens}
+
+module _ {D : Type 0} {g : disk.Ghosts D} where
+  -- a store whose calls are answered is open
+  live_at :
+      (ready : Bool) (sets : DueSets) (place : Place D g) → ready ≡ true →
+      IsUsableAt ready sets place → IsHonestAt place → IsLiveAt place
+  live_at ready sets (at.Open conn) answers usable clean = (clean, usable.1 answers clean)
+  live_at ready sets (at.Shut files) answers usable clean = absurd (both_ways ready usable answers)
+
+  settled_at :
+      (ready : Bool) (sets : DueSets) (place : Place D g) (db : Trees) → IsSettledAt place →
+      IsUsableAt ready sets place → IsLiveAt place → may_find_at place db →
+      (digest : List ℕ) → tenants_in db digest ≡ tenants_at place digest
+  settled_at ready sets (at.Open conn) db settled usable live may digest =
+      ap (λ (trees : Trees). tenants_in trees digest)
+      (settled.only live.1 db may
+      ∙ sym (ap (λ (now : Database). now.trees) (usable.0 live).quiet.settled))
+  settled_at ready sets (at.Shut files) db settled usable live may digest = absurd live
+
+  -- while a store is open, an opening finds what is there
+  pub settled_so :
+      (store : Store D g) → IsSettledStore store → IsUsable store →
+      IsSettled (run_meaning store_meaning) store
+  settled_so store settled usable live found f digest =
+      f.agrees digest
+      ∙ settled_at store.ready store.due store.place f.db settled usable live f.may digest
+
+  module _ (law : JoiningAddsOne) (name digest : List ℕ) where
+    added_at :
+        (ready : Bool) (sets : DueSets) (old new : Place D g)
+        (result : Result (Unit {0}) AddTenant) → IsUsableAt ready sets old → IsLiveAt old →
+        IsLiveAt new →
+        OfDatabaseAt (λ before. OfDatabaseAt (λ after. HasJoined name digest before after result)
+        new) old →
+        Happens (tenants_at old) (Added digest result) (tenants_at new)
+    added_at ready sets (at.Shut files) new result usable live live' told = absurd live
+    added_at ready sets (at.Open conn) (at.Shut files) result usable live live' told = absurd live'
+    added_at ready sets (at.Open conn) (at.Open conn') (Ok done) usable live live' told =
+        let adds =
+        law name digest (file_state conn).now (file_state conn').now (usable.0 live).ledgers told.0
+        told.1 in
+        (adds.none, record { own = adds.own ∙ sym (ap joined adds.none); others = adds.others })
+    added_at ready sets (at.Open conn) (at.Open conn') (Err NameTaken) usable live live' told =
+        λ d. ap (λ (db : Database). tenants_in db.trees d) told.1
+    added_at ready sets (at.Open conn) (at.Open conn') (Err DigestTaken) usable live live' told =
+        λ d. ap (λ (db : Database). tenants_in db.trees d) told.1
+    added_at ready sets (at.Open conn) (at.Open conn') (Err (Unavailable why)) usable live live'
+        told = λ d. ap (λ (db : Database). tenants_in db.trees d) told
+
+    joined_at :
+        (ready : Bool) (sets : DueSets) (place : Place D g) (db : Trees) (found : Tenants) →
+        IsUsableAt ready sets place → IsLiveAt place →
+        ((d : List ℕ) → found d ≡ tenants_in db d) →
+        OfDatabaseAt (λ was. Joined name digest was db) place →
+        IsDone (event.Joined digest) (tenants_at place) found
+    joined_at ready sets (at.Shut files) db found usable live agrees after = absurd live
+    joined_at ready sets (at.Open conn) db found usable live agrees after =
+        let adds =
+        law name digest (file_state conn).now
+        (record { schema = (file_state conn).now.schema; trees = db }) (usable.0 live).ledgers
+        after.0 after.1 in
+        record {
+          own = agrees digest ∙ (adds.own ∙ sym (ap joined adds.none));
+          others = λ other differs. agrees other ∙ adds.others other differs;
+        }
+
+    module _ (old new : Store D g) (usable : IsUsable old) (follows : Follows old new)
+        (unready : old.ready ≡ false → new ≡ old)
+        (goes : Goes old new (λ db. OfDatabase (λ was. Joined name digest was db) old)) where
+      crashed :
+          (found : Tenants) (f : FindsTenants new found) → old.ready ≡ true →
+          may_find old f.db ⊎ OfDatabase (λ was. Joined name digest was f.db) old →
+          FindsTenants old found
+          ⊎ (IsLive old × IsDone (event.Joined digest) (tenants_of old) found)
+      crashed found f ready (inl before) = inl (record {
+        honest = follows.honest f.honest;
+        db = f.db;
+        may = before;
+        agrees = f.agrees;
+      })
+      crashed found f ready (inr after) =
+          let live =
+          live_at old.ready old.due old.place ready usable (follows.honest f.honest) in
+          inr (live, joined_at old.ready old.due old.place f.db found usable live f.agrees after)
+
+      untold :
+          (found : Tenants) → FindsTenants new found →
+          FindsTenants old found
+          ⊎ (IsLive old × IsDone (event.Joined digest) (tenants_of old) found)
+      untold found f =
+          elim (cases_Bool old.ready) [
+            | inl ready ↦ crashed found f ready (goes f.honest f.db f.may)
+            | inr shut ↦ inl (subst (λ (s : Store D g). FindsTenants s found) (unready shut) f)
+          ]
+
+      module _ (settled : IsSettled (run_meaning store_meaning) new) where
+        found_now :
+            (result : Result (Unit {0}) AddTenant) (found : Tenants) → FindsTenants new found →
+            (IsHonest new → IsLive new) →
+            FoundAfter (run_meaning store_meaning) old (Added digest result) new found
+        found_now result found f open_yet =
+            let live = open_yet f.honest in As_now live (settled live found f)
+
+        found_so :
+            (result : Result (Unit {0}) AddTenant) (found : Tenants) →
+            (IsHonest new → result ≢ Err (Unavailable DiskFailed) → IsLive new) →
+            FindsTenants new found →
+            FoundAfter (run_meaning store_meaning) old (Added digest result) new found
+        found_so (Ok done) found open_yet f =
+            found_now (Ok done) found f (λ honest. open_yet honest (λ is. cc))
+        found_so (Err NameTaken) found open_yet f =
+            found_now (Err NameTaken) found f (λ honest. open_yet honest (λ is. cc))
+        found_so (Err DigestTaken) found open_yet f =
+            found_now (Err DigestTaken) found f (λ honest. open_yet honest (λ is. cc))
+        found_so (Err (Unavailable why)) found open_yet f =
+            elim (untold found f) [
+              | inl before ↦ As_before tt before
+              | inr done ↦ As_done (event.Joined digest) refl done.0 done.1
+            ]
+
+        -- the adding of a tenant, as a step of a run
+        pub joins_so :
+            (result : Result (Unit {0}) AddTenant) →
+            (IsLive new → OfDatabases (λ before after. HasJoined name digest before after result)
+            old new) →
+            (IsHonest new → result ≢ Err (Unavailable DiskFailed) → IsLive new) →
+            Moves (run_meaning store_meaning) old (Added digest result) new
+        joins_so result told open_yet = record {
+          happens = λ live.
+              added_at old.ready old.due old.place new.place result usable (follows.lived live) live
+              (told live);
+          lived = follows.lived;
+          found = λ found f. found_so result found open_yet f;
+        }
+
+  opened_at :
+      (old : Store D g) (place : Place D g) → IsHonest old → FindsAt (may_find old) place →
+      ∥ FindsTenants old (tenants_at place) ∥₁
+  opened_at old (at.Open conn) honest finds =
+      ∥∥₁_map finds.1 (λ may. record {
+        honest = honest;
+        db = (file_state conn).now.trees;
+        may = may;
+        agrees = λ digest. refl;
+      })
+  opened_at old (at.Shut files) honest finds = absurd finds
+
+  honest_at : (place : Place D g) → IsLiveAt place → IsHonestAt place
+  honest_at (at.Open conn) live = live.0
+  honest_at (at.Shut files) live = absurd live
+
+  found_live_at :
+      (X : Trees → Type 0) (place : Place D g) → IsHonestAt place → FindsAt X place → IsLiveAt place
+  found_live_at X (at.Open conn) honest finds = (honest, finds.0)
+  found_live_at X (at.Shut files) honest finds = absurd finds
+
+  -- a reopening, as a step of a run
+  pub reopens_so :
+      (old new : Store D g) (result : Result (Unit {0}) OpenFault) →
+      (IsHonest new → OnOk result (Finds new (may_find old))) →
+      (IsHonest new → OnOk result (IsHonest old)) →
+      OnErr result (IsLive new → ⊥) → IsSettled (run_meaning store_meaning) new →
+      Reopens (run_meaning store_meaning) old result new
+  reopens_so old new (Ok done) finds honest shut settled = record {
+    member = λ live.
+        let now = honest_at new.place live in
+        opened_at old new.place (honest now) (finds now);
+    found = λ found f.
+        let live =
+        found_live_at (may_find old) new.place f.honest (finds f.honest) in
+        (live, settled live found f);
+  }
+  reopens_so old new (Err fault) finds honest shut settled = shut

@@ -1,0 +1,40 @@
+//! A store, as ledgers that can be opened again.
+
+use crate::reopening::Reopening;
+use ledger_http::{Reply, meanings_are_unique};
+use service::respond;
+use sqlite_disk::Disk;
+use std::alloc::Global;
+use store::{AddTenant, FullAudit, OpenFault, Store, joining_adds_one};
+use tenants::TenantName;
+
+impl<D: Disk + Drop> Reopening for Store<D> {
+    ghost use Rattle.store.specs.StoreLaws.{store_meaning};
+    ghost use Rattle.whole_runs.specs.Reopenings.{run_meaning};
+
+    ghost means = { run_meaning store_meaning };
+
+    fn is_settled(&self) {
+        self.is_settled();
+    }
+
+    fn reply_to(&mut self, alloc: Global, bytes: &[u8], moment: u64) -> Reply {
+        meanings_are_unique();
+        let reply = respond(alloc, self, bytes, moment);
+        self.is_settled();
+        reply
+    }
+
+    fn join(&mut self, name: &TenantName, digest: &[u8; 32]) -> Result<(), AddTenant> {
+        joining_adds_one();
+        let joined = self.add_tenant(name, digest);
+        self.is_settled();
+        joined
+    }
+
+    fn open_again(&mut self) -> Result<(), OpenFault> {
+        let opened = self.reopen(&FullAudit);
+        self.is_settled();
+        opened
+    }
+}
