@@ -2,8 +2,12 @@
 //! stays, and its rows become those that it prescribes in the newer version.
 #![tactic(auto)]
 
+mod fault;
+mod migrating;
 mod newer;
 #[cfg(test)]
 mod tests;
 
+pub use fault::MigrateFault;
+pub use migrating::migrate;
 pub use newer::rows_in_version;

@@ -1,0 +1,40 @@
+-- What a migration is refused for.
+use Rattle.std.specs.Prelude.{ℕ}
+use Rattle.records.specs.declared.unavailable.Unavailable.TheVariants.{Memory, Size}
+use Rattle.rows.specs.declared.all_rows.AllRows.{AllRows}
+use Rattle.sqlite_trees.specs.Tree.{Trees}
+use Rattle.audit.specs.Damage.{IsFirstDamage}
+use Rattle.audit.specs.declared.damage.AuditFault.{AuditFault}
+use Rattle.audit.specs.declared.damage.AuditFault.TheVariants as audit
+use Rattle.audit.specs.declared.damage.Damage.{Damage}
+use Rattle.store.specs.Whole.{AreAllRows}
+use Rattle.store.specs.declared.opening.OpenFault.{OpenFault}
+use Rattle.store.specs.declared.opening.OpenFault.TheVariants as opening
+use Rattle.migrate.specs.declared.fault.MigrateFault.{MigrateFault}
+use Rattle.migrate.specs.declared.fault.MigrateFault.TheVariants.{NewerSchema, Damaged, Unavailable}
+
+-- what the audit's faults mean
+abbrev pub audit_fault : AuditFault → MigrateFault
+audit_fault (audit.Damaged damage) = Damaged damage
+audit_fault audit.Memory = Unavailable Memory
+
+-- and the upgrade's, which is handed sound rows
+abbrev pub upgrade_fault : OpenFault → MigrateFault
+upgrade_fault (opening.Unavailable why) = Unavailable why
+upgrade_fault (opening.Damaged damage) = Unavailable Size
+upgrade_fault opening.Unreadable = Unavailable Size
+upgrade_fault opening.NotALedger = Unavailable Size
+upgrade_fault opening.OldSchema = Unavailable Size
+upgrade_fault opening.NewerSchema = Unavailable Size
+
+-- a fact of the damage that is told, if it is
+abbrev pub IfDamaged : MigrateFault → (Damage → Type 0) → Type 0
+IfDamaged NewerSchema P = Unit {0}
+IfDamaged (Damaged damage) P = P damage
+IfDamaged (Unavailable why) P = Unit {0}
+
+-- of all rows of the database, in this version, this is the first damage
+pub record HasFirstDamage (version : ℕ) (damage : Damage) (trees : Trees) : Type 0 where
+  pub all : AllRows
+  pub read : AreAllRows version trees all
+  pub first : IsFirstDamage version all.tenants.items damage
