@@ -52,10 +52,6 @@ statement_shape = over_store (codes "statement")
 abbrev pub check_shape : Shape
 check_shape = over_store (codes "check") []
 
--- migrate: the version to come to
-abbrev pub migrate_shape : Shape
-migrate_shape = over_store (codes "migrate") (text_rule (codes "to") ∷ [])
-
 -- the program without its subcommands; the words are those after its name
 abbrev pub program : App
 program = record (new_app (codes "ledgerd")) {
@@ -68,6 +64,5 @@ ledgerd_app =
     with_subcommand
     (with_subcommand
     (with_subcommand
-    (with_subcommand
-    (with_subcommand program serve_shape) tenant_add_shape) statement_shape) check_shape)
-    migrate_shape
+    (with_subcommand program serve_shape) tenant_add_shape) statement_shape)
+    check_shape

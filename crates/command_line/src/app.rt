@@ -1,6 +1,6 @@
 //! `ledgerd` as `clap` sees it: the subcommands, their options and their help.
 ghost use Rattle.std.specs.Prelude.{IfOk};
-ghost use Rattle.command_line.specs.Ledgerd.{check_shape, db_rule, ledgerd_app, migrate_shape};
+ghost use Rattle.command_line.specs.Ledgerd.{check_shape, db_rule, ledgerd_app};
 ghost use Rattle.command_line.specs.Ledgerd.{number_rule, program, serve_shape, statement_shape};
 ghost use Rattle.command_line.specs.Ledgerd.{tenant_add_shape, text_rule};
 ghost use Rattle.command_line.specs.Built.{IsLeaf, IsLocalArg, IsProgram};
@@ -134,21 +134,6 @@ fn check_command<'a>(alloc: Global) -> Result<clap::Command<'a>, AllocError>
         .arg(db_option(alloc))
 }
 
-fn migrate_command<'a>(alloc: Global) -> Result<clap::Command<'a>, AllocError>
-    ensures { IfOk result (IsLeaf migrate_shape) }
-{
-    let to = text_option(
-        alloc,
-        "to",
-        "V",
-        "The schema version to bring the store to, e.g. 3",
-    );
-    clap::Command::new(alloc, "migrate")
-        .about("Bring a store to a newer schema version")
-        .arg(db_option(alloc))?
-        .arg(to)
-}
-
 /// The whole command line, which reads the words after the program's name.
 pub fn ledgerd_command<'a>(alloc: Global) -> Result<clap::Command<'a>, AllocError>
     ensures { IfOk result (IsProgram ledgerd_app) }
@@ -157,6 +142,5 @@ pub fn ledgerd_command<'a>(alloc: Global) -> Result<clap::Command<'a>, AllocErro
         .subcommand(serve_command(alloc)?)?
         .subcommand(tenant_add_command(alloc)?)?
         .subcommand(statement_command(alloc)?)?
-        .subcommand(check_command(alloc)?)?
-        .subcommand(migrate_command(alloc)?)
+        .subcommand(check_command(alloc)?)
 }

@@ -57,12 +57,6 @@ fn reads_what_is_done_to_a_file(rt: HostRuntime) -> Result<(), Fail> {
         command(alloc, words.as_slice())?,
         Command::Check { db: "l.db" }
     );
-    let words = ["migrate", "--db", "l.db", "--to", "3"];
-    let migrate = Command::Migrate {
-        db: "l.db",
-        to: "3",
-    };
-    assert_eq!(rt; command(alloc, words.as_slice())?, migrate);
     Ok(())
 }
 
@@ -157,12 +151,11 @@ fn refuses_numbers_beyond_their_bounds(rt: HostRuntime) -> Result<(), Fail> {
 #[test]
 fn refuses_missing_and_doubled_options(rt: HostRuntime) -> Result<(), Fail> {
     let alloc = rt.alloc();
-    let lines: [&[&str]; 5] = [
+    let lines: [&[&str]; 4] = [
         ["serve", "--db", "d", "--port", "1", "--requests", "2"].as_slice(),
         ["tenant-add", "--db", "d", "--name", "n", "--key", "k"].as_slice(),
         ["statement", "--db", "d", "--tenant", "n", "--account", "1"].as_slice(),
         ["check", "--db", "d"].as_slice(),
-        ["migrate", "--db", "d", "--to", "3"].as_slice(),
     ];
     for line in lines {
         for (i, option) in line.iter().enumerate() {
@@ -248,7 +241,7 @@ fn answers_calls_for_help(rt: HostRuntime) {
             Some(ErrorKind::DisplayHelp)
         );
     }
-    for name in ["serve", "tenant-add", "statement", "check", "migrate"] {
+    for name in ["serve", "tenant-add", "statement", "check"] {
         let below = [name, "--help"];
         assert_eq!(rt;
             refusal(alloc, below.as_slice()),
@@ -272,7 +265,6 @@ Commands:
   tenant-add  Add a tenant; an absent or empty file becomes a new store
   statement   Write an account's statement as CSV, one line an entry
   check       Audit a store: print ok, or the kind, tenant and place of the first damage
-  migrate     Bring a store to a newer schema version
   help        Print this message or the help of the given subcommand(s)
 
 Options:

@@ -9,13 +9,17 @@ use std::process::Abort;
 use std::test::Fail;
 
 const BODY: &[u8] =
-    b"[{\"id\":\"100\",\"debit_account_id\":\"1\",\"credit_account_id\":\"2\",\"amount\":\"10\",\"ledger\":7,\"code\":1}]";
+    b"[{\"id\":\"100\",\"debit_account_id\":\"1\",\"credit_account_id\":\"2\",\"amount\":\"10\",\
+        \"ledger\":7,\"code\":1}]";
 
 const CHAINS: &[u8] =
-    b"[{\"id\":\"100\",\"debit_account_id\":\"1\",\"credit_account_id\":\"2\",\"amount\":\"10\",\"ledger\":7,\"code\":1,\"flags\":1},\
-{\"id\":\"101\",\"debit_account_id\":\"1\",\"credit_account_id\":\"9\",\"amount\":\"10\",\"ledger\":7,\"code\":1},\
-{\"id\":\"102\",\"debit_account_id\":\"2\",\"credit_account_id\":\"1\",\"amount\":\"5\",\"ledger\":7,\"code\":1,\"flags\":3},\
-{\"id\":\"103\",\"pending_id\":\"102\",\"amount\":\"5\",\"flags\":4}]";
+    b"[{\"id\":\"100\",\"debit_account_id\":\"1\",\"credit_account_id\":\"2\",\"amount\":\"10\",\
+        \"ledger\":7,\"code\":1,\"flags\":1},\
+        {\"id\":\"101\",\"debit_account_id\":\"1\",\"credit_account_id\":\"9\",\"amount\":\"10\",\
+        \"ledger\":7,\"code\":1},\
+        {\"id\":\"102\",\"debit_account_id\":\"2\",\"credit_account_id\":\"1\",\"amount\":\"5\",\
+        \"ledger\":7,\"code\":1,\"flags\":3},\
+        {\"id\":\"103\",\"pending_id\":\"102\",\"amount\":\"5\",\"flags\":4}]";
 
 // The body of a reply, or the name of a refusal.
 fn told(alloc: Global, book: &mut Book, body: &[u8], moment: u64) -> Result<Vec<u8>, AllocError> {
@@ -64,8 +68,8 @@ fn nested(alloc: Global, n: usize) -> Result<Vec<u8>, AllocError> {
 fn answers_in_turn(rt: HostRuntime) -> Result<(), Fail> {
     let alloc = rt.alloc();
     let mut book = two_tenants(alloc)?;
-    let other: &[u8] =
-        b"[{\"id\":\"100\",\"debit_account_id\":\"1\",\"credit_account_id\":\"2\",\"amount\":\"11\",\"ledger\":7,\"code\":1}]";
+    let other: &[u8] = b"[{\"id\":\"100\",\"debit_account_id\":\"1\",\"credit_account_id\":\"2\",\
+            \"amount\":\"11\",\"ledger\":7,\"code\":1}]";
     let turns: [(&[u8], u64, &[u8]); 4] = [
         (
             BODY,
@@ -75,12 +79,14 @@ fn answers_in_turn(rt: HostRuntime) -> Result<(), Fail> {
         (
             BODY,
             0,
-            b"{\"clock\":\"4\",\"results\":[{\"number\":18,\"result\":\"exists\",\"timestamp\":\"4\"}]}",
+            b"{\"clock\":\"4\",\"results\":[{\"number\":18,\"result\":\"exists\",\
+                \"timestamp\":\"4\"}]}",
         ),
         (
             other,
             0,
-            b"{\"clock\":\"5\",\"results\":[{\"number\":12,\"result\":\"exists_with_different_amount\",\"timestamp\":\"5\"}]}",
+            b"{\"clock\":\"5\",\"results\":[{\"number\":12,\
+                \"result\":\"exists_with_different_amount\",\"timestamp\":\"5\"}]}",
         ),
         (b"[]", 1000, b"{\"clock\":\"1000\",\"results\":[]}"),
     ];
@@ -97,10 +103,11 @@ fn answers_chains_and_posts(rt: HostRuntime) -> Result<(), Fail> {
     let alloc = rt.alloc();
     let mut book = two_tenants(alloc)?;
     let want: &[u8] =
-        b"{\"clock\":\"6\",\"results\":[{\"number\":2,\"result\":\"linked_event_failed\",\"timestamp\":\"3\"},\
-{\"number\":45,\"result\":\"credit_account_not_found\",\"timestamp\":\"4\"},\
-{\"number\":0,\"result\":\"ok\",\"timestamp\":\"5\"},\
-{\"number\":0,\"result\":\"ok\",\"timestamp\":\"6\"}]}";
+        b"{\"clock\":\"6\",\"results\":[{\"number\":2,\"result\":\"linked_event_failed\",\
+            \"timestamp\":\"3\"},\
+            {\"number\":45,\"result\":\"credit_account_not_found\",\"timestamp\":\"4\"},\
+            {\"number\":0,\"result\":\"ok\",\"timestamp\":\"5\"},\
+            {\"number\":0,\"result\":\"ok\",\"timestamp\":\"6\"}]}";
     assert_eq!(rt; told(alloc, &mut book, CHAINS, 0)?.as_slice(), want);
     assert_eq!(rt; count(&mut book, &FIRST), 2);
     Ok(())
@@ -111,24 +118,33 @@ fn answers_the_examples_of_chains(rt: HostRuntime) -> Result<(), Fail> {
     let alloc = rt.alloc();
     let examples: [(&[u8], &[u8]); 3] = [
         (
-            b"[{\"id\":\"100\",\"debit_account_id\":\"1\",\"credit_account_id\":\"2\",\"amount\":\"10\",\"ledger\":7,\"code\":1,\"flags\":1},\
-{\"id\":\"101\",\"debit_account_id\":\"3\",\"credit_account_id\":\"2\",\"amount\":\"10\",\"ledger\":7,\"code\":1,\"flags\":1},\
-{\"id\":\"102\",\"debit_account_id\":\"1\",\"credit_account_id\":\"4\",\"amount\":\"10\",\"ledger\":7,\"code\":1}]",
-            b"{\"clock\":\"7\",\"results\":[{\"number\":2,\"result\":\"linked_event_failed\",\"timestamp\":\"5\"},\
-{\"number\":55,\"result\":\"exceeds_credits\",\"timestamp\":\"6\"},\
-{\"number\":2,\"result\":\"linked_event_failed\",\"timestamp\":\"7\"}]}",
+            b"[{\"id\":\"100\",\"debit_account_id\":\"1\",\"credit_account_id\":\"2\",\
+                \"amount\":\"10\",\"ledger\":7,\"code\":1,\"flags\":1},\
+                {\"id\":\"101\",\"debit_account_id\":\"3\",\"credit_account_id\":\"2\",\
+                \"amount\":\"10\",\"ledger\":7,\"code\":1,\"flags\":1},\
+                {\"id\":\"102\",\"debit_account_id\":\"1\",\"credit_account_id\":\"4\",\
+                \"amount\":\"10\",\"ledger\":7,\"code\":1}]",
+            b"{\"clock\":\"7\",\"results\":[{\"number\":2,\"result\":\"linked_event_failed\",\
+                \"timestamp\":\"5\"},\
+                {\"number\":55,\"result\":\"exceeds_credits\",\"timestamp\":\"6\"},\
+                {\"number\":2,\"result\":\"linked_event_failed\",\"timestamp\":\"7\"}]}",
         ),
         (
-            b"[{\"id\":\"100\",\"debit_account_id\":\"1\",\"credit_account_id\":\"2\",\"amount\":\"10\",\"ledger\":7,\"code\":1,\"flags\":1},\
-{\"id\":\"101\",\"debit_account_id\":\"1\",\"credit_account_id\":\"2\",\"amount\":\"10\",\"ledger\":7,\"code\":1,\"flags\":1}]",
-            b"{\"clock\":\"6\",\"results\":[{\"number\":2,\"result\":\"linked_event_failed\",\"timestamp\":\"5\"},\
-{\"number\":1,\"result\":\"linked_event_chain_open\",\"timestamp\":\"6\"}]}",
+            b"[{\"id\":\"100\",\"debit_account_id\":\"1\",\"credit_account_id\":\"2\",\
+                \"amount\":\"10\",\"ledger\":7,\"code\":1,\"flags\":1},\
+                {\"id\":\"101\",\"debit_account_id\":\"1\",\"credit_account_id\":\"2\",\
+                \"amount\":\"10\",\"ledger\":7,\"code\":1,\"flags\":1}]",
+            b"{\"clock\":\"6\",\"results\":[{\"number\":2,\"result\":\"linked_event_failed\",\
+                \"timestamp\":\"5\"},\
+                {\"number\":1,\"result\":\"linked_event_chain_open\",\"timestamp\":\"6\"}]}",
         ),
         (
-            b"[{\"id\":\"100\",\"debit_account_id\":\"1\",\"credit_account_id\":\"2\",\"amount\":\"70\",\"ledger\":7,\"code\":1,\"flags\":3},\
-{\"id\":\"101\",\"pending_id\":\"100\",\"amount\":\"340282366920938463463374607431768211455\",\"flags\":4}]",
+            b"[{\"id\":\"100\",\"debit_account_id\":\"1\",\"credit_account_id\":\"2\",\
+                \"amount\":\"70\",\"ledger\":7,\"code\":1,\"flags\":3},\
+                {\"id\":\"101\",\"pending_id\":\"100\",\
+                \"amount\":\"340282366920938463463374607431768211455\",\"flags\":4}]",
             b"{\"clock\":\"6\",\"results\":[{\"number\":0,\"result\":\"ok\",\"timestamp\":\"5\"},\
-{\"number\":0,\"result\":\"ok\",\"timestamp\":\"6\"}]}",
+                {\"number\":0,\"result\":\"ok\",\"timestamp\":\"6\"}]}",
         ),
     ];
     for (body, want) in examples {
@@ -218,8 +234,8 @@ fn prints_a_line(rt: HostRuntime) -> Result<(), Fail> {
     Ok(())
 }
 
-// Where an allocation is refused, the ledger is unavailable and as it was, and answers when there is
-// memory again. To be run with each allocation refused in turn (`make alloc`).
+// Where an allocation is refused, the ledger is unavailable and as it was, and answers when there
+// is memory again. To be run with each allocation refused in turn (`make alloc`).
 fn survives(rt: &impl Abort, alloc: Global, body: &[u8], transfers: usize) -> Result<(), Fail> {
     let (Ok(mut book), Ok(mut twin)) = (two_tenants(alloc), two_tenants(alloc)) else {
         return Ok(());

@@ -1,5 +1,6 @@
 use super::fixture::*;
 use records::TransferEvent;
+use samples::{BALANCING_DEBIT, PENDING, post, transfer, void, with};
 use std::test::Fail;
 
 #[test]

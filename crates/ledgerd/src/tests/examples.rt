@@ -1,6 +1,10 @@
 use super::fixture::*;
 use amount::Amount;
 use records::TransferEvent;
+use samples::{
+    BALANCING_CREDIT, BALANCING_DEBIT, LIMITS_CREDITS, LINKED, PENDING, account, post, transfer,
+    void, with,
+};
 use std::test::Fail;
 
 #[test]

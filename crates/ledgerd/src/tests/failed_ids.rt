@@ -1,4 +1,5 @@
 use super::fixture::*;
+use samples::{LINKED, PENDING, POST, account, post, transfer, with};
 use std::test::Fail;
 
 #[test]

@@ -1,80 +1,13 @@
 use amount::Amount;
 use chain::{BatchReply, Tables, run_accounts, run_transfers};
 use plain::PlainTables;
-use records::{AccountEvent, AccountFlags, Balances, TransferEvent, TransferFlags};
+use records::{AccountEvent, Balances, TransferEvent};
+use samples::{KEEPS_HISTORY, LIMITS_DEBITS, account};
 use std::alloc::{AllocError, Global};
 use std::test::Fail;
 
-/// The flags of a transfer.
-pub const LINKED: u16 = 1;
-
-pub const PENDING: u16 = 2;
-
-pub const POST: u16 = 4;
-
-pub const VOID: u16 = 8;
-
-pub const BALANCING_DEBIT: u16 = 16;
-
-pub const BALANCING_CREDIT: u16 = 32;
-
-/// The flags of an account.
-pub const LIMITS_DEBITS: u16 = 2;
-
-pub const LIMITS_CREDITS: u16 = 4;
-
-pub const KEEPS_HISTORY: u16 = 8;
-
 /// The greatest amount.
 pub const MAX: u128 = u128::MAX;
-
-/// An account of ledger 7 and code 10.
-pub fn account(id: u128, flags: u16) -> AccountEvent {
-    AccountEvent {
-        id,
-        ledger: 7,
-        code: 10,
-        flags: AccountFlags(flags),
-        ..AccountEvent::default()
-    }
-}
-
-/// A transfer of ledger 7 and code 1, from a debit account to a credit account.
-pub fn transfer(id: u128, (debit, credit): (u128, u128), amount: u128) -> TransferEvent {
-    TransferEvent {
-        id,
-        debit_account_id: debit,
-        credit_account_id: credit,
-        amount: Amount::new(amount),
-        ledger: 7,
-        code: 1,
-        ..TransferEvent::default()
-    }
-}
-
-/// A post of a pending transfer.
-pub fn post(id: u128, pending_id: u128, amount: u128) -> TransferEvent {
-    TransferEvent {
-        id,
-        pending_id,
-        amount: Amount::new(amount),
-        flags: TransferFlags(POST),
-        ..TransferEvent::default()
-    }
-}
-
-/// A void of a pending transfer.
-pub fn void(id: u128, pending_id: u128, amount: u128) -> TransferEvent {
-    with(VOID, post(id, pending_id, amount))
-}
-
-/// The event with these flags.
-pub fn with(flags: u16, event: TransferEvent) -> TransferEvent {
-    TransferEvent {
-        flags: TransferFlags(flags),
-        ..event
-    }
-}
 
 /// A ledger of one tenant.
 #[derive(Drop)]

@@ -1,0 +1,3 @@
+mod ServedConnections
+mod LineLemmas
+mod AddLemmas

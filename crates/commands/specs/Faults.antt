@@ -1,0 +1,44 @@
+-- The faults of commands: the word that tells each, and the status with which the program ends.
+use Rattle.std.specs.Prelude.{ℕ, List, codes}
+use Rattle.commands.specs.declared.fault.Fault.{Fault}
+use Rattle.commands.specs.declared.fault.Fault.TheVariants.{NameTaken, DigestTaken, NoTenant}
+use Rattle.commands.specs.declared.fault.Fault.TheVariants.{NoAccount, BadName, BadKey, BadAccount}
+use Rattle.commands.specs.declared.fault.Fault.TheVariants.{Unavailable, Socket, Output}
+use Rattle.commands.specs.declared.fault.Fault.TheVariants.{Unreadable, NotALedger, OldSchema}
+use Rattle.commands.specs.declared.fault.Fault.TheVariants.{NewerSchema, Damaged}
+
+-- the word on standard error
+abbrev pub word_of : Fault → List ℕ
+word_of NameTaken = codes "name_taken"
+word_of DigestTaken = codes "digest_taken"
+word_of NoTenant = codes "no_tenant"
+word_of NoAccount = codes "no_account"
+word_of BadName = codes "bad_name"
+word_of BadKey = codes "bad_key"
+word_of BadAccount = codes "bad_account"
+word_of Unavailable = codes "unavailable"
+word_of Socket = codes "socket"
+word_of Output = codes "output"
+word_of Unreadable = codes "unreadable"
+word_of NotALedger = codes "not_a_ledger"
+word_of OldSchema = codes "old_schema"
+word_of NewerSchema = codes "newer_schema"
+word_of Damaged = codes "damaged"
+
+-- the status: 1 where the ledger refuses, 2 the words, 3 the machine, and 4 the file
+abbrev pub status_of : Fault → ℕ
+status_of NameTaken = 1
+status_of DigestTaken = 1
+status_of NoTenant = 1
+status_of NoAccount = 1
+status_of BadName = 2
+status_of BadKey = 2
+status_of BadAccount = 2
+status_of Unavailable = 3
+status_of Socket = 3
+status_of Output = 3
+status_of Unreadable = 4
+status_of NotALedger = 4
+status_of OldSchema = 4
+status_of NewerSchema = 4
+status_of Damaged = 4

@@ -1,0 +1,31 @@
+-- What commands write.
+use Rattle.std.specs.Prelude.{◌≡◌, ℕ, Bool, false, List, [], ◌∷◌, ◌++◌, Option, codes}
+use Rattle.std.specs.Io.KnownBytes.{Appends}
+use Rattle.std.specs.Fmt.{decimal}
+use Rattle.hex.specs.Hex.{encode_lower}
+use Rattle.audit.specs.declared.damage.Damage.{Damage}
+use Rattle.audit.specs.Damage.{kind_number}
+use Rattle.records.specs.Streams.{AppendsFront}
+use Rattle.commands.specs.declared.fault.Fault.{Fault}
+use Rattle.commands.specs.Faults.{word_of}
+
+-- the line on standard error that tells a fault
+abbrev pub fault_line : Fault → List ℕ
+fault_line fault = codes "ledgerd: " ++ word_of fault ++ 10 ∷ []
+
+-- the line that tells a new tenant
+abbrev pub added_line : List ℕ → List ℕ
+added_line name = codes "added " ++ name ++ 10 ∷ []
+
+-- the line that tells where a file is damaged: the number of the kind, the digest and the place
+abbrev pub damage_line : Damage → List ℕ
+damage_line damage =
+    codes "damaged " ++ decimal (kind_number damage.kind)
+    ++ 32 ∷ encode_lower damage.digest
+    ++ 32 ∷ decimal damage.place
+    ++ 10 ∷ []
+
+-- a text is written whole, or a beginning of it where the writer fails
+pub record IsWritten (old new : Option (List ℕ)) (has_failed : Bool) (text : List ℕ) : Type 0 where
+  pub front : AppendsFront old new text
+  pub whole : has_failed ≡ false → Appends old new text

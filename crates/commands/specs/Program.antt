@@ -1,0 +1,109 @@
+-- What the program does for its words.
+use Rattle.std.specs.Prelude.{◌≡◌, ◌⊎◌, ◌<◌, ◌^◌, ℕ, Bool, true, false, codes, if◌then◌else◌}
+use Rattle.std.specs.Prelude.{List, [], ◌∷◌, ◌++◌}
+use Rattle.std.specs.Prelude.{Option, None, Result, Ok, Err, IfOk}
+use Rattle.std.specs.Io.KnownBytes.{Appends}
+use Rattle.clap.specs.Words.{IsAmong, fault_of, kind_of}
+use Rattle.amount.specs.Decimal.{decimal_of}
+use Rattle.tenants.specs.KeyText.{key_of}
+use Rattle.tenants.specs.NameText.{IsTenantName}
+use Rattle.audit.specs.declared.damage.Damage.{Damage}
+use Rattle.command_line.specs.Ledgerd.{ledgerd_app}
+use Rattle.command_line.specs.Line.{IsCommandOf}
+use Rattle.command_line.specs.declared.commands.Command.{Command}
+use Rattle.command_line.specs.declared.commands.Command.TheVariants as command
+use Rattle.command_line.specs.declared.fault.LineFault.{LineFault}
+use Rattle.command_line.specs.declared.fault.LineFault.TheVariants.{Refused, Memory}
+use Rattle.commands.specs.Faults.{status_of}
+use Rattle.commands.specs.Lines.{IsWritten, added_line, damage_line, fault_line}
+use Rattle.commands.specs.declared.ended.Ended.{Ended}
+use Rattle.commands.specs.declared.fault.Fault.{Fault}
+use Rattle.commands.specs.declared.fault.Fault.TheVariants.{BadName, BadKey, BadAccount}
+use Rattle.commands.specs.declared.fault.Fault.TheVariants.{Unavailable}
+
+-- an account's id, in canonical decimal
+abbrev pub IsAccountId : List ℕ → Type 0
+IsAccountId text = (id : ℕ) × (id < 2 ^ 128) × (text ≡ decimal_of id)
+
+-- a tenant is added, and a line tells so; before the file is opened the name is judged, then the
+-- key
+pub record AddsTenant {O : Type 0} (written : O → Option (List ℕ)) (name key : List ℕ) (out : O)
+    (result : Result (Ended O) Fault) : Type 0 where
+  pub name_first : ¬ IsTenantName name → result ≡ Err BadName
+  pub key_next : IsTenantName name → key_of key ≡ None → result ≡ Err BadKey
+  pub line : IfOk result (λ ended. Appends (written out) (written ended.out) (added_line name))
+  pub calm : IfOk result (λ ended. ended.is_damaged ≡ false)
+
+-- a statement is written; before the file is opened the name is judged, then the account's id
+pub record WritesStatement {O : Type 0} (name account : List ℕ) (result : Result (Ended O) Fault) :
+    Type 0 where
+  pub name_first : ¬ IsTenantName name → result ≡ Err BadName
+  pub account_next : IsTenantName name → ¬ IsAccountId account → result ≡ Err BadAccount
+  pub calm : IfOk result (λ ended. ended.is_damaged ≡ false)
+
+-- a file is audited, and a line tells what was found
+abbrev pub Checks :
+    {O : Type 0} → (O → Option (List ℕ)) → O → Result (Ended O) Fault → Type 0
+Checks written out (Ok ended) =
+    (Appends (written out) (written ended.out) (codes "ok" ++ 10 ∷ []) × (ended.is_damaged ≡ false))
+    ⊎ ((damage : Damage)
+    × Appends (written out) (written ended.out) (damage_line damage) × (ended.is_damaged ≡ true))
+Checks written out (Err fault) = Unit {0}
+
+-- nothing is done
+abbrev pub DoesNothing : {O : Type 0} → O → Result (Ended O) Fault → Type 0
+DoesNothing out result = result ≡ Ok (record { out = out; is_damaged = false })
+
+-- what a command comes to
+abbrev pub Does :
+    {O : Type 0} → (O → Option (List ℕ)) → Command → O → Result (Ended O) Fault → Type 0
+Does written command.Lists out result = DoesNothing out result
+Does written (command.Serve db port requests) out result = DoesNothing out result
+Does written (command.AddTenant db name key) out result =
+    AddsTenant written name.now key.now out result
+Does written (command.Statement db tenant account reversed) out result =
+    WritesStatement tenant.now account.now result
+Does written (command.Check db) out result = Checks written out result
+
+-- standard error, before and behind the program
+pub record Told : Type 0 where
+  pub before : Option (List ℕ)
+  pub behind : Option (List ℕ)
+  pub has_failed : Bool
+
+abbrev pub told : Option (List ℕ) → Option (List ℕ) → Bool → Told
+told before behind has_failed =
+    record { before = before; behind = behind; has_failed = has_failed }
+
+-- a fault is told: its status, and its line on standard error
+abbrev pub TellsFault : Fault → Told → ℕ → Type 0
+TellsFault fault err status =
+    (status ≡ status_of fault) × IsWritten err.before err.behind err.has_failed (fault_line fault)
+
+-- what a command has come to is told: 0, or 4 where damage was, with nothing on standard error; or
+-- its fault
+abbrev pub Tells : {O : Type 0} → Result (Ended O) Fault → Told → ℕ → Type 0
+Tells (Ok ended) err status =
+    (status ≡ (if ended.is_damaged then 4 else 0)) × (err.behind ≡ err.before)
+Tells (Err fault) err status = TellsFault fault err status
+
+-- a refusal of the words is told, or that memory runs out for its text
+abbrev pub IsRefusalTold : Told → ℕ → Type 0
+IsRefusalTold err status = (status ≡ 2) ⊎ TellsFault Unavailable err status
+
+-- what the program does for words that are read so
+abbrev pub HasRunFor :
+    {O : Type 0} → (O → Option (List ℕ)) → List (List ℕ) → O → Told → ℕ → Result Command LineFault
+    → Type 0
+HasRunFor {O} written words out err status (Ok asked) =
+    IsCommandOf words asked
+    × ((ended : Result (Ended O) Fault) × Does written asked out ended × Tells ended err status)
+HasRunFor written words out err status (Err (Refused error)) =
+    IsAmong (kind_of error) (fault_of ledgerd_app words) × IsRefusalTold err status
+HasRunFor written words out err status (Err Memory) = TellsFault Unavailable err status
+
+-- what the program does for its words
+abbrev pub HasRun :
+    {O : Type 0} → (O → Option (List ℕ)) → List (List ℕ) → O → Told → ℕ → Type 0
+HasRun written words out err status =
+    (line : Result Command LineFault) × HasRunFor written words out err status line

@@ -1,0 +1,57 @@
+//! What commands write.
+ghost use Rattle.std.specs.Prelude.{◌≡◌, false, is_err, IfOk, IfErr, OnOk};
+ghost use Rattle.std.specs.String.{string_bytes};
+ghost use Rattle.std.specs.Io.KnownBytes.{Appends};
+ghost use Rattle.commands.specs.Faults.{status_of};
+ghost use Rattle.commands.specs.Lines.{IsWritten, added_line, damage_line, fault_line};
+
+use crate::Fault;
+use audit::Damage;
+use records::{Drain, put_all};
+use std::alloc::Global;
+use tenants::TenantName;
+
+/// Tells a fault on standard error, as far as that can be written, and says the status.
+pub fn tell_fault<E: Drain>(err: &mut E, fault: Fault) -> u8
+    requires { E.failed err.old ≡ false }
+    ensures status { result ≡ status_of fault }
+    ensures line { IsWritten (E.written err.old) (E.written err.new) (E.failed err.new)
+        (fault_line fault) }
+{
+    let _ = put_all(err, fault.line().as_bytes());
+    fault.status()
+}
+
+/// Writes a text to standard output.
+pub(crate) fn put_text<O: Drain>(out: &mut O, text: &str) -> Result<(), Fault>
+    requires { O.failed out.old ≡ false }
+    ensures ok { OnOk result (Appends (O.written out.old) (O.written out.new) text.now) }
+    ensures fault { IfErr result (λ fault. fault ≡ Fault.Output) }
+    ensures failed { O.failed out.new ≡ is_err result }
+{
+    put_all(out, text.as_bytes()).map_err(|_| Fault::Output)
+}
+
+/// Tells a new tenant.
+pub(crate) fn put_added<O: Drain>(out: &mut O, name: &TenantName) -> Result<(), Fault>
+    requires { O.failed out.old ≡ false }
+    ensures ok { OnOk result (Appends (O.written out.old) (O.written out.new)
+        (added_line name.now)) }
+    ensures fault { IfErr result (λ fault. fault ≡ Fault.Output) }
+    ensures failed { O.failed out.new ≡ is_err result }
+{
+    put_text(out, "added ")?;
+    put_text(out, name.as_str())?;
+    put_text(out, "\n")
+}
+
+/// The line that tells where a file is damaged.
+pub(crate) fn damage_line(alloc: Global, damage: &Damage) -> Result<String, Fault>
+    ensures ok { IfOk result (λ line. string_bytes line ≡ damage_line damage.now) }
+    ensures fault { IfErr result (λ fault. fault ≡ Fault.Unavailable) }
+{
+    let kind = damage.kind.number();
+    let place = damage.place;
+    let digest = hex::encode(alloc, damage.digest.as_slice())?;
+    Ok(format!(in alloc; "damaged {kind} {digest} {place}\n")?)
+}

@@ -1,0 +1,123 @@
+//! The ledger in a file.
+ghost use Rattle.std.specs.Prelude.{◌≡◌, IfErr, IfOk};
+ghost use Rattle.store.specs.Stores.{IsUsable};
+ghost use Rattle.commands.specs.Openings.{IsOpeningFault, open_fault};
+
+use crate::Fault;
+use audit::Damage;
+use records::Unavailable;
+use sqlite::Options;
+use sqlite_disk::Unknown;
+use sqlite_std_file::File;
+use std::fs;
+use std::hash::{BuildHasher, RandomState};
+use std::io::ErrorKind;
+use store::{FullAudit, OpenFault, Store};
+
+/// What stands at a path, before anything is opened.
+#[derive(Clone, Copy, Debug, PartialEq, Eq)]
+enum Found {
+    Absent,
+    Empty,
+    Filled,
+}
+
+/// The ledger in a file that is there. Only `open_or_make` makes one.
+pub(crate) fn open_file(rt: &HostRuntime, path: &str) -> Result<Store<File>, Fault>
+    ensures usable { IfOk result IsUsable }
+    ensures fault { IfErr result IsOpeningFault }
+{
+    match open_at(rt, path) {
+        Ok(store) => Ok(store),
+        Err(fault) => Err(open_fault(fault)),
+    }
+}
+
+/// The ledger in a file, which is made where the file is absent or empty, or a database without
+/// tables, as a making that was cut short leaves it.
+pub(crate) fn open_or_make(rt: &HostRuntime, path: &str) -> Result<Store<File>, Fault>
+    ensures { IfOk result IsUsable }
+{
+    match look(rt, path).map_err(open_fault)? {
+        Found::Absent | Found::Empty => make(rt, path),
+        Found::Filled => match open_file(rt, path) {
+            Err(Fault::NotALedger) => make_over(rt, path),
+            opened => opened,
+        },
+    }
+}
+
+/// Where the ledger in a file that is there is damaged.
+pub(crate) fn examine(rt: &HostRuntime, path: &str) -> Result<Option<Damage>, Fault> {
+    match open_at(rt, path) {
+        Ok(_store) => Ok(None),
+        Err(OpenFault::Damaged(damage)) => Ok(Some(damage)),
+        Err(fault) => Err(open_fault(fault)),
+    }
+}
+
+// Opening would make a database of a file that is absent or empty, so it is looked for first.
+fn open_at(rt: &HostRuntime, path: &str) -> Result<Store<File>, OpenFault>
+    ensures { IfOk result IsUsable }
+{
+    match look(rt, path)? {
+        Found::Absent => Err(OpenFault::Unreadable),
+        Found::Empty => Err(OpenFault::NotALedger),
+        Found::Filled => Store::open_at(rt, path, Unknown, options(rt)?, &FullAudit),
+    }
+}
+
+fn look(rt: &HostRuntime, path: &str) -> Result<Found, OpenFault> {
+    match fs::metadata(rt, path) {
+        Ok(found) if found.len() == 0 => Ok(Found::Empty),
+        Ok(_) => Ok(Found::Filled),
+        Err(error) => match error.kind() {
+            ErrorKind::NotFound => Ok(Found::Absent),
+            ErrorKind::OutOfMemory => Err(OpenFault::Unavailable(Unavailable::Memory)),
+            _ => Err(OpenFault::Unreadable),
+        },
+    }
+}
+
+fn make(rt: &HostRuntime, path: &str) -> Result<Store<File>, Fault>
+    ensures { IfOk result IsUsable }
+{
+    let options = options(rt).map_err(open_fault)?;
+    match Store::create_at(rt, path, Unknown, options) {
+        Ok(store) => Ok(store),
+        Err(fault) => Err(open_fault(fault)),
+    }
+}
+
+// The same in a database that is no ledger: tables of anything else stay as they are.
+fn make_over(rt: &HostRuntime, path: &str) -> Result<Store<File>, Fault>
+    ensures { IfOk result IsUsable }
+{
+    match make(rt, path) {
+        Err(Fault::Unreadable) => Err(Fault::NotALedger),
+        made => made,
+    }
+}
+
+// The salts of the log are drawn at random.
+fn options(rt: &HostRuntime) -> Result<Options, OpenFault> {
+    match RandomState::new(rt) {
+        Ok(random) => Ok(Options::new(random.hash_one(&0u8))),
+        Err(_) => Err(OpenFault::Unavailable(Unavailable::Disk)),
+    }
+}
+
+// What the program tells where a file is not opened.
+fn open_fault(fault: OpenFault) -> Fault
+    ensures told { result ≡ open_fault fault }
+    ensures named { IsOpeningFault result }
+{
+    match fault {
+        OpenFault::Unreadable => Fault::Unreadable,
+        OpenFault::NotALedger => Fault::NotALedger,
+        OpenFault::OldSchema => Fault::OldSchema,
+        OpenFault::NewerSchema => Fault::NewerSchema,
+        OpenFault::Damaged(_) => Fault::Damaged,
+        OpenFault::Unavailable(_) => Fault::Unavailable,
+    }
+}

@@ -1,0 +1,78 @@
+//! Each command, over the file that it names.
+ghost use Rattle.std.specs.Prelude.{◌≡◌, false};
+ghost use Rattle.commands.specs.Program.{AddsTenant, Checks, WritesStatement};
+
+use crate::Fault;
+use crate::adding::add_tenant;
+use crate::ended::Ended;
+use crate::lines::{damage_line, put_text};
+use crate::opening::{examine, open_file, open_or_make};
+use crate::statements::write_statement;
+use crate::words::{account_id, key_digest, name};
+use records::{Drain, Order};
+
+/// Adds a tenant to a file, which is made where there is none.
+pub(crate) fn run_add_tenant<O: Drain + Drop>(
+    rt: &HostRuntime,
+    db: &str,
+    tenant: &str,
+    key: &str,
+    mut out: O,
+) -> Result<Ended<O>, Fault>
+    requires { O.failed out ≡ false }
+    ensures { AddsTenant O.written tenant.now key.now out result }
+{
+    let tenant = name(tenant)?;
+    let digest = key_digest(key)?;
+    let mut store = open_or_make(rt, db)?;
+    add_tenant(&mut store, &tenant, &digest, &mut out)?;
+    Ok(Ended {
+        out,
+        is_damaged: false,
+    })
+}
+
+/// Writes an account's statement.
+pub(crate) fn run_statement<O: Drain + Drop>(
+    rt: &HostRuntime,
+    db: &str,
+    tenant: &str,
+    account: &str,
+    order: Order,
+    out: O,
+) -> Result<Ended<O>, Fault>
+    requires { O.failed out ≡ false }
+    ensures { WritesStatement tenant.now account.now result }
+{
+    let tenant = name(tenant)?;
+    let account = account_id(account)?;
+    let mut store = open_file(rt, db)?;
+    let Ok(found) = store.digest_of(&tenant) else {
+        return Err(Fault::Unavailable);
+    };
+    let digest = found.ok_or(Fault::NoTenant)?;
+    Ok(Ended {
+        out: write_statement(rt.alloc(), &mut store, &digest, account, order, out)?,
+        is_damaged: false,
+    })
+}
+
+/// Audits a file, and tells its first damage, or that there is none.
+pub(crate) fn run_check<O: Drain + Drop>(
+    rt: &HostRuntime,
+    db: &str,
+    mut out: O,
+) -> Result<Ended<O>, Fault>
+    requires { O.failed out ≡ false }
+    ensures { Checks O.written out result }
+{
+    let found = examine(rt, db)?;
+    match &found {
+        None => put_text(&mut out, "ok\n")?,
+        Some(damage) => put_text(&mut out, damage_line(rt.alloc(), damage)?.as_str())?,
+    }
+    Ok(Ended {
+        out,
+        is_damaged: found.is_some(),
+    })
+}

@@ -1,0 +1,52 @@
+//! Statements written to standard output.
+ghost use Rattle.std.specs.Prelude.{◌≡◌, false};
+ghost use Rattle.chain.specs.LedgerReads.{Reads};
+ghost use Rattle.commands.specs.Statements.{IsStatementTold, statement_fault, answer_in};
+
+use crate::Fault;
+use chain::{Ledgers, ReadFault};
+use records::{Drain, Order, SinkFault};
+use statement::{StatementWriter, rows_make_a_statement};
+use std::alloc::Global;
+
+/// Writes the statement of a tenant's account, row by row, and gives the writer back. After a fault
+/// a beginning of the statement is written.
+pub(crate) fn write_statement<L: Ledgers, O: Drain + Drop>(
+    alloc: Global,
+    ledgers: &mut L,
+    digest: &[u8; 32],
+    account: u128,
+    order: Order,
+    out: O,
+) -> Result<O, Fault>
+    requires usable { L.means.is_usable ledgers.old }
+    requires open { O.failed out ≡ false }
+    ensures told { L.means.is_live ledgers.new → IsStatementTold O.written
+        (answer_in (L.means.tenants ledgers.old digest.now) account order) out result }
+    ensures reads { Reads L.means ledgers.old ledgers.new }
+{
+    rows_make_a_statement::<O>();
+    let mut writer = StatementWriter::new(alloc, out);
+    if let Err(why) = ledgers.each_statement_row(alloc, digest, account, order, &mut writer) {
+        return Err(statement_fault(why));
+    }
+    let (out, ended) = writer.finish();
+    match ended {
+        Ok(()) => Ok(out),
+        Err(_) => Err(Fault::Output),
+    }
+}
+
+// What the program tells where a statement is not read, or not to its end.
+fn statement_fault(why: ReadFault) -> Fault
+    ensures { result ≡ statement_fault why }
+{
+    match why {
+        ReadFault::UnknownKey => Fault::NoTenant,
+        ReadFault::NoAccount => Fault::NoAccount,
+        ReadFault::Sink(SinkFault::Write) => Fault::Output,
+        ReadFault::NoHistory | ReadFault::Unavailable(_) | ReadFault::Sink(SinkFault::Memory) => {
+            Fault::Unavailable
+        }
+    }
+}

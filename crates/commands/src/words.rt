@@ -1,0 +1,37 @@
+//! Names, keys and ids, as the command line has them.
+ghost use Rattle.std.specs.Prelude.{◌≡◌, ◌≢◌, ◌^◌, ◌<◌, ◌↔◌, ℕ, IsOk, IfOk, IfErr};
+ghost use Rattle.amount.specs.Decimal.{decimal_of};
+ghost use Rattle.tenants.specs.KeyText.{key_of};
+ghost use Rattle.tenants.specs.NameText.{IsTenantName};
+ghost use Rattle.commands.specs.Words.{IsDigestOfKey};
+
+use crate::Fault;
+use amount::Amount;
+use tenants::{Key, TenantName, digest};
+
+/// A tenant's name.
+pub(crate) fn name(text: &str) -> Result<TenantName, Fault>
+    ensures good { IsOk result ↔ IsTenantName text.now }
+    ensures same { IfOk result (λ name. name ≡ text.now) }
+    ensures fault { IfErr result (λ fault. fault ≡ Fault.BadName) }
+{
+    TenantName::read(text).ok_or(Fault::BadName)
+}
+
+/// The digest by which the tenant with a key is known.
+pub(crate) fn key_digest(text: &str) -> Result<[u8; 32], Fault>
+    ensures { IsDigestOfKey (key_of text.now) result }
+{
+    let key = Key::read(text.as_bytes()).ok_or(Fault::BadKey)?;
+    Ok(digest(&key))
+}
+
+/// An account's id, in canonical decimal.
+pub(crate) fn account_id(text: &str) -> Result<u128, Fault>
+    ensures ok { IfOk result (λ id. text.now ≡ decimal_of id) }
+    ensures err { IfErr result (λ fault. (fault ≡ Fault.BadAccount)
+        × ((id : ℕ) → id < 2 ^ 128 → text.now ≢ decimal_of id)) }
+{
+    let id = Amount::read_decimal(text).ok_or(Fault::BadAccount)?;
+    Ok(id.value())
+}
