@@ -1,0 +1,89 @@
+"""Each command with one call refused: it says what it says else, or a fault."""
+
+import os
+import shutil
+
+from control import DISK, MEMORY, Control, places
+from runs import House
+from service import check, run, want
+
+UNAVAILABLE = (3, "", "ledgerd: unavailable\n")
+# A file whose first page cannot be read is told so.
+UNREADABLE = (4, "", "ledgerd: unreadable\n")
+NAME_TAKEN = (1, "", "ledgerd: name_taken\n")
+KEY = "5" * 64
+
+
+def refused_commands(trial):
+    """Each allocation and each call of the disk refused in turn, over a small file and none."""
+    house = House(trial.fresh())
+    control = Control(trial.folder)
+    house.begin()
+    for place, events in (house.draw() for _ in range(6)):
+        want(house.take_turn(place).batch(events), "unavailable, with all at hand")
+    house.stop()
+    scratch = os.path.join(trial.folder, "scratch.db")
+    add = ("tenant-add", "--db", scratch, "--name", "more", "--key", KEY)
+    statement = ("statement", "--db", house.db, "--tenant", "north-desk", "--account", "1")
+    added = (0, "added more\n", "")
+    cases = ((("check", "--db", house.db), (0, "ok\n", ""), None),
+             (statement, run(house.program, *statement), None),
+             (add, added, lambda: copy(house.db, scratch)),
+             (add, added, lambda: remove(scratch)))
+    refused = [refuse_in_turn(trial, control, kind, cases) for kind in (MEMORY, DISK)]
+    return (f"{refused[MEMORY]} allocations and {refused[DISK]} calls of the disk refused: "
+            f"answered as ever, or a fault and nothing half done")
+
+
+def refuse_in_turn(trial, control, kind, cases):
+    """How many calls of a kind were refused."""
+    refused = 0
+    for case in cases:
+        for place in places(trial):
+            if not refuse(trial.program, control, (kind, place), case):
+                break
+            refused += 1
+            trial.progress(f"{case[0][0]}: {place}")
+    return refused
+
+
+def refuse(program, control, refusal, case):
+    """Whether a call was refused. The command again says what it says else; where a failing disk
+    has refused it, it may have been done."""
+    words, ample, begin = case
+    if begin:
+        begin()
+    control.refuse(*refusal)
+    told = run(program, *words, env=control.env)
+    was_refused = control.end(refusal[0])
+    what = f"{words[0]} with call {refusal[1]} refused"
+    faults = (UNAVAILABLE,) if refusal[0] == MEMORY else (UNAVAILABLE, UNREADABLE)
+    want(told == ample or (was_refused and told in faults), f"{what}: {told}")
+    again = run(program, *words)
+    if begin is None:
+        want(again == ample, f"{what}, and again: {again}")
+        return was_refused
+    if told == ample:
+        want(again == NAME_TAKEN, f"{what}, and again: {again}")
+    else:
+        done = () if refusal[0] == MEMORY else (NAME_TAKEN,)
+        want(again in (ample, *done), f"{what}, and again: {again}")
+    check(program, words[2])
+    return was_refused
+
+
+def files(db):
+    return [db + end for end in ("", "-wal", "-shm")]
+
+
+def remove(db):
+    for path in files(db):
+        if os.path.exists(path):
+            os.remove(path)
+
+
+def copy(db, to):
+    remove(to)
+    for old, new in zip(files(db), files(to)):
+        if os.path.exists(old):
+            shutil.copy(old, new)

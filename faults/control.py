@@ -1,0 +1,44 @@
+"""The small library that refuses calls of the program that it is loaded into (`refuse.c`)."""
+
+import mmap
+import os
+import pathlib
+import struct
+import subprocess
+
+MEMORY, DISK = 0, 1
+ALL = 2**40
+# Four numbers for each kind of call: skip, many, calls, refused.
+SIZE = 8 * 4
+
+
+class Control:
+    """What the library is told, and tells."""
+
+    def __init__(self, folder):
+        source = pathlib.Path(__file__).with_name("refuse.c")
+        library, path = os.path.join(folder, "refuse.so"), os.path.join(folder, "control")
+        subprocess.run(["cc", "-O2", "-shared", "-fPIC", "-o", library, source, "-ldl"], check=True)
+        with open(path, "wb") as file:
+            file.write(bytes(2 * SIZE))
+        with open(path, "r+b") as file:
+            self.shared = mmap.mmap(file.fileno(), 2 * SIZE)
+        self.env = {**os.environ, "LD_PRELOAD": library, "CONTROL": path}
+
+    def refuse(self, kind, skip, many=1):
+        """Lets so many calls pass, and refuses so many then."""
+        struct.pack_into("4q", self.shared, SIZE * kind, skip, 0, 0, 0)
+        struct.pack_into("q", self.shared, SIZE * kind + 8, many)
+
+    def end(self, kind):
+        """Refuses nothing more. How many calls were refused."""
+        struct.pack_into("q", self.shared, SIZE * kind + 8, 0)
+        return struct.unpack_from("q", self.shared, SIZE * kind + 24)[0]
+
+
+def places(trial):
+    """The calls to be refused: each, or a sample that grows thinner."""
+    place = 0
+    while True:
+        yield place
+        place += 1 if trial.is_long or place < 8 else trial.random.randint(1, 2 + place // 2)

@@ -1,0 +1,112 @@
+/* Refuses calls of the program that it is loaded into, as the file says that CONTROL names and that
+   is shared with whoever tries it: allocations, and calls on files by place (pread, pwrite, syncs,
+   cuts). Of each kind `skip` calls pass, and then `many` are refused; calls and refusals are
+   counted. */
+#define _GNU_SOURCE
+#include <dlfcn.h>
+#include <errno.h>
+#include <fcntl.h>
+#include <stdlib.h>
+#include <sys/mman.h>
+#include <unistd.h>
+
+struct refusal {
+    long skip, many, calls, refused;
+};
+
+struct control {
+    struct refusal memory, disk;
+};
+
+static struct control *control;
+
+extern void *__libc_malloc(size_t);
+extern void *__libc_calloc(size_t, size_t);
+extern void *__libc_realloc(void *, size_t);
+extern void *__libc_memalign(size_t, size_t);
+
+__attribute__((constructor)) static void begin(void)
+{
+    const char *path = getenv("CONTROL");
+    int fd = path ? open(path, O_RDWR) : -1;
+    if (fd < 0)
+        return;
+    void *shared = mmap(NULL, sizeof *control, PROT_READ | PROT_WRITE, MAP_SHARED, fd, 0);
+    close(fd);
+    if (shared != MAP_FAILED)
+        control = shared;
+}
+
+static int is_refused(struct refusal *refusal, int why)
+{
+    refusal->calls++;
+    if (refusal->many <= 0)
+        return 0;
+    if (refusal->skip > 0) {
+        refusal->skip--;
+        return 0;
+    }
+    refusal->many--;
+    refusal->refused++;
+    errno = why;
+    return 1;
+}
+
+static int no_memory(void)
+{
+    return control && is_refused(&control->memory, ENOMEM);
+}
+
+static int no_disk(void)
+{
+    return control && is_refused(&control->disk, EIO);
+}
+
+void *malloc(size_t size)
+{
+    return no_memory() ? NULL : __libc_malloc(size);
+}
+
+void *calloc(size_t count, size_t size)
+{
+    return no_memory() ? NULL : __libc_calloc(count, size);
+}
+
+void *realloc(void *old, size_t size)
+{
+    return no_memory() ? NULL : __libc_realloc(old, size);
+}
+
+void *aligned_alloc(size_t align, size_t size)
+{
+    return no_memory() ? NULL : __libc_memalign(align, size);
+}
+
+int posix_memalign(void **place, size_t align, size_t size)
+{
+    if (no_memory())
+        return ENOMEM;
+    *place = __libc_memalign(align, size);
+    return *place ? 0 : ENOMEM;
+}
+
+/* The C library's own call of the name, and a call of the same name that may be refused. */
+#define REFUSED(type, name, parameters, arguments)                    \
+    type name parameters                                              \
+    {                                                                 \
+        static type(*own) parameters;                                 \
+        if (!own)                                                     \
+            own = (type(*) parameters)dlsym(RTLD_NEXT, #name);        \
+        return no_disk() ? -1 : own arguments;                        \
+    }
+
+REFUSED(ssize_t, pread, (int fd, void *to, size_t size, off_t place), (fd, to, size, place))
+REFUSED(ssize_t, pread64, (int fd, void *to, size_t size, off64_t place), (fd, to, size, place))
+REFUSED(ssize_t, pwrite, (int fd, const void *from, size_t size, off_t place),
+        (fd, from, size, place))
+REFUSED(ssize_t, pwrite64, (int fd, const void *from, size_t size, off64_t place),
+        (fd, from, size, place))
+REFUSED(int, fsync, (int fd), (fd))
+REFUSED(int, fdatasync, (int fd), (fd))
+REFUSED(int, ftruncate, (int fd, off_t length), (fd, length))
+REFUSED(int, ftruncate64, (int fd, off64_t length), (fd, length))

@@ -1,0 +1,279 @@
+"""A `ledgerd` of one's own: started, asked over a socket, ended; and a tenant at it, whose every
+reply is compared with the plain ledger's."""
+
+import atexit
+import json
+import os
+import pathlib
+import re
+import resource
+import signal
+import socket
+import subprocess
+import time
+
+from model import ACCOUNT_FIELDS, BALANCES, HISTORY, TRANSFER_FIELDS, Ledger
+
+TOP = pathlib.Path(__file__).resolve().parent.parent
+PATIENCE = 60
+STRINGS = {"id", "debit_account_id", "credit_account_id", "amount", "pending_id", "user_data_128",
+           "user_data_64", "timestamp", *BALANCES}
+UNAVAILABLE = "unavailable"
+
+
+class Surprise(Exception):
+    """Something that should never be."""
+
+
+class Lost(Exception):
+    """The connection ended before a whole reply."""
+
+
+def want(holds, text):
+    if not holds:
+        raise Surprise(text)
+
+
+def result_names():
+    """The names of docs/RESULTS.md by their numbers: of accounts, and of transfers."""
+    text = (TOP / "docs/RESULTS.md").read_text()
+    _, accounts, transfers = re.split(r"^## (?:Accounts|Transfers)$", text, flags=re.M)
+    return [{int(number): name for number, name in re.findall(r"^\| (\d+) \| `(\w+)`", part, re.M)}
+            for part in (accounts, transfers)]
+
+
+ACCOUNT_RESULTS, TRANSFER_RESULTS = result_names()
+
+
+def run(program, *words, env=None, timeout=PATIENCE):
+    """The status, standard output and standard error of a command."""
+    done = subprocess.run([program, *words], capture_output=True, env=env, timeout=timeout)
+    return done.returncode, done.stdout.decode(), done.stderr.decode()
+
+
+def check(program, db):
+    want(run(program, "check", "--db", db) == (0, "ok\n", ""), f"check: {db} is not ok")
+
+
+def add_tenant(program, db, name, key):
+    told = run(program, "tenant-add", "--db", db, "--name", name, "--key", key)
+    want(told == (0, f"added {name}\n", ""), f"tenant-add: {told}")
+
+
+def free_port():
+    with socket.socket() as probe:
+        probe.bind(("127.0.0.1", 0))
+        return probe.getsockname()[1]
+
+
+class Service:
+    """A running service over a file."""
+
+    def __init__(self, program, db, env=None):
+        self.port = free_port()
+        self.served = subprocess.Popen(
+            [program, "serve", "--db", db, "--port", str(self.port), "--requests", str(2**64 - 1)],
+            env=env, stderr=subprocess.PIPE,
+            preexec_fn=lambda: signal.signal(signal.SIGXFSZ, signal.SIG_IGN))
+        atexit.register(self.served.kill)
+        end = time.monotonic() + PATIENCE
+        while True:
+            want(self.served.poll() is None, f"serve ended: {self.served.poll()}")
+            try:
+                socket.create_connection(("127.0.0.1", self.port)).close()
+                return
+            except ConnectionRefusedError:
+                want(time.monotonic() < end, "serve does not listen")
+                time.sleep(0.01)
+
+    def limit_files(self, most):
+        """No file grows beyond so many bytes from now on."""
+        resource.prlimit(self.served.pid, resource.RLIMIT_FSIZE, (most, resource.RLIM_INFINITY))
+
+    def memory(self):
+        """The bytes that the process has in memory."""
+        pages = int(pathlib.Path(f"/proc/{self.served.pid}/statm").read_text().split()[1])
+        return pages * os.sysconf("SC_PAGE_SIZE")
+
+    def kill(self):
+        """Ends it as a crash does. It was still there."""
+        want(self.served.poll() is None, f"serve had ended by itself: {self.served.poll()}")
+        self.gone()
+
+    def gone(self):
+        """It is not there any more."""
+        self.served.kill()
+        self.served.wait()
+        self.served.stderr.close()
+        atexit.unregister(self.served.kill)
+
+
+class Connection:
+    """One connection, whose replies are read strictly."""
+
+    def __init__(self, port):
+        self.socket = socket.create_connection(("127.0.0.1", port), PATIENCE)
+        self.socket.setsockopt(socket.IPPROTO_TCP, socket.TCP_NODELAY, 1)
+        self.read = b""
+
+    def close(self):
+        self.socket.close()
+
+    def send(self, message, piece=None):
+        """Sends a message, in pieces of so many bytes."""
+        try:
+            for first in range(0, len(message), piece or max(len(message), 1)):
+                self.socket.sendall(message[first:first + (piece or len(message))])
+        except OSError as error:
+            raise Lost(error) from error
+
+    def more(self):
+        try:
+            read = self.socket.recv(1 << 16)
+        except socket.timeout as error:
+            raise Surprise("no reply in a minute") from error
+        except OSError as error:
+            raise Lost(error) from error
+        self.read += read
+        return bool(read)
+
+    def reply(self):
+        """The next reply: its status line, type and body."""
+        while b"\r\n\r\n" not in self.read:
+            if not self.more():
+                raise Lost(f"the connection ended behind {self.read!r}")
+        head, _, _ = self.read.partition(b"\r\n\r\n")
+        found = re.fullmatch(r"HTTP/1\.1 (\d{3} [A-Za-z ]+)\r\ncontent-length: (\d+)\r\n"
+                             r"content-type: (application/json|text/csv)", head.decode("latin-1"))
+        want(found, f"a reply's head is {head!r}")
+        status, length, kind = found.groups()
+        end = len(head) + 4 + int(length)
+        while len(self.read) < end:
+            if not self.more():
+                raise Lost("the connection ended inside a reply")
+        body, self.read = self.read[len(head) + 4:end], self.read[end:]
+        return status, kind, body
+
+    def is_over(self):
+        """Whether the service has closed it, with nothing left to read."""
+        return self.read == b"" and not self.more()
+
+
+def message(method, path, key, body=b""):
+    lines = [f"{method} {path} HTTP/1.1", f"x-ledger-key: {key}"]
+    if method != "GET":
+        lines.append(f"content-length: {len(body)}")
+    return "\r\n".join(lines).encode() + b"\r\n\r\n" + body
+
+
+def body_of(events):
+    """A batch as JSON; fields that are 0 are left out."""
+    listed = [{field: str(value) if field in STRINGS else value
+               for field, value in event.items() if value} for event in events]
+    return json.dumps(listed, separators=(",", ":")).encode()
+
+
+def shown(record, fields, more=()):
+    """A record as a reply shows it."""
+    whole = {**{field: record[field] for field in fields}, "timestamp": record["timestamp"],
+             **dict(more)}
+    return {field: str(value) if field in STRINGS else value for field, value in whole.items()}
+
+
+class Desk:
+    """A tenant of a service, and the plain ledger beside it."""
+
+    def __init__(self, key):
+        self.key, self.ledger, self.asked = key, Ledger(), set()
+        self.connection = None
+
+    def connect(self, service):
+        self.leave()
+        self.connection = Connection(service.port)
+
+    def leave(self):
+        if self.connection:
+            self.connection.close()
+        self.connection = None
+
+    def ask(self, method, path, body=b""):
+        """The reply to a message: None where it is `unavailable`."""
+        self.connection.send(message(method, path, self.key, body))
+        status, kind, told = self.connection.reply()
+        if told == b'{"error":"unavailable"}':
+            want(status == "503 Service Unavailable", f"unavailable comes with {status}")
+            return None
+        want(status == "200 OK", f"{method} {path}: {status} {told!r}")
+        return told.decode() if kind == "text/csv" else json.loads(told)
+
+    def batch(self, events, transfers=True):
+        """Sends a batch, and compares. Says whether it was answered; else nothing has changed."""
+        self.asked |= {event["id"] for event in events if transfers}
+        told = self.ask("POST", "/transfers" if transfers else "/accounts", body_of(events))
+        if told is None:
+            return False
+        self.judge(events, transfers, told)
+        return True
+
+    def judge(self, events, transfers, told):
+        clock = int(told["clock"])
+        want(clock >= self.ledger.clock + len(events), f"the clock {clock} has turned back")
+        names = TRANSFER_RESULTS if transfers else ACCOUNT_RESULTS
+        expected = [{"number": number, "result": names[number], "timestamp": str(stamp)}
+                    for number, stamp in self.ledger.batch(events, clock, transfers)]
+        want(told["results"] == expected,
+             f"{body_of(events).decode()} is answered {told}, not {expected}")
+
+    def settle(self, events, transfers=True):
+        """After a lost reply the ledger's clock tells whether the batch was kept."""
+        clock = int(self.ask("POST", "/accounts/lookup", b"[]")["clock"])
+        if clock != self.ledger.clock:
+            want(clock >= self.ledger.clock + len(events), f"the clock is {clock}")
+            self.ledger.batch(events, clock, transfers)
+            return True
+        return False
+
+    def expected(self):
+        """All that the tenant can see: requests, and what has to stand in their replies."""
+        ledger = self.ledger
+        accounts = [shown(each, ACCOUNT_FIELDS, ledger.balances(number).items())
+                    for number, each in sorted(ledger.accounts.items())]
+        yield (lookup("/accounts/lookup", [*sorted(ledger.accounts), 2**100]),
+               {"accounts": accounts, "clock": str(ledger.clock)})
+        asked = sorted(self.asked)
+        for first in range(0, len(asked), 1000):
+            ids = asked[first:first + 1000]
+            transfers = [shown(ledger.transfers[number], TRANSFER_FIELDS) for number in ids
+                         if number in ledger.transfers]
+            yield (lookup("/transfers/lookup", ids),
+                   {"transfers": transfers, "clock": str(ledger.clock)})
+        for number, account in ledger.accounts.items():
+            lines = ledger.statement(number)
+            yield ("GET", f"/statement/{number}", b""), lines
+            if account["flags"] & HISTORY:
+                yield newest(number), [line.split(",") for line in lines[:-11:-1]]
+
+    def compare(self, service):
+        """Compares all that the tenant can see. What is expected is worked out before the service
+        is asked, which lets go of a client that is silent for 2 seconds."""
+        expected = list(self.expected())
+        self.connect(service)
+        for request, reply in expected:
+            told = self.ask(*request)
+            if request[0] == "GET":
+                told = told.splitlines()[1:]
+            elif request[1] == "/history/balances":
+                told = [[each["timestamp"], *(each[name] for name in BALANCES)]
+                        for each in told["balances"]]
+                reply = [[words[0], *words[5:]] for words in reply]
+            want(told == reply, f"{request[:2]}: {told}, not {reply}")
+
+
+def lookup(path, ids):
+    return "POST", path, json.dumps([str(each) for each in ids]).encode()
+
+
+def newest(number):
+    """The newest ten balances of an account."""
+    body = {"account_id": str(number), "limit": 10, "flags": 7}
+    return "POST", "/history/balances", json.dumps(body).encode()

@@ -1,0 +1,154 @@
+"""A stream of cut, doubled, mixed, huge and slow messages, some behind good ones."""
+
+import json
+import socket
+import time
+
+from drawn import LEDGER, account, transfer
+from model import TRANSFER_FIELDS
+from refused import post, routes, statements
+from runs import House
+from service import (Connection, Desk, Lost, add_tenant, body_of, check, message, shown, want)
+
+MOST_LENGTH = 2_097_152
+# So many bytes of a hostile message are sent ahead, behind a good one.
+MOST_AHEAD = 30_000
+# A system's allocator keeps some memory back; what grows with messages would be far beyond it.
+MOST_GROWN = 4 << 20
+GOOD_MARK, HOSTILE_MARK = b"7770777077707", b"6660666066606"
+GOOD_ID = int(GOOD_MARK) * 10**6
+
+
+class Hostile:
+    """A tenant that sends anything. What it sends may be right, so its ledger is its own."""
+
+    def __init__(self, random, key):
+        self.random, self.key, self.place = random, key, 0
+
+    def events(self, many):
+        """A batch that is right, and marked."""
+        self.place += many
+        mark = HOSTILE_MARK.decode()
+        return [{"id": f"{mark}{place:09}", "debit_account_id": "1", "credit_account_id": "2",
+                 "amount": mark, "ledger": LEDGER, "code": 1}
+                for place in range(self.place - many, self.place)]
+
+    def draw(self):
+        """A message, and whether it is sent slowly."""
+        good = post("/transfers", json.dumps(self.events(self.random.randint(1, 3))).encode(),
+                    self.key)
+        kind = self.random.choices(("cut", "doubled", "mixed", "noise", "slow", "huge", "refused"),
+                                   (20, 15, 25, 15, 0.2, 0.5, 15))[0]
+        return getattr(self, kind)(good), kind == "slow"
+
+    def cut(self, good):
+        return good[:self.random.randrange(1, len(good))]
+
+    def doubled(self, good):
+        return good + good
+
+    def mixed(self, good):
+        """Some bytes of it changed, dropped or doubled."""
+        mixed = bytearray(good)
+        for _ in range(self.random.randint(1, 6)):
+            place = self.random.randrange(len(mixed))
+            mixed[place:place + self.random.randint(0, 2)] = \
+                self.random.randbytes(self.random.randint(0, 2))
+        return bytes(mixed)
+
+    def noise(self, _good):
+        return self.random.randbytes(self.random.randint(1, 300)) + b"\r\n\r\n"
+
+    def slow(self, good):
+        return good
+
+    def huge(self, _good):
+        """As much as a body may have, or a head."""
+        if self.random.random() < 0.5:
+            return b"GET /" + b"a" * 20_000
+        body = b'[{"id":"' + b"6" * (MOST_LENGTH - 11) + b'"}]'
+        return post("/transfers", body, self.key)
+
+    def refused(self, _good):
+        sent = self.random.choice([*statements(self.key), *routes(self.key)])
+        return sent[1]
+
+
+def stream(trial):
+    """Hostile messages behind good ones: each good one is answered as the plain lists answer it, no
+    reply shows what is another tenant's, and the memory stays flat."""
+    many = 100_000 if trial.is_long else 4_000
+    house, hostile = opened(trial)
+    for _ in range(8):
+        beside(house, hostile.huge(b""), False)
+    begun, answered = house.service.memory(), 0
+    for place in range(many):
+        sent, is_slow = hostile.draw()
+        if place % 10 == 0:
+            good(house, place, sent)
+            answered += 1
+        else:
+            told = beside(house, sent, is_slow)
+            want(GOOD_MARK not in told, f"another tenant's marks in a reply to {sent!r}: {told!r}")
+        trial.progress(f"{place} messages, {house.service.memory() >> 10} kB")
+    grown = house.service.memory() - begun
+    house.compare()
+    house.stop()
+    check(house.program, house.db)
+    want(grown < MOST_GROWN, f"the memory grew by {grown} bytes")
+    return f"{many} hostile messages, {answered} behind good ones; memory grew by {grown >> 10} kB"
+
+
+def opened(trial):
+    """A house with a good tenant, and a hostile one that has two accounts."""
+    house = House(trial.fresh(), 1)
+    hostile = Hostile(trial.random, f"{trial.random.getrandbits(256):064x}")
+    add_tenant(house.program, house.db, "hostile", hostile.key)
+    house.begin()
+    house.desks[0].leave()
+    desk = Desk(hostile.key)
+    desk.connect(house.service)
+    want(desk.batch([account(1), account(2)], False), "unavailable at first")
+    desk.leave()
+    return house, hostile
+
+
+def good(house, place, hostile):
+    """A good message, in turn new, a retry and a read, and a hostile one behind it on the same
+    connection. The good one's reply is as if it were alone."""
+    desk = house.take_turn(0)
+    marked = transfer(GOOD_ID + place // 30, debit_account_id=1, credit_account_id=2,
+                      amount=int(GOOD_MARK), ledger=LEDGER, code=1)
+    desk.asked.add(marked["id"])
+    if place % 30 == 20:
+        sent = message("POST", "/transfers/lookup", desk.key, b'["%d"]' % marked["id"])
+    else:
+        sent = message("POST", "/transfers", desk.key, body_of([marked]))
+    desk.connection.send(sent + hostile[:MOST_AHEAD])
+    status, _, told = desk.connection.reply()
+    want(status == "200 OK", f"a good message is answered {status} {told!r}")
+    want(HOSTILE_MARK not in told, f"another tenant's marks in a reply: {told!r}")
+    told = json.loads(told)
+    if place % 30 == 20:
+        kept = [shown(desk.ledger.transfers[marked["id"]], TRANSFER_FIELDS)]
+        want(told["transfers"] == kept, f"a lookup: {told}, not {kept}")
+    else:
+        desk.judge([marked], True, told)
+    desk.leave()
+
+
+def beside(house, sent, is_slow):
+    """Sends a hostile message and closes its half. All that is answered."""
+    connection = Connection(house.service.port)
+    told = b""
+    try:
+        for first in range(0, len(sent), 40 if is_slow else len(sent)):
+            connection.send(sent[first:first + (40 if is_slow else len(sent))])
+            time.sleep(0.01 if is_slow else 0)
+        connection.socket.shutdown(socket.SHUT_WR)
+        while True:
+            told += connection.reply()[2]
+    except (Lost, OSError):
+        return told
+    finally:
+        connection.close()
