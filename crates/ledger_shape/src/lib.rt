@@ -11,7 +11,5 @@ mod references;
 mod shape;
 mod strangers;
 mod tables;
-#[cfg(test)]
-mod tests;
 
 pub use shape::{has_balances, has_lists, is_balances, is_ledger, is_lists};

@@ -1,15 +1,36 @@
-//! The texts on real tables.
+//! The texts on real tables, in memory and in files, and the shapes of schemas.
 
+mod acts;
 mod any_file;
 mod calls;
 mod entries;
-mod file;
-mod growth;
-mod marks;
+mod finds;
+mod lists;
+mod many;
 mod places;
-mod reading;
-mod refusals;
+mod runs;
 mod sample;
+mod scenarios;
+mod shapes;
+mod statements;
 mod unclaimed;
-mod upgrading;
-mod writing;
+
+use places::run_both;
+use scenarios::{GROWN, SCENARIOS};
+use std::test::Fail;
+
+#[test]
+fn texts_read_and_write_real_tables(rt: HostRuntime) -> Result<(), Fail> {
+    for scenario in SCENARIOS {
+        run_both(&rt, &rt, "scenarios", *scenario)?;
+    }
+    Ok(())
+}
+
+#[test]
+fn a_text_by_key_takes_as_long_over_many_rows(rt: HostRuntime) -> Result<(), Fail> {
+    for scenario in GROWN {
+        run_both(&rt, &rt, "grown", *scenario)?;
+    }
+    Ok(())
+}

@@ -34,7 +34,8 @@ pub record AreCellsOf (account : ℕ) (entry : Entry) (cells : EntryCells) : Typ
 -- the account's entries whose timestamp passes a test, oldest first
 abbrev pub account_entries : Machine → ℕ → (Value → Bool) → List Entry
 account_entries m account in_time =
-    filter (λ entry. is_entry_of account entry.transfer && in_time (Int (pos entry.transfer.timestamp)))
+    filter (λ entry. is_entry_of account entry.transfer
+    && in_time (Int (pos entry.transfer.timestamp)))
     (entries_of m)
 
 -- the balances after an entry

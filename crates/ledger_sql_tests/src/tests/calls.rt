@@ -1,251 +1,121 @@
-//! The crate's calls with no condition on the connection, and what they find beside what is wanted.
-//! They have no clause on the connection, so that the proof of a test does not carry its state.
+//! The calls that write, by what a test says of them. On a store of which nothing is claimed they
+//! have no condition.
 
-ghost use Rattle.std.specs.Prelude.{◌<◌, ◌^◌};
-ghost use Rattle.std.specs.Option.{ForSome};
-
+use super::acts::{Call, Change, Filled, Made, Row, Stage};
+use super::sample::{account, balance, history, pending, post, status};
 use super::unclaimed::{Unclaimed, claims_nothing};
-use ledger_sql::{adding, creating, finding, setting, stages};
-use records::{Account, Transfer, Unavailable};
-use rows::{BalanceRow, HistoryRow, StatusRow};
+use ledger_sql::{adding, creating, setting, stages, upgrading};
+use records::Unavailable;
+use rows::{BalanceCells, HistoryCells, StatusCells};
 use sqlite::Connection;
-use std::process::Abort;
-use std::test::Fail;
 
 pub type Done = Result<(), Unavailable>;
 
-pub fn begin<S: Unclaimed>(conn: &mut Connection<S>) -> Done {
-    stages::begin(conn)
+pub fn answer<S: Unclaimed>(conn: &mut Connection<S>, call: &Call) -> Done {
+    match call {
+        Call::Take(stage) => take(conn, stage),
+        Call::Make(tables) => make(conn, tables),
+        Call::Add(row) => add(conn, row),
+        Call::AddHistory(time, debited, credited, amount) => {
+            add_history(conn, *time, (*debited, *credited), *amount)
+        }
+        Call::Set(change) => set(conn, change),
+        Call::Fill(cells) => fill(conn, cells),
+    }
 }
 
-pub fn commit<S: Unclaimed>(conn: &mut Connection<S>) -> Done {
-    stages::commit(conn)
-}
-
-pub fn mark<S: Unclaimed>(conn: &mut Connection<S>) -> Done {
+fn take<S: Unclaimed>(conn: &mut Connection<S>, stage: &Stage) -> Done {
     claims_nothing(conn);
-    stages::mark(conn)
+    match stage {
+        Stage::Begin => stages::begin(conn),
+        Stage::Commit => stages::commit(conn),
+        Stage::Rollback => stages::rollback(conn),
+        Stage::Abandon => {
+            stages::abandon(conn);
+            Ok(())
+        }
+        Stage::Mark => stages::mark(conn),
+        Stage::BackToMark => stages::back_to_mark(conn),
+        Stage::ReleaseMark => stages::release_mark(conn),
+    }
 }
 
-pub fn back_to_mark<S: Unclaimed>(conn: &mut Connection<S>) -> Done {
+fn make<S: Unclaimed>(conn: &mut Connection<S>, tables: &Made) -> Done {
     claims_nothing(conn);
-    stages::back_to_mark(conn)
+    match tables {
+        Made::AllTables => creating::make_tables(conn),
+        Made::SchemaTable => creating::make_schema(conn),
+        Made::TenantTable => creating::make_tenant(conn),
+        Made::ClockTable => creating::make_clock(conn),
+        Made::AccountTable => creating::make_account(conn),
+        Made::TransferTable => creating::make_transfer(conn),
+        Made::BalanceTables => creating::make_balance_tables(conn),
+    }
 }
 
-pub fn release_mark<S: Unclaimed>(conn: &mut Connection<S>) -> Done {
+fn add<S: Unclaimed>(conn: &mut Connection<S>, row: &Row) -> Done {
     claims_nothing(conn);
-    stages::release_mark(conn)
+    match row {
+        Row::Version => adding::add_version(conn),
+        Row::Tenant(number, name, digest) => {
+            adding::add_tenant(conn, *number, name, &[*digest; 32])
+        }
+        Row::Clock(tenant, clock) => adding::add_clock(conn, *tenant, u64::from(*clock)),
+        Row::Account(tenant, id, timestamp, code) => {
+            adding::add_account(conn, *tenant, &account(*id, *timestamp, *code))
+        }
+        Row::Pending(id, timestamp) => adding::add_transfer(conn, 1, &pending(*id, *timestamp)),
+        Row::Post => adding::add_transfer(conn, 1, &post()),
+        Row::Balance(tenant, id, columns) => {
+            adding::add_balance(conn, *tenant, &balance(*id, *columns))
+        }
+        Row::Status(transfer, state, timestamp) => {
+            adding::add_status(conn, 1, &status(*transfer, *state, *timestamp))
+        }
+        Row::Failed(tenant, id) => adding::add_failed(conn, *tenant, *id),
+    }
 }
 
-pub fn make_tables<S: Unclaimed>(conn: &mut Connection<S>) -> Done {
-    claims_nothing(conn);
-    creating::make_tables(conn)
-}
-
-pub fn add_version<S: Unclaimed>(conn: &mut Connection<S>) -> Done {
-    claims_nothing(conn);
-    adding::add_version(conn)
-}
-
-pub fn set_version<S: Unclaimed>(conn: &mut Connection<S>) -> Done {
-    claims_nothing(conn);
-    setting::set_version(conn)
-}
-
-pub fn add_tenant<S: Unclaimed>(
+/// The rows of two accounts after a pending transfer.
+fn add_history<S: Unclaimed>(
     conn: &mut Connection<S>,
-    number: i64,
-    name: &str,
-    digest: &[u8; 32],
+    time: u32,
+    accounts: (u128, u128),
+    amount: u32,
 ) -> Done {
+    let debit = history(accounts.0, time, [amount, 0, 0, 0]);
+    let credit = history(accounts.1, time, [0, 0, amount, 0]);
     claims_nothing(conn);
-    adding::add_tenant(conn, number, name, digest)
+    adding::add_history(conn, 1, &debit, &credit)
 }
 
-pub fn add_clock<S: Unclaimed>(conn: &mut Connection<S>, tenant: i64, clock: u64) -> Done
-    requires { clock < 2 ^ 63 }
-{
+fn set<S: Unclaimed>(conn: &mut Connection<S>, change: &Change) -> Done {
     claims_nothing(conn);
-    adding::add_clock(conn, tenant, clock)
+    match change {
+        Change::NewVersion => setting::set_version(conn),
+        Change::NewClock(tenant, clock) => setting::set_clock(conn, *tenant, u64::from(*clock)),
+        Change::NewBalance(id, columns) => setting::set_balance(conn, 1, &balance(*id, *columns)),
+        Change::NewStatus(transfer, state, timestamp) => {
+            setting::set_status(conn, 1, &status(*transfer, *state, *timestamp))
+        }
+    }
 }
 
-pub fn set_clock<S: Unclaimed>(conn: &mut Connection<S>, tenant: i64, clock: u64) -> Done
-    requires { clock < 2 ^ 63 }
-{
+fn fill<S: Unclaimed>(conn: &mut Connection<S>, cells: &Filled) -> Done {
     claims_nothing(conn);
-    setting::set_clock(conn, tenant, clock)
-}
-
-pub fn add_account<S: Unclaimed>(conn: &mut Connection<S>, tenant: i64, account: &Account) -> Done
-    requires { account.now.timestamp < 2 ^ 63 }
-{
-    claims_nothing(conn);
-    adding::add_account(conn, tenant, account)
-}
-
-pub fn add_transfer<S: Unclaimed>(
-    conn: &mut Connection<S>,
-    tenant: i64,
-    transfer: &Transfer,
-) -> Done
-    requires timestamp { transfer.now.timestamp < 2 ^ 63 }
-    requires at { transfer.now.at < 2 ^ 63 }
-{
-    claims_nothing(conn);
-    adding::add_transfer(conn, tenant, transfer)
-}
-
-pub fn add_balance<S: Unclaimed>(conn: &mut Connection<S>, tenant: i64, row: &BalanceRow) -> Done {
-    claims_nothing(conn);
-    adding::add_balance(conn, tenant, row)
-}
-
-pub fn set_balance<S: Unclaimed>(conn: &mut Connection<S>, tenant: i64, row: &BalanceRow) -> Done {
-    claims_nothing(conn);
-    setting::set_balance(conn, tenant, row)
-}
-
-pub fn add_status<S: Unclaimed>(conn: &mut Connection<S>, tenant: i64, row: &StatusRow) -> Done
-    requires { ForSome row.now.due (λ due. due < 2 ^ 63) }
-{
-    claims_nothing(conn);
-    adding::add_status(conn, tenant, row)
-}
-
-pub fn set_status<S: Unclaimed>(conn: &mut Connection<S>, tenant: i64, row: &StatusRow) -> Done
-    requires { ForSome row.now.due (λ due. due < 2 ^ 63) }
-{
-    claims_nothing(conn);
-    setting::set_status(conn, tenant, row)
-}
-
-pub fn add_history<S: Unclaimed>(
-    conn: &mut Connection<S>,
-    tenant: i64,
-    debit: &HistoryRow,
-    credit: &HistoryRow,
-) -> Done
-    requires debit { debit.now.timestamp < 2 ^ 63 }
-    requires credit { credit.now.timestamp < 2 ^ 63 }
-{
-    claims_nothing(conn);
-    adding::add_history(conn, tenant, debit, credit)
-}
-
-pub fn add_failed<S: Unclaimed>(conn: &mut Connection<S>, tenant: i64, id: u128) -> Done {
-    claims_nothing(conn);
-    adding::add_failed(conn, tenant, id)
-}
-
-pub fn finds_account<S: Unclaimed>(
-    rt: &impl Abort,
-    conn: &mut Connection<S>,
-    tenant: i64,
-    id: u128,
-    want: Option<Account>,
-) -> Result<(), Fail> {
-    claims_nothing(conn);
-    let found = finding::find_account(conn, tenant, id)?;
-    assert_eq!(rt; found, want, "account {id} of tenant {tenant}");
-    Ok(())
-}
-
-pub fn finds_transfer<S: Unclaimed>(
-    rt: &impl Abort,
-    conn: &mut Connection<S>,
-    id: u128,
-    want: Option<Transfer>,
-) -> Result<(), Fail> {
-    claims_nothing(conn);
-    let found = finding::find_transfer(conn, 1, id)?;
-    assert_eq!(rt; found, want, "transfer {id}");
-    Ok(())
-}
-
-pub fn finds_balance<S: Unclaimed>(
-    rt: &impl Abort,
-    conn: &mut Connection<S>,
-    account: u128,
-    want: Option<BalanceRow>,
-) -> Result<(), Fail> {
-    claims_nothing(conn);
-    let found = finding::find_balance(conn, 1, account)?;
-    assert_eq!(rt; found, want, "account {account}");
-    Ok(())
-}
-
-pub fn finds_status<S: Unclaimed>(
-    rt: &impl Abort,
-    conn: &mut Connection<S>,
-    transfer: u128,
-    want: Option<StatusRow>,
-) -> Result<(), Fail> {
-    claims_nothing(conn);
-    let found = finding::find_status(conn, 1, transfer)?;
-    assert_eq!(rt; found, want, "transfer {transfer}");
-    Ok(())
-}
-
-pub fn finds_failed<S: Unclaimed>(
-    rt: &impl Abort,
-    conn: &mut Connection<S>,
-    tenant: i64,
-    id: u128,
-    want: bool,
-) -> Result<(), Fail> {
-    claims_nothing(conn);
-    let found = finding::has_failed(conn, tenant, id)?;
-    assert_eq!(rt; found, want, "id {id} of tenant {tenant}");
-    Ok(())
-}
-
-pub fn finds_clock<S: Unclaimed>(
-    rt: &impl Abort,
-    conn: &mut Connection<S>,
-    tenant: i64,
-    want: Option<u64>,
-) -> Result<(), Fail> {
-    claims_nothing(conn);
-    let found = finding::find_clock(conn, tenant)?;
-    assert_eq!(rt; found, want, "tenant {tenant}");
-    Ok(())
-}
-
-pub fn finds_tenant<S: Unclaimed>(
-    rt: &impl Abort,
-    conn: &mut Connection<S>,
-    digest: &[u8],
-    want: Option<i64>,
-) -> Result<(), Fail> {
-    claims_nothing(conn);
-    assert_eq!(rt; finding::find_tenant(conn, digest)?, want);
-    Ok(())
-}
-
-pub fn finds_named<S: Unclaimed>(
-    rt: &impl Abort,
-    conn: &mut Connection<S>,
-    name: &str,
-    want: Option<i64>,
-) -> Result<(), Fail> {
-    claims_nothing(conn);
-    let found = finding::find_tenant_by_name(conn, name)?;
-    assert_eq!(rt; found.map(|row| row.number), want, "{name}");
-    Ok(())
-}
-
-/// The number that a text of SQL answers.
-pub fn number<S: Unclaimed>(conn: &mut Connection<S>, text: &str) -> Result<i64, sqlite::Error> {
-    conn.query_row(text, &[])?.get(0)
-}
-
-/// The number is the one that is wanted.
-pub fn counts<S: Unclaimed>(
-    rt: &impl Abort,
-    conn: &mut Connection<S>,
-    text: &str,
-    want: i64,
-) -> Result<(), Fail> {
-    assert_eq!(rt; number(conn, text)?, want, "{text}");
-    Ok(())
+    match cells {
+        Filled::BalanceCells(id, columns) => {
+            let cells = BalanceCells::from_row(&balance(*id, *columns));
+            upgrading::fill_balance(conn, 1, &cells)
+        }
+        Filled::StatusCells(transfer, state, timestamp) => {
+            let cells = StatusCells::from_row(&status(*transfer, *state, *timestamp));
+            upgrading::fill_status(conn, 1, &cells)
+        }
+        Filled::HistoryCells(id, timestamp, amount) => {
+            let cells = HistoryCells::from_row(&history(*id, *timestamp, [*amount, 0, 0, 0]));
+            upgrading::fill_history(conn, 1, &cells)
+        }
+        Filled::BalanceVersion => upgrading::set_balance_version(conn),
+    }
 }

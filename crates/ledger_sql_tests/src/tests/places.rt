@@ -2,8 +2,9 @@
 
 ghost use Rattle.std.specs.Prelude.{IsTrue};
 
+use super::acts::Act;
 use super::any_file::{AnyFile, OneOf};
-use super::unclaimed::Unclaimed;
+use super::runs::run;
 use either::{Left, Right};
 use sqlite::{Connection, FileStore, Files, Options, Unknown};
 use sqlite_disk::{Disk, Memory};
@@ -11,24 +12,27 @@ use std::fs;
 use std::process::Abort;
 use std::test::Fail;
 
-type Conn = Connection<FileStore<AnyFile>>;
+pub type Conn = Connection<FileStore<AnyFile>>;
 
-/// What a test does over a connection.
-pub trait Scenario: Copy {
-    fn run<R: Abort, S: Unclaimed>(self, rt: &R, conn: &mut Connection<S>) -> Result<(), Fail>;
-}
+/// Few pages, since each opening makes room for all of them.
+const SMALL: Options = Options {
+    cache_pages: 100,
+    spill_pages: 100,
+    checkpoint_frames: 100,
+    seed: 7,
+};
 
 fn over(rt: &HostRuntime, files: Files<AnyFile>) -> Result<Conn, sqlite::Error>
     requires log { IsTrue (⟦<AnyFile as Disk>⟧.is_usable files.log) }
     requires db { IsTrue (⟦<AnyFile as Disk>⟧.is_usable files.db) }
 {
-    match Connection::open_files(rt.alloc(), files, Options::new(7)) {
+    match Connection::open_files(rt.alloc(), files, SMALL) {
         Ok(conn) => Ok(conn),
         Err((error, _)) => Err(error),
     }
 }
 
-fn in_memory(rt: &HostRuntime) -> Result<Conn, sqlite::Error> {
+pub fn in_memory(rt: &HostRuntime) -> Result<Conn, sqlite::Error> {
     over(
         rt,
         Files {
@@ -49,33 +53,27 @@ fn at_path(rt: &HostRuntime, path: &str) -> Result<Conn, Fail> {
     )?)
 }
 
-/// Runs over the file at a path, and closes it.
-pub fn run_at<R: Abort, T: Scenario>(
+/// Runs the parts of a scenario in memory, and over a file in a new folder, which is opened again
+/// for each part.
+pub fn run_both(
     rt: &HostRuntime,
-    abort: &R,
-    path: &str,
-    scenario: T,
-) -> Result<(), Fail> {
-    let mut conn = at_path(rt, path)?;
-    scenario.run(abort, &mut conn)?;
-    conn.close()?;
-    Ok(())
-}
-
-/// Runs in memory, and over a new file in a folder of this name.
-pub fn run_both<R: Abort, T: Scenario>(
-    rt: &HostRuntime,
-    abort: &R,
+    abort: &impl Abort,
     folder: &str,
-    scenario: T,
+    (what, parts): (&str, &[&[Act]]),
 ) -> Result<(), Fail> {
     let mut conn = in_memory(rt)?;
-    scenario.run(abort, &mut conn)?;
+    for acts in parts {
+        run(abort, rt.alloc(), &mut conn, what, acts)?;
+    }
     drop(conn);
     let _ = fs::remove_dir_all(rt, folder);
     fs::create_dir(rt, folder)?;
     let path = format!(in rt.alloc(); "{folder}/ledger.db")?;
-    run_at(rt, abort, path.as_str(), scenario)?;
+    for acts in parts {
+        let mut conn = at_path(rt, path.as_str())?;
+        run(abort, rt.alloc(), &mut conn, what, acts)?;
+        conn.close()?;
+    }
     fs::remove_dir_all(rt, folder)?;
     Ok(())
 }

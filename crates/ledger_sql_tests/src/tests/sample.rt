@@ -1,62 +1,57 @@
-//! The base of the model in a file: one tenant with the accounts 1 to 4, of ledger 7 and code 10.
+//! Accounts and transfers of ledger 7, and what goes with them in the tables.
 
 ghost use Rattle.std.specs.Prelude.{◌≡◌, ◌+◌};
 
-use super::calls::{
-    Done, add_account, add_balance, add_clock, add_history, add_status, add_tenant, add_transfer,
-    begin, make_tables,
-};
-use super::unclaimed::Unclaimed;
 use amount::Amount;
 use records::{Account, AccountFlags, Balances, PendingState, Sums, Transfer, TransferFlags};
 use rows::{BalanceRow, HistoryRow, StatusRow};
-use sqlite::Connection;
 
-pub const DIGEST: [u8; 32] = [0x66; 32];
-
-/// An account with its id for its timestamp.
-pub fn account(id: u32) -> Account
-    ensures { result.timestamp ≡ id }
+/// An account. Account 3 has the flags 10.
+pub fn account(id: u128, timestamp: u32, code: u16) -> Account
+    ensures { result.timestamp ≡ timestamp }
 {
     Account {
-        id: u128::from(id),
+        id,
         user_data_128: 0,
         user_data_64: 0,
         user_data_32: 0,
         ledger: 7,
-        code: 10,
+        code,
         flags: AccountFlags(if id == 3 { 10 } else { 0 }),
-        timestamp: u64::from(id),
+        timestamp: u64::from(timestamp),
     }
 }
 
-pub fn balances(debits: (u32, u32), credits: (u32, u32)) -> Balances {
+/// Sums in the order of the columns.
+fn balances(columns: [u32; 4]) -> Balances {
+    let [dp, dd, cp, cc] = columns;
     Balances {
-        debits: Sums {
-            pending: Amount::new(u128::from(debits.0)),
-            posted: Amount::new(u128::from(debits.1)),
-        },
-        credits: Sums {
-            pending: Amount::new(u128::from(credits.0)),
-            posted: Amount::new(u128::from(credits.1)),
-        },
+        debits: sums(dp, dd),
+        credits: sums(cp, cc),
     }
 }
 
-pub fn balance(account: u32, debits: (u32, u32), credits: (u32, u32)) -> BalanceRow {
+fn sums(pending: u32, posted: u32) -> Sums {
+    Sums {
+        pending: Amount::new(u128::from(pending)),
+        posted: Amount::new(u128::from(posted)),
+    }
+}
+
+pub fn balance(account: u128, columns: [u32; 4]) -> BalanceRow {
     BalanceRow {
-        account: u128::from(account),
-        balances: balances(debits, credits),
+        account,
+        balances: balances(columns),
     }
 }
 
 /// A pending transfer of 100 from account 1 to account 2, with a timeout of a second.
-pub fn pending(id: u32, timestamp: u32) -> Transfer
+pub fn pending(id: u128, timestamp: u32) -> Transfer
     ensures timestamp { result.timestamp ≡ timestamp }
     ensures at { result.at ≡ timestamp }
 {
     Transfer {
-        id: u128::from(id),
+        id,
         debit_account_id: 1,
         credit_account_id: 2,
         amount: Amount::new(100),
@@ -73,48 +68,36 @@ pub fn pending(id: u32, timestamp: u32) -> Transfer
     }
 }
 
+/// A post of transfer 100 at its whole amount.
+pub fn post() -> Transfer
+    ensures timestamp { result.timestamp ≡ 1000000004 }
+    ensures at { result.at ≡ 1000000004 }
+{
+    Transfer {
+        pending_id: 100,
+        timeout: 0,
+        flags: TransferFlags(4),
+        ..pending(101, 1_000_000_004)
+    }
+}
+
 /// What has become of the pending transfer that has this timestamp.
-pub fn status(transfer: u32, state: PendingState, timestamp: u32) -> StatusRow
+pub fn status(transfer: u128, state: PendingState, timestamp: u32) -> StatusRow
     ensures { result.due ≡ Some (timestamp + 1000000000) }
 {
     StatusRow {
-        transfer: u128::from(transfer),
+        transfer,
         state,
         due: Some(u64::from(timestamp) + 1_000_000_000),
     }
 }
 
-pub fn history(account: u32, timestamp: u32, debits: u32, credits: u32) -> HistoryRow
+pub fn history(account: u128, timestamp: u32, columns: [u32; 4]) -> HistoryRow
     ensures { result.timestamp ≡ timestamp }
 {
     HistoryRow {
-        account: u128::from(account),
+        account,
         timestamp: u64::from(timestamp),
-        balances: balances((debits, 0), (credits, 0)),
+        balances: balances(columns),
     }
-}
-
-/// Writes the base in a transaction, which stays open.
-pub fn write_base<S: Unclaimed>(conn: &mut Connection<S>) -> Done {
-    begin(conn)?;
-    make_tables(conn)?;
-    add_tenant(conn, 1, "North", &DIGEST)?;
-    add_clock(conn, 1, 4)?;
-    for id in 1..5 {
-        add_account(conn, 1, &account(id))?;
-        add_balance(conn, 1, &balance(id, (0, 0), (0, 0)))?;
-    }
-    Ok(())
-}
-
-/// Writes the rows that a pending transfer adds.
-pub fn write_pending<S: Unclaimed>(conn: &mut Connection<S>, id: u32, timestamp: u32) -> Done {
-    add_transfer(conn, 1, &pending(id, timestamp))?;
-    add_status(conn, 1, &status(id, PendingState::Open, timestamp))?;
-    add_history(
-        conn,
-        1,
-        &history(1, timestamp, 100, 0),
-        &history(2, timestamp, 0, 100),
-    )
 }

@@ -1,0 +1,75 @@
+//! Rows that are found by their keys.
+
+use super::acts::Row;
+use super::sample::{account, balance, pending, post, status};
+use super::unclaimed::{Unclaimed, claims_nothing};
+use ledger_sql::finding;
+use records::Unavailable;
+use rows::DirectoryRow;
+use sqlite::Connection;
+
+/// What is found by a row's key.
+#[derive(Clone, Copy, PartialEq, Eq)]
+pub enum Found {
+    Nothing,
+    ThisRow,
+    AnotherRow,
+}
+
+fn told<T: PartialEq + Drop, E: Drop>(found: Result<Option<T>, E>, row: T) -> Result<Found, E> {
+    match found? {
+        None => Ok(Found::Nothing),
+        Some(found) if found == row => Ok(Found::ThisRow),
+        Some(_) => Ok(Found::AnotherRow),
+    }
+}
+
+/// A row with nothing but its key.
+fn told_there(found: Result<bool, Unavailable>) -> Result<Found, Unavailable> {
+    let found = if found? {
+        Found::ThisRow
+    } else {
+        Found::Nothing
+    };
+    Ok(found)
+}
+
+pub fn find<S: Unclaimed>(conn: &mut Connection<S>, row: &Row) -> Result<Found, Unavailable> {
+    claims_nothing(conn);
+    match row {
+        Row::Version => Ok(told(finding::find_version(conn), 3)?),
+        Row::Tenant(number, _, digest) => told(finding::find_tenant(conn, &[*digest; 32]), *number),
+        Row::Clock(tenant, clock) => told(finding::find_clock(conn, *tenant), u64::from(*clock)),
+        Row::Account(tenant, id, timestamp, code) => told(
+            finding::find_account(conn, *tenant, *id),
+            account(*id, *timestamp, *code),
+        ),
+        Row::Pending(id, timestamp) => told(
+            finding::find_transfer(conn, 1, *id),
+            pending(*id, *timestamp),
+        ),
+        Row::Post => told(finding::find_transfer(conn, 1, 101), post()),
+        Row::Balance(tenant, id, columns) => told(
+            finding::find_balance(conn, *tenant, *id),
+            balance(*id, *columns),
+        ),
+        Row::Status(transfer, state, timestamp) => told(
+            finding::find_status(conn, 1, *transfer),
+            status(*transfer, *state, *timestamp),
+        ),
+        Row::Failed(tenant, id) => told_there(finding::has_failed(conn, *tenant, *id)),
+    }
+}
+
+/// The number of the tenant that has this name.
+pub fn number_of<S: Unclaimed>(
+    conn: &mut Connection<S>,
+    name: &str,
+) -> Result<Option<i64>, Unavailable> {
+    claims_nothing(conn);
+    Ok(number_in(finding::find_tenant_by_name(conn, name)?))
+}
+
+fn number_in(found: Option<DirectoryRow>) -> Option<i64> {
+    Some(found?.number)
+}
