@@ -15,8 +15,6 @@ mod shape;
 mod sound_law;
 mod tables;
 mod tenant;
-#[cfg(test)]
-mod tests;
 mod times;
 mod told;
 

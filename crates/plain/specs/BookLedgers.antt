@@ -1,5 +1,5 @@
--- A book as the ledgers of many tenants: it is always live, may be called where all its machines are
--- valid, and stands on nothing that could be opened again.
+-- A book as the ledgers of many tenants: it is always live, may be called where all its machines
+-- are valid, and stands on nothing that could be opened again.
 use Rattle.std.specs.Prelude.{List}
 use Rattle.chain.specs.Ledgers.{Tenants, LedgersMeaning, AreValid}
 use Rattle.plain.specs.declared.book.Tenant.{Tenant}

@@ -100,32 +100,3 @@ fn place_of(tenants: &[Tenant], digest: &[u8; 32]) -> Option<usize>
 {
     tenants.iter().position(|tenant| tenant.digest == *digest)
 }
-
-#[cfg(test)]
-mod tests {
-    use super::*;
-    use chain::Tables;
-    use std::test::Fail;
-
-    #[test]
-    fn keeps_each_tenants_tables(rt: HostRuntime) -> Result<(), Fail> {
-        let mut book = Book::new(rt.alloc());
-        book.add([0; 32], PlainTables::new(rt.alloc()))?;
-        assert!(rt; book.tables(&[1; 32]).is_none());
-        book.add([1; 32], PlainTables::new(rt.alloc()))?;
-
-        let first = book.tables(&[0; 32]).ok_or("no first tenant")?;
-        first.begin();
-        assert_eq!(rt; first.clock()?, 0);
-        first.settle(7)?;
-
-        let second = book.tables(&[1; 32]).ok_or("no second tenant")?;
-        second.begin();
-        assert_eq!(rt; second.clock()?, 0);
-
-        let first = book.tables(&[0; 32]).ok_or("no first tenant")?;
-        first.begin();
-        assert_eq!(rt; first.clock()?, 7);
-        Ok(())
-    }
-}

@@ -11,8 +11,6 @@ mod hand_out;
 mod page;
 mod plain_tables;
 mod search;
-#[cfg(test)]
-mod tests;
 
 pub use book::Book;
 pub use plain_tables::PlainTables;

@@ -11,8 +11,6 @@ mod reading;
 mod responding;
 mod serving;
 mod showing;
-#[cfg(test)]
-mod tests;
 
 pub use laws::{
     connections_serve_each_alone, each_tenant_sees_itself, ledgers_are_sound,

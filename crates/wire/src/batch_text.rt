@@ -31,33 +31,3 @@ pub fn batch_text_accounts(
 {
     clock_then_list(alloc, clock, "results", results)
 }
-
-#[cfg(test)]
-mod tests {
-    use super::*;
-    use std::test::Fail;
-
-    #[test]
-    fn writes_results(rt: HostRuntime) -> Result<(), Fail> {
-        let exists = EventResult {
-            result: TransferResult::Exists,
-            timestamp: 4,
-        };
-        let text = batch_text_transfers(rt.alloc(), 4, &[exists])?;
-        let wanted =
-            br#"{"clock":"4","results":[{"number":18,"result":"exists","timestamp":"4"}]}"#;
-        assert_eq!(rt; text.as_slice(), wanted.as_slice());
-
-        let refused = EventResult {
-            result: AccountResult::IdMustNotBeZero,
-            timestamp: 1,
-        };
-        let text = batch_text_accounts(rt.alloc(), 1, &[refused])?;
-        let wanted = concat!(
-            r#"{"clock":"1","results":"#,
-            r#"[{"number":5,"result":"id_must_not_be_zero","timestamp":"1"}]}"#
-        );
-        assert_eq!(rt; text.as_slice(), wanted.as_bytes());
-        Ok(())
-    }
-}

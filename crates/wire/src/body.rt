@@ -107,6 +107,3 @@ fn read_items<I: Item>(alloc: Global, items: &[Value]) -> Result<Vec<I>, Refusal
     }
     Ok(list)
 }
-
-#[cfg(test)]
-mod tests;

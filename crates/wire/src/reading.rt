@@ -34,6 +34,3 @@ fn read_account(text: &str) -> Result<u128, Refusal>
 {
     read_number(text).ok_or(Refusal::BadField)
 }
-
-#[cfg(test)]
-mod tests;

@@ -16,19 +16,3 @@ pub fn refusal_text(alloc: Global, name: &str) -> Result<Vec<u8>, AllocError>
     writer.end_object()?;
     Ok(writer.into_inner())
 }
-
-#[cfg(test)]
-mod tests {
-    use super::*;
-    use std::test::Fail;
-
-    #[test]
-    fn writes_a_refusal(rt: HostRuntime) -> Result<(), Fail> {
-        let reply = refusal_text(rt.alloc(), "body_not_json")?;
-        assert_eq!(rt;
-            reply.as_slice(),
-            br#"{"error":"body_not_json"}"#.as_slice()
-        );
-        Ok(())
-    }
-}

@@ -42,6 +42,3 @@ pub fn reply_bytes(alloc: Global, outcome: &Outcome) -> Result<Reply, NoMemory>
         Outcome::Statement(text) => Reply::of_body(alloc, ContentType::Csv, text.as_slice()),
     }
 }
-
-#[cfg(test)]
-mod tests;

@@ -1,0 +1,6 @@
+//! Tests of `service`: messages of several firms over ledgers in memory, and what each is told,
+//! byte by byte.
+#![tactic(auto)]
+
+#[cfg(test)]
+mod tests;

@@ -1,0 +1,13 @@
+mod connections;
+mod events;
+mod examples;
+mod exchanges;
+mod firms;
+mod looked_up;
+mod memory;
+mod messages;
+mod played;
+mod reads;
+mod refusals;
+mod scarce;
+mod sockets;

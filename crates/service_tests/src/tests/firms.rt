@@ -1,0 +1,78 @@
+//! Firms whose ledgers are kept in memory.
+ghost use Rattle.std.specs.Prelude.{◌≡◌, false};
+
+use ledger_http::Reply;
+use plain::{Book, PlainTables};
+use records::{Drain, Source};
+use service::{Moments, ServeFault, respond, serve};
+use std::alloc::Global;
+use std::marker::Model;
+use std::test::Fail;
+use tenants::{Key, digest};
+
+/// The ledgers of several firms.
+#[derive(Drop)]
+pub(crate) struct Firms {
+    alloc: Global,
+    book: Book,
+}
+
+impl Model for Firms {
+    ghost use Rattle.std.specs.Prelude.{List};
+    ghost use Rattle.chain.specs.Ledgers.{AreValid};
+    ghost use Rattle.plain.specs.BookLedgers.{machines_in};
+    ghost use Rattle.plain.specs.declared.book.Tenant.{Tenant};
+
+    ghost Value = { List Tenant };
+
+    ghost view = { λ firms. firms.book };
+
+    ghost invariant = { λ firms. AreValid (machines_in firms.book) };
+}
+
+impl Firms {
+    /// No firm yet.
+    pub(crate) fn new(alloc: Global) -> Firms {
+        Firms {
+            alloc,
+            book: Book::new(alloc),
+        }
+    }
+
+    /// A new firm.
+    pub(crate) fn with(alloc: Global, key: &str) -> Result<Firms, Fail> {
+        let mut firms = Firms::new(alloc);
+        firms.add(key)?;
+        Ok(firms)
+    }
+
+    /// Adds a firm, unless it is there.
+    pub(crate) fn add(&mut self, key: &str) -> Result<(), &'static str> {
+        let digest = digest(&Key::read(key.as_bytes()).ok_or("no key")?);
+        if self.book.holds(&digest) {
+            return Ok(());
+        }
+        self.book
+            .add(digest, PlainTables::new(self.alloc))
+            .map_err(|_| "no memory")
+    }
+
+    /// The reply to some bytes.
+    pub(crate) fn answer(&mut self, bytes: &[u8], moment: u64) -> Reply {
+        respond(self.alloc, &mut self.book, bytes, moment)
+    }
+
+    /// Serves a connection.
+    pub(crate) fn serve<R: Source, W: Drain, C: Moments>(
+        &mut self,
+        reader: &mut R,
+        writer: &mut W,
+        moments: &mut C,
+        most: u64,
+    ) -> Result<u64, ServeFault>
+        requires reads { R.failed reader.old ≡ false }
+        requires writes { W.failed writer.old ≡ false }
+    {
+        serve(self.alloc, &mut self.book, reader, writer, moments, most)
+    }
+}

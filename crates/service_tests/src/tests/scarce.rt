@@ -1,0 +1,237 @@
+//! Memory that runs out in the midst of a batch.
+ghost use Rattle.std.specs.Prelude.{Some, None, IfOk, bytes_eq, if◌then◌else◌};
+ghost use Rattle.std.proofs.Common.{refl, ◌∙◌};
+ghost use Rattle.chain.specs.Ledgers.{AreValid};
+
+use super::examples::PENDING_AND_POST;
+use super::memory::UNAVAILABLE;
+use super::messages::FIRST;
+use super::played::{FOUR_ACCOUNTS, Want, message, wanted};
+use chain::{BatchFault, Ledgers, Listed, ReadFault, Tables, Work};
+use plain::PlainTables;
+use records::{
+    Accepted, Account, AccountFilter, AccountWithBalances, BalanceAt, Order, PendingState, RowSink,
+    Transfer, Unavailable,
+};
+use service::respond;
+use std::alloc::Global;
+use std::process::Abort;
+use std::test::Fail;
+use tenants::{Key, digest};
+
+/// One firm's tables, which have memory for so many transfers more.
+#[derive(Drop)]
+struct Scarce {
+    tables: PlainTables,
+    room: u64,
+}
+
+impl Tables for Scarce {
+    ghost use Rattle.plain.specs.PlainTables.{plain_meaning};
+
+    ghost means = { record {
+      state = λ s. plain_meaning.state s.tables;
+      is_usable = λ s. plain_meaning.is_usable s.tables;
+      is_live = λ s. plain_meaning.is_live s.tables;
+      follows = λ a b. plain_meaning.follows a.tables b.tables;
+    } };
+
+    fn clock(&mut self) -> Result<u64, Unavailable> {
+        self.tables.clock()
+    }
+
+    fn account(&mut self, id: u128) -> Result<Option<AccountWithBalances>, Unavailable> {
+        self.tables.account(id)
+    }
+
+    fn transfer(&mut self, id: u128) -> Result<Option<Transfer>, Unavailable> {
+        self.tables.transfer(id)
+    }
+
+    fn pending_state(&mut self, id: u128) -> Result<Option<PendingState>, Unavailable> {
+        self.tables.pending_state(id)
+    }
+
+    fn failed(&mut self, id: u128) -> Result<bool, Unavailable> {
+        self.tables.failed(id)
+    }
+
+    fn settle(&mut self, clock: u64) -> Result<(), Unavailable> {
+        self.tables.settle(clock)
+    }
+
+    fn accept_account(&mut self, account: &Account) -> Result<(), Unavailable> {
+        self.tables.accept_account(account)
+    }
+
+    fn accept_transfer(&mut self, accepted: &Accepted) -> Result<(), Unavailable> {
+        if self.room == 0 {
+            self.tables.abandon();
+            return Err(Unavailable::Memory);
+        }
+        self.room -= 1;
+        self.tables.accept_transfer(accepted)
+    }
+
+    fn record_failed(&mut self, id: u128) -> Result<(), Unavailable> {
+        self.tables.record_failed(id)
+    }
+
+    fn mark(&mut self) -> Result<(), Unavailable> {
+        self.tables.mark()
+    }
+
+    fn back_to_mark(&mut self) -> Result<(), Unavailable> {
+        self.tables.back_to_mark()
+    }
+
+    fn release_mark(&mut self) -> Result<(), Unavailable> {
+        self.tables.release_mark()
+    }
+
+    ghost stays = { λ a. refl };
+
+    ghost then = { λ a b c first second. second ∙ first };
+
+    ghost lived = { λ a b follows live. tt };
+
+    ghost valid = { λ a live usable. usable };
+}
+
+/// The ledger of one firm over such tables. It refuses all reads.
+#[derive(Drop)]
+struct ScarceLedger {
+    digest: [u8; 32],
+    scarce: Scarce,
+}
+
+impl Ledgers for ScarceLedger {
+    ghost means = { record {
+      tenants = λ l digest.
+          if bytes_eq digest l.digest then Some l.scarce.tables.now else None;
+      is_usable = λ l.
+          AreValid
+          (λ digest. if bytes_eq digest l.digest then Some l.scarce.tables.now else None);
+      is_live = λ l. Unit {0};
+      follows = λ a b. Unit {0};
+      may_find = λ l found. ⊥;
+    } };
+
+    fn in_batch<W: Work + Drop>(
+        &mut self,
+        digest: &[u8; 32],
+        work: W,
+    ) -> Result<W::Output, BatchFault> {
+        if *digest != self.digest {
+            return Err(BatchFault::UnknownKey);
+        }
+        self.scarce.tables.begin();
+        match work.run(&mut self.scarce) {
+            Ok(output) => Ok(output),
+            Err(why) => {
+                self.scarce.tables.abandon();
+                Err(BatchFault::Unavailable(why))
+            }
+        }
+    }
+
+    fn knows(&mut self, digest: &[u8; 32]) -> Result<bool, Unavailable> {
+        Ok(*digest == self.digest)
+    }
+
+    fn lookup_accounts(
+        &mut self,
+        _alloc: Global,
+        _digest: &[u8; 32],
+        _ids: &[u128],
+    ) -> Result<Listed<AccountWithBalances>, ReadFault> {
+        Err(ReadFault::Unavailable(Unavailable::Memory))
+    }
+
+    fn lookup_transfers(
+        &mut self,
+        _alloc: Global,
+        _digest: &[u8; 32],
+        _ids: &[u128],
+    ) -> Result<Listed<Transfer>, ReadFault> {
+        Err(ReadFault::Unavailable(Unavailable::Memory))
+    }
+
+    fn history_transfers(
+        &mut self,
+        _alloc: Global,
+        _digest: &[u8; 32],
+        _asked: &AccountFilter,
+    ) -> Result<Listed<Transfer>, ReadFault> {
+        Err(ReadFault::Unavailable(Unavailable::Memory))
+    }
+
+    fn history_balances(
+        &mut self,
+        _alloc: Global,
+        _digest: &[u8; 32],
+        _asked: &AccountFilter,
+    ) -> Result<Listed<BalanceAt>, ReadFault> {
+        Err(ReadFault::Unavailable(Unavailable::Memory))
+    }
+
+    fn each_statement_row<S: RowSink>(
+        &mut self,
+        _alloc: Global,
+        _digest: &[u8; 32],
+        _account: u128,
+        _order: Order,
+        _sink: &mut S,
+    ) -> Result<(), ReadFault> {
+        Err(ReadFault::Unavailable(Unavailable::Memory))
+    }
+
+    ghost stays = { λ a. tt };
+
+    ghost then = { λ a b c f g. tt };
+
+    ghost lived = { λ a b f live. tt };
+
+    ghost valid = { λ a live usable. usable };
+}
+
+/// The base, with memory for so many transfers.
+fn scarce_base(rt: &impl Abort, alloc: Global, room: u64) -> Result<ScarceLedger, Fail>
+    ensures { IfOk result (λ l. AreValid
+        (λ digest. if bytes_eq digest l.digest then Some l.scarce.tables.now else None)) }
+{
+    let scarce = Scarce {
+        tables: PlainTables::new(alloc),
+        room,
+    };
+    let digest = digest(&Key::read(FIRST.as_bytes()).ok_or("no key")?);
+    let mut ledger = ScarceLedger { digest, scarce };
+    let (asked, moment, want) = &FOUR_ACCOUNTS;
+    let message = message(alloc, FIRST, asked)?;
+    let reply = respond(alloc, &mut ledger, &message, *moment);
+    assert_eq!(rt; reply.bytes(), wanted(alloc, want)?.as_slice());
+    Ok(ledger)
+}
+
+#[test]
+fn keeps_nothing_of_a_batch_that_ran_out_of_memory(rt: HostRuntime) -> Result<(), Fail> {
+    let mut ledger = scarce_base(&rt, rt.alloc(), 1)?;
+    let message = message(rt.alloc(), FIRST, &PENDING_AND_POST)?;
+    let reply = respond(rt.alloc(), &mut ledger, &message, 0);
+    assert_eq!(rt; reply.bytes(), UNAVAILABLE.as_bytes());
+    let tables = &mut ledger.scarce.tables;
+    tables.begin();
+    assert_eq!(rt; tables.clock()?, 4);
+    let lengths = (
+        tables.accounts().len(),
+        tables.transfers().len(),
+        tables.failed_ids().len(),
+    );
+    assert_eq!(rt; lengths, (4, 0, 0));
+
+    ledger.scarce.room = 2;
+    let reply = respond(rt.alloc(), &mut ledger, &message, 0);
+    let want = wanted(rt.alloc(), &Want::Results(6, &[(0, 5), (0, 6)]))?;
+    assert_eq!(rt; reply.bytes(), want.as_slice());
+    Ok(())
+}

@@ -1,0 +1,284 @@
+//! What replies spell.
+use amount::Amount;
+use ledger_http::Refusal;
+use records::{
+    Account, AccountFlags, AccountResult, AccountWithBalances, BalanceAt, Balances, EventResult,
+    Sums, Transfer, TransferFlags, TransferResult,
+};
+use std::alloc::{AllocError, Global};
+use std::process::Abort;
+use std::test::Fail;
+use wire::{Items, Outcome, batch_text_accounts, batch_text_transfers, refusal_text, reply_bytes};
+
+#[test]
+fn tells_results(rt: HostRuntime) -> Result<(), Fail> {
+    let outcome = Outcome::TransferResults {
+        clock: 1000,
+        results: items(rt.alloc(), &[])?,
+    };
+    is_json(&rt, &outcome, "29", r#"{"clock":"1000","results":[]}"#)?;
+
+    let failed = EventResult {
+        result: TransferResult::IdAlreadyFailed,
+        timestamp: u64::MAX,
+    };
+    let outcome = Outcome::TransferResults {
+        clock: u64::MAX,
+        results: items(rt.alloc(), &[failed])?,
+    };
+    let body = concat!(
+        r#"{"clock":"18446744073709551615","results":[{"number":60,"result":"id_already_failed","#,
+        r#""timestamp":"18446744073709551615"}]}"#
+    );
+    is_json(&rt, &outcome, "122", body)?;
+
+    let opened = [1001, 1002].map(|timestamp| EventResult {
+        result: AccountResult::Accepted,
+        timestamp,
+    });
+    let outcome = Outcome::AccountResults {
+        clock: 1002,
+        results: items(rt.alloc(), &opened)?,
+    };
+    let body = concat!(
+        r#"{"clock":"1002","results":[{"number":0,"result":"ok","timestamp":"1001"},"#,
+        r#"{"number":0,"result":"ok","timestamp":"1002"}]}"#
+    );
+    is_json(&rt, &outcome, "120", body)
+}
+
+#[test]
+fn tells_no_accounts(rt: HostRuntime) -> Result<(), Fail> {
+    let outcome = Outcome::Accounts {
+        clock: 4,
+        accounts: items(rt.alloc(), &[])?,
+    };
+    is_json(&rt, &outcome, "27", r#"{"accounts":[],"clock":"4"}"#)
+}
+
+#[test]
+fn tells_accounts(rt: HostRuntime) -> Result<(), Fail> {
+    let plain = AccountWithBalances {
+        account: Account {
+            id: 1,
+            ledger: 7,
+            code: 10,
+            timestamp: 1,
+            ..Account::default()
+        },
+        balances: Balances::ZERO,
+    };
+    let full = AccountWithBalances {
+        account: Account {
+            id: u128::MAX,
+            user_data_128: 5,
+            user_data_64: 7,
+            user_data_32: 6,
+            ledger: u32::MAX,
+            code: u16::MAX,
+            flags: AccountFlags(15),
+            timestamp: u64::MAX,
+        },
+        balances: balances([1, 2, 3, 4]),
+    };
+    let outcome = Outcome::Accounts {
+        clock: 4,
+        accounts: items(rt.alloc(), &[plain, full])?,
+    };
+    let body = concat!(
+        r#"{"accounts":[{"code":10,"credits_pending":"0","credits_posted":"0","#,
+        r#""debits_pending":"0","debits_posted":"0","flags":0,"id":"1","ledger":7,"#,
+        r#""timestamp":"1","user_data_128":"0","user_data_32":0,"user_data_64":"0"},"#,
+        r#"{"code":65535,"credits_pending":"3","credits_posted":"4","debits_pending":"1","#,
+        r#""debits_posted":"2","flags":15,"id":"340282366920938463463374607431768211455","#,
+        r#""ledger":4294967295,"timestamp":"18446744073709551615","user_data_128":"5","#,
+        r#""user_data_32":6,"user_data_64":"7"}],"clock":"4"}"#
+    );
+    is_json(&rt, &outcome, "492", body)
+}
+
+/// A post.
+const SMALL: Transfer = Transfer {
+    id: 5,
+    debit_account_id: 3,
+    credit_account_id: 2,
+    amount: Amount::MAX,
+    pending_id: 7,
+    user_data_128: 10,
+    user_data_64: 12,
+    user_data_32: 11,
+    timeout: 8,
+    ledger: 6,
+    code: 1,
+    flags: TransferFlags(4),
+    timestamp: 9,
+    at: 13,
+};
+
+/// A transfer whose fields are as wide as they can be, all but its amount.
+const LARGE: Transfer = Transfer {
+    id: u128::MAX,
+    debit_account_id: u128::MAX,
+    credit_account_id: u128::MAX,
+    amount: Amount::ZERO,
+    pending_id: u128::MAX,
+    user_data_128: u128::MAX,
+    user_data_64: u64::MAX,
+    user_data_32: u32::MAX,
+    timeout: u32::MAX,
+    ledger: u32::MAX,
+    code: u16::MAX,
+    flags: TransferFlags(u16::MAX),
+    timestamp: u64::MAX,
+    at: u64::MAX,
+};
+
+#[test]
+fn tells_transfers(rt: HostRuntime) -> Result<(), Fail> {
+    let outcome = Outcome::Transfers {
+        clock: 9,
+        transfers: items(rt.alloc(), &[SMALL, LARGE])?,
+    };
+    let body = concat!(
+        r#"{"clock":"9","transfers":[{"amount":"340282366920938463463374607431768211455","#,
+        r#""code":1,"credit_account_id":"2","debit_account_id":"3","flags":4,"id":"5","#,
+        r#""ledger":6,"pending_id":"7","timeout":8,"timestamp":"9","user_data_128":"10","#,
+        r#""user_data_32":11,"user_data_64":"12"},{"amount":"0","code":65535,"#,
+        r#""credit_account_id":"340282366920938463463374607431768211455","#,
+        r#""debit_account_id":"340282366920938463463374607431768211455","flags":65535,"#,
+        r#""id":"340282366920938463463374607431768211455","ledger":4294967295,"#,
+        r#""pending_id":"340282366920938463463374607431768211455","timeout":4294967295,"#,
+        r#""timestamp":"18446744073709551615","#,
+        r#""user_data_128":"340282366920938463463374607431768211455","#,
+        r#""user_data_32":4294967295,"user_data_64":"18446744073709551615"}]}"#
+    );
+    is_json(&rt, &outcome, "735", body)
+}
+
+#[test]
+fn tells_balances(rt: HostRuntime) -> Result<(), Fail> {
+    let rows = [
+        BalanceAt {
+            timestamp: 5,
+            balances: balances([1, 2, 3, 4]),
+        },
+        BalanceAt {
+            timestamp: 6,
+            balances: balances([0, u128::MAX, u128::MAX, 0]),
+        },
+    ];
+    let outcome = Outcome::Balances {
+        clock: 8,
+        balances: items(rt.alloc(), &rows)?,
+    };
+    let body = concat!(
+        r#"{"balances":[{"credits_pending":"3","credits_posted":"4","debits_pending":"1","#,
+        r#""debits_posted":"2","timestamp":"5"},"#,
+        r#"{"credits_pending":"340282366920938463463374607431768211455","credits_posted":"0","#,
+        r#""debits_pending":"0","debits_posted":"340282366920938463463374607431768211455","#,
+        r#""timestamp":"6"}],"clock":"8"}"#
+    );
+    is_json(&rt, &outcome, "306", body)
+}
+
+#[test]
+fn tells_statements_and_refusals(rt: HostRuntime) -> Result<(), Fail> {
+    let csv = concat!(
+        "timestamp,transfer_id,side,kind,amount,",
+        "debits_pending,debits_posted,credits_pending,credits_posted\n",
+        "3,1,debit,single,10,0,10,0,0\n"
+    );
+    let outcome = Outcome::Statement(items(rt.alloc(), csv.as_bytes())?);
+    is_reply(&rt, &outcome, "128", "text/csv", csv)?;
+
+    let text = concat!(
+        "HTTP/1.1 401 Unauthorized\r\ncontent-length: 23\r\n",
+        "content-type: application/json\r\n\r\n",
+        r#"{"error":"unknown_key"}"#
+    );
+    let reply = reply_bytes(rt.alloc(), &Outcome::Refused(Refusal::UnknownKey))?;
+    assert_eq!(rt; reply.bytes(), text.as_bytes());
+    Ok(())
+}
+
+#[test]
+fn writes_bodies_alone(rt: HostRuntime) -> Result<(), Fail> {
+    let refused = refusal_text(rt.alloc(), "body_not_json")?;
+    is_text(&rt, &refused, r#"{"error":"body_not_json"}"#);
+    let exists = EventResult {
+        result: TransferResult::Exists,
+        timestamp: 4,
+    };
+    let wanted = r#"{"clock":"4","results":[{"number":18,"result":"exists","timestamp":"4"}]}"#;
+    is_text(
+        &rt,
+        &batch_text_transfers(rt.alloc(), 4, &[exists])?,
+        wanted,
+    );
+    let refused = EventResult {
+        result: AccountResult::IdMustNotBeZero,
+        timestamp: 1,
+    };
+    let wanted = concat!(
+        r#"{"clock":"1","results":"#,
+        r#"[{"number":5,"result":"id_must_not_be_zero","timestamp":"1"}]}"#
+    );
+    is_text(
+        &rt,
+        &batch_text_accounts(rt.alloc(), 1, &[refused])?,
+        wanted,
+    );
+    Ok(())
+}
+
+fn is_text(rt: &impl Abort, text: &[u8], wanted: &str) {
+    assert_eq!(rt; text, wanted.as_bytes());
+}
+
+fn items<T: Copy>(alloc: Global, values: &[T]) -> Result<Items<T>, AllocError> {
+    Ok(Vec::from_slice(alloc, values)?.into())
+}
+
+// Debits pending and posted, and then credits.
+fn balances(sums: [u128; 4]) -> Balances {
+    let [
+        debits_pending,
+        debits_posted,
+        credits_pending,
+        credits_posted,
+    ] = sums.map(Amount::new);
+    Balances {
+        debits: Sums {
+            pending: debits_pending,
+            posted: debits_posted,
+        },
+        credits: Sums {
+            pending: credits_pending,
+            posted: credits_posted,
+        },
+    }
+}
+
+fn is_json<R: Abort + AllocGlobal>(
+    rt: &R,
+    outcome: &Outcome,
+    length: &str,
+    body: &str,
+) -> Result<(), Fail> {
+    is_reply(rt, outcome, length, "application/json", body)
+}
+
+fn is_reply<R: Abort + AllocGlobal>(
+    rt: &R,
+    outcome: &Outcome,
+    length: &str,
+    kind: &str,
+    body: &str,
+) -> Result<(), Fail> {
+    let text = format!(in rt.alloc();
+        "HTTP/1.1 200 OK\r\ncontent-length: {length}\r\ncontent-type: {kind}\r\n\r\n{body}"
+    )?;
+    let reply = reply_bytes(rt.alloc(), outcome)?;
+    assert_eq!(rt; reply.bytes(), text.as_bytes(), "{body}");
+    Ok(())
+}
