@@ -14,7 +14,8 @@ use Rattle.store.specs.declared.opening.OpenFault.{OpenFault}
 use Rattle.store.specs.declared.opening.OpenFault.TheVariants as opening
 use Rattle.store.specs.declared.place.Place.{Place}
 use Rattle.store.specs.declared.place.Place.TheVariants as at
-use Rattle.migrate.specs.Faults.{audit_fault, upgrade_fault, IfDamaged, HasFirstDamage}
+use Rattle.migrate.specs.Faults.{audit_fault, upgrade_fault, IfDamaged}
+use Rattle.store.specs.Damage.{HasFirstDamage}
 use Rattle.migrate.specs.declared.fault.MigrateFault.{MigrateFault}
 use Rattle.migrate.specs.declared.fault.MigrateFault.TheVariants as fault
 

@@ -1,13 +1,8 @@
 -- What a migration is refused for.
-use Rattle.std.specs.Prelude.{ℕ}
 use Rattle.records.specs.declared.unavailable.Unavailable.TheVariants.{Memory, Size}
-use Rattle.rows.specs.declared.all_rows.AllRows.{AllRows}
-use Rattle.sqlite_trees.specs.Tree.{Trees}
-use Rattle.audit.specs.Damage.{IsFirstDamage}
 use Rattle.audit.specs.declared.damage.AuditFault.{AuditFault}
 use Rattle.audit.specs.declared.damage.AuditFault.TheVariants as audit
 use Rattle.audit.specs.declared.damage.Damage.{Damage}
-use Rattle.store.specs.Whole.{AreAllRows}
 use Rattle.store.specs.declared.opening.OpenFault.{OpenFault}
 use Rattle.store.specs.declared.opening.OpenFault.TheVariants as opening
 use Rattle.migrate.specs.declared.fault.MigrateFault.{MigrateFault}
@@ -32,9 +27,3 @@ abbrev pub IfDamaged : MigrateFault → (Damage → Type 0) → Type 0
 IfDamaged NewerSchema P = Unit {0}
 IfDamaged (Damaged damage) P = P damage
 IfDamaged (Unavailable why) P = Unit {0}
-
--- of all rows of the database, in this version, this is the first damage
-pub record HasFirstDamage (version : ℕ) (damage : Damage) (trees : Trees) : Type 0 where
-  pub all : AllRows
-  pub read : AreAllRows version trees all
-  pub first : IsFirstDamage version all.tenants.items damage

@@ -5,8 +5,6 @@
 mod fault;
 mod migrating;
 mod newer;
-#[cfg(test)]
-mod tests;
 
 pub use fault::MigrateFault;
 pub use migrating::migrate;

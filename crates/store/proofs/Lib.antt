@@ -27,3 +27,4 @@ mod UpgradeLemmas
 mod OlderLemmas
 mod RaiseLemmas
 mod MigratingLemmas
+mod DamageLemmas

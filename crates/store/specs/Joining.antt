@@ -22,7 +22,8 @@ pub record Joins (number : ℕ) (name digest : List ℕ) (old new : Database) : 
   pub schema : new.schema ≡ old.schema
   pub version : new.trees schema_tree ≡ old.trees schema_tree
   pub numbered : AreNumbered new.trees
-  pub directory : IsPermutation (directory_values (pos number) name digest ∷ directory_rows old.trees)
+  pub directory : IsPermutation
+      (directory_values (pos number) name digest ∷ directory_rows old.trees)
       (directory_rows new.trees)
   pub others : (other : ℤ) → other ≢ pos number → KeepsRows other old.trees new.trees
   pub holds : HasNoRows (pos number) old.trees → HoldsMachine (pos number) new_machine new.trees

@@ -1,4 +1,5 @@
 pub mod Directory
+pub mod Damage
 pub mod DueSets
 pub mod Faults
 pub mod Found

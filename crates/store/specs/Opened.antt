@@ -63,8 +63,9 @@ pub record IsKept (sets : DueSets) (directory : List DirectoryRow) (tenants : Li
 -- so it is of each tenant in the directory
 abbrev pub AreKept : DueSets → List DirectoryRow → List TenantOfDigest → Type 0
 AreKept sets directory tenants =
-    (place : ℕ) (row : DirectoryRow) (tenant : TenantOfDigest) → slice_get directory place ≡ Some row
-    → slice_get tenants place ≡ Some tenant → IsKept sets directory tenants row.number
+    (place : ℕ) (row : DirectoryRow) (tenant : TenantOfDigest)
+    → slice_get directory place ≡ Some row → slice_get tenants place ≡ Some tenant
+    → IsKept sets directory tenants row.number
 
 -- the tables are a ledger's, all rows were read, each tenant has a name and the rows of a valid
 -- machine, and the sets keep what is due

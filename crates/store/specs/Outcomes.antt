@@ -53,4 +53,5 @@ IsDoneFor gives number old new output =
 abbrev pub IsAfterBatchOf :
     {O : Type 0} → (Machine → O → Machine → Type 0) → ℤ → Database → Trees → Type 0
 IsAfterBatchOf gives number old trees =
-    (digest : List ℕ) → number_of digest old.trees ≡ Some number → IsAfterBatch gives digest old trees
+    (digest : List ℕ) → number_of digest old.trees ≡ Some number
+    → IsAfterBatch gives digest old trees

@@ -1,4 +1,4 @@
--- What a store means: its tenants' machines, whether it answers, and what may be found in its files.
+-- What a store means: its tenants' machines, whether it answers, what may be found in its files.
 use Rattle.std.specs.Prelude.{◌≡◌, ◌≢◌, ◌⊎◌, ℕ, List, Bool, false, None, Result, Err, IsTrue}
 use Rattle.sqlite_disk.specs.declared.Disk as disk
 use Rattle.sqlite_disk.specs.declared.Files.{Files}
@@ -140,7 +140,8 @@ module _ {D : Type 0} {g : disk.Ghosts D} where
 
   -- where a call is answered that the disk failed, no call is answered from then on; otherwise the
   -- store is open, if the disk was honest
-  pub record Answers {T : Type 0} (old new : Store D g) (result : Result T Unavailable) : Type 0 where
+  pub record Answers {T : Type 0} (old new : Store D g) (result : Result T Unavailable)
+      : Type 0 where
     pub usable : IsUsable new
     pub follows : Follows old new
     pub open_yet : IsHonest new → result ≢ Err DiskFailed → IsLive new

@@ -29,8 +29,8 @@ pub record ReadsHere {A : Type 0} (old new : State) (result : Result A ReadFault
   pub follows : Follows old new
 
 -- a list that was looked up, with the clock, where the machine stays
-pub record LooksUp {A : Type 0} (found : Machine → List ℕ → List A) (ids : List ℕ) (before : Machine)
-    (listed : Listed A) (after : Machine) : Type 0 where
+pub record LooksUp {A : Type 0} (found : Machine → List ℕ → List A) (ids : List ℕ)
+    (before : Machine) (listed : Listed A) (after : Machine) : Type 0 where
   pub clock : listed.clock ≡ before.clock
   pub entries : listed.entries.items ≡ found before ids
   pub same : after ≡ before

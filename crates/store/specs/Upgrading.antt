@@ -93,7 +93,8 @@ pub record MakesCurrent (old new : State) : Type 0 where
 -- the same tenants, each with the same machine but for failed ids
 pub record KeepsMachines (old new : Trees) : Type 0 where
   pub directory : new tenant_tree ≡ old tenant_tree
-  pub machines : (number : ℤ) → none_failed (machine_of number new) ≡ none_failed (machine_of number old)
+  pub machines : (number : ℤ)
+      → none_failed (machine_of number new) ≡ none_failed (machine_of number old)
 
 -- a ledger of the current version, in which no id has failed and which the sets cover, has come of
 -- an older one

@@ -63,7 +63,8 @@ pub record ReadsDerivedSince (version : ℕ) (trees : Trees) (read : DerivedTabl
   pub none : version < 2 → AreNone read
 
 -- the failed ids were, where this version has them
-pub record ReadsFailedSince (version : ℕ) (trees : Trees) (read : List (Owned (List ℕ))) : Type 0 where
+pub record ReadsFailedSince (version : ℕ) (trees : Trees) (read : List (Owned (List ℕ)))
+    : Type 0 where
   pub there : 3 ≤ version → ReadsTable id_values id_cmp (whole_table failed_tree 1 1 trees)
       (λ tenant. failed_rows tenant trees) read
   pub none : version < 3 → read ≡ []
@@ -105,7 +106,8 @@ pub record AreAllRows (version : ℕ) (trees : Trees) (all : AllRows) : Type 0 w
   pub tenants : map lists_in all.tenants.items ≡ map (lists_for tables) all.directory.items
 
 -- a tenant's rows of each table of this version, all in order of key
-pub record AreTenantRows (version : ℕ) (number : ℤ) (trees : Trees) (rows : TenantRows) : Type 0 where
+pub record AreTenantRows (version : ℕ) (number : ℤ) (trees : Trees) (rows : TenantRows)
+    : Type 0 where
   pub tables : WholeTables
   pub whole : ReadsWhole version trees tables
   pub own : lists_of rows ≡ own_lists tables number

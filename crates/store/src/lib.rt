@@ -25,8 +25,6 @@ mod shape;
 mod standing;
 mod store;
 mod tenant_reads;
-#[cfg(test)]
-mod tests;
 mod upgrading;
 mod whole_rows;
 mod whole_tables;

@@ -4,9 +4,11 @@ ghost use Rattle.std.specs.Prelude.{◌≡◌, ◌≢◌, ◌<◌, ◌≤◌, �
 ghost use Rattle.records.specs.declared.unavailable.Unavailable.TheVariants.{Disk as DiskFailed};
 ghost use Rattle.sqlite.specs.Files.{image_of};
 ghost use Rattle.sqlite_wal.specs.Files.{image_at};
+ghost use Rattle.sqlite_wal.specs.Reads.{AreClean};
 ghost use Rattle.sqlite.specs.State.{HasCleanDisk, IsUnchanged, Survives};
 ghost use Rattle.sqlite.specs.Held.{state};
 ghost use Rattle.ledger_sql.specs.Frames.{Live, Follows as KeepsCommit};
+ghost use Rattle.store.specs.Damage.{Hold, IfDamaged, IsDamaged};
 ghost use Rattle.store.specs.Migrating.{IsMigratable, HasRisen};
 ghost use Rattle.store.specs.Opened.{IsExamined, IsOpenedOn, LeavesRefused};
 ghost use Rattle.store.specs.Resting.{IsQuiet, IsSame};
@@ -51,6 +53,8 @@ impl<D: Disk + Drop> Store<D> {
             × (version_of store ≤ CURRENT_VERSION)) }
         ensures opened { IfOk result (λ store. IsHonest store
             → IsOpenedOn (image_of D.Disk files) store) }
+        ensures damaged { IfErr result (λ e. AreClean D.Disk e.1.log e.1.db
+            → IfDamaged e.0 (λ damage. Hold D.Disk files (IsDamaged damage))) }
         ensures left { IfErr result (λ e. LeavesRefused D.Disk files e.1) }
     {
         rows_fit();
@@ -274,6 +278,9 @@ fn examine_any<S: Alter, A: Audit>(
     ensures older { HasCleanDisk (state S.Store conn.new) → IfOk result
         (λ found. found.version < CURRENT_VERSION
         → IsOlderLedger found.version (state S.Store conn.old).now) }
+    ensures damaged { HasCleanDisk (state S.Store conn.new)
+        → IfErr result (λ fault. IfDamaged fault
+        (λ damage. IsDamaged damage (state S.Store conn.old).now.trees)) }
     ensures kept { HasCleanDisk (state S.Store conn.new) → OnOk result
         (IsUnchanged (state S.Store conn.old) (state S.Store conn.new)) }
     ensures same { Live (state S.Store conn.new) → IsQuiet (state S.Store conn.old)

@@ -1,6 +1,7 @@
 //! What an opening looks at before a ledger is migrated.
 
-ghost use Rattle.std.specs.Prelude.{◌≡◌, ◌<◌, ◌≤◌, All, None, pos, [], ◌∷◌, IfOk, OnOk, IsTrue};
+ghost use Rattle.std.specs.Prelude.{◌≡◌, ◌<◌, ◌≤◌, All, None, pos, [], ◌∷◌, IfOk, IfErr, IfSome, OnOk, IsTrue};
+ghost use Rattle.audit.specs.Damage.{IsFirstDamage};
 ghost use Rattle.audit.specs.Sound.{AreSound};
 ghost use Rattle.rows.specs.TypedRows.{lists_of};
 ghost use Rattle.sqlite.specs.State.{HasCleanDisk, IsUnchanged};
@@ -8,6 +9,7 @@ ghost use Rattle.sqlite.specs.Held.{state};
 ghost use Rattle.ledger_sql.specs.Effects.{StartsAs};
 ghost use Rattle.ledger_sql.specs.Frames.{Live, Follows};
 ghost use Rattle.ledger_sql.specs.Schema.{after_schema};
+ghost use Rattle.store.specs.Damage.{HasFirstDamage, IfDamaged, IsNoDamage};
 ghost use Rattle.store.specs.Resting.{IsQuiet, IsSame};
 ghost use Rattle.store.specs.Upgrading.{NamesVersion, older_schema, IsSoundIn};
 
@@ -32,6 +34,7 @@ pub(crate) fn find_version<S: Alter>(
         → StartsAs after_schema.tables (state S.Store conn.old).now.schema
         → IfOk result (λ version. NamesVersion (pos version) (state S.Store conn.old).now.trees) }
     ensures known { IfOk result (λ version. (1 ≤ version) × (version ≤ 3)) }
+    ensures undamaged { IfErr result IsNoDamage }
     ensures kept { HasCleanDisk (state S.Store conn.new) → OnOk result
         (IsUnchanged (state S.Store conn.old) (state S.Store conn.new)) }
     ensures same { Live (state S.Store conn.new) → IsQuiet (state S.Store conn.old)
@@ -48,6 +51,7 @@ pub(crate) fn find_version<S: Alter>(
 fn one_version(versions: &[i64]) -> Result<u32, OpenFault>
     ensures named { IfOk result (λ version. versions.now ≡ pos version ∷ []) }
     ensures known { IfOk result (λ version. (1 ≤ version) × (version ≤ 3)) }
+    ensures undamaged { IfErr result IsNoDamage }
 {
     match versions {
         [1] => Ok(1),
@@ -70,6 +74,10 @@ pub(crate) fn examine_older<S: Alter, A: Audit>(
         ((state S.Store conn.old).now.schema ≡ older_schema version) }
     ensures sound { HasCleanDisk (state S.Store conn.new) → OnOk result
         (IsSoundIn version (state S.Store conn.old).now.trees) }
+    ensures damaged { HasCleanDisk (state S.Store conn.new)
+        → IfErr result (λ fault. IfDamaged fault
+        (λ damage. ((state S.Store conn.old).now.schema ≡ older_schema version)
+        × HasFirstDamage version damage (state S.Store conn.old).now.trees)) }
     ensures kept { HasCleanDisk (state S.Store conn.new) → OnOk result
         (IsUnchanged (state S.Store conn.old) (state S.Store conn.new)) }
     ensures same { Live (state S.Store conn.new) → IsQuiet (state S.Store conn.old)
@@ -87,6 +95,8 @@ pub(crate) fn examine_older<S: Alter, A: Audit>(
 fn audit_older<A: Audit>(alloc: Global, rows: &AllRows, audit: &A) -> Result<(), OpenFault>
     ensures sound { OnOk result
         (All (λ tenant. AreSound rows.now.version (lists_of tenant.rows)) rows.now.tenants.items) }
+    ensures damaged { IfErr result (λ fault. IfDamaged fault
+        (IsFirstDamage rows.now.version rows.now.tenants.items)) }
 {
     if !has_names(&rows.directory) {
         return Err(OpenFault::NotALedger);
@@ -99,7 +109,8 @@ fn audit_older<A: Audit>(alloc: Global, rows: &AllRows, audit: &A) -> Result<(),
 /// are others than those, behind which no more of a ledger's can be made.
 fn older_refusal(version: u32, schema: &Schema) -> Option<OpenFault>
     requires { version < 3 }
-    ensures { result ≡ None → schema.now ≡ older_schema version }
+    ensures schema { result ≡ None → schema.now ≡ older_schema version }
+    ensures undamaged { IfSome result IsNoDamage }
 {
     if version == 1 {
         return refusal_unless(is_lists(schema), has_lists(schema));
@@ -108,7 +119,8 @@ fn older_refusal(version: u32, schema: &Schema) -> Option<OpenFault>
 }
 
 fn refusal_unless(is_it: bool, has_it: bool) -> Option<OpenFault>
-    ensures { result ≡ None → IsTrue is_it }
+    ensures is { result ≡ None → IsTrue is_it }
+    ensures undamaged { IfSome result IsNoDamage }
 {
     match (is_it, has_it) {
         (true, _) => None,

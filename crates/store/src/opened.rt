@@ -1,10 +1,11 @@
 //! What an opening looks at before a ledger is served.
 
-ghost use Rattle.std.specs.Prelude.{◌≡◌, pos, [], ◌∷◌, IfOk, OnOk, IsTrue};
+ghost use Rattle.std.specs.Prelude.{◌≡◌, pos, [], ◌∷◌, IfOk, IfErr, OnOk, IsTrue};
 ghost use Rattle.sqlite.specs.State.{HasCleanDisk, IsUnchanged};
 ghost use Rattle.sqlite.specs.Held.{state};
 ghost use Rattle.ledger_sql.specs.Effects.{IsLedger};
 ghost use Rattle.ledger_sql.specs.Frames.{Live, Follows};
+ghost use Rattle.store.specs.Damage.{IfDamaged, IsDamagedIn, IsNoDamage};
 ghost use Rattle.store.specs.Opened.{HasCurrentVersion, HasNames, IsExamined};
 ghost use Rattle.store.specs.Resting.{IsQuiet, IsSame};
 ghost use Rattle.store.specs.Whole.{AreAllRows};
@@ -30,6 +31,9 @@ pub(crate) fn examine<S: Alter, A: Audit>(
 ) -> Result<DueSets, OpenFault>
     ensures examined { HasCleanDisk (state S.Store conn.new)
         → IfOk result (λ sets. IsExamined sets (state S.Store conn.old).now) }
+    ensures damaged { HasCleanDisk (state S.Store conn.new)
+        → IfErr result (λ fault. IfDamaged fault
+        (λ damage. IsDamagedIn 3 damage (state S.Store conn.old).now.trees)) }
     ensures kept { HasCleanDisk (state S.Store conn.new) → OnOk result
         (IsUnchanged (state S.Store conn.old) (state S.Store conn.new)) }
     ensures same { Live (state S.Store conn.new) → IsQuiet (state S.Store conn.old)
@@ -47,6 +51,7 @@ fn find_current<S: Alter>(alloc: Global, conn: &mut Connection<S>) -> Result<(),
     ensures current { HasCleanDisk (state S.Store conn.new)
         → IsLedger (state S.Store conn.old).now.schema
         → OnOk result (HasCurrentVersion (state S.Store conn.old).now.trees) }
+    ensures undamaged { IfErr result IsNoDamage }
     ensures kept { HasCleanDisk (state S.Store conn.new) → OnOk result
         (IsUnchanged (state S.Store conn.old) (state S.Store conn.new)) }
     ensures same { Live (state S.Store conn.new) → IsQuiet (state S.Store conn.old)
@@ -62,6 +67,7 @@ fn find_current<S: Alter>(alloc: Global, conn: &mut Connection<S>) -> Result<(),
 
 fn version_fault(versions: &[i64]) -> Result<(), OpenFault>
     ensures current { OnOk result (versions.now ≡ pos 3 ∷ []) }
+    ensures undamaged { IfErr result IsNoDamage }
 {
     match versions {
         [3] => Ok(()),
@@ -77,6 +83,7 @@ fn read_ledger<S: Alter>(alloc: Global, conn: &mut Connection<S>) -> Result<AllR
         (IsLedger (state S.Store conn.old).now.schema) }
     ensures read { HasCleanDisk (state S.Store conn.new)
         → IfOk result (AreAllRows CURRENT_VERSION (state S.Store conn.old).now.trees) }
+    ensures undamaged { IfErr result IsNoDamage }
     ensures names { IfOk result (λ rows. HasNames rows.directory.items) }
     ensures kept { HasCleanDisk (state S.Store conn.new) → OnOk result
         (IsUnchanged (state S.Store conn.old) (state S.Store conn.new)) }

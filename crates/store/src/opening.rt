@@ -5,6 +5,7 @@ ghost use Rattle.sqlite.specs.State.{HasCleanDisk};
 ghost use Rattle.sqlite.specs.Files.{file_state, image_of};
 ghost use Rattle.sqlite_std_file.specs.File.{file_is_usable, IsFresh};
 ghost use Rattle.sqlite_wal.specs.Reads.{AreClean};
+ghost use Rattle.store.specs.Damage.{IsNoDamage};
 ghost use Rattle.store.specs.Found.{IsOpenAt, LeavesUnopened};
 
 use crate::place::is_settled;
@@ -15,6 +16,7 @@ use sqlite::{Connection, Error, ErrorCode, FileStore, Files, Options};
 use sqlite_disk::{Disk, Start};
 use sqlite_std_file::{FileFrom, OpenError as PathError};
 use std::alloc::Global;
+use std::io::ErrorKind;
 
 /// Why a store was not opened.
 #[derive(Clone, Copy, Debug, PartialEq, Eq)]
@@ -71,7 +73,8 @@ impl From<AuditFault> for OpenFault {
 
 /// What an error at an opening means to the ledger.
 fn open_fault(error: Error) -> OpenFault
-    ensures { result ≢ OpenFault.NotALedger }
+    ensures ledger { result ≢ OpenFault.NotALedger }
+    ensures undamaged { IsNoDamage result }
 {
     match error {
         Error::SqliteFailure(ErrorCode::OutOfMemory) => OpenFault::Unavailable(Unavailable::Memory),
@@ -98,6 +101,7 @@ pub(crate) fn open_on<D: Disk + Drop>(
     ensures honest { IfOk result (λ conn. HasCleanDisk (file_state conn)
         → AreClean D.Disk files.log files.db) }
     ensures fault { IfErr result (λ e. e.0 ≢ OpenFault.NotALedger) }
+    ensures undamaged { IfErr result (λ e. IsNoDamage e.0) }
     ensures left { IfErr result (λ e. LeavesUnopened D.Disk files e.1) }
 {
     match Connection::open_files(alloc, files, options) {
@@ -125,6 +129,9 @@ pub(crate) fn files_at<St: Start>(
     match sqlite_std_file::open(rt, path, start) {
         Ok(files) => Ok(files),
         Err(PathError::OutOfMemory) => Err(OpenFault::Unavailable(Unavailable::Memory)),
+        Err(PathError::Io(error)) if error.kind() == ErrorKind::OutOfMemory => {
+            Err(OpenFault::Unavailable(Unavailable::Memory))
+        }
         Err(_) => Err(OpenFault::Unreadable),
     }
 }

@@ -1,6 +1,7 @@
 //! How a store is opened again.
 
-ghost use Rattle.std.specs.Prelude.{◌≡◌, false, OnOk, OnErr};
+ghost use Rattle.std.specs.Prelude.{◌≡◌, false, IfErr, OnOk, OnErr};
+ghost use Rattle.store.specs.Damage.{IfDamaged, IsDamagedIn, MayHold};
 ghost use Rattle.store.specs.Stores.{IsHonest, IsLive, IsReady, IsUsable};
 ghost use Rattle.store.specs.Stores.{Finds, may_find, version_of};
 
@@ -25,6 +26,8 @@ impl<D: Disk + Drop> Store<D> {
         ensures current { OnOk result (version_of self.new ≡ CURRENT_VERSION) }
         ensures found { IsHonest self.new → OnOk result (Finds self.new (may_find self.old)) }
         ensures honest { IsHonest self.new → OnOk result (IsHonest self.old) }
+        ensures damaged { IsHonest self.new → IfErr result (λ fault. IfDamaged fault
+            (λ damage. MayHold self.old (IsDamagedIn CURRENT_VERSION damage))) }
         ensures refused { OnErr result (self.new.ready ≡ false) }
         ensures shut { OnErr result (IsLive self.new → ⊥) }
     {
@@ -42,6 +45,8 @@ fn reopened<D: Disk + Drop, A: Audit>(
     ensures current { OnOk result.1 (version_of result.0 ≡ CURRENT_VERSION) }
     ensures found { IsHonest result.0 → OnOk result.1 (Finds result.0 (may_find store)) }
     ensures honest { IsHonest result.0 → OnOk result.1 (IsHonest store) }
+    ensures damaged { IsHonest result.0 → IfErr result.1 (λ fault. IfDamaged fault
+        (λ damage. MayHold store (IsDamagedIn CURRENT_VERSION damage))) }
     ensures refused { OnErr result.1 (result.0.ready ≡ false) }
     ensures shut { OnErr result.1 (IsLive result.0 → ⊥) }
 {

@@ -1,7 +1,8 @@
 //! Where a ledger's tables stand among those of a file, and how they are made.
 
-ghost use Rattle.std.specs.Prelude.{◌≡◌, None};
+ghost use Rattle.std.specs.Prelude.{◌≡◌, None, IfSome};
 ghost use Rattle.ledger_sql.specs.Effects.{IsLedger};
+ghost use Rattle.store.specs.Damage.{IsNoDamage};
 
 use crate::OpenFault;
 use ledger_shape::is_ledger;
@@ -9,7 +10,9 @@ use sqlite_schema::names::same_name;
 use sqlite_schema::schema::{Schema, Table};
 
 /// Why a file cannot be asked for its version: the table of it is not there, or not the first.
-pub(crate) fn version_refusal(schema: &Schema) -> Option<OpenFault> {
+pub(crate) fn version_refusal(schema: &Schema) -> Option<OpenFault>
+    ensures { IfSome result IsNoDamage }
+{
     let tables = schema.tables.as_slice();
     if !has_table(tables, b"schema") {
         return Some(OpenFault::NotALedger);
@@ -23,7 +26,8 @@ pub(crate) fn version_refusal(schema: &Schema) -> Option<OpenFault> {
 /// Why a file of the current version cannot be read: a ledger's table is missing, or they are not
 /// the first, or made in another way, or another refers to one of them.
 pub(crate) fn standing_refusal(schema: &Schema) -> Option<OpenFault>
-    ensures { result ≡ None → IsLedger schema.now }
+    ensures ledger { result ≡ None → IsLedger schema.now }
+    ensures undamaged { IfSome result IsNoDamage }
 {
     if !has_all(schema.tables.as_slice()) {
         return Some(OpenFault::NotALedger);

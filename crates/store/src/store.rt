@@ -8,6 +8,7 @@ ghost use Rattle.sqlite.specs.Files.{image_of};
 ghost use Rattle.store.specs.Outcomes.{IsAfterBatch};
 ghost use Rattle.sqlite_wal.specs.Reads.{AreClean};
 ghost use Rattle.ledger_sql.specs.Creating.{IsEmptyLedger};
+ghost use Rattle.store.specs.Damage.{Hold, IfDamaged, IsDamagedIn};
 ghost use Rattle.store.specs.Directory.{digest_in};
 ghost use Rattle.store.specs.Found.{FindsOurs, LeavesNew};
 ghost use Rattle.store.specs.Joining.{HasJoined, Joined};
@@ -55,8 +56,9 @@ pub struct Store<D: Disk> {
 }
 
 impl<D: Disk + Drop> Store<D> {
-    /// Makes a ledger without tenants in files that hold no tables yet. They are given back where it
-    /// is refused: `NotALedger` where a table of a ledger is there, `Unreadable` where others are.
+    /// Makes a ledger without tenants in files that hold no tables yet. They are given back where
+    /// it is refused: `NotALedger` where a table of a ledger is there, `Unreadable` where others
+    /// are.
     pub fn create(
         alloc: Global,
         files: Files<D>,
@@ -101,6 +103,8 @@ impl<D: Disk + Drop> Store<D> {
             → IsOpenedOn (image_of D.Disk files) store) }
         ensures honest { IfOk result (λ store. IsHonest store
             → AreClean D.Disk files.log files.db) }
+        ensures damaged { IfErr result (λ e. AreClean D.Disk e.1.log e.1.db
+            → IfDamaged e.0 (λ damage. Hold D.Disk files (IsDamagedIn CURRENT_VERSION damage))) }
         ensures left { IfErr result (λ e. LeavesRefused D.Disk files e.1) }
     {
         rows_fit();

@@ -2,6 +2,8 @@ use Rattle.std.proofs.Common.{inl, inr, arith}
 use Rattle.std.proofs.lemmas.Result.{err_from_is_err_and}
 use Rattle.sqlite.specs.Files.{file_state, image_of}
 use Rattle.sqlite.specs.State.{HasCleanDisk}
+use Rattle.store.specs.Damage.{IsDamagedIn}
+use Rattle.store.proofs.DamageLemmas.{damage_held}
 use Rattle.store.proofs.OpenedLemmas.{opened_on, opened_rests, refused_yields}
 use Rattle.store.proofs.store.Store.open.Goals as goal
 
@@ -33,3 +35,11 @@ returns-in-Err-clause-left g c =
     inr (refused_yields (image_of g.D.Disk c.args.files) (file_state c.in_ok-conn.conn)
     (file_state c.examine.new.conn) g.D.Disk c.shut.result c.in_ok-conn.ensures.opened
     c.in-Err.ensures.follows c.shut.ensures.honest c.shut.ensures.left)
+
+pub returns-in-Err-clause-damaged : goal.returns-in-Err-clause-damaged
+returns-in-Err-clause-damaged g c clean =
+    let last = c.shut.ensures.honest clean in
+    let first : HasCleanDisk (file_state c.in_ok-conn.conn) =
+    omega (arith, c.in-Err.ensures.follows.survives.clean, last) in
+    damage_held g.D.Disk c.args.files (file_state c.in_ok-conn.conn) c.in-Err.fault (IsDamagedIn 3)
+    (c.in_ok-conn.ensures.honest first) (c.in_ok-conn.ensures.opened first) (c.in-Err.ensures.damaged last)

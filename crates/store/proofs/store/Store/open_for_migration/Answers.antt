@@ -2,9 +2,11 @@ use Rattle.std.proofs.Common.{◌≡◌, IsTrue, inl, inr, sym, subst, arith}
 use Rattle.std.proofs.lemmas.Result.{err_from_is_err_and}
 use Rattle.sqlite.specs.Files.{file_state, image_of}
 use Rattle.sqlite.specs.State.{HasCleanDisk}
+use Rattle.store.specs.Damage.{IsDamaged}
 use Rattle.store.specs.Found.{HasOrderedTables}
 use Rattle.store.specs.Upgrading.{IsOlderLedger}
 use Rattle.store.proofs.MigratingLemmas.{older_between}
+use Rattle.store.proofs.DamageLemmas.{damage_held}
 use Rattle.store.proofs.OpenedLemmas.{opened_on, opened_rests, refused_yields}
 use Rattle.store.proofs.store.Store.open_for_migration.Goals as goal
 
@@ -49,3 +51,11 @@ returns-in-Err-clause-left g c =
     inr (refused_yields (image_of g.D.Disk c.args.files) (file_state c.in_ok-conn.conn)
     (file_state c.examine_any.new.conn) g.D.Disk c.shut.result c.in_ok-conn.ensures.opened
     c.in-Err.ensures.follows c.shut.ensures.honest c.shut.ensures.left)
+
+pub returns-in-Err-clause-damaged : goal.returns-in-Err-clause-damaged
+returns-in-Err-clause-damaged g c clean =
+    let last = c.shut.ensures.honest clean in
+    let first : HasCleanDisk (file_state c.in_ok-conn.conn) =
+    omega (arith, c.in-Err.ensures.follows.survives.clean, last) in
+    damage_held g.D.Disk c.args.files (file_state c.in_ok-conn.conn) c.in-Err.fault IsDamaged
+    (c.in_ok-conn.ensures.honest first) (c.in_ok-conn.ensures.opened first) (c.in-Err.ensures.damaged last)

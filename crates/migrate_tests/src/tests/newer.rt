@@ -1,5 +1,5 @@
-use crate::rows_in_version;
 use audit::check;
+use migrate::rows_in_version;
 use rows::{
     AccountCells, AllRows, BalanceCells, DirectoryRow, HistoryCells, StatusCells, TenantOfDigest,
     TenantRows, TransferCells,

@@ -1,8 +1,9 @@
 //! A worked ledger of an older version, whose transfer was posted too late: its rows in newer
 //! versions, and its file migrated. What is expected is of `docs/MODEL.md`.
 
+mod acts;
 mod files;
 mod fixture;
 mod newer;
-mod refusals;
 mod stops;
+mod work;

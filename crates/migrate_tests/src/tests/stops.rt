@@ -1,0 +1,128 @@
+//! Migrations that are cut off, by a disk that stops or by want of memory: the old ledger is left or
+//! the new one, whole, as the audit of the next opening finds.
+
+use super::fixture::{in_memory, opened};
+use migrate::{MigrateFault, migrate};
+use records::Unavailable;
+use sqlite::Files;
+use sqlite_disk::{Crash, Disk, Fuse};
+use std::alloc::Global;
+use std::process::Abort;
+use std::test::Fail;
+use store::{OpenFault, Store};
+
+// No count of a test's calls comes so far.
+const NEVER: u64 = 1_000_000;
+
+type Migrated = Result<(), MigrateFault>;
+
+const DISK_FAILED: Migrated = Err(MigrateFault::Unavailable(Unavailable::Disk));
+
+const NO_MEMORY: Migrated = Err(MigrateFault::Unavailable(Unavailable::Memory));
+
+// Which of the two files is on a disk that stops.
+#[derive(Clone, Copy)]
+enum Stopping {
+    Log,
+    Database,
+}
+
+// What an opening and a migration to the current version answer, and the files.
+fn attempted<D: Disk + Drop>(alloc: Global, files: Files<D>) -> (Migrated, Files<D>) {
+    match opened(alloc, files) {
+        Ok(mut store) => (migrate(alloc, &mut store, 3), store.close()),
+        Err((fault, files)) => (Err(fault.into()), files),
+    }
+}
+
+// An opening after a crash.
+fn reopened<D: Crash + Drop>(
+    alloc: Global,
+    mut files: Files<D>,
+) -> Result<Store<D>, (OpenFault, Files<D>)> {
+    files.log.crash();
+    files.db.crash();
+    opened(alloc, files)
+}
+
+// What a migration answers, and the version that is there after a crash.
+fn stopped<D: Crash + Drop>(alloc: Global, files: Files<D>) -> Result<(Migrated, u32), Fail> {
+    let (answer, files) = attempted(alloc, files);
+    match reopened(alloc, files) {
+        Ok(store) => Ok((answer, store.schema())),
+        Err((fault, _)) => Err(fault.into()),
+    }
+}
+
+// The disk of a ledger's log or of its file stops after so many calls, and after ever more, until
+// the migration comes through: the old ledger is left or the new one, and the new one where that
+// was told.
+fn stops(rt: &impl Abort, alloc: Global, stopping: Stopping) -> Result<(), Fail> {
+    let mut has_left_old = false;
+    for step in 0..200 {
+        let calls = 3 * step;
+        let (log, db) = match stopping {
+            Stopping::Log => (calls, NEVER),
+            Stopping::Database => (NEVER, calls),
+        };
+        let files = in_memory(alloc)?;
+        let files = Files {
+            log: Fuse::new(files.log, log),
+            db: Fuse::new(files.db, db),
+        };
+        let (answer, version) = stopped(alloc, files)?;
+        if answer.is_ok() {
+            assert!(rt; has_left_old && version == 3);
+            return Ok(());
+        }
+        assert!(rt;
+            answer == DISK_FAILED && (version == 1 || version == 3),
+            "after {calls} calls"
+        );
+        has_left_old = has_left_old || version == 1;
+    }
+    Err("it never came through".into())
+}
+
+#[test]
+fn a_stop_leaves_one_of_both(rt: HostRuntime) -> Result<(), Fail> {
+    stops(&rt, rt.alloc(), Stopping::Log)?;
+    stops(&rt, rt.alloc(), Stopping::Database)
+}
+
+// The version of the ledger in some files. Where an opening wants memory, the next one has it.
+fn version_of<D: Crash + Drop>(alloc: Global, files: Files<D>) -> Result<(u32, Files<D>), Fail> {
+    let told = match reopened(alloc, files) {
+        Err((OpenFault::Unavailable(_), files)) => reopened(alloc, files),
+        told => told,
+    };
+    match told {
+        Ok(store) => Ok((store.schema(), store.close())),
+        Err((fault, _)) => Err(fault.into()),
+    }
+}
+
+// To be run with each allocation refused in turn (`make alloc`): a migration that wants memory
+// answers so and leaves the old ledger, and the next one comes through. A disk in memory that wants
+// memory has failed, and may have the new ledger.
+#[test]
+fn survives_want_of_memory(rt: HostRuntime) -> Result<(), Fail> {
+    let alloc = rt.alloc();
+    let Ok(files) = in_memory(alloc) else {
+        return Ok(());
+    };
+    let (answer, files) = attempted(alloc, files);
+    let (version, files) = version_of(alloc, files)?;
+    if answer.is_ok() {
+        assert_eq!(rt; version, 3);
+        return Ok(());
+    }
+    assert!(rt;
+        answer == NO_MEMORY && version == 1
+            || answer == DISK_FAILED && (version == 1 || version == 3)
+    );
+    let (again, files) = attempted(alloc, files);
+    let (newer, _files) = version_of(alloc, files)?;
+    assert_eq!(rt; (again, newer), (Ok(()), 3));
+    Ok(())
+}

@@ -1,0 +1,20 @@
+//! Stores on disks in memory and at a path. What is expected is of `docs/MODEL.md`.
+
+mod at_path;
+mod bench;
+mod commands;
+mod disks;
+mod driven;
+mod events;
+mod examples;
+mod faults;
+mod memory;
+mod on_files;
+mod openings;
+mod playing;
+mod read_answers;
+mod reads;
+mod stops;
+mod tables;
+mod taken_rows;
+mod works;

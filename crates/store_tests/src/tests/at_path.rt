@@ -1,0 +1,54 @@
+//! A ledger in a file.
+
+use super::bench::fault_shown;
+use super::disks::WIDE;
+use super::driven::Driven;
+use super::playing::play_on;
+use sqlite_disk::Unknown;
+use std::fs;
+
+const PATH: &str = "store_tests.db";
+
+const LOG: &str = "store_tests.db-wal";
+
+const POSTED: &str = "\
+North add 1 => Ok(())
+North accounts 1; 2; 3 flags=10; 4 => clock 4: 0@1 0@2 0@3 0@4
+North transfers 100: 1>2 100 pending; 101: post=100 40; 102: post=100 60 => clock 7: 0@5 0@6 32@7";
+
+const RETRIED: &str = "\
+North ready => (true, 3)
+North reopen => Ok(())
+North transfers 101: post=100 40; 101: post=100 41 => clock 9: 18@8 12@9
+North see 1 => Ok((Some([0, 40, 0, 0]), Some(Posted), 9))
+North reopen => Ok(())
+North rows clock => 1 rows: 9";
+
+fn remove(rt: &HostRuntime) {
+    let _ = fs::remove_file(rt, PATH);
+    let _ = fs::remove_file(rt, LOG);
+}
+
+/// Why nothing is opened at a path.
+fn refusal(rt: &HostRuntime, path: &str) -> Option<String> {
+    match Driven::open_at(rt, path, Unknown, WIDE) {
+        Ok(_) => None,
+        Err(fault) => fault_shown(rt.alloc(), fault).ok(),
+    }
+}
+
+#[test]
+fn a_ledger_goes_on_in_a_file(rt: HostRuntime) {
+    remove(&rt);
+    assert_eq!(rt; refusal(&rt, ":memory:").as_deref(), Some("Unreadable"));
+    assert_eq!(rt; refusal(&rt, PATH).as_deref(), Some("NotALedger"));
+    match Driven::make_at(&rt, PATH, Unknown, WIDE) {
+        Ok(mut store) => play_on(&rt, rt.alloc(), &mut store, POSTED),
+        Err(_) => panic!(rt; "not made"),
+    }
+    match Driven::open_at(&rt, PATH, Unknown, WIDE) {
+        Ok(mut store) => play_on(&rt, rt.alloc(), &mut store, RETRIED),
+        Err(_) => panic!(rt; "not opened"),
+    }
+    remove(&rt);
+}

@@ -1,0 +1,115 @@
+//! Disks that fail while a ledger is made, gets a tenant, and runs batches.
+
+use super::bench::Bench;
+use super::disks::{Calls, WIDE};
+use super::playing::{BASE, other_answer, play};
+use std::alloc::Global;
+use std::process::Abort;
+
+/// What answers where nothing fails.
+const STEPS: &str = "\
+File create => made
+North add 1 => Ok(())
+North transfers at 10 => clock 10:
+North transfers at 10 => clock 10:";
+
+/// What is answered from a fault of the disk on.
+pub const NOTHING: &str = "\
+North ready => (false, 3)
+North knows => Err(Disk)
+Nobody knows => Err(Disk)
+North digest => Err(Disk)
+North add 1 => Err(Unavailable(Disk))
+North transfers 900: 1>2 1 => Unavailable(Disk)
+North directory => Disk
+North rows failed => Disk
+North account 1 => Unavailable(Disk)
+North transfer 1 => Unavailable(Disk)
+North history 3 3 1 => Unavailable(Disk)
+North balances 3 3 1 => Unavailable(Disk)
+North statement 3 3 1 => Err(Unavailable(Disk))";
+
+/// Whether a disk fails in these steps; from then on nothing is answered.
+fn fails(rt: &impl Abort, alloc: Global, calls: Calls) -> bool {
+    let mut bench = Bench::new(alloc, WIDE, calls, Calls::All);
+    let Some(told) = other_answer(rt, &mut bench, STEPS) else {
+        return false;
+    };
+    assert!(rt; told.contains("Unavailable(Disk)"), "{calls:?}: {told}");
+    if bench.is_open() {
+        play(rt, &mut bench, NOTHING);
+    }
+    true
+}
+
+/// A disk that ends at each of the first calls, and one that fails once and serves again: it is not
+/// served from, since what the store holds may be behind it.
+#[test]
+fn a_disk_that_fails(rt: HostRuntime) {
+    for calls in 0..30u64 {
+        assert!(rt;
+            fails(&rt, rt.alloc(), Calls::First(calls)),
+            "after {calls}"
+        );
+    }
+    for calls in 0..16u64 {
+        assert!(rt;
+            fails(&rt, rt.alloc(), Calls::AllButOne(calls)),
+            "at {calls}"
+        );
+    }
+    assert!(rt; !fails(&rt, rt.alloc(), Calls::All));
+}
+
+/// A reopening that is refused, and the next one.
+const MENDED: &str = "\
+North reopen-without-memory => Err(Unavailable(Memory))
+North ready => (false, 3)
+North knows => Err(Disk)
+North reopen => Ok(())
+North ready => (true, 3)";
+
+/// Sends one transfer, and where the disk fails, once more after a reopening: it is kept once.
+/// Tells whether it did.
+fn sends_or_mends(rt: &impl Abort, alloc: Global, bench: &mut Bench, id: u64) -> bool {
+    let command = format!(in alloc; "North transfers {id}: 1>2 1").expect(rt, "no memory");
+    let told = bench.answer(command.as_str()).expect(rt, "no memory");
+    if told.contains(": 0@") {
+        return false;
+    }
+    assert_eq!(rt; told.as_str(), "Unavailable(Disk)");
+    play(rt, bench, NOTHING);
+    play(rt, bench, MENDED);
+    let told = bench.answer(command.as_str()).expect(rt, "no memory");
+    assert!(rt; told.contains(": 0@") || told.contains(": 18@"), "{told}");
+    true
+}
+
+/// Ten transfers, one of which meets the fault of the disk; what was sent between that and the
+/// reopening never shows. Tells whether the fault was met.
+fn is_mended(rt: &impl Abort, alloc: Global, before: u64) -> bool {
+    let mut bench = Bench::new(alloc, WIDE, Calls::AllButOne(before), Calls::All);
+    if other_answer(rt, &mut bench, BASE).is_some() {
+        return false;
+    }
+    let mut is_met = false;
+    for id in 100..110u64 {
+        is_met |= sends_or_mends(rt, alloc, &mut bench, id);
+    }
+    let ten = bench.answer("North transfer 900").expect(rt, "no memory");
+    assert!(rt; ten.ends_with(":"), "{ten}");
+    let seen = bench.answer("North see 1").expect(rt, "no memory");
+    assert!(rt; seen.contains("Some([0, 10, 0, 0])"), "{seen}");
+    is_met
+}
+
+#[test]
+fn a_fault_is_mended_by_a_reopening(rt: HostRuntime) {
+    let mut met: u64 = 0;
+    for place in 4..14u64 {
+        if is_mended(&rt, rt.alloc(), place * 5) {
+            met = met.saturating_add(1);
+        }
+    }
+    assert!(rt; 2 < met, "met {met} times");
+}

@@ -1,0 +1,134 @@
+//! What a store answers to reads, in words: the clock, and the entries.
+
+use super::commands::{Command, Text, shown};
+use super::driven::Driven;
+use super::works::sums;
+use chain::{Listed, ReadFault};
+use records::{AccountWithBalances, BalanceAt, Order, Side, StatementRow, Transfer};
+use sqlite_disk::Disk;
+use std::alloc::Global;
+
+/// What is listed, and how it is shown.
+trait Entry {
+    fn entry(&self, alloc: Global) -> Text;
+}
+
+/// Id, ledger, code, flags and timestamp, and the balances.
+impl Entry for AccountWithBalances {
+    fn entry(&self, alloc: Global) -> Text {
+        let account = &self.account;
+        let fields = [
+            account.id,
+            u128::from(account.ledger),
+            u128::from(account.code),
+            u128::from(account.flags.0),
+            u128::from(account.timestamp),
+        ];
+        shown(alloc, &(fields, sums(&self.balances)))
+    }
+}
+
+/// Id, accounts, amount, pending id, ledger, code, flags, timeout, timestamp and clock.
+impl Entry for Transfer {
+    fn entry(&self, alloc: Global) -> Text {
+        let fields = [
+            self.id,
+            self.debit_account_id,
+            self.credit_account_id,
+            self.amount.value(),
+            self.pending_id,
+            u128::from(self.ledger),
+            u128::from(self.code),
+            u128::from(self.flags.0),
+            u128::from(self.timeout),
+            u128::from(self.timestamp),
+            u128::from(self.at),
+        ];
+        shown(alloc, &fields)
+    }
+}
+
+impl Entry for BalanceAt {
+    fn entry(&self, alloc: Global) -> Text {
+        shown(alloc, &(self.timestamp, sums(&self.balances)))
+    }
+}
+
+fn listed<T: Entry>(alloc: Global, found: &Result<Listed<T>, ReadFault>) -> Text {
+    let found = match found {
+        Ok(found) => found,
+        Err(fault) => return shown(alloc, fault),
+    };
+    let mut text = format!(in alloc; "clock {}:", found.clock)?;
+    for entry in found.entries.iter() {
+        text.push_str(format!(in alloc; " {}", entry.entry(alloc)?)?.as_str())?;
+    }
+    Ok(text)
+}
+
+fn ids_listed(alloc: Global, found: &Result<Listed<Transfer>, ReadFault>) -> Text {
+    let found = match found {
+        Ok(found) => found,
+        Err(fault) => return shown(alloc, fault),
+    };
+    let mut text = format!(in alloc; "clock {}:", found.clock)?;
+    for entry in found.entries.iter() {
+        text.push_str(format!(in alloc; " {}", entry.id)?.as_str())?;
+    }
+    Ok(text)
+}
+
+/// A line of a statement.
+fn line(alloc: Global, row: &StatementRow) -> Text {
+    let side = if row.side == Side::Debit {
+        "debit"
+    } else {
+        "credit"
+    };
+    let [dp, dd, cp, cc] = sums(&row.balances);
+    format!(in alloc;
+        " {},{},{side},{:?},{},{dp},{dd},{cp},{cc}",
+        row.timestamp,
+        row.transfer_id,
+        row.kind,
+        row.amount.value()
+    )
+}
+
+/// The rows of a statement that came, and its fault.
+fn stated(alloc: Global, rows: &[StatementRow], ended: &Result<(), ReadFault>) -> Text {
+    let mut text = shown(alloc, ended)?;
+    for row in rows {
+        text.push_str(line(alloc, row)?.as_str())?;
+    }
+    Ok(text)
+}
+
+/// What a read answers.
+pub fn read<D: Disk + Drop>(store: &mut Driven<D>, command: &Command<'_>) -> Text {
+    let alloc = command.alloc;
+    let digest = command.digest();
+    let asked = command.filter();
+    match command.verb {
+        "account" => {
+            let ids = command.ids()?;
+            listed(alloc, &store.lookup_accounts(alloc, &digest, &ids))
+        }
+        "transfer" => {
+            let ids = command.ids()?;
+            listed(alloc, &store.lookup_transfers(alloc, &digest, &ids))
+        }
+        "history" => ids_listed(alloc, &store.history_transfers(alloc, &digest, &asked)),
+        "balances" => listed(alloc, &store.history_balances(alloc, &digest, &asked)),
+        _ => {
+            let order = if asked.flags.is_newest_first() {
+                Order::Newest
+            } else {
+                Order::Oldest
+            };
+            let wanted = (asked.account_id, order, asked.limit as usize);
+            let (rows, ended) = store.statement(alloc, &digest, wanted);
+            stated(alloc, &rows, &ended)
+        }
+    }
+}

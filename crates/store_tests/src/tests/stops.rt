@@ -1,0 +1,203 @@
+//! Disks that stop at some call of a request. What is opened after the crash holds the rows before
+//! the request, or those after it.
+
+use super::bench::Bench;
+use super::disks::{Calls, SMALL};
+use super::faults::NOTHING;
+use super::playing::{BASE, other_answer, play};
+use std::alloc::Global;
+use std::process::Abort;
+
+/// A request of the first tenant, its answer, and the rows after it.
+struct Request {
+    command: &'static str,
+    answer: &'static str,
+    /// The same, by a batch that wants memory when it is done.
+    failing: &'static str,
+    after: &'static str,
+}
+
+/// Which of the two files is on a disk that stops.
+#[derive(Clone, Copy, Debug)]
+enum Stopping {
+    Log,
+    Database,
+}
+
+/// Where a stop falls.
+#[derive(Clone, Copy, Debug, PartialEq, Eq)]
+enum Stop {
+    /// Before the commit: also a batch that wants memory in the end meets it.
+    Before,
+    /// In the commit.
+    Inside,
+    /// Behind it.
+    After,
+}
+
+const REFUSED_EARLIER: &str = "Err(Unavailable(Disk))";
+
+/// What the first tenant had before.
+const BEFORE: &str = "\
+North rows clock => 1 rows: 4
+North rows transfer => 0 rows:
+North rows status => 0 rows:
+North rows history => 0 rows:
+North rows failed => 0 rows:
+North rows balance => 4 rows: [1, 0, 0, 0, 0] [2, 0, 0, 0, 0] [3, 0, 0, 0, 0] [4, 0, 0, 0, 0]";
+
+/// What the other one has in any case.
+const OTHERS: &str = "\
+South rows clock => 1 rows: 4
+South rows transfer => 0 rows:
+South rows failed => 0 rows:
+South rows account => 4 rows: (1, 7, 10, 0, 1) (2, 7, 10, 0, 2) (3, 7, 10, 10, 3) (4, 7, 10, 0, 4)
+South rows balance => 4 rows: [1, 0, 0, 0, 0] [2, 0, 0, 0, 0] [3, 0, 0, 0, 0] [4, 0, 0, 0, 0]";
+
+/// A pending transfer that is posted in part.
+const POSTS: Request = Request {
+    command: "North transfers 100: 1>2 100 pending; 101: post=100 40",
+    answer: "clock 6: 0@5 0@6",
+    failing: "North fail 100: 1>2 100 pending; 101: post=100 40",
+    after: "\
+North rows clock => 1 rows: 6
+North rows transfer => 2 rows: ([100, 1, 2, 100, 0], 2, 5, 6) ([101, 1, 2, 40, 100], 4, 6, 6)
+North rows status => 1 rows: (100, 1, 0)
+North rows history => 4 rows: (5, [1, 100, 0, 0, 0]) (6, [1, 0, 40, 0, 0]) \
+(5, [2, 0, 0, 100, 0]) (6, [2, 0, 0, 0, 40])
+North rows failed => 0 rows:
+North rows balance => 4 rows: [1, 0, 40, 0, 0] [2, 0, 0, 0, 40] [3, 0, 0, 0, 0] [4, 0, 0, 0, 0]",
+};
+
+/// A chain that falls, of which the clock and an id that failed are kept, or neither.
+const FALLS: Request = Request {
+    command: "North transfers 103: 1>2 1 linked; 104: 3>2 1",
+    answer: "clock 6: 2@5 55@6",
+    failing: "North fail 103: 1>2 1 linked; 104: 3>2 1",
+    after: "\
+North rows clock => 1 rows: 6
+North rows transfer => 0 rows:
+North rows status => 0 rows:
+North rows history => 0 rows:
+North rows failed => 1 rows: 104
+North rows balance => 4 rows: [1, 0, 0, 0, 0] [2, 0, 0, 0, 0] [3, 0, 0, 0, 0] [4, 0, 0, 0, 0]",
+};
+
+/// A crash, and an opening.
+const REOPENED: &str = "\
+File crash => closed
+File open => opened";
+
+/// What is answered to a command where a disk stops after so many calls, if the base was made.
+fn told(
+    rt: &impl Abort,
+    alloc: Global,
+    (stopping, calls): (Stopping, u64),
+    command: &str,
+) -> Option<(Bench, String)> {
+    let (log, database) = match stopping {
+        Stopping::Log => (Calls::First(calls), Calls::All),
+        Stopping::Database => (Calls::All, Calls::First(calls)),
+    };
+    let mut bench = Bench::new(alloc, SMALL, log, database);
+    if other_answer(rt, &mut bench, BASE).is_some() {
+        return None;
+    }
+    let told = bench.answer(command).expect(rt, command);
+    Some((bench, told))
+}
+
+/// Whether the disk failed in a batch.
+fn is_refused(answer: &str) -> bool {
+    answer == "Unavailable(Disk)"
+}
+
+/// Where the stop after so many calls falls.
+fn stopped(rt: &impl Abort, alloc: Global, stopping: (Stopping, u64), request: &Request) -> Stop {
+    let (mut bench, answer) = told(rt, alloc, stopping, request.command).expect(rt, "no base");
+    let was_refused = is_refused(&answer);
+    if was_refused {
+        play(rt, &mut bench, NOTHING);
+    } else {
+        assert_eq!(rt; answer.as_str(), request.answer);
+    }
+    play(rt, &mut bench, REOPENED);
+    play(rt, &mut bench, OTHERS);
+    let is_kept = other_answer(rt, &mut bench, request.after).is_none();
+    if !is_kept {
+        play(rt, &mut bench, BEFORE);
+    }
+    let failing = told(rt, alloc, stopping, request.failing);
+    let is_early = failing.is_some_and(|(_, told)| told.as_str() == REFUSED_EARLIER);
+    match (was_refused, is_early, is_kept) {
+        (true, true, false) => Stop::Before,
+        (true, false, _) => Stop::Inside,
+        (false, false, true) => Stop::After,
+        other => panic!(rt; "{stopping:?}: {other:?}"),
+    }
+}
+
+/// Whether so many calls are too few to make the base and answer a command.
+fn are_too_few(rt: &impl Abort, alloc: Global, stopping: (Stopping, u64), command: &str) -> bool {
+    match told(rt, alloc, stopping, command) {
+        Some((_bench, answer)) => is_refused(&answer),
+        None => true,
+    }
+}
+
+/// The least number of calls with which the base is made and a command is answered, if it is below
+/// 2048.
+fn least(rt: &impl Abort, alloc: Global, stopping: Stopping, command: &str) -> u64 {
+    let mut least: u64 = 0;
+    for more in [1024, 512, 256, 128, 64, 32, 16, 8, 4, 2, 1u64] {
+        let calls = least.saturating_add(more.saturating_sub(1));
+        if are_too_few(rt, alloc, (stopping, calls), command) {
+            least = least.saturating_add(more);
+        }
+    }
+    least
+}
+
+/// Whether a request's last call may fall there: that of the log is in the commit, that of the
+/// database file, which is written where the log is long, in the commit or before it.
+fn may_be_last(stopping: Stopping, stop: Stop) -> bool {
+    match stopping {
+        Stopping::Log => stop == Stop::Inside,
+        Stopping::Database => stop != Stop::After,
+    }
+}
+
+/// Stops a disk at the request's first call, at its last one, and behind it.
+fn stop_thrice(rt: &impl Abort, alloc: Global, stopping: Stopping, request: &Request) {
+    let first = least(rt, alloc, stopping, "North ready");
+    let kept = least(rt, alloc, stopping, request.command);
+    let found = stopped(rt, alloc, (stopping, first), request);
+    assert_eq!(rt; found, Stop::Before, "{stopping:?} after {first}");
+    let found = stopped(rt, alloc, (stopping, kept.saturating_sub(1)), request);
+    assert!(rt;
+        may_be_last(stopping, found),
+        "{stopping:?} before {kept}: {found:?}"
+    );
+    let found = stopped(rt, alloc, (stopping, kept), request);
+    assert_eq!(rt; found, Stop::After, "{stopping:?} after {kept}");
+}
+
+#[test]
+fn a_log_that_stops_in_a_batch(rt: HostRuntime) {
+    stop_thrice(&rt, rt.alloc(), Stopping::Log, &POSTS);
+}
+
+#[test]
+fn a_database_that_stops_in_a_batch(rt: HostRuntime) {
+    stop_thrice(&rt, rt.alloc(), Stopping::Database, &POSTS);
+}
+
+#[test]
+fn a_log_that_stops_where_a_chain_falls(rt: HostRuntime) {
+    stop_thrice(&rt, rt.alloc(), Stopping::Log, &FALLS);
+}
+
+#[test]
+fn a_database_that_stops_where_a_chain_falls(rt: HostRuntime) {
+    stop_thrice(&rt, rt.alloc(), Stopping::Database, &FALLS);
+}
