@@ -3,15 +3,15 @@
 
 mod isolation;
 mod laws;
+mod named_book;
 mod reopening;
 mod runs;
 mod steps;
 mod stored;
-#[cfg(test)]
-mod tests;
 
 pub use isolation::stores_are_isolated;
 pub use laws::{retries_add_nothing, runs_serve_each_alone, stays_failed};
+pub use named_book::NamedBook;
 pub use reopening::Reopening;
 pub use runs::run_all;
 pub use steps::{Answer, Step};

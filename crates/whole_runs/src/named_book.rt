@@ -1,3 +1,5 @@
+//! Lists, as ledgers that can be opened again.
+ghost use Rattle.std.specs.Prelude.{ℕ, ◌≡◌, List, None};
 ghost use Rattle.chain.specs.Ledgers.{AreValid, KeepsAll};
 ghost use Rattle.plain.specs.BookLedgers.{machines_in};
 
@@ -12,16 +14,18 @@ use tenants::TenantName;
 
 /// Ledgers over lists, whose tenants have names. They are opened again as they are.
 #[derive(Drop)]
-pub(crate) struct NamedBook {
+pub struct NamedBook {
     alloc: Global,
     book: Book,
     names: Vec<TenantName>,
 }
 
 impl NamedBook {
-    /// No tenant yet.
-    pub(crate) fn new(alloc: Global) -> NamedBook
-        ensures { AreValid (machines_in result.book) }
+    /// Ledgers without tenants.
+    pub fn new(alloc: Global) -> NamedBook
+        ensures usable { ⟦<NamedBook as Reopening>⟧.means.is_usable result }
+        ensures empty { (digest : List ℕ)
+            → ⟦<NamedBook as Reopening>⟧.means.tenants result digest ≡ None }
     {
         NamedBook {
             alloc,

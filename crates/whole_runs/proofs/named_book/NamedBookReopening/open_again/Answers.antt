@@ -1,5 +1,5 @@
 use Rattle.std.proofs.Common.{refl}
-use Rattle.whole_runs.proofs.tests.named_book.NamedBookReopening.open_again.Goals as goal
+use Rattle.whole_runs.proofs.named_book.NamedBookReopening.open_again.Goals as goal
 
 pub returns-clause-opened : goal.returns-clause-opened
 returns-clause-opened c =

@@ -1,7 +1,7 @@
 use Rattle.std.proofs.Common.{refl}
 use Rattle.whole_runs.specs.Reopenings.{As_now}
 use Rattle.whole_runs.proofs.ReplyLemmas.{event_of, happens_so}
-use Rattle.whole_runs.proofs.tests.named_book.NamedBookReopening.reply_to.Goals as goal
+use Rattle.whole_runs.proofs.named_book.NamedBookReopening.reply_to.Goals as goal
 
 pub returns-clause-replies : goal.returns-clause-replies
 returns-clause-replies c =

@@ -1,0 +1,9 @@
+//! Runs as text: what each step is told, byte by byte. What is expected is of `docs/MODEL.md`.
+
+mod connections;
+mod disks;
+mod examples;
+mod messages;
+mod requests;
+mod runs;
+mod scripts;

@@ -1,0 +1,212 @@
+//! Connections over a store: several messages, ends, and writers that fail.
+ghost use Rattle.std.specs.Prelude.{◌≡◌};
+
+use super::disks::{Fails, new_store};
+use super::messages::{asked, wanted};
+use super::scripts::runs;
+use chain::Ledgers;
+use records::Streamed;
+use service::{Moments, ServeFault, serve};
+use std::alloc::{AllocError, Global};
+use std::io::{self, ErrorKind, Write};
+use std::process::Abort;
+use std::test::Fail;
+
+/// Gives 0 and then every thousandth nanosecond.
+#[derive(Drop)]
+struct Thousands(u64);
+
+impl Moments for Thousands {
+    ghost gives = { λ old moment new. moment ≡ old.0 };
+
+    fn moment(&mut self) -> u64 {
+        let moment = self.0;
+        self.0 = moment.saturating_add(1000);
+        moment
+    }
+}
+
+/// Takes some bytes, and then fails.
+#[derive(Drop)]
+struct Narrow {
+    taken: Vec<u8>,
+    room: usize,
+}
+
+impl Write for Narrow {
+    fn write(&mut self, buf: &[u8]) -> io::Result<usize> {
+        let count = buf.len().min(self.room);
+        if count == 0 {
+            return Err(ErrorKind::BrokenPipe.into());
+        }
+        self.taken.extend_from_slice(&buf[..count])?;
+        self.room -= count;
+        Ok(count)
+    }
+
+    fn flush(&mut self) -> io::Result<()> {
+        Ok(())
+    }
+}
+
+/// Room for all that is written.
+const ALL: usize = 10_000;
+
+/// A connection of one tenant: its messages, all but so many bytes of which come, the most replies,
+/// the room of its writer, the replies that are written into it, and how it ends.
+struct Connection {
+    tenant: &'static str,
+    messages: &'static [&'static str],
+    lost: usize,
+    most: u64,
+    room: usize,
+    replies: &'static [&'static str],
+    ended: Result<u64, ServeFault>,
+}
+
+const NO_TRANSFERS: &str = "POST /transfers []";
+
+const NONE_DONE: &str = r#"{"clock":"4","results":[]}"#;
+
+const CONNECTIONS: [Connection; 5] = [
+    Connection {
+        tenant: "0",
+        messages: &[NO_TRANSFERS, "POST /x"],
+        lost: 0,
+        most: 9,
+        room: ALL,
+        replies: &[NONE_DONE, "no_route 404 Not Found"],
+        ended: Ok(2),
+    },
+    Connection {
+        tenant: "1",
+        messages: &[NO_TRANSFERS, "POST /x"],
+        lost: 0,
+        most: 1,
+        room: ALL,
+        replies: &[NONE_DONE],
+        ended: Ok(1),
+    },
+    Connection {
+        tenant: "2",
+        messages: &[NO_TRANSFERS, NO_TRANSFERS],
+        lost: 1,
+        most: 9,
+        room: ALL,
+        replies: &[NONE_DONE, "truncated 400 Bad Request"],
+        ended: Ok(2),
+    },
+    Connection {
+        tenant: "3",
+        messages: &["transfers 100 1 2 10"],
+        lost: 0,
+        most: 9,
+        room: 0,
+        replies: &["0@5"],
+        ended: Err(ServeFault::Write(0)),
+    },
+    Connection {
+        tenant: "4",
+        messages: &["transfers 100 1 2 10", NO_TRANSFERS],
+        lost: 0,
+        most: 9,
+        room: 40,
+        replies: &["0@5"],
+        ended: Err(ServeFault::Write(0)),
+    },
+];
+
+/// The tenants, each with its four accounts.
+const BASES: &str = "tenant 0 = added
+tenant 1 = added
+tenant 2 = added
+tenant 3 = added
+tenant 4 = added
+0@0 base = 0@1 0@2 0@3 0@4
+1@0 base = 0@1 0@2 0@3 0@4
+2@0 base = 0@1 0@2 0@3 0@4
+3@0 base = 0@1 0@2 0@3 0@4
+4@0 base = 0@1 0@2 0@3 0@4";
+
+/// What became of the transfers whose reply was not told.
+const DONE_UNTOLD: &str = "3@0 transfers 100 1 2 10 = 18@6
+4@0 transfers 100 1 2 10 = 18@6";
+
+/// What is written into so much room, and how it ends.
+fn served<L: Ledgers>(
+    alloc: Global,
+    ledgers: &mut L,
+    input: &[u8],
+    limits: (usize, u64),
+) -> (Vec<u8>, Result<u64, ServeFault>)
+    requires { L.means.is_usable ledgers.old }
+    ensures { L.means.is_usable ledgers.new }
+{
+    let (room, most) = limits;
+    let taken = Vec::new(alloc);
+    let mut reader = Streamed::new(input);
+    let mut writer = Streamed::new(Narrow { taken, room });
+    let ended = serve(
+        alloc,
+        ledgers,
+        &mut reader,
+        &mut writer,
+        &mut Thousands(0),
+        most,
+    );
+    let Narrow { taken, .. } = writer.into_inner();
+    (taken, ended)
+}
+
+/// The messages of a connection, one behind the other.
+fn input_of(alloc: Global, connection: &Connection) -> Result<Vec<u8>, Fail> {
+    let mut input = String::new(alloc);
+    for text in connection.messages {
+        input.push_str(&asked(alloc, connection.tenant, text)?)?;
+    }
+    let mut input = input.into_bytes();
+    for _ in 0..connection.lost {
+        input.pop();
+    }
+    Ok(input)
+}
+
+/// The replies that are to be written, as far as there is room.
+fn output_of(alloc: Global, connection: &Connection) -> Result<Vec<u8>, AllocError> {
+    let mut output = String::new(alloc);
+    for text in connection.replies {
+        output.push_str(&wanted(alloc, text)?)?;
+    }
+    let mut output = output.into_bytes();
+    output.truncate(connection.room);
+    Ok(output)
+}
+
+/// Serves a connection, and looks at what is written.
+fn serves<L: Ledgers>(
+    rt: &impl Abort,
+    alloc: Global,
+    ledgers: &mut L,
+    connection: &Connection,
+) -> Result<(), Fail>
+    requires { L.means.is_usable ledgers.old }
+    ensures { L.means.is_usable ledgers.new }
+{
+    let input = input_of(alloc, connection)?;
+    let output = output_of(alloc, connection)?;
+    let limits = (connection.room, connection.most);
+    let (written, ended) = served(alloc, ledgers, &input, limits);
+    assert_eq!(rt; ended, connection.ended);
+    assert_eq!(rt; written, output);
+    Ok(())
+}
+
+#[test]
+fn serves_connections(rt: HostRuntime) -> Result<(), Fail> {
+    let mut store = new_store(rt.alloc(), Fails::Never, Fails::Never)?;
+    runs(&rt, rt.alloc(), &mut store, BASES)?;
+    for connection in &CONNECTIONS {
+        serves(&rt, rt.alloc(), &mut store, connection)?;
+    }
+    runs(&rt, rt.alloc(), &mut store, DONE_UNTOLD)
+}

@@ -1,0 +1,215 @@
+//! Messages of tenants and the replies to them, from texts in few words.
+use std::alloc::{AllocError, Global};
+use std::test::Fail;
+use tenants::{Key, TenantName, digest};
+use whole_runs::Step;
+
+/// Accounts 1 to 4 of ledger 7 and code 10, the third with a limit on its debits and a history.
+const BASE: &str = concat!(
+    r#"[{"id":"1","ledger":7,"code":10},{"id":"2","ledger":7,"code":10},"#,
+    r#"{"id":"3","ledger":7,"code":10,"flags":10},{"id":"4","ledger":7,"code":10}]"#
+);
+
+/// The first line of a statement.
+const HEADER: &str = concat!(
+    "timestamp,transfer_id,side,kind,amount,",
+    "debits_pending,debits_posted,credits_pending,credits_posted\n"
+);
+
+/// The names of the results that are met.
+fn name_of(number: &str) -> &'static str {
+    match number {
+        "0" => "ok",
+        "1" => "linked_event_chain_open",
+        "2" => "linked_event_failed",
+        "4" => "reserved_flag",
+        "7" => "exists_with_different_flags",
+        "12" => "exists_with_different_amount",
+        "18" => "exists",
+        "19" => "ledger_must_not_be_zero",
+        "24" => "pending_transfer_not_found",
+        "26" => "pending_transfer_has_different_debit_account_id",
+        "31" => "pending_transfer_has_different_amount",
+        "32" => "pending_transfer_already_posted",
+        "34" => "pending_transfer_expired",
+        "44" => "debit_account_not_found",
+        "45" => "credit_account_not_found",
+        "48" => "overflows_debits_pending",
+        "49" => "overflows_credits_pending",
+        "50" => "overflows_debits_posted",
+        "51" => "overflows_credits_posted",
+        "52" => "overflows_debits",
+        "53" => "overflows_credits",
+        "55" => "exceeds_credits",
+        "56" => "exceeds_debits",
+        "60" => "id_already_failed",
+        _ => "no result of these tests",
+    }
+}
+
+/// A transfer: id, debit account, credit account, amount, flags, pending id, timeout. What is left
+/// out is 0, and `MAX` is the greatest amount.
+fn transfer(alloc: Global, columns: &str) -> Result<String, AllocError> {
+    let mut words = columns.split_whitespace();
+    let id = words.next().unwrap_or("0");
+    let debit = words.next().unwrap_or("0");
+    let credit = words.next().unwrap_or("0");
+    let amount = match words.next() {
+        Some("MAX") => "340282366920938463463374607431768211455",
+        amount => amount.unwrap_or("0"),
+    };
+    let flags = words.next().unwrap_or("0");
+    let pending = words.next().unwrap_or("0");
+    let timeout = words.next().unwrap_or("0");
+    let kind = if pending == "0" { "7,\"code\":1" } else { "0" };
+    format!(in alloc;
+        "{{\"id\":\"{id}\",\"debit_account_id\":\"{debit}\",\"credit_account_id\":\"{credit}\",\
+         \"amount\":\"{amount}\",\"flags\":{flags},\"pending_id\":\"{pending}\",\
+         \"timeout\":{timeout},\"ledger\":{kind}}}"
+    )
+}
+
+/// A body of transfers, each behind a semicolon but the first.
+fn transfers(alloc: Global, text: &str) -> Result<String, AllocError> {
+    let mut body = format!(in alloc; "[")?;
+    for columns in text.split(';') {
+        let comma = if body.len() == 1 { "" } else { "," };
+        let transfer = transfer(alloc, columns)?;
+        body.push_str(&format!(in alloc; "{comma}{transfer}")?)?;
+    }
+    body.push_str("]")?;
+    Ok(body)
+}
+
+/// The body of a reply with these results, each a number and a timestamp, of which the last is the
+/// clock.
+fn results(alloc: Global, text: &str) -> Result<String, AllocError> {
+    let (_, clock) = text.rsplit_once('@').unwrap_or((text, ""));
+    let mut list = String::new(alloc);
+    for word in text.split_whitespace() {
+        let (number, timestamp) = word.split_once('@').unwrap_or((word, ""));
+        let comma = if list.is_empty() { "" } else { "," };
+        let name = name_of(number);
+        list.push_str(&format!(in alloc;
+            "{comma}{{\"number\":{number},\"result\":\"{name}\",\"timestamp\":\"{timestamp}\"}}"
+        )?)?;
+    }
+    format!(in alloc; "{{\"clock\":\"{clock}\",\"results\":[{list}]}}")
+}
+
+/// The lines of a statement, each a word.
+fn statement(alloc: Global, text: &str) -> Result<String, AllocError> {
+    let mut body = format!(in alloc; "{HEADER}")?;
+    for line in text.split_whitespace() {
+        body.push_str(&format!(in alloc; "{line}\n")?)?;
+    }
+    Ok(body)
+}
+
+/// A whole reply.
+fn reply(alloc: Global, status: &str, kind: &str, body: &str) -> Result<String, AllocError> {
+    let length = body.len();
+    format!(in alloc;
+        "HTTP/1.1 {status}\r\ncontent-length: {length}\r\ncontent-type: {kind}\r\n\r\n{body}"
+    )
+}
+
+/// What a step is to be told. A text in braces is the body of a reply of status 200; others are
+/// results, a statement, the name of a refusal with its status, or a word for what is no message.
+pub fn wanted(alloc: Global, text: &str) -> Result<String, AllocError> {
+    if text.starts_with('{') {
+        return reply(alloc, "200 OK", "application/json", text);
+    }
+    if text.find('@').is_some() {
+        return reply(alloc, "200 OK", "application/json", &results(alloc, text)?);
+    }
+    if let Some(lines) = text.strip_prefix("csv") {
+        return reply(alloc, "200 OK", "text/csv", &statement(alloc, lines)?);
+    }
+    match text.split_once(' ') {
+        Some((name, status)) => {
+            let body = format!(in alloc; "{{\"error\":\"{name}\"}}")?;
+            reply(alloc, status, "application/json", &body)
+        }
+        None => format!(in alloc; "{text}"),
+    }
+}
+
+/// A key's 64 digits, from its number.
+fn key(alloc: Global, number: &str) -> Result<String, Fail> {
+    let number: u64 = number.parse()?;
+    Ok(format!(in alloc; "{number:064}")?)
+}
+
+/// A message: the first line, the number of its key, and the body.
+fn message(alloc: Global, line: &str, number: &str, body: &str) -> Result<String, Fail> {
+    let length = body.len();
+    let key = key(alloc, number)?;
+    Ok(format!(in alloc;
+        "{line} HTTP/1.1\r\nx-ledger-key: {key}\r\ncontent-length: {length}\r\n\r\n{body}"
+    )?)
+}
+
+/// A message as it is written, with bars for the ends of lines.
+fn written(alloc: Global, text: &str) -> Result<String, AllocError> {
+    let mut message = String::new(alloc);
+    for (k, part) in text.split('|').enumerate() {
+        let end = if k == 0 { "" } else { "\r\n" };
+        message.push_str(&format!(in alloc; "{end}{part}")?)?;
+    }
+    Ok(message)
+}
+
+/// 1,001 accounts.
+fn many(alloc: Global) -> Result<String, AllocError> {
+    let account = r#"{"id":"9","ledger":7,"code":10}"#;
+    let mut body = format!(in alloc; "[{account}")?;
+    for _ in 0..1000 {
+        body.push_str(",")?;
+        body.push_str(account)?;
+    }
+    body.push_str("]")?;
+    Ok(body)
+}
+
+/// A message of the tenant with this number: transfers, accounts, or a method, a path and a body; or
+/// a message as it is written.
+pub fn asked(alloc: Global, number: &str, text: &str) -> Result<String, Fail> {
+    let (word, rest) = text.split_once(' ').unwrap_or((text, ""));
+    match word {
+        "raw" => Ok(written(alloc, rest)?),
+        "base" => message(alloc, "POST /accounts", number, BASE),
+        "many" => message(alloc, "POST /accounts", number, &many(alloc)?),
+        "transfers" => message(alloc, "POST /transfers", number, &transfers(alloc, rest)?),
+        _ => {
+            let (path, body) = rest.split_once(' ').unwrap_or((rest, ""));
+            message(alloc, &format!(in alloc; "{word} {path}")?, number, body)
+        }
+    }
+}
+
+/// The digest of the key with this number.
+pub fn digest_of(alloc: Global, number: &str) -> Result<[u8; 32], Fail> {
+    let key = Key::read(key(alloc, number)?.as_bytes()).ok_or("no key")?;
+    Ok(digest(&key))
+}
+
+/// A new tenant, with the numbers of its key and of its name.
+fn adds(alloc: Global, text: &str) -> Result<Step, Fail> {
+    let (number, name) = text.split_once(" named ").unwrap_or((text, text));
+    let name = TenantName::read(&format!(in alloc; "tenant-{name}")?).ok_or("no name")?;
+    Ok(Step::AddTenant(name, digest_of(alloc, number)?))
+}
+
+/// A step: a new tenant, a reopening, or a message of a tenant at a moment.
+pub fn step(alloc: Global, text: &str) -> Result<Step, Fail> {
+    let (who, what) = text.split_once(' ').unwrap_or((text, ""));
+    match who.split_once('@') {
+        Some((number, moment)) => {
+            let message = asked(alloc, number, what)?;
+            Ok(Step::Request(message.into_bytes(), moment.parse()?))
+        }
+        None if who == "tenant" => adds(alloc, what),
+        None => Ok(Step::Reopen),
+    }
+}

@@ -1,0 +1,97 @@
+//! Runs over lists, and over disks in memory.
+
+use super::disks::{Fails, new_store};
+use super::examples::{EXAMPLES, TENANTS};
+use super::requests::{CLOCKS, READS, REFUSALS};
+use super::scripts::runs;
+use std::alloc::{AllocError, Global};
+use std::process::Abort;
+use std::test::Fail;
+use whole_runs::{NamedBook, Reopening, run_all};
+
+/// A new tenant's first request, a name that is taken, a reopening, and an account that is missing.
+const BEGINS: &str = r#"tenant 0 = added
+0@1000 POST /transfers [] = {"clock":"1000","results":[]}
+tenant 1 named 0 = name_taken
+open = opened
+0@5 transfers 100 1 2 10 = {"clock":"1001","results":[
+  {"number":44,"result":"debit_account_not_found","timestamp":"1001"}]}
+"#;
+
+/// A tenant that is added between two requests by its key.
+const JOINS: &str = r#"0@1000 POST /transfers [] = unknown_key 401 Unauthorized
+tenant 0 = added
+0@1000 POST /transfers [] = {"clock":"1000","results":[]}
+"#;
+
+/// A pending transfer and its post in time, each sent again after it has ended, with reopenings
+/// between.
+const SENT_AGAIN: &str = r#"tenant 0 = added
+0@0 base = 0@1 0@2 0@3 0@4
+0@0 transfers 100 1 2 100 2 0 1 = 0@5
+0@1000000003 transfers 101 0 0 MAX 4 100 = 0@1000000004
+open = opened
+0@3000000000 transfers 100 1 2 100 2 0 1 = 18@3000000001
+0@0 transfers 101 0 0 MAX 4 100 = 18@3000000002
+open = opened
+0@0 POST /accounts/lookup ["1"] = {"accounts":[{"code":10,"credits_pending":"0",
+  "credits_posted":"0","debits_pending":"0","debits_posted":"100","flags":0,"id":"1","ledger":7,
+  "timestamp":"1","user_data_128":"0","user_data_32":0,"user_data_64":"0"}],
+  "clock":"3000000002"}
+"#;
+
+/// Each of these runs is of ledgers of its own.
+const RUNS: [&str; 6] = [BEGINS, JOINS, SENT_AGAIN, CLOCKS, READS, REFUSALS];
+
+/// The tenants that send the examples, each with the four accounts.
+fn tenants(alloc: Global) -> Result<String, AllocError> {
+    let mut script = String::new(alloc);
+    for tenant in 0..TENANTS {
+        script.push_str(&format!(in alloc;
+            "tenant {tenant} = added\n{tenant}@0 base = 0@1 0@2 0@3 0@4\n"
+        )?)?;
+    }
+    Ok(script)
+}
+
+/// All examples, over the same ledgers, which are opened again behind them.
+fn examples<L: Reopening>(rt: &impl Abort, alloc: Global, ledgers: &mut L) -> Result<(), Fail>
+    requires { L.means.is_usable ledgers.old }
+{
+    runs(rt, alloc, ledgers, &tenants(alloc)?)?;
+    runs(rt, alloc, ledgers, EXAMPLES)?;
+    runs(rt, alloc, ledgers, "open = opened")
+}
+
+#[test]
+fn runs_over_lists(rt: HostRuntime) -> Result<(), Fail> {
+    for script in RUNS {
+        runs(&rt, rt.alloc(), &mut NamedBook::new(rt.alloc()), script)?;
+    }
+    examples(&rt, rt.alloc(), &mut NamedBook::new(rt.alloc()))?;
+    let no_steps = run_all(rt.alloc(), &mut NamedBook::new(rt.alloc()), &[])?;
+    assert!(rt; no_steps.is_empty());
+    Ok(())
+}
+
+#[test]
+fn runs_over_disks(rt: HostRuntime) -> Result<(), Fail> {
+    for script in RUNS {
+        runs(
+            &rt,
+            rt.alloc(),
+            &mut new_store(rt.alloc(), Fails::Never, Fails::Never)?,
+            script,
+        )?;
+    }
+    Ok(())
+}
+
+#[test]
+fn examples_over_disks(rt: HostRuntime) -> Result<(), Fail> {
+    examples(
+        &rt,
+        rt.alloc(),
+        &mut new_store(rt.alloc(), Fails::Never, Fails::Never)?,
+    )
+}

@@ -1,0 +1,96 @@
+//! Runs as text: a step a line, and behind ` = ` what it is to be told.
+//!
+//! - `tenant 3`: a new tenant, whose name and key have this number; `tenant 3 named 4`: of another
+//!   name.
+//! - `open`: the ledgers are opened again.
+//! - `3@5 transfers 100 1 2 10; 101 0 0 40 4 100`: transfers that tenant 3 sends at the moment 5.
+//! - `3@5 base`: its four accounts. `3@5 POST /accounts/lookup ["1"]`: another message of it.
+//! - `3@5 raw GET / HTTP/1.1||`: a message as it is written.
+//!
+//! A line that begins with two spaces goes on with the one before it.
+
+use super::messages::{step, wanted};
+use std::alloc::{AllocError, Global};
+use std::process::Abort;
+use std::test::Fail;
+use store::AddTenant;
+use whole_runs::{Answer, Reopening, Step, run_all};
+use wire::NoMemory;
+
+/// What a step is told, as text.
+fn told(answer: &Answer) -> &[u8] {
+    match answer {
+        Answer::Replied(reply) => reply.bytes(),
+        Answer::Added(Ok(())) => b"added",
+        Answer::Added(Err(AddTenant::NameTaken)) => b"name_taken",
+        Answer::Added(Err(AddTenant::DigestTaken)) => b"digest_taken",
+        Answer::Reopened(Ok(())) => b"opened",
+        Answer::Added(Err(_)) | Answer::Reopened(Err(_)) => b"unavailable",
+    }
+}
+
+/// A script, with one line for each step.
+fn joined(alloc: Global, script: &str) -> Result<String, AllocError> {
+    let mut text = String::new(alloc);
+    for line in script.lines() {
+        let (end, more) = match line.strip_prefix("  ") {
+            Some(more) => ("", more),
+            None => ("\n", line),
+        };
+        text.push_str(&format!(in alloc; "{end}{more}")?)?;
+    }
+    Ok(text)
+}
+
+/// Runs steps, and forgets what a run promises.
+fn answers<L: Reopening>(
+    alloc: Global,
+    ledgers: &mut L,
+    steps: &[Step],
+) -> Result<Vec<Answer>, NoMemory>
+    requires { L.means.is_usable ledgers.old }
+    ensures { L.means.is_usable ledgers.new }
+{
+    run_all(alloc, ledgers, steps)
+}
+
+/// The steps of a script.
+fn steps(alloc: Global, text: &str) -> Result<Vec<Step>, Fail> {
+    let mut steps = Vec::new(alloc);
+    for line in text.lines() {
+        if let Some((what, _)) = line.split_once(" = ") {
+            steps.push(step(alloc, what)?)?;
+        }
+    }
+    Ok(steps)
+}
+
+/// Looks at what is told.
+fn are_told(rt: &impl Abort, alloc: Global, text: &str, answers: &[Answer]) -> Result<(), Fail> {
+    let mut left = answers.iter();
+    for line in text.lines() {
+        if let Some((_, want)) = line.split_once(" = ") {
+            let want = wanted(alloc, want)?;
+            let told = left.next().map_or(b"nothing".as_slice(), told);
+            assert!(rt; told == want.as_bytes(), "{line}");
+        }
+    }
+    assert!(rt; left.next().is_none());
+    Ok(())
+}
+
+/// Runs a script, and looks at what is told.
+pub fn runs<L: Reopening>(
+    rt: &impl Abort,
+    alloc: Global,
+    ledgers: &mut L,
+    script: &str,
+) -> Result<(), Fail>
+    requires { L.means.is_usable ledgers.old }
+    ensures { L.means.is_usable ledgers.new }
+{
+    let text = joined(alloc, script)?;
+    let steps = steps(alloc, &text)?;
+    let answers = answers(alloc, ledgers, &steps)?;
+    are_told(rt, alloc, &text, &answers)
+}

@@ -1,6 +1,0 @@
-//! Whole runs over lists: what each step is answered, byte by byte.
-
-mod lists;
-mod messages;
-mod named_book;
-mod runs;
