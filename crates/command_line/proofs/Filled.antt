@@ -16,7 +16,7 @@ use Rattle.clap.proofs.ValueTestLemmas.{accepts-Accepts}
 use Rattle.command_line.proofs.Uses.{Each, IsOwn, both_none, each_found, flag_sets, help_sets, option_sets}
 use Rattle.command_line.proofs.Walks.{walk_stops}
 use Rattle.command_line.proofs.Levels.{HasValue, Holds, level_holds}
-use Rattle.command_line.specs.Ledgerd.{check_shape, counts, flag_rule, ledgerd_app, number_rule, ports, program, serve_shape, statement_shape, tenant_add_shape, text_rule}
+use Rattle.command_line.specs.Ledgerd.{check_shape, counts, flag_rule, ledgerd_app, migrate_shape, number_rule, ports, program, serve_shape, statement_shape, tenant_add_shape, text_rule}
 use Rattle.command_line.specs.Values.{HasSomeText, IsFilled, IsFlag}
 use Rattle.command_line.proofs.NumberValues.{signed_number}
 
@@ -138,7 +138,16 @@ check_met words e =
     let rows = rows_after c [] words in
     let own : Each (IsOwn c) c = (text_own c (codes "db") refl, (help_own c refl, tt)) in
     let holds = level_holds (ready check_shape) words own refl e in
-    inr (inr (inr (refl, record { db = text_at rows (codes "db") holds.0 })))
+    inr (inr (inr (inl (refl, record { db = text_at rows (codes "db") holds.0 }))))
+
+migrate_met : (words : List Text) → level_fault (ready migrate_shape) [] nothing_held words false [] ≡ []
+    → IsFilled (codes "migrate") (rows_after (ready migrate_shape).rules [] words)
+migrate_met words e =
+    let c = (ready migrate_shape).rules in
+    let rows = rows_after c [] words in
+    let own : Each (IsOwn c) c = (text_own c (codes "db") refl, (text_own c (codes "to") refl, (help_own c refl, tt))) in
+    let holds = level_holds (ready migrate_shape) words own refl e in
+    inr (inr (inr (inr (refl, record { db = text_at rows (codes "db") holds.0; to = text_at rows (codes "to") holds.1.0 }))))
 
 -- the subcommand that a walk stopped at is filled
 StopsAt : Text → List Text → Shape → Type 0
@@ -171,7 +180,7 @@ stops_at_one name words other = (
     λ a e. tenant_add_met words e,
     (
       λ a e. statement_met words e,
-      (λ a e. check_met words e, (λ a e. absurd (help_is name other a), tt)),
+      (λ a e. check_met words e, (λ a e. migrate_met words e, (λ a e. absurd (help_is name other a), tt))),
     ),
   ),
 )

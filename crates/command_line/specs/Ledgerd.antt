@@ -33,6 +33,10 @@ db_rule = text_rule (codes "db")
 abbrev pub over_store : Text → List Rule → Shape
 over_store name rules = record (new_app name).top { rules = db_rule ∷ rules }
 
+-- a command with the store's file alone, before other options are added
+abbrev pub store_app : Text → App
+store_app name = record (new_app name) { top = over_store name [] }
+
 -- serve: a port, and how many requests to answer
 abbrev pub serve_shape : Shape
 serve_shape = over_store (codes "serve")
@@ -52,6 +56,10 @@ statement_shape = over_store (codes "statement")
 abbrev pub check_shape : Shape
 check_shape = over_store (codes "check") []
 
+-- migrate: the version to come to
+abbrev pub migrate_shape : Shape
+migrate_shape = over_store (codes "migrate") (text_rule (codes "to") ∷ [])
+
 -- the program without its subcommands; the words are those after its name
 abbrev pub program : App
 program = record (new_app (codes "ledgerd")) {
@@ -64,5 +72,6 @@ ledgerd_app =
     with_subcommand
     (with_subcommand
     (with_subcommand
-    (with_subcommand program serve_shape) tenant_add_shape) statement_shape)
-    check_shape
+    (with_subcommand
+    (with_subcommand program serve_shape) tenant_add_shape) statement_shape) check_shape)
+    migrate_shape

@@ -26,6 +26,9 @@ Spells name rows (command.Statement db tenant account reversed) = (name ≡ code
     × (reversed ≡ has_flag rows (codes "reversed"))
 Spells name rows (command.Check db) = (name ≡ codes "check")
     × HasText rows (codes "db") db.now
+Spells name rows (command.Migrate db to) = (name ≡ codes "migrate")
+    × HasText rows (codes "db") db.now
+    × HasText rows (codes "to") to.now
 
 -- the command of the subcommand that `clap` met, with its values, or the run over lists
 abbrev pub IsOf : Option (Text × List Row) → Command → Type 0

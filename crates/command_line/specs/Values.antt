@@ -61,9 +61,15 @@ pub record FillsStatement (rows : List Row) : Type 0 where
 pub record FillsCheck (rows : List Row) : Type 0 where
   pub db : HasSomeText rows (codes "db")
 
+-- the values of migrate are there
+pub record FillsMigrate (rows : List Row) : Type 0 where
+  pub db : HasSomeText rows (codes "db")
+  pub to : HasSomeText rows (codes "to")
+
 -- the name is a command's, and each of its values is there
 abbrev pub IsFilled : Text → List Row → Type 0
 IsFilled name rows = ((name ≡ codes "serve") × FillsServe rows)
     ⊎ (((name ≡ codes "tenant-add") × FillsTenantAdd rows)
     ⊎ (((name ≡ codes "statement") × FillsStatement rows)
-    ⊎ ((name ≡ codes "check") × FillsCheck rows)))
+    ⊎ (((name ≡ codes "check") × FillsCheck rows)
+    ⊎ ((name ≡ codes "migrate") × FillsMigrate rows))))

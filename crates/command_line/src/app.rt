@@ -1,8 +1,8 @@
 //! `ledgerd` as `clap` sees it: the subcommands, their options and their help.
-ghost use Rattle.std.specs.Prelude.{IfOk};
-ghost use Rattle.command_line.specs.Ledgerd.{check_shape, db_rule, ledgerd_app};
-ghost use Rattle.command_line.specs.Ledgerd.{number_rule, program, serve_shape, statement_shape};
-ghost use Rattle.command_line.specs.Ledgerd.{tenant_add_shape, text_rule};
+ghost use Rattle.std.specs.Prelude.{IfOk, codes};
+ghost use Rattle.command_line.specs.Ledgerd.{check_shape, db_rule, flag_rule, ledgerd_app};
+ghost use Rattle.command_line.specs.Ledgerd.{migrate_shape, number_rule, program, serve_shape};
+ghost use Rattle.command_line.specs.Ledgerd.{statement_shape, store_app, tenant_add_shape, text_rule};
 ghost use Rattle.command_line.specs.Built.{IsLeaf, IsLocalArg, IsProgram};
 
 use clap::builder::ValueParser;
@@ -42,6 +42,16 @@ fn db_option<'a>(alloc: Global) -> Arg<'a>
     text_option(alloc, "db", "FILE", "The store's file, e.g. ledger.db")
 }
 
+// `--reversed`, which may be left out.
+fn reversed_flag<'a>(alloc: Global) -> Arg<'a>
+    ensures { IsLocalArg (flag_rule (codes "reversed")) result }
+{
+    Arg::new(alloc, "reversed")
+        .long("reversed")
+        .action(ArgAction::SetTrue)
+        .help("Newest entry first, in place of oldest first")
+}
+
 // The program without its subcommands. Its name is told to `clap`, since the words are without it.
 fn named_command<'a>(alloc: Global) -> Result<clap::Command<'a>, AllocError>
     ensures { IfOk result (IsProgram program) }
@@ -53,85 +63,95 @@ fn named_command<'a>(alloc: Global) -> Result<clap::Command<'a>, AllocError>
         .bin_name("ledgerd")
 }
 
+// A subcommand with the store's file, which wants its other options.
+fn store_command<'a>(
+    alloc: Global,
+    name: &'a str,
+    about: &'a str,
+) -> Result<clap::Command<'a>, AllocError>
+    ensures { IfOk result (IsProgram (store_app name.entry.now)) }
+{
+    clap::Command::new(alloc, name)
+        .about(about)
+        .arg(db_option(alloc))
+}
+
 fn serve_command<'a>(alloc: Global) -> Result<clap::Command<'a>, AllocError>
     ensures { IfOk result (IsLeaf serve_shape) }
 {
-    let port = number_option(
-        alloc,
-        "port",
-        "N",
-        value_parser!(u16),
-        "The TCP port of 127.0.0.1 to listen on, below 65536, e.g. 8080",
-    );
-    let requests = number_option(
-        alloc,
-        "requests",
-        "K",
-        value_parser!(u64),
-        "How many replies to write before ending, below 2^64, e.g. 1000",
-    );
-    clap::Command::new(alloc, "serve")
-        .about("Answer requests over HTTP until a number of replies was written")
-        .arg(db_option(alloc))?
-        .arg(port)?
-        .arg(requests)
+    let about = "Answer requests over HTTP until a number of replies was written";
+    store_command(alloc, "serve", about)?
+        .arg(number_option(
+            alloc,
+            "port",
+            "N",
+            value_parser!(u16),
+            "The TCP port of 127.0.0.1 to listen on, below 65536, e.g. 8080",
+        ))?
+        .arg(number_option(
+            alloc,
+            "requests",
+            "K",
+            value_parser!(u64),
+            "How many replies to write before ending, below 2^64, e.g. 1000",
+        ))
 }
 
 fn tenant_add_command<'a>(alloc: Global) -> Result<clap::Command<'a>, AllocError>
     ensures { IfOk result (IsLeaf tenant_add_shape) }
 {
-    let name = text_option(
-        alloc,
-        "name",
-        "NAME",
-        "The tenant's name, 1 to 64 ASCII letters, digits or -, e.g. north-desk",
-    );
-    let key = text_option(
-        alloc,
-        "key",
-        "HEX",
-        "The tenant's key, 64 hexadecimal digits, e.g. what openssl rand -hex 32 prints",
-    );
-    clap::Command::new(alloc, "tenant-add")
-        .about("Add a tenant; an absent or empty file becomes a new store")
-        .arg(db_option(alloc))?
-        .arg(name)?
-        .arg(key)
+    let about = "Add a tenant; an absent or empty file becomes a new store";
+    store_command(alloc, "tenant-add", about)?
+        .arg(text_option(
+            alloc,
+            "name",
+            "NAME",
+            "The tenant's name, 1 to 64 ASCII letters, digits or -, e.g. north-desk",
+        ))?
+        .arg(text_option(
+            alloc,
+            "key",
+            "HEX",
+            "The tenant's key, 64 hexadecimal digits, e.g. what openssl rand -hex 32 prints",
+        ))
 }
 
 fn statement_command<'a>(alloc: Global) -> Result<clap::Command<'a>, AllocError>
     ensures { IfOk result (IsLeaf statement_shape) }
 {
-    let tenant = text_option(
-        alloc,
-        "tenant",
-        "NAME",
-        "The tenant's name, e.g. north-desk",
-    );
-    let account = text_option(
-        alloc,
-        "account",
-        "ID",
-        "The account's id in decimal, below 2^128, e.g. 1001",
-    );
-    let reversed = Arg::new(alloc, "reversed")
-        .long("reversed")
-        .action(ArgAction::SetTrue)
-        .help("Newest entry first, in place of oldest first");
-    clap::Command::new(alloc, "statement")
-        .about("Write an account's statement as CSV, one line an entry")
-        .arg(db_option(alloc))?
-        .arg(tenant)?
-        .arg(account)?
-        .arg(reversed)
+    let about = "Write an account's statement as CSV, one line an entry";
+    store_command(alloc, "statement", about)?
+        .arg(text_option(
+            alloc,
+            "tenant",
+            "NAME",
+            "The tenant's name, e.g. north-desk",
+        ))?
+        .arg(text_option(
+            alloc,
+            "account",
+            "ID",
+            "The account's id in decimal, below 2^128, e.g. 1001",
+        ))?
+        .arg(reversed_flag(alloc))
 }
 
 fn check_command<'a>(alloc: Global) -> Result<clap::Command<'a>, AllocError>
     ensures { IfOk result (IsLeaf check_shape) }
 {
-    clap::Command::new(alloc, "check")
-        .about("Audit a store: print ok, or the kind, tenant and place of the first damage")
-        .arg(db_option(alloc))
+    let about = "Audit a store: print ok, or the kind, tenant and place of the first damage";
+    store_command(alloc, "check", about)
+}
+
+fn migrate_command<'a>(alloc: Global) -> Result<clap::Command<'a>, AllocError>
+    ensures { IfOk result (IsLeaf migrate_shape) }
+{
+    store_command(alloc, "migrate", "Bring a store to a newer schema version")?.arg(text_option(
+        alloc,
+        "to",
+        "V",
+        "The schema version to bring the store to, e.g. 3",
+    ))
 }
 
 /// The whole command line, which reads the words after the program's name.
@@ -142,5 +162,6 @@ pub fn ledgerd_command<'a>(alloc: Global) -> Result<clap::Command<'a>, AllocErro
         .subcommand(serve_command(alloc)?)?
         .subcommand(tenant_add_command(alloc)?)?
         .subcommand(statement_command(alloc)?)?
-        .subcommand(check_command(alloc)?)
+        .subcommand(check_command(alloc)?)?
+        .subcommand(migrate_command(alloc)?)
 }

@@ -27,4 +27,9 @@ pub enum Command<'a> {
     Check {
         db: &'a str,
     },
+    /// Bring a store to the schema `to`.
+    Migrate {
+        db: &'a str,
+        to: &'a str,
+    },
 }

@@ -2,7 +2,7 @@ ghost use Rattle.std.specs.Prelude.{◌≡◌, ◌^◌, IfErr, IfOk, codes, map,
 ghost use Rattle.clap.specs.Words.{found_of, rows_of, takes};
 ghost use Rattle.command_line.specs.Ledgerd.{ledgerd_app};
 ghost use Rattle.command_line.specs.Line.{IsCommandOf, IsFaultOf, Spells};
-ghost use Rattle.command_line.specs.Values.{FillsCheck, FillsServe, FillsStatement};
+ghost use Rattle.command_line.specs.Values.{FillsCheck, FillsMigrate, FillsServe, FillsStatement};
 ghost use Rattle.command_line.specs.Values.{FillsTenantAdd, HasNumber, HasNumberBelow};
 ghost use Rattle.command_line.specs.Values.{HasSomeText, HasText, IsFilled, IsFlag, has_flag};
 
@@ -83,6 +83,16 @@ fn check<'a>(values: &ArgMatches<'a>) -> Command<'a>
     }
 }
 
+fn migrate<'a>(values: &ArgMatches<'a>) -> Command<'a>
+    requires { FillsMigrate (rows_of (found_of values.now)) }
+    ensures { Spells (codes "migrate") (rows_of (found_of values.now)) result }
+{
+    Command::Migrate {
+        db: text(values, "db"),
+        to: text(values, "to"),
+    }
+}
+
 fn named<'a>(name: &str, values: &ArgMatches<'a>) -> Command<'a>
     requires { IsFilled name.now (rows_of (found_of values.now)) }
     ensures { Spells name.now (rows_of (found_of values.now)) result }
@@ -92,6 +102,7 @@ fn named<'a>(name: &str, values: &ArgMatches<'a>) -> Command<'a>
         "tenant-add" => add_tenant(values),
         "statement" => statement(values),
         "check" => check(values),
+        "migrate" => migrate(values),
         _ => unreachable!(),
     }
 }

@@ -1,257 +1,158 @@
 use crate::{Command, LineFault, command};
 use clap::error::ErrorKind;
-use std::alloc::Global;
 use std::test::Fail;
 
-// The kind of the refusal, where the words are refused.
-fn refusal(alloc: Global, words: &[&str]) -> Option<ErrorKind> {
-    match command(alloc, words) {
-        Err(LineFault::Refused(error)) => Some(error.kind()),
-        _ => None,
+// Lines, and the commands that they are.
+const READ: [(&str, Command<'static>); 8] = [
+    ("", Command::Lists),
+    (
+        "serve --db l.db --port 8080 --requests 1000",
+        Command::Serve {
+            db: "l.db",
+            port: 8080,
+            requests: 1000,
+        },
+    ),
+    (
+        "serve --db d --port 65535 --requests 18446744073709551615",
+        Command::Serve {
+            db: "d",
+            port: 65535,
+            requests: 18446744073709551615,
+        },
+    ),
+    (
+        "tenant-add --db l.db --name north-desk --key 00ff",
+        Command::AddTenant {
+            db: "l.db",
+            name: "north-desk",
+            key: "00ff",
+        },
+    ),
+    (
+        "statement --db l.db --tenant north --account 1",
+        Command::Statement {
+            db: "l.db",
+            tenant: "north",
+            account: "1",
+            reversed: false,
+        },
+    ),
+    (
+        "statement --reversed --account=01 --tenant=-a --db=",
+        Command::Statement {
+            db: "",
+            tenant: "-a",
+            account: "01",
+            reversed: true,
+        },
+    ),
+    ("check --db l.db", Command::Check { db: "l.db" }),
+    (
+        "migrate --db l.db --to 3",
+        Command::Migrate {
+            db: "l.db",
+            to: "3",
+        },
+    ),
+];
+
+#[test]
+fn reads_commands(rt: HostRuntime) -> Result<(), Fail> {
+    for (line, want) in READ {
+        let words: Vec<&str> = line.split_whitespace().collect(rt.alloc())?;
+        assert_eq!(rt; command(rt.alloc(), words.as_slice())?, want);
     }
-}
-
-#[test]
-fn reads_what_is_answered(rt: HostRuntime) -> Result<(), Fail> {
-    let alloc = rt.alloc();
-    let none: [&str; 0] = [];
-    assert_eq!(rt; command(alloc, none.as_slice())?, Command::Lists);
-    let words = [
-        "serve",
-        "--db",
-        "l.db",
-        "--port",
-        "8080",
-        "--requests",
-        "1000",
-    ];
-    let serve = Command::Serve {
-        db: "l.db",
-        port: 8080,
-        requests: 1000,
-    };
-    assert_eq!(rt; command(alloc, words.as_slice())?, serve);
     Ok(())
 }
 
-#[test]
-fn reads_what_is_done_to_a_file(rt: HostRuntime) -> Result<(), Fail> {
-    let alloc = rt.alloc();
-    let words = [
-        "tenant-add",
-        "--db",
-        "l.db",
-        "--name",
-        "north-desk",
-        "--key",
-        "00ff",
-    ];
-    let add_tenant = Command::AddTenant {
-        db: "l.db",
-        name: "north-desk",
-        key: "00ff",
-    };
-    assert_eq!(rt; command(alloc, words.as_slice())?, add_tenant);
-    let words = ["check", "--db", "l.db"];
-    assert_eq!(rt;
-        command(alloc, words.as_slice())?,
-        Command::Check { db: "l.db" }
-    );
-    Ok(())
-}
+// Lines that are refused, by the kind of the refusal.
+const REFUSED: [(ErrorKind, &[&str]); 7] = [
+    (
+        ErrorKind::MissingRequiredArgument,
+        &[
+            "serve --port 1 --requests 2",
+            "serve --db d --requests 2",
+            "serve --db d --port 1",
+            "tenant-add --name n --key k",
+            "tenant-add --db d --key k",
+            "tenant-add --db d --name n",
+            "statement --tenant n --account 1",
+            "statement --db d --account 1",
+            "statement --db d --tenant n",
+            "check",
+            "migrate --to 3",
+            "migrate --db d",
+        ],
+    ),
+    (
+        ErrorKind::ArgumentConflict,
+        &[
+            "serve --db d --db d --port 1 --requests 2",
+            "serve --db d --port 1 --port 1 --requests 2",
+            "serve --db d --port 1 --requests 2 --requests 2",
+            "tenant-add --db d --db d --name n --key k",
+            "tenant-add --db d --name n --name n --key k",
+            "tenant-add --db d --name n --key k --key k",
+            "statement --db d --db d --tenant n --account 1",
+            "statement --db d --tenant n --tenant n --account 1",
+            "statement --db d --tenant n --account 1 --account 1",
+            "statement --db d --tenant n --account 1 --reversed --reversed",
+            "check --db d --db d",
+            "migrate --db d --db d --to 3",
+            "migrate --db d --to 3 --to 3",
+        ],
+    ),
+    (
+        ErrorKind::ValueValidation,
+        &[
+            "serve --db d --port 65536 --requests 0",
+            "serve --db d --port http --requests 0",
+            "serve --db d --port 0 --requests 18446744073709551616",
+        ],
+    ),
+    (ErrorKind::InvalidSubcommand, &["audit --db d"]),
+    (
+        ErrorKind::UnknownArgument,
+        &["--db d", "check --db d --reversed", "check --db d e"],
+    ),
+    (ErrorKind::InvalidValue, &["check --db"]),
+    (
+        ErrorKind::DisplayHelp,
+        &[
+            "-h",
+            "help",
+            "help serve",
+            "help tenant-add",
+            "help statement",
+            "help check",
+            "help migrate",
+            "--help",
+            "serve --help",
+            "tenant-add --help",
+            "statement --help",
+            "check --help",
+            "migrate --help",
+        ],
+    ),
+];
 
 #[test]
-fn reads_statements(rt: HostRuntime) -> Result<(), Fail> {
-    let alloc = rt.alloc();
-    let words = [
-        "statement",
-        "--db",
-        "l.db",
-        "--tenant",
-        "north",
-        "--account",
-        "1",
-    ];
-    let oldest = Command::Statement {
-        db: "l.db",
-        tenant: "north",
-        account: "1",
-        reversed: false,
-    };
-    assert_eq!(rt; command(alloc, words.as_slice())?, oldest);
-    let words = [
-        "statement",
-        "--reversed",
-        "--account=01",
-        "--tenant=-a",
-        "--db",
-        "",
-    ];
-    let newest = Command::Statement {
-        db: "",
-        tenant: "-a",
-        account: "01",
-        reversed: true,
-    };
-    assert_eq!(rt; command(alloc, words.as_slice())?, newest);
-    Ok(())
-}
-
-#[test]
-fn reads_numbers_to_their_bounds(rt: HostRuntime) -> Result<(), Fail> {
-    let alloc = rt.alloc();
-    let words = [
-        "serve",
-        "--db",
-        "d",
-        "--port",
-        "65535",
-        "--requests",
-        "18446744073709551615",
-    ];
-    let most = Command::Serve {
-        db: "d",
-        port: 65535,
-        requests: 18446744073709551615,
-    };
-    assert_eq!(rt; command(alloc, words.as_slice())?, most);
-    Ok(())
-}
-
-#[test]
-fn refuses_numbers_beyond_their_bounds(rt: HostRuntime) -> Result<(), Fail> {
-    let alloc = rt.alloc();
-    let wide = ["serve", "--db", "d", "--port", "65536", "--requests", "0"];
-    assert_eq!(rt;
-        refusal(alloc, wide.as_slice()),
-        Some(ErrorKind::ValueValidation)
-    );
-    let many = [
-        "serve",
-        "--db",
-        "d",
-        "--port",
-        "0",
-        "--requests",
-        "18446744073709551616",
-    ];
-    assert_eq!(rt;
-        refusal(alloc, many.as_slice()),
-        Some(ErrorKind::ValueValidation)
-    );
-    let word = ["serve", "--db", "d", "--port", "http", "--requests", "0"];
-    assert_eq!(rt;
-        refusal(alloc, word.as_slice()),
-        Some(ErrorKind::ValueValidation)
-    );
-    Ok(())
-}
-
-// Each line is whole: it lacks an option in turn, and then has that option twice.
-#[test]
-fn refuses_missing_and_doubled_options(rt: HostRuntime) -> Result<(), Fail> {
-    let alloc = rt.alloc();
-    let lines: [&[&str]; 4] = [
-        ["serve", "--db", "d", "--port", "1", "--requests", "2"].as_slice(),
-        ["tenant-add", "--db", "d", "--name", "n", "--key", "k"].as_slice(),
-        ["statement", "--db", "d", "--tenant", "n", "--account", "1"].as_slice(),
-        ["check", "--db", "d"].as_slice(),
-    ];
-    for line in lines {
-        for (i, option) in line.iter().enumerate() {
-            if !option.starts_with("--") {
-                continue;
-            }
-            let mut missing = Vec::new(alloc);
-            let mut doubled = Vec::from_slice(alloc, line)?;
-            for (k, word) in line.iter().enumerate() {
-                if k == i || k == i.saturating_add(1) {
-                    doubled.push(*word)?;
-                } else {
-                    missing.push(*word)?;
-                }
-            }
-            let lacks = refusal(alloc, missing.as_slice());
-            assert_eq!(rt; lacks, Some(ErrorKind::MissingRequiredArgument), "{option}");
-            let twice = refusal(alloc, doubled.as_slice());
-            assert_eq!(rt; twice, Some(ErrorKind::ArgumentConflict), "{option}");
+fn refuses_other_lines(rt: HostRuntime) -> Result<(), Fail> {
+    for (kind, lines) in REFUSED {
+        for line in lines {
+            assert_eq!(rt; refused(&rt, line)?.kind(), kind, "of {line}");
         }
     }
     Ok(())
 }
 
-#[test]
-fn refuses_a_doubled_flag(rt: HostRuntime) -> Result<(), Fail> {
-    let alloc = rt.alloc();
-    let twice = [
-        "statement",
-        "--db",
-        "d",
-        "--tenant",
-        "n",
-        "--account",
-        "1",
-        "--reversed",
-        "--reversed",
-    ];
-    assert_eq!(rt;
-        refusal(alloc, twice.as_slice()),
-        Some(ErrorKind::ArgumentConflict)
-    );
-    Ok(())
-}
-
-#[test]
-fn refuses_strange_words(rt: HostRuntime) {
-    let alloc = rt.alloc();
-    let unknown = ["audit", "--db", "d"];
-    assert_eq!(rt;
-        refusal(alloc, unknown.as_slice()),
-        Some(ErrorKind::InvalidSubcommand)
-    );
-    let option = ["--db", "d"];
-    assert_eq!(rt;
-        refusal(alloc, option.as_slice()),
-        Some(ErrorKind::UnknownArgument)
-    );
-    let foreign = ["check", "--db", "d", "--reversed"];
-    assert_eq!(rt;
-        refusal(alloc, foreign.as_slice()),
-        Some(ErrorKind::UnknownArgument)
-    );
-    let more = ["check", "--db", "d", "e"];
-    assert_eq!(rt;
-        refusal(alloc, more.as_slice()),
-        Some(ErrorKind::UnknownArgument)
-    );
-    let no_value = ["check", "--db"];
-    assert_eq!(rt;
-        refusal(alloc, no_value.as_slice()),
-        Some(ErrorKind::InvalidValue)
-    );
-}
-
-#[test]
-fn answers_calls_for_help(rt: HostRuntime) {
-    let alloc = rt.alloc();
-    for word in ["--help", "-h", "help"] {
-        let words = [word];
-        assert_eq!(rt;
-            refusal(alloc, words.as_slice()),
-            Some(ErrorKind::DisplayHelp)
-        );
-    }
-    for name in ["serve", "tenant-add", "statement", "check"] {
-        let below = [name, "--help"];
-        assert_eq!(rt;
-            refusal(alloc, below.as_slice()),
-            Some(ErrorKind::DisplayHelp)
-        );
-        let above = ["help", name];
-        assert_eq!(rt;
-            refusal(alloc, above.as_slice()),
-            Some(ErrorKind::DisplayHelp)
-        );
+// The refusal of a line.
+fn refused(rt: &HostRuntime, line: &str) -> Result<clap::Error, Fail> {
+    let words: Vec<&str> = line.split_whitespace().collect(rt.alloc())?;
+    match command(rt.alloc(), words.as_slice()) {
+        Err(LineFault::Refused(error)) => Ok(error),
+        _ => Err(Fail::new(format_args!("not refused: {line}"))),
     }
 }
 
@@ -265,6 +166,7 @@ Commands:
   tenant-add  Add a tenant; an absent or empty file becomes a new store
   statement   Write an account's statement as CSV, one line an entry
   check       Audit a store: print ok, or the kind, tenant and place of the first damage
+  migrate     Bring a store to a newer schema version
   help        Print this message or the help of the given subcommand(s)
 
 Options:
@@ -288,18 +190,11 @@ Options:
 
 #[test]
 fn prints_faults(rt: HostRuntime) -> Result<(), Fail> {
-    let alloc = rt.alloc();
-    let words = ["--help"];
-    let Err(fault) = command(alloc, words.as_slice()) else {
-        return Err(Fail::from("no help"));
-    };
-    assert_eq!(rt; format!(in alloc; "{fault}")?.as_str(), TOP_HELP);
-    let words = ["serve", "--help"];
-    let Err(fault) = command(alloc, words.as_slice()) else {
-        return Err(Fail::from("no help"));
-    };
-    assert_eq!(rt; format!(in alloc; "{fault}")?.as_str(), SERVE_HELP);
+    for (line, help) in [("--help", TOP_HELP), ("serve --help", SERVE_HELP)] {
+        let fault = LineFault::Refused(refused(&rt, line)?);
+        assert_eq!(rt; format!(in rt.alloc(); "{fault}")?.as_str(), help);
+    }
     let memory = LineFault::Memory;
-    assert_eq!(rt; format!(in alloc; "{memory}")?.as_str(), "unavailable");
+    assert_eq!(rt; format!(in rt.alloc(); "{memory}")?.as_str(), "unavailable");
     Ok(())
 }

@@ -1,6 +1,6 @@
 -- Lines that are written whole, or a beginning of them.
 use Rattle.std.specs.Prelude.{OnOk, OnErr, ⊤, is_err}
-use Rattle.std.proofs.Common.{◌≡◌, ℕ, Bool, List, [], Option, Result, Ok, Err, false}
+use Rattle.std.proofs.Common.{◌≡◌, ℕ, Bool, List, [], Option, Result, Ok, Err}
 use Rattle.std.proofs.lemmas.List.{append-nil}
 use Rattle.std.specs.Io.KnownBytes.{Appends}
 use Rattle.records.specs.Streams.{AppendsFront}

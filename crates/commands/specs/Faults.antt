@@ -3,7 +3,7 @@ use Rattle.std.specs.Prelude.{ℕ, List, codes}
 use Rattle.commands.specs.declared.fault.Fault.{Fault}
 use Rattle.commands.specs.declared.fault.Fault.TheVariants.{NameTaken, DigestTaken, NoTenant}
 use Rattle.commands.specs.declared.fault.Fault.TheVariants.{NoAccount, BadName, BadKey, BadAccount}
-use Rattle.commands.specs.declared.fault.Fault.TheVariants.{Unavailable, Socket, Output}
+use Rattle.commands.specs.declared.fault.Fault.TheVariants.{BadVersion, Unavailable, Socket, Output}
 use Rattle.commands.specs.declared.fault.Fault.TheVariants.{Unreadable, NotALedger, OldSchema}
 use Rattle.commands.specs.declared.fault.Fault.TheVariants.{NewerSchema, Damaged}
 
@@ -16,6 +16,7 @@ word_of NoAccount = codes "no_account"
 word_of BadName = codes "bad_name"
 word_of BadKey = codes "bad_key"
 word_of BadAccount = codes "bad_account"
+word_of BadVersion = codes "bad_version"
 word_of Unavailable = codes "unavailable"
 word_of Socket = codes "socket"
 word_of Output = codes "output"
@@ -34,6 +35,7 @@ status_of NoAccount = 1
 status_of BadName = 2
 status_of BadKey = 2
 status_of BadAccount = 2
+status_of BadVersion = 2
 status_of Unavailable = 3
 status_of Socket = 3
 status_of Output = 3

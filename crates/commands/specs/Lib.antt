@@ -7,4 +7,5 @@ pub mod Words
 pub mod Lines
 pub mod Adding
 pub mod Openings
+pub mod Migrating
 pub mod Program

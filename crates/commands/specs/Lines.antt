@@ -17,6 +17,10 @@ fault_line fault = codes "ledgerd: " ++ word_of fault ++ 10 ∷ []
 abbrev pub added_line : List ℕ → List ℕ
 added_line name = codes "added " ++ name ++ 10 ∷ []
 
+-- the line that tells the version of a file
+abbrev pub schema_line : List ℕ → List ℕ
+schema_line version = codes "schema " ++ version ++ 10 ∷ []
+
 -- the line that tells where a file is damaged: the number of the kind, the digest and the place
 abbrev pub damage_line : Damage → List ℕ
 damage_line damage =

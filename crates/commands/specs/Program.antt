@@ -1,5 +1,5 @@
 -- What the program does for its words.
-use Rattle.std.specs.Prelude.{◌≡◌, ◌⊎◌, ◌<◌, ◌^◌, ℕ, Bool, true, false, codes, if◌then◌else◌}
+use Rattle.std.specs.Prelude.{◌≡◌, ◌⊎◌, ◌<◌, ◌≤◌, ◌^◌, ℕ, Bool, true, false, codes, if◌then◌else◌}
 use Rattle.std.specs.Prelude.{List, [], ◌∷◌, ◌++◌}
 use Rattle.std.specs.Prelude.{Option, None, Result, Ok, Err, IfOk}
 use Rattle.std.specs.Io.KnownBytes.{Appends}
@@ -15,15 +15,20 @@ use Rattle.command_line.specs.declared.commands.Command.TheVariants as command
 use Rattle.command_line.specs.declared.fault.LineFault.{LineFault}
 use Rattle.command_line.specs.declared.fault.LineFault.TheVariants.{Refused, Memory}
 use Rattle.commands.specs.Faults.{status_of}
-use Rattle.commands.specs.Lines.{IsWritten, added_line, damage_line, fault_line}
+use Rattle.commands.specs.Lines.{IsWritten, added_line, damage_line, fault_line, schema_line}
 use Rattle.commands.specs.declared.ended.Ended.{Ended}
 use Rattle.commands.specs.declared.fault.Fault.{Fault}
 use Rattle.commands.specs.declared.fault.Fault.TheVariants.{BadName, BadKey, BadAccount}
+use Rattle.commands.specs.declared.fault.Fault.TheVariants.{BadVersion}
 use Rattle.commands.specs.declared.fault.Fault.TheVariants.{Unavailable}
 
 -- an account's id, in canonical decimal
 abbrev pub IsAccountId : List ℕ → Type 0
 IsAccountId text = (id : ℕ) × (id < 2 ^ 128) × (text ≡ decimal_of id)
+
+-- a version of the schema up to the current one, in canonical decimal
+abbrev pub IsVersion : List ℕ → Type 0
+IsVersion text = (version : ℕ) × (1 ≤ version) × (version ≤ 3) × (text ≡ decimal_of version)
 
 -- a tenant is added, and a line tells so; before the file is opened the name is judged, then the
 -- key
@@ -50,6 +55,13 @@ Checks written out (Ok ended) =
     × Appends (written out) (written ended.out) (damage_line damage) × (ended.is_damaged ≡ true))
 Checks written out (Err fault) = Unit {0}
 
+-- a file is brought to a version, and a line tells it; before it is opened the version is judged
+pub record Migrates {O : Type 0} (written : O → Option (List ℕ)) (to : List ℕ) (out : O)
+    (result : Result (Ended O) Fault) : Type 0 where
+  pub version_first : ¬ IsVersion to → result ≡ Err BadVersion
+  pub line : IfOk result (λ ended. Appends (written out) (written ended.out) (schema_line to))
+  pub calm : IfOk result (λ ended. ended.is_damaged ≡ false)
+
 -- nothing is done
 abbrev pub DoesNothing : {O : Type 0} → O → Result (Ended O) Fault → Type 0
 DoesNothing out result = result ≡ Ok (record { out = out; is_damaged = false })
@@ -64,6 +76,7 @@ Does written (command.AddTenant db name key) out result =
 Does written (command.Statement db tenant account reversed) out result =
     WritesStatement tenant.now account.now result
 Does written (command.Check db) out result = Checks written out result
+Does written (command.Migrate db to) out result = Migrates written to.now out result
 
 -- standard error, before and behind the program
 pub record Told : Type 0 where

@@ -22,6 +22,8 @@ pub enum Fault {
     BadKey,
     /// An account's id is canonical decimal below 2^128.
     BadAccount,
+    /// A version of the schema is canonical decimal from 1 to the current one.
+    BadVersion,
     /// Memory ran out, or the store answers no calls.
     Unavailable,
     /// The port cannot be bound, or a connection not be accepted.
@@ -60,6 +62,7 @@ impl Fault {
             Fault::BadName => line!("bad_name"),
             Fault::BadKey => line!("bad_key"),
             Fault::BadAccount => line!("bad_account"),
+            Fault::BadVersion => line!("bad_version"),
             Fault::Unavailable => line!("unavailable"),
             Fault::Socket => line!("socket"),
             Fault::Output => line!("output"),
@@ -77,7 +80,7 @@ impl Fault {
     {
         match self {
             Fault::NameTaken | Fault::DigestTaken | Fault::NoTenant | Fault::NoAccount => 1,
-            Fault::BadName | Fault::BadKey | Fault::BadAccount => 2,
+            Fault::BadName | Fault::BadKey | Fault::BadAccount | Fault::BadVersion => 2,
             Fault::Unavailable | Fault::Socket | Fault::Output => 3,
             Fault::Unreadable
             | Fault::NotALedger

@@ -3,7 +3,7 @@ ghost use Rattle.std.specs.Prelude.{◌≡◌, false, is_err, IfOk, IfErr, OnOk}
 ghost use Rattle.std.specs.String.{string_bytes};
 ghost use Rattle.std.specs.Io.KnownBytes.{Appends};
 ghost use Rattle.commands.specs.Faults.{status_of};
-ghost use Rattle.commands.specs.Lines.{IsWritten, added_line, damage_line, fault_line};
+ghost use Rattle.commands.specs.Lines.{IsWritten, added_line, damage_line, fault_line, schema_line};
 
 use crate::Fault;
 use audit::Damage;
@@ -42,6 +42,19 @@ pub(crate) fn put_added<O: Drain>(out: &mut O, name: &TenantName) -> Result<(), 
 {
     put_text(out, "added ")?;
     put_text(out, name.as_str())?;
+    put_text(out, "\n")
+}
+
+/// Tells the version that a file has come to, as it was written.
+pub(crate) fn put_schema<O: Drain>(out: &mut O, version: &str) -> Result<(), Fault>
+    requires { O.failed out.old ≡ false }
+    ensures ok { OnOk result (Appends (O.written out.old) (O.written out.new)
+        (schema_line version.now)) }
+    ensures fault { IfErr result (λ fault. fault ≡ Fault.Output) }
+    ensures failed { O.failed out.new ≡ is_err result }
+{
+    put_text(out, "schema ")?;
+    put_text(out, version)?;
     put_text(out, "\n")
 }
 

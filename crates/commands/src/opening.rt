@@ -1,5 +1,6 @@
 //! The ledger in a file.
 ghost use Rattle.std.specs.Prelude.{◌≡◌, IfErr, IfOk};
+ghost use Rattle.store.specs.Migrating.{IsMigratable};
 ghost use Rattle.store.specs.Stores.{IsUsable};
 ghost use Rattle.commands.specs.Openings.{IsOpeningFault, open_fault};
 
@@ -47,6 +48,24 @@ pub(crate) fn open_or_make(rt: &HostRuntime, path: &str) -> Result<Store<File>, 
     }
 }
 
+/// The ledger in a file that is there, which may have an older version.
+pub(crate) fn open_to_migrate(rt: &HostRuntime, path: &str) -> Result<Store<File>, Fault>
+    ensures migratable { IfOk result IsMigratable }
+    ensures fault { IfErr result IsOpeningFault }
+{
+    match migratable_at(rt, path) {
+        Ok(store) => Ok(store),
+        Err(fault) => Err(open_fault(fault)),
+    }
+}
+
+fn migratable_at(rt: &HostRuntime, path: &str) -> Result<Store<File>, OpenFault>
+    ensures { IfOk result IsMigratable }
+{
+    find(rt, path)?;
+    Store::open_for_migration_at(rt, path, Unknown, options(rt)?, &FullAudit)
+}
+
 /// Where the ledger in a file that is there is damaged.
 pub(crate) fn examine(rt: &HostRuntime, path: &str) -> Result<Option<Damage>, Fault> {
     match open_at(rt, path) {
@@ -56,14 +75,19 @@ pub(crate) fn examine(rt: &HostRuntime, path: &str) -> Result<Option<Damage>, Fa
     }
 }
 
-// Opening would make a database of a file that is absent or empty, so it is looked for first.
 fn open_at(rt: &HostRuntime, path: &str) -> Result<Store<File>, OpenFault>
     ensures { IfOk result IsUsable }
 {
+    find(rt, path)?;
+    Store::open_at(rt, path, Unknown, options(rt)?, &FullAudit)
+}
+
+// Opening would make a database of a file that is absent or empty, so it is looked for first.
+fn find(rt: &HostRuntime, path: &str) -> Result<(), OpenFault> {
     match look(rt, path)? {
         Found::Absent => Err(OpenFault::Unreadable),
         Found::Empty => Err(OpenFault::NotALedger),
-        Found::Filled => Store::open_at(rt, path, Unknown, options(rt)?, &FullAudit),
+        Found::Filled => Ok(()),
     }
 }
 

@@ -1,14 +1,16 @@
 //! Each command, over the file that it names.
 ghost use Rattle.std.specs.Prelude.{◌≡◌, false};
-ghost use Rattle.commands.specs.Program.{AddsTenant, Checks, WritesStatement};
+ghost use Rattle.commands.specs.Migrating.{migrate_fault};
+ghost use Rattle.commands.specs.Program.{AddsTenant, Checks, Migrates, WritesStatement};
 
 use crate::Fault;
 use crate::adding::add_tenant;
 use crate::ended::Ended;
-use crate::lines::{damage_line, put_text};
-use crate::opening::{examine, open_file, open_or_make};
+use crate::lines::{damage_line, put_schema, put_text};
+use crate::opening::{examine, open_file, open_or_make, open_to_migrate};
 use crate::statements::write_statement;
-use crate::words::{account_id, key_digest, name};
+use crate::words::{account_id, key_digest, name, version};
+use migrate::{MigrateFault, migrate};
 use records::{Drain, Order};
 
 /// Adds a tenant to a file, which is made where there is none.
@@ -75,4 +77,37 @@ pub(crate) fn run_check<O: Drain + Drop>(
         out,
         is_damaged: found.is_some(),
     })
+}
+
+/// Brings a file to a version of the schema, and tells so.
+pub(crate) fn run_migrate<O: Drain + Drop>(
+    rt: &HostRuntime,
+    db: &str,
+    to: &str,
+    mut out: O,
+) -> Result<Ended<O>, Fault>
+    requires { O.failed out ≡ false }
+    ensures { Migrates O.written to.now out result }
+{
+    let version = version(to)?;
+    let mut store = open_to_migrate(rt, db)?;
+    if let Err(fault) = migrate(rt.alloc(), &mut store, version) {
+        return Err(migrate_fault(fault));
+    }
+    put_schema(&mut out, to)?;
+    Ok(Ended {
+        out,
+        is_damaged: false,
+    })
+}
+
+// What the program tells where a ledger is not migrated.
+fn migrate_fault(fault: MigrateFault) -> Fault
+    ensures { result ≡ migrate_fault fault }
+{
+    match fault {
+        MigrateFault::NewerSchema => Fault::NewerSchema,
+        MigrateFault::Damaged(_) => Fault::Damaged,
+        MigrateFault::Unavailable(_) => Fault::Unavailable,
+    }
 }

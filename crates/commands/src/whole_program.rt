@@ -5,7 +5,7 @@ ghost use Rattle.commands.specs.Program.{Does, HasRun, IsRefusalTold, Tells, tol
 use crate::Fault;
 use crate::ended::Ended;
 use crate::lines::tell_fault;
-use crate::over_files::{run_add_tenant, run_check, run_statement};
+use crate::over_files::{run_add_tenant, run_check, run_migrate, run_statement};
 use command_line::{Command, LineFault, command};
 use records::{Drain, Order, put_all};
 use std::alloc::Global;
@@ -90,5 +90,6 @@ fn run<O: Drain + Drop>(rt: &HostRuntime, asked: Command<'_>, out: O) -> Result<
             run_statement(rt, db, tenant, account, order, out)
         }
         Command::Check { db } => run_check(rt, db, out),
+        Command::Migrate { db, to } => run_migrate(rt, db, to, out),
     }
 }

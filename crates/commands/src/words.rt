@@ -1,5 +1,5 @@
 //! Names, keys and ids, as the command line has them.
-ghost use Rattle.std.specs.Prelude.{◌≡◌, ◌≢◌, ◌^◌, ◌<◌, ◌↔◌, ℕ, IsOk, IfOk, IfErr};
+ghost use Rattle.std.specs.Prelude.{◌≡◌, ◌≢◌, ◌^◌, ◌<◌, ◌≤◌, ◌↔◌, ℕ, IsOk, IfOk, IfErr};
 ghost use Rattle.amount.specs.Decimal.{decimal_of};
 ghost use Rattle.tenants.specs.KeyText.{key_of};
 ghost use Rattle.tenants.specs.NameText.{IsTenantName};
@@ -34,4 +34,18 @@ pub(crate) fn account_id(text: &str) -> Result<u128, Fault>
 {
     let id = Amount::read_decimal(text).ok_or(Fault::BadAccount)?;
     Ok(id.value())
+}
+
+/// A version of the schema up to the current one, in canonical decimal.
+pub(crate) fn version(text: &str) -> Result<u32, Fault>
+    ensures known { IfOk result (λ version. (1 ≤ version) × (version ≤ 3)) }
+    ensures ok { IfOk result (λ version. text.now ≡ decimal_of version) }
+    ensures err { IfErr result (λ fault. (fault ≡ Fault.BadVersion)
+        × ((version : ℕ) → 1 ≤ version → version ≤ 3 → text.now ≢ decimal_of version)) }
+{
+    let version = Amount::read_decimal(text).ok_or(Fault::BadVersion)?.value();
+    if version == 0 || 3 < version {
+        return Err(Fault::BadVersion);
+    }
+    Ok(version as u32)
 }

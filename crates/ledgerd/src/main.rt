@@ -2,13 +2,7 @@
 //! the answer to a body of transfers on standard input, for the first tenant of a book of two.
 #![tactic(auto)]
 
-mod plain_reply;
-mod printed;
-mod respond_plain;
 mod run;
-#[cfg(test)]
-mod tests;
-mod two_tenants;
 
 use command_line::{Command, command};
 use commands::{Fault, program, serve_file, tell_fault};

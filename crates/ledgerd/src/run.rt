@@ -1,4 +1,4 @@
-use crate::printed::printed;
+use bodies::printed;
 use commands::Fault;
 use std::io::{self, ErrorKind, Read, Write};
 

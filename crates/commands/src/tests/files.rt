@@ -1,55 +1,124 @@
-//! Ledgers in files of this machine, and what the program tells of them.
-use super::firms::post_in_part;
+//! Steps on files of this machine: what is done to a file, and what the program tells of it.
+ghost use Rattle.std.specs.Prelude.{◌≡◌, false};
+
+use super::firms::{KEY, post_in_part};
 use crate::opening::open_file;
 use crate::program;
-use records::Streamed;
-use sqlite::{Connection, Options};
+use records::{Drain, Streamed};
+use sqlite::Connection;
 use sqlite_disk::Unknown;
+use std::alloc::AllocError;
 use std::fs;
 use std::test::Fail;
 
-/// What the program tells: its status, standard output and standard error.
-#[derive(Drop)]
-pub struct Told {
-    pub status: u8,
-    pub out: Vec<u8>,
-    pub err: Vec<u8>,
+/// A step on a file. Words are the program's, but for `--db`, with which they end.
+#[derive(Clone, Copy)]
+pub enum Step {
+    /// Words, their status, and what they write to standard output; nothing is told on standard
+    /// error.
+    Tells(&'static str, u8, &'static str),
+    /// Words, their status, and the fault that they tell on standard error; nothing is written to
+    /// standard output.
+    Refuses(&'static str, u8, &'static str),
+    /// Words, and what they have written to a standard output that is full behind it.
+    Fills(&'static str, &'static str),
+    /// The ledger of 'posted in part' is made; its tenant is `a`.
+    Posts,
+    /// A statement of SQL is run.
+    Changes(&'static str),
+    /// These bytes are written to the file in place of what it held.
+    Writes(&'static [u8]),
 }
 
-/// Runs the program for the words of a line.
-pub fn tell(rt: &HostRuntime, line: &str) -> Result<Told, Fail> {
-    let words: Vec<&str> = line.split(' ').collect(rt.alloc())?;
-    let mut out = Vec::new(rt.alloc());
-    let mut err = Streamed::new(Vec::new(rt.alloc()));
-    let status = program(rt, words.as_slice(), Streamed::new(&mut out), &mut err);
-    Ok(Told {
-        status,
-        out,
-        err: err.into_inner(),
-    })
-}
-
-/// Takes a file and its log away, if they are there.
-pub fn clear(rt: &HostRuntime, db: &str) -> Result<(), Fail> {
-    let log = format!(in rt.alloc(); "{db}-wal")?;
-    for path in [db, log.as_str()] {
-        if fs::exists(rt, path)? {
-            fs::remove_file(rt, path)?;
-        }
+/// Takes the steps on a file, which is not there before them, nor behind them.
+pub fn take_steps(rt: &HostRuntime, db: &str, steps: &[Step]) -> Result<(), Fail> {
+    clear(rt, db)?;
+    for step in steps {
+        take_step(rt, db, *step)?;
     }
+    Ok(clear(rt, db)?)
+}
+
+fn take_step(rt: &HostRuntime, db: &str, step: Step) -> Result<(), Fail> {
+    match step {
+        Step::Tells(words, status, out) => tells(rt, &line(rt, words, db)?, status, out, ""),
+        Step::Refuses(words, status, fault) => {
+            let told = format!(in rt.alloc(); "ledgerd: {fault}\n")?;
+            tells(rt, &line(rt, words, db)?, status, "", &told)
+        }
+        Step::Fills(words, out) => fills(rt, &line(rt, words, db)?, out),
+        Step::Posts => post(rt, db),
+        Step::Changes(sql) => change(rt, db, sql),
+        Step::Writes(bytes) => Ok(fs::write(rt, db, bytes)?),
+    }
+}
+
+fn line(rt: &HostRuntime, words: &str, db: &str) -> Result<String, AllocError> {
+    format!(in rt.alloc(); "{words} --db={db}")
+}
+
+/// Runs the program for the words of a line, and looks at its status and at both of its texts.
+pub fn tells(rt: &HostRuntime, line: &str, status: u8, out: &str, err: &str) -> Result<(), Fail> {
+    let mut written = Vec::new(rt.alloc());
+    let (ended, told) = run_program(rt, line, Streamed::new(&mut written))?;
+    expect(line, (ended, &written, &told), (status, out, err))
+}
+
+// Looks at a status, at what was written to standard output, and at what was told.
+fn expect(line: &str, got: (u8, &[u8], &[u8]), want: (u8, &str, &str)) -> Result<(), Fail> {
+    if got == (want.0, want.1.as_bytes(), want.2.as_bytes()) {
+        return Ok(());
+    }
+    Err(Fail::new(format_args!("{line}: {got:?}, and not {want:?}")))
+}
+
+// The same with a standard output that takes so many bytes and no more.
+fn fills(rt: &HostRuntime, line: &str, out: &str) -> Result<(), Fail> {
+    let mut room = vec![in rt.alloc(); 0u8; out.len()]?;
+    let (ended, told) = run_program(rt, line, Streamed::new(room.as_mut_slice()))?;
+    expect(line, (ended, &room, &told), (3, out, "ledgerd: output\n"))
+}
+
+/// The status of the program for the words of a line, and what it tells on standard error.
+pub fn run_program<O: Drain + Drop>(
+    rt: &HostRuntime,
+    line: &str,
+    out: O,
+) -> Result<(u8, Vec<u8>), Fail>
+    requires { O.failed out ≡ false }
+{
+    let words: Vec<&str> = line.split_whitespace().collect(rt.alloc())?;
+    let mut err = Streamed::new(Vec::new(rt.alloc()));
+    let status = program(rt, words.as_slice(), out, &mut err);
+    Ok((status, err.into_inner()))
+}
+
+// Takes a file and its log away, if they are there.
+fn clear(rt: &HostRuntime, db: &str) -> Result<(), AllocError> {
+    let log = format!(in rt.alloc(); "{db}-wal")?;
+    remove(rt, [db, log.as_str()]);
     Ok(())
 }
 
-/// Sends the firm's messages of 'posted in part' to the ledger in a file.
-pub fn fill(rt: &HostRuntime, db: &str) -> Result<(), Fail> {
+/// Takes files away, those that are there.
+pub fn remove(rt: &HostRuntime, paths: [&str; 2]) {
+    for path in paths {
+        let _absent = fs::remove_file(rt, path);
+    }
+}
+
+// Adds the firm, and sends its messages of 'posted in part' to the ledger in a file.
+fn post(rt: &HostRuntime, db: &str) -> Result<(), Fail> {
+    let line = format!(in rt.alloc(); "tenant-add --db={db} --name=a --key={KEY}")?;
+    tells(rt, &line, 0, "added a\n", "")?;
     match open_file(rt, db) {
         Ok(mut store) => Ok(post_in_part(rt.alloc(), &mut store)?),
         Err(_) => Err("not opened".into()),
     }
 }
 
-/// Runs one statement of SQL on a file.
-pub fn change(rt: &HostRuntime, db: &str, sql: &str) -> Result<(), Fail> {
+// Runs a statement of SQL on a file.
+fn change(rt: &HostRuntime, db: &str, sql: &str) -> Result<(), Fail> {
     match Connection::open_from(rt, db, false, Unknown) {
         Ok(mut conn) => {
             conn.execute(sql, &[])?;

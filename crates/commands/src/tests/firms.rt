@@ -1,14 +1,7 @@
-//! A firm's ledger in memory, and the messages that it sends.
-ghost use Rattle.std.specs.Prelude.{IfOk};
-ghost use Rattle.chain.specs.Ledgers.{AreValid};
-ghost use Rattle.plain.specs.BookLedgers.{machines_in};
-
+//! A firm, and the messages that it sends.
 use chain::Ledgers;
-use plain::{Book, PlainTables};
 use service::respond;
 use std::alloc::{AllocError, Global};
-use std::test::Fail;
-use tenants::{Key, digest};
 
 /// The key of the firm.
 pub const KEY: &str = "0000000000000000000000000000000000000000000000000000000000000000";
@@ -27,23 +20,8 @@ const TRANSFERS: &str = concat!(
     "{\"id\":\"101\",\"pending_id\":\"100\",\"amount\":\"40\",\"flags\":4}]"
 );
 
-/// The digest of the firm's key.
-pub fn firm() -> Result<[u8; 32], &'static str> {
-    let key = Key::read(KEY.as_bytes()).ok_or("no key")?;
-    Ok(digest(&key))
-}
-
-/// The ledgers of one new firm.
-pub fn book(alloc: Global) -> Result<Book, Fail>
-    ensures { IfOk result (λ book. AreValid (machines_in book)) }
-{
-    let mut book = Book::new(alloc);
-    book.add(firm()?, PlainTables::new(alloc))?;
-    Ok(book)
-}
-
-/// A request of the firm by POST.
-pub fn post(alloc: Global, path: &str, body: &str) -> Result<Vec<u8>, AllocError> {
+// A request of the firm by POST.
+fn post(alloc: Global, path: &str, body: &str) -> Result<Vec<u8>, AllocError> {
     let length = body.len();
     let text = format!(in alloc;
         "POST {path} HTTP/1.1\r\nx-ledger-key: {KEY}\r\ncontent-length: {length}\r\n\r\n{body}"

@@ -1,302 +1,263 @@
 //! The program on host files.
-use super::files::{change, clear, fill, tell};
+use super::files::Step::{Changes, Fills, Posts, Refuses, Tells, Writes};
+use super::files::{Step, remove, run_program, take_steps, tells};
 use super::firms::KEY;
 use crate::program;
 use records::Streamed;
-use std::fs;
 use std::test::Fail;
 
-const HEADER: &str = concat!(
-    "timestamp,transfer_id,side,kind,amount,",
-    "debits_pending,debits_posted,credits_pending,credits_posted\n"
-);
+// The words that add a tenant. Its key is eight digits, eight times.
+macro_rules! tenant_add {
+    ($name:literal, $eight:literal) => {
+        concat!(
+            "tenant-add --name=", $name, " --key=", $eight, $eight, $eight, $eight, $eight, $eight,
+            $eight, $eight
+        )
+    };
+}
 
-const PENDING: &str = "5,100,debit,pending,100,100,0,0,0\n";
+// A statement of these rows.
+macro_rules! statement_text {
+    ($($row:literal),*) => {
+        concat!(
+            "timestamp,transfer_id,side,kind,amount,",
+            "debits_pending,debits_posted,credits_pending,credits_posted\n"
+            $(, $row)*
+        )
+    };
+}
 
-const POSTED: &str = "6,101,debit,post,40,0,40,0,0\n";
-
-const OTHER_KEY: &str = "0101010101010101010101010101010101010101010101010101010101010101";
+// Of a file that is absent, and that no command makes.
+const WORDS: [Step; 19] = [
+    Tells("serve --port=1 --requests=1", 0, ""),
+    Refuses("check", 4, "unreadable"),
+    Refuses("tenant-add --name=n_o --key=00", 2, "bad_name"),
+    Refuses("tenant-add --name=-a --key=00", 2, "bad_key"),
+    Refuses("statement --tenant= --account=01", 2, "bad_name"),
+    Refuses("statement --tenant=a --account=01", 2, "bad_account"),
+    Refuses("statement --tenant=a --account=", 2, "bad_account"),
+    Refuses("statement --tenant=a --account=+1", 2, "bad_account"),
+    Refuses(
+        "statement --tenant=a --account=340282366920938463463374607431768211456",
+        2,
+        "bad_account",
+    ),
+    Refuses(
+        "statement --tenant=a --account=340282366920938463463374607431768211455",
+        4,
+        "unreadable",
+    ),
+    Refuses("statement --tenant=a --account=1", 4, "unreadable"),
+    Refuses("migrate --to=", 2, "bad_version"),
+    Refuses("migrate --to=0", 2, "bad_version"),
+    Refuses("migrate --to=4", 2, "bad_version"),
+    Refuses("migrate --to=01", 2, "bad_version"),
+    Refuses("migrate --to=03", 2, "bad_version"),
+    Refuses("migrate --to=1", 4, "unreadable"),
+    Refuses("migrate --to=3", 4, "unreadable"),
+    Refuses("check", 4, "unreadable"),
+];
 
 #[test]
 fn looks_at_words_before_files(rt: HostRuntime) -> Result<(), Fail> {
-    for (line, status, fault) in [
-        ("serve --db=absent.db --port=1 --requests=1", 0, ""),
-        (
-            "tenant-add --db=absent.db --name=n_o --key=00",
-            2,
-            "ledgerd: bad_name\n",
-        ),
-        (
-            "tenant-add --db=absent.db --name=-a --key=00",
-            2,
-            "ledgerd: bad_key\n",
-        ),
-        (
-            "statement --db=absent.db --tenant= --account=01",
-            2,
-            "ledgerd: bad_name\n",
-        ),
-        (
-            "statement --db=absent.db --tenant=a --account=01",
-            2,
-            "ledgerd: bad_account\n",
-        ),
-        (
-            "statement --db=absent.db --tenant=a --account=1",
-            4,
-            "ledgerd: unreadable\n",
-        ),
-        ("check --db=absent.db", 4, "ledgerd: unreadable\n"),
-        ("check --db=", 4, "ledgerd: unreadable\n"),
-        ("check --db=absent/a.db", 4, "ledgerd: unreadable\n"),
-    ] {
-        let told = tell(&rt, line)?;
-        assert_eq!(rt; told.status, status, "of {line}");
-        assert!(rt; told.out.is_empty());
-        assert_eq!(rt; told.err.as_slice(), fault.as_bytes());
+    for db in ["absent.db", "absent/a.db", ""] {
+        take_steps(&rt, db, &WORDS)?;
     }
-    assert!(rt; !fs::exists(&rt, "absent.db")?);
     Ok(())
 }
 
 // What `main` does itself.
 #[test]
 fn does_nothing_for_no_words(rt: HostRuntime) -> Result<(), Fail> {
-    let none: [&str; 0] = [];
-    let mut out = Vec::new(rt.alloc());
-    let mut err = Streamed::new(Vec::new(rt.alloc()));
-    let status = program(&rt, none.as_slice(), Streamed::new(&mut out), &mut err);
-    assert_eq!(rt; status, 0);
-    assert!(rt; out.is_empty());
-    assert!(rt; err.into_inner().is_empty());
-    Ok(())
+    tells(&rt, "", 0, "", "")
 }
+
+const REFUSED: [(&str, &str); 3] = [
+    (
+        "check",
+        "error: the following required arguments were not provided:\n  --db <FILE>\n",
+    ),
+    ("audit", "error: unrecognized subcommand 'audit'\n"),
+    ("--help", "A double-entry ledger for several tenants\n"),
+];
 
 #[test]
 fn refuses_words_as_clap_does(rt: HostRuntime) -> Result<(), Fail> {
-    for (line, beginning) in [
-        (
-            "check",
-            "error: the following required arguments were not provided:\n  --db <FILE>\n",
-        ),
-        ("audit", "error: unrecognized subcommand 'audit'\n"),
-        ("--help", "A double-entry ledger for several tenants\n"),
-    ] {
-        let told = tell(&rt, line)?;
-        assert_eq!(rt; told.status, 2, "of {line}");
-        assert!(rt; told.out.is_empty());
-        assert!(rt; told.err.as_slice().starts_with(beginning.as_bytes()));
+    for (line, beginning) in REFUSED {
+        let mut out = [0u8; 1];
+        let (status, told) = run_program(&rt, line, Streamed::new(out.as_mut_slice()))?;
+        assert_eq!(rt; (status, out[0]), (2, 0), "of {line}");
+        assert!(rt;
+            told.as_slice().starts_with(beginning.as_bytes()),
+            "of {line}"
+        );
     }
     Ok(())
 }
 
+const ADDED: [Step; 5] = [
+    Tells(tenant_add!("-a", "00000000"), 0, "added -a\n"),
+    Refuses(tenant_add!("-a", "01010101"), 1, "name_taken"),
+    Refuses(tenant_add!("b", "00000000"), 1, "digest_taken"),
+    Refuses(tenant_add!("-a", "00000000"), 1, "name_taken"),
+    Tells(tenant_add!("b", "01010101"), 0, "added b\n"),
+];
+
 #[test]
 fn adds_tenants(rt: HostRuntime) -> Result<(), Fail> {
-    let db = "added.db";
-    clear(&rt, db)?;
-    for (name, key, status, out, fault) in [
-        ("-a", KEY, 0, "added -a\n", ""),
-        ("-a", OTHER_KEY, 1, "", "ledgerd: name_taken\n"),
-        ("b", KEY, 1, "", "ledgerd: digest_taken\n"),
-        ("-a", KEY, 1, "", "ledgerd: name_taken\n"),
-        ("b", OTHER_KEY, 0, "added b\n", ""),
-    ] {
-        let line = format!(in rt.alloc(); "tenant-add --db={db} --name={name} --key={key}")?;
-        let told = tell(&rt, &line)?;
-        assert_eq!(rt; told.status, status, "of {line}");
-        assert_eq!(rt; told.out.as_slice(), out.as_bytes());
-        assert_eq!(rt; told.err.as_slice(), fault.as_bytes());
-    }
-    clear(&rt, db)
+    take_steps(&rt, "added.db", &ADDED)
 }
+
+const EMPTY: [Step; 6] = [
+    Writes(b""),
+    Refuses("check", 4, "not_a_ledger"),
+    Refuses("statement --tenant=a --account=1", 4, "not_a_ledger"),
+    Refuses("migrate --to=3", 4, "not_a_ledger"),
+    Tells(tenant_add!("a", "00000000"), 0, "added a\n"),
+    Tells("check", 0, "ok\n"),
+];
 
 #[test]
 fn makes_a_ledger_of_an_empty_file(rt: HostRuntime) -> Result<(), Fail> {
-    let db = "empty.db";
-    clear(&rt, db)?;
-    fs::write(&rt, db, "")?;
-    let line = format!(in rt.alloc(); "check --db={db}")?;
-    let before = tell(&rt, &line)?;
-    assert_eq!(rt;
-        before.err.as_slice(),
-        b"ledgerd: not_a_ledger\n".as_slice()
-    );
-    assert_eq!(rt; before.status, 4);
-    let add = format!(in rt.alloc(); "tenant-add --db={db} --name=a --key={KEY}")?;
-    assert_eq!(rt; tell(&rt, &add)?.out.as_slice(), b"added a\n".as_slice());
-    let after = tell(&rt, &line)?;
-    assert_eq!(rt; after.out.as_slice(), b"ok\n".as_slice());
-    assert_eq!(rt; after.status, 0);
-    clear(&rt, db)
+    take_steps(&rt, "empty.db", &EMPTY)
 }
 
-// The ledger of 'posted in part', in a file.
-fn filled(rt: &HostRuntime, db: &str) -> Result<(), Fail> {
-    clear(rt, db)?;
-    let add = format!(in rt.alloc(); "tenant-add --db={db} --name=a --key={KEY}")?;
-    if tell(rt, &add)?.status != 0 {
-        return Err("not added".into());
-    }
-    fill(rt, db)
-}
+const STATEMENTS: [Step; 6] = [
+    Posts,
+    Tells(
+        "statement --tenant=a --account=1",
+        0,
+        statement_text!(
+            "5,100,debit,pending,100,100,0,0,0\n",
+            "6,101,debit,post,40,0,40,0,0\n"
+        ),
+    ),
+    Tells(
+        "statement --tenant=a --account=1 --reversed",
+        0,
+        statement_text!(
+            "6,101,debit,post,40,0,40,0,0\n",
+            "5,100,debit,pending,100,100,0,0,0\n"
+        ),
+    ),
+    Tells("statement --tenant=a --account=3", 0, statement_text!()),
+    Refuses("statement --tenant=b --account=1", 1, "no_tenant"),
+    Refuses("statement --tenant=a --account=9", 1, "no_account"),
+];
 
 #[test]
 fn writes_statements(rt: HostRuntime) -> Result<(), Fail> {
-    let db = "statement.db";
-    filled(&rt, db)?;
-    let alloc = rt.alloc();
-    for (line, status, out, fault) in [
-        ("--tenant=a --account=1", 0, [HEADER, PENDING, POSTED], ""),
-        (
-            "--tenant=a --account=1 --reversed",
-            0,
-            [HEADER, POSTED, PENDING],
-            "",
-        ),
-        ("--tenant=a --account=3", 0, [HEADER, "", ""], ""),
-        (
-            "--tenant=b --account=1",
-            1,
-            ["", "", ""],
-            "ledgerd: no_tenant\n",
-        ),
-        (
-            "--tenant=a --account=9",
-            1,
-            ["", "", ""],
-            "ledgerd: no_account\n",
-        ),
-    ] {
-        let told = tell(&rt, &format!(in alloc; "statement --db={db} {line}")?)?;
-        let [first, second, third] = out;
-        let out = format!(in alloc; "{first}{second}{third}")?;
-        assert_eq!(rt; told.status, status, "of {line}");
-        assert_eq!(rt; told.out.as_slice(), out.as_bytes());
-        assert_eq!(rt; told.err.as_slice(), fault.as_bytes());
-    }
-    clear(&rt, db)
+    take_steps(&rt, "statement.db", &STATEMENTS)
 }
+
+// The tenant that cannot be told is added all the same.
+const FULL: [Step; 9] = [
+    Posts,
+    Fills("check", "o"),
+    Fills("statement --tenant=a --account=1", "ti"),
+    Fills("statement --tenant=a --account=1", statement_text!()),
+    Fills("statement --tenant=a --account=3", "ti"),
+    Fills("migrate --to=3", "schema "),
+    Fills(tenant_add!("b", "01010101"), "added b"),
+    Refuses(tenant_add!("b", "02020202"), 1, "name_taken"),
+    Refuses(tenant_add!("c", "01010101"), 1, "digest_taken"),
+];
 
 #[test]
 fn tells_a_full_device(rt: HostRuntime) -> Result<(), Fail> {
-    let db = "full.db";
-    filled(&rt, db)?;
-    let key = OTHER_KEY;
-    for line in [
-        format!(in rt.alloc(); "tenant-add --db={db} --name=b --key={key}")?,
-        format!(in rt.alloc(); "statement --db={db} --tenant=a --account=1")?,
-        format!(in rt.alloc(); "check --db={db}")?,
-    ] {
-        let words: Vec<&str> = line.as_str().split(' ').collect(rt.alloc())?;
-        let mut room = [0u8; 2];
-        let mut err = Streamed::new(Vec::new(rt.alloc()));
-        let out = Streamed::new(room.as_mut_slice());
-        assert_eq!(rt;
-            program(&rt, words.as_slice(), out, &mut err),
-            3,
-            "of {line}"
-        );
-        assert_eq!(rt;
-            err.into_inner().as_slice(),
-            b"ledgerd: output\n".as_slice()
-        );
-    }
-    let again = tell(
-        &rt,
-        &format!(in rt.alloc(); "tenant-add --db={db} --name=b --key={key}")?,
-    )?;
-    assert_eq!(rt; again.err.as_slice(), b"ledgerd: name_taken\n".as_slice());
-    clear(&rt, db)
+    take_steps(&rt, "full.db", &FULL)
 }
 
-// Each text of SQL changes the file behind the one before.
+const WRONG: [Step; 21] = [
+    Posts,
+    Tells("check", 0, "ok\n"),
+    Changes("UPDATE balance SET dd = dp WHERE dd <> dp"),
+    Tells(
+        "check",
+        4,
+        "damaged 4 66687aadf862bd776c8fc18b8e9f8e20089714856ee233b3902a591d0d5f2925 0\n",
+    ),
+    Refuses(tenant_add!("b", "00000000"), 4, "damaged"),
+    Refuses("statement --tenant=a --account=1", 4, "damaged"),
+    Refuses("migrate --to=3", 4, "damaged"),
+    Changes("UPDATE schema SET version = 2"),
+    Refuses("check", 4, "old_schema"),
+    Refuses(tenant_add!("b", "00000000"), 4, "old_schema"),
+    Refuses("statement --tenant=a --account=1", 4, "old_schema"),
+    Changes("UPDATE schema SET version = 4"),
+    Refuses("check", 4, "newer_schema"),
+    Refuses(tenant_add!("b", "00000000"), 4, "newer_schema"),
+    Refuses("statement --tenant=a --account=1", 4, "newer_schema"),
+    Refuses("migrate --to=3", 4, "newer_schema"),
+    Changes("DELETE FROM schema"),
+    Refuses("check", 4, "not_a_ledger"),
+    Refuses(tenant_add!("b", "00000000"), 4, "not_a_ledger"),
+    Refuses("statement --tenant=a --account=1", 4, "not_a_ledger"),
+    Refuses("migrate --to=3", 4, "not_a_ledger"),
+];
+
 #[test]
 fn tells_what_is_wrong_with_a_file(rt: HostRuntime) -> Result<(), Fail> {
-    let db = "wrong.db";
-    filled(&rt, db)?;
-    let check = format!(in rt.alloc(); "check --db={db}")?;
-    let add = format!(in rt.alloc(); "tenant-add --db={db} --name=b --key={KEY}")?;
-    let read = format!(in rt.alloc(); "statement --db={db} --tenant=a --account=1")?;
-    assert_eq!(rt; tell(&rt, &check)?.out.as_slice(), b"ok\n".as_slice());
-    for (sql, out, fault) in [
-        (
-            "UPDATE balance SET dd = dp WHERE dd <> dp",
-            "damaged 4 66687aadf862bd776c8fc18b8e9f8e20089714856ee233b3902a591d0d5f2925 0\n",
-            "ledgerd: damaged\n",
-        ),
-        ("UPDATE schema SET version = 2", "", "ledgerd: old_schema\n"),
-        (
-            "UPDATE schema SET version = 4",
-            "",
-            "ledgerd: newer_schema\n",
-        ),
-        ("DELETE FROM schema", "", "ledgerd: not_a_ledger\n"),
-    ] {
-        change(&rt, db, sql)?;
-        let checked = tell(&rt, &check)?;
-        assert_eq!(rt; checked.status, 4, "behind {sql}");
-        assert_eq!(rt; checked.out.as_slice(), out.as_bytes());
-        if out.is_empty() {
-            assert_eq!(rt; checked.err.as_slice(), fault.as_bytes());
-        } else {
-            assert!(rt; checked.err.is_empty());
-        }
-        for line in [&add, &read] {
-            let told = tell(&rt, line)?;
-            assert_eq!(rt; told.status, 4, "behind {sql}");
-            assert!(rt; told.out.is_empty());
-            assert_eq!(rt; told.err.as_slice(), fault.as_bytes());
-        }
-    }
-    clear(&rt, db)?;
-    fs::write(&rt, db, [255u8; 100].as_slice())?;
-    let noise = tell(&rt, &check)?;
-    assert_eq!(rt; noise.status, 4);
-    assert!(rt; noise.out.is_empty());
-    assert_eq!(rt; noise.err.as_slice(), b"ledgerd: unreadable\n".as_slice());
-    clear(&rt, db)
+    take_steps(&rt, "wrong.db", &WRONG)
 }
 
+const NOISE: [Step; 5] = [
+    Writes(&[255; 100]),
+    Refuses("check", 4, "unreadable"),
+    Refuses(tenant_add!("a", "00000000"), 4, "unreadable"),
+    Refuses("statement --tenant=a --account=1", 4, "unreadable"),
+    Refuses("migrate --to=3", 4, "unreadable"),
+];
+
+const NOTES: [Step; 5] = [
+    Changes("CREATE TABLE note (id INTEGER PRIMARY KEY) STRICT"),
+    Refuses("check", 4, "not_a_ledger"),
+    Refuses(tenant_add!("a", "00000000"), 4, "not_a_ledger"),
+    Refuses("statement --tenant=a --account=1", 4, "not_a_ledger"),
+    Refuses("migrate --to=3", 4, "not_a_ledger"),
+];
+
 #[test]
-fn takes_no_database_of_others(rt: HostRuntime) -> Result<(), Fail> {
-    let db = "notes.db";
-    clear(&rt, db)?;
-    change(&rt, db, "CREATE TABLE note (id INTEGER PRIMARY KEY) STRICT")?;
-    for line in [
-        format!(in rt.alloc(); "check --db={db}")?,
-        format!(in rt.alloc(); "tenant-add --db={db} --name=a --key={KEY}")?,
-    ] {
-        let told = tell(&rt, &line)?;
-        assert_eq!(rt; told.status, 4, "of {line}");
-        assert!(rt; told.out.is_empty());
-        assert_eq!(rt; told.err.as_slice(), b"ledgerd: not_a_ledger\n".as_slice());
-    }
-    clear(&rt, db)
+fn takes_no_files_of_others(rt: HostRuntime) -> Result<(), Fail> {
+    take_steps(&rt, "noise.db", &NOISE)?;
+    take_steps(&rt, "notes.db", &NOTES)
 }
+
+// Version 2 has the tables of version 3 but the last.
+const OLDER: [Step; 10] = [
+    Posts,
+    Changes("DROP TABLE failed"),
+    Changes("UPDATE schema SET version = 2"),
+    Refuses("check", 4, "old_schema"),
+    Refuses("migrate --to=1", 4, "newer_schema"),
+    Tells("migrate --to=2", 0, "schema 2\n"),
+    Tells("migrate --to=3", 0, "schema 3\n"),
+    Tells("check", 0, "ok\n"),
+    Tells("migrate --to=3", 0, "schema 3\n"),
+    Refuses("migrate --to=2", 4, "newer_schema"),
+];
+
+#[test]
+fn migrates_files(rt: HostRuntime) -> Result<(), Fail> {
+    take_steps(&rt, "older.db", &OLDER)
+}
+
+const MEMORY: [&str; 2] = ["memory.db", "memory.db-wal"];
 
 // Whichever allocation is refused, a tenant is added, or it is told that memory ran out.
 #[test]
 fn tells_want_of_memory(rt: HostRuntime) {
-    let _absent = fs::remove_file(&rt, "memory.db");
-    let _absent = fs::remove_file(&rt, "memory.db-wal");
+    remove(&rt, MEMORY);
     let mut out = [0u8; 32];
     let mut room = [0u8; 32];
     let mut err = Streamed::new(room.as_mut_slice());
     let words = ["tenant-add", "--db=memory.db", "--name=a", "--key", KEY];
-    let status = program(
-        &rt,
-        words.as_slice(),
-        Streamed::new(out.as_mut_slice()),
-        &mut err,
-    );
+    let written = Streamed::new(out.as_mut_slice());
+    let status = program(&rt, words.as_slice(), written, &mut err);
     if status == 0 {
-        assert!(rt; out.starts_with(b"added a\n"));
-        assert_eq!(rt; room[0], 0);
+        assert!(rt; out.starts_with(b"added a\n") && room[0] == 0);
     } else {
-        assert_eq!(rt; status, 3);
-        assert_eq!(rt; out[0], 0);
-        assert!(rt; room.starts_with(b"ledgerd: unavailable\n"));
+        assert!(rt; status == 3 && out[0] == 0 && room.starts_with(b"ledgerd: unavailable\n"));
     }
-    let _absent = fs::remove_file(&rt, "memory.db");
-    let _absent = fs::remove_file(&rt, "memory.db-wal");
+    remove(&rt, MEMORY);
 }

@@ -2,18 +2,42 @@
 ghost use Rattle.std.specs.Prelude.{IfSome};
 ghost use Rattle.store.specs.Stores.{IsUsable};
 
-use super::firms::{firm, post};
+use super::firms::KEY;
 use crate::serving::listen as listen_on;
+use crate::words::key_digest;
 use crate::{Fault, Home, serve_store};
 use service::Moments;
 use sqlite::{Files, Options};
 use sqlite_disk::{Disk, Fuse, Memory};
-use std::alloc::{AllocError, Global};
+use std::alloc::Global;
 use std::io::{Read, Write};
 use std::net::{Ipv4Addr, Shutdown, SocketAddr, TcpListener, TcpStream};
 use std::test::Fail;
 use store::{OnceFailing, Store};
 use tenants::TenantName;
+
+// The firm's batch of no transfers.
+const MESSAGE: &str = concat!(
+    "POST /transfers HTTP/1.1\r\nx-ledger-key: ",
+    "0000000000000000000000000000000000000000000000000000000000000000",
+    "\r\ncontent-length: 2\r\n\r\n[]"
+);
+
+// The replies to it at these clocks, each behind a text. Before what a client is told stands a bar.
+macro_rules! replies {
+    ($($before:literal $clock:literal),*) => {
+        concat!($(
+            $before, "HTTP/1.1 200 OK\r\ncontent-length: 29\r\n",
+            "content-type: application/json\r\n\r\n",
+            "{\"clock\":\"", $clock, "\",\"results\":[]}"
+        ),*)
+    };
+}
+
+const UNAVAILABLE: &str = concat!(
+    "|HTTP/1.1 503 Service Unavailable\r\ncontent-length: 23\r\n",
+    "content-type: application/json\r\n\r\n{\"error\":\"unavailable\"}"
+);
 
 // Gives its number, and from then on one thousand more each time.
 #[derive(Drop)]
@@ -29,82 +53,47 @@ impl Moments for Thousands {
     }
 }
 
-// A batch of no transfers.
-fn message(alloc: Global) -> Result<Vec<u8>, AllocError> {
-    post(alloc, "/transfers", "[]")
+// A disk in memory that fails behind so many calls.
+trait Faulty: Disk + Drop {
+    fn made(alloc: Global, calls: u64) -> Self;
 }
 
-// The reply to it.
-fn reply(alloc: Global, clock: u64) -> Result<String, AllocError> {
-    format!(in alloc;
-        "HTTP/1.1 200 OK\r\ncontent-length: 29\r\ncontent-type: application/json\r\n\r\n\
-        {{\"clock\":\"{clock}\",\"results\":[]}}"
-    )
-}
-
-fn unavailable() -> &'static str {
-    concat!(
-        "HTTP/1.1 503 Service Unavailable\r\ncontent-length: 23\r\n",
-        "content-type: application/json\r\n\r\n{\"error\":\"unavailable\"}"
-    )
-}
-
-fn listen(rt: &HostRuntime) -> Result<TcpListener, Fail> {
-    Ok(TcpListener::bind(rt, SocketAddr::from((Ipv4Addr::LOCALHOST, 0)))?)
-}
-
-// A client that has sent so many messages, and sends no more.
-fn client(rt: &HostRuntime, listener: &TcpListener, messages: u64) -> Result<TcpStream, Fail> {
-    let mut client = TcpStream::connect(rt, listener.local_addr()?)?;
-    for _ in 0..messages {
-        client.write_all(&message(rt.alloc())?)?;
+// Fails once.
+impl Faulty for OnceFailing<Memory> {
+    fn made(alloc: Global, calls: u64) -> OnceFailing<Memory> {
+        OnceFailing::new(Memory::new(alloc), calls)
     }
-    client.shutdown(Shutdown::Write)?;
-    Ok(client)
 }
 
-// All that a client is still told.
-fn told(alloc: Global, mut client: TcpStream) -> Result<Vec<u8>, Fail> {
-    let mut told = Vec::new(alloc);
-    client.read_to_end(&mut told)?;
-    Ok(told)
+// Fails from then on.
+impl Faulty for Fuse<Memory> {
+    fn made(alloc: Global, calls: u64) -> Fuse<Memory> {
+        Fuse::new(Memory::new(alloc), calls)
+    }
 }
 
-// The ledgers of a new firm in these files.
-fn firm_store<D: Disk + Drop>(alloc: Global, files: Files<D>) -> Option<Store<D>>
+// No test makes so many calls.
+const NEVER: u64 = 1_000_000;
+
+// The ledgers of a new firm, whose log fails behind so many calls.
+fn firm_store<D: Faulty>(alloc: Global, calls: u64) -> Option<Store<D>>
     ensures { IfSome result IsUsable }
 {
+    let files = Files {
+        log: D::made(alloc, calls),
+        db: D::made(alloc, NEVER),
+    };
     if !(files.log.may_be_used() && files.db.may_be_used()) {
         return None;
     }
     let name = TenantName::read("firm")?;
-    let digest = firm().ok()?;
+    let digest = key_digest(KEY).ok()?;
     let Ok(mut store) = Store::create(alloc, files, Options::new(7)) else {
         return None;
     };
     match store.add_tenant(&name, &digest) {
         Ok(()) => Some(store),
         Err(_) => None,
-    }
-}
-
-// Serves the firm, at the moments 1,000, 2,000 and so on.
-fn serve<D: Disk + Drop, H: Home<D>>(
-    alloc: Global,
-    listener: &TcpListener,
-    files: Files<D>,
-    home: &H,
-    most: u64,
-) -> Option<Result<(), Fault>> {
-    let store = firm_store(alloc, files)?;
-    let mut moments = Thousands(1000);
-    Some(serve_store(alloc, listener, home, store, &mut moments, most))
-}
-
-fn memory(alloc: Global) -> Files<Memory> {
-    Files {
-        log: Memory::new(alloc),
-        db: Memory::new(alloc),
     }
 }
 
@@ -122,137 +111,141 @@ impl<D: Disk + Drop> Home<D> for Nowhere {
 #[derive(Drop)]
 struct Spare(Global);
 
-impl Home<Fuse<Memory>> for Spare {
-    fn open_store(&self) -> Result<Store<Fuse<Memory>>, Fault> {
-        match firm_store(self.0, fused(self.0, u64::MAX)) {
+impl<D: Faulty> Home<D> for Spare {
+    fn open_store(&self) -> Result<Store<D>, Fault> {
+        match firm_store(self.0, NEVER) {
             Some(store) => Ok(store),
             None => Err(Fault::Unreadable),
         }
     }
 }
 
-// A log that fails each call behind so many.
-fn fused(alloc: Global, calls: u64) -> Files<Fuse<Memory>> {
-    Files {
-        log: Fuse::new(Memory::new(alloc), calls),
-        db: Fuse::new(Memory::new(alloc), u64::MAX),
-    }
+// Serves the firm, at the moments 1,000, 2,000 and so on.
+fn serve<D: Faulty, H: Home<D>>(
+    alloc: Global,
+    listener: &TcpListener,
+    home: &H,
+    calls: u64,
+    most: u64,
+) -> Option<Result<(), Fault>> {
+    let store = firm_store::<D>(alloc, calls)?;
+    let mut moments = Thousands(1000);
+    Some(serve_store(alloc, listener, home, store, &mut moments, most))
 }
+
+fn listen(rt: &HostRuntime) -> Result<TcpListener, Fail> {
+    Ok(TcpListener::bind(rt, SocketAddr::from((Ipv4Addr::LOCALHOST, 0)))?)
+}
+
+// A client that has sent so many messages, and sends no more; or none so far, and is silent.
+fn client(rt: &HostRuntime, listener: &TcpListener, messages: u64) -> Result<TcpStream, Fail> {
+    let mut client = TcpStream::connect(rt, listener.local_addr()?)?;
+    for _ in 0..messages {
+        client.write_all(MESSAGE.as_bytes())?;
+    }
+    if messages != 0 {
+        client.shutdown(Shutdown::Write)?;
+    }
+    Ok(client)
+}
+
+// What two clients that sent so many messages are told, until so many replies are written; nothing
+// where the service does not end well.
+fn exchange<D: Faulty, H: Home<D>>(
+    rt: &HostRuntime,
+    home: &H,
+    calls: u64,
+    messages: (u64, u64),
+    most: u64,
+) -> Result<Vec<u8>, Fail> {
+    let listener = listen(rt)?;
+    let first = client(rt, &listener, messages.0)?;
+    let second = client(rt, &listener, messages.1)?;
+    let mut told = Vec::new(rt.alloc());
+    if let Some(Ok(())) = serve::<D, H>(rt.alloc(), &listener, home, calls, most) {
+        hear(&mut told, first)?;
+        hear(&mut told, second)?;
+    }
+    Ok(told)
+}
+
+// All that a client is still told.
+fn hear(told: &mut Vec<u8>, mut client: TcpStream) -> Result<(), Fail> {
+    told.push(b'|')?;
+    client.read_to_end(told)?;
+    Ok(())
+}
+
+// The messages of two clients, the replies, and what the clients are told.
+const EXCHANGES: [((u64, u64), u64, &str); 2] = [
+    ((1, 3), 3, replies!("|" "1000", "|" "2000", "" "3000")),
+    ((0, 1), 1, replies!("||" "1000")),
+];
 
 #[test]
 fn serves_one_connection_after_the_other(rt: HostRuntime) -> Result<(), Fail> {
-    let alloc = rt.alloc();
-    let listener = listen(&rt)?;
-    let first = client(&rt, &listener, 1)?;
-    let second = client(&rt, &listener, 3)?;
-    let ended = serve(alloc, &listener, memory(alloc), &Nowhere, 3);
-    assert_eq!(rt; ended, Some(Ok(())));
-    assert_eq!(rt;
-        told(alloc, first)?.as_slice(),
-        reply(alloc, 1000)?.as_bytes()
-    );
-    let mut want = reply(alloc, 2000)?;
-    want.push_str(&reply(alloc, 3000)?)?;
-    assert_eq!(rt; told(alloc, second)?.as_slice(), want.as_bytes());
+    for (messages, most, want) in EXCHANGES {
+        let told = exchange::<Fuse<Memory>, _>(&rt, &Nowhere, NEVER, messages, most)?;
+        assert_eq!(rt; told.as_slice(), want.as_bytes());
+    }
     Ok(())
+}
+
+// How the service ends where nobody connects to a listener that does not wait.
+fn ended<D: Faulty>(rt: &HostRuntime, most: u64) -> Result<Option<Result<(), Fault>>, Fail> {
+    let listener = listen(rt)?;
+    listener.set_nonblocking(true)?;
+    Ok(serve::<D, _>(rt.alloc(), &listener, &Nowhere, NEVER, most))
 }
 
 #[test]
 fn accepts_nothing_for_no_replies(rt: HostRuntime) -> Result<(), Fail> {
-    let alloc = rt.alloc();
-    let ended = serve(alloc, &listen(&rt)?, memory(alloc), &Nowhere, 0);
-    assert_eq!(rt; ended, Some(Ok(())));
+    for (most, want) in [(0, Ok(())), (1, Err(Fault::Socket))] {
+        assert_eq!(rt; ended::<Fuse<Memory>>(&rt, most)?, Some(want));
+    }
     Ok(())
 }
 
 #[test]
-fn a_silent_client_keeps_nobody_out(rt: HostRuntime) -> Result<(), Fail> {
-    let alloc = rt.alloc();
+fn takes_no_port_in_use(rt: HostRuntime) -> Result<(), Fail> {
     let listener = listen(&rt)?;
-    let silent = TcpStream::connect(&rt, listener.local_addr()?)?;
-    let other = client(&rt, &listener, 1)?;
-    let ended = serve(alloc, &listener, memory(alloc), &Nowhere, 1);
-    assert_eq!(rt; ended, Some(Ok(())));
-    assert_eq!(rt;
-        told(alloc, other)?.as_slice(),
-        reply(alloc, 1000)?.as_bytes()
-    );
-    drop(silent);
-    Ok(())
-}
-
-#[test]
-fn tells_a_listener_that_fails(rt: HostRuntime) -> Result<(), Fail> {
-    let listener = listen(&rt)?;
-    listener.set_nonblocking(true)?;
-    let ended = serve(rt.alloc(), &listener, memory(rt.alloc()), &Nowhere, 1);
-    assert_eq!(rt; ended, Some(Err(Fault::Socket)));
     let port = listener.local_addr()?.port();
     assert_eq!(rt; listen_on(&rt, port).err(), Some(Fault::Socket));
     Ok(())
 }
 
-// What the second of two clients is told where the first one is told that the service is
-// unavailable.
-fn told_next<D: Disk + Drop, H: Home<D>>(
-    rt: &HostRuntime,
-    files: Files<D>,
-    home: &H,
-) -> Result<Option<Vec<u8>>, Fail> {
-    let alloc = rt.alloc();
-    let listener = listen(rt)?;
-    let first = client(rt, &listener, 1)?;
-    let second = client(rt, &listener, 1)?;
-    if serve(alloc, &listener, files, home, 2).is_none() {
-        return Ok(None);
+// Whether the first of two clients is told at some call that fails that the service is unavailable,
+// and the second one is told this each time.
+fn tells_next<D: Faulty, H: Home<D>>(rt: &HostRuntime, home: &H, want: &str) -> Result<bool, Fail> {
+    let mut has_failed = false;
+    for calls in 0..48 {
+        let told = exchange::<D, H>(rt, home, calls, (1, 1), 2)?;
+        if let Some(next) = told.as_slice().strip_prefix(UNAVAILABLE.as_bytes()) {
+            if next != want.as_bytes() {
+                return Ok(false);
+            }
+            has_failed = true;
+        }
     }
-    if told(alloc, first)?.as_slice() != unavailable().as_bytes() {
-        return Ok(None);
-    }
-    Ok(Some(told(alloc, second)?))
+    Ok(has_failed)
 }
 
 #[test]
 fn opens_a_store_again_over_its_files(rt: HostRuntime) -> Result<(), Fail> {
-    let alloc = rt.alloc();
-    let mut has_reopened = false;
-    for before in 0..48 {
-        let files = Files {
-            log: OnceFailing::new(Memory::new(alloc), before),
-            db: OnceFailing::new(Memory::new(alloc), 1_000_000),
-        };
-        if let Some(told) = told_next(&rt, files, &Nowhere)? {
-            assert_eq!(rt; told.as_slice(), reply(alloc, 2000)?.as_bytes());
-            has_reopened = true;
-        }
-    }
-    assert!(rt; has_reopened);
+    let want = replies!("|" "2000");
+    assert!(rt; tells_next::<OnceFailing<Memory>, _>(&rt, &Nowhere, want)?);
     Ok(())
 }
 
 #[test]
 fn opens_a_store_anew(rt: HostRuntime) -> Result<(), Fail> {
-    let alloc = rt.alloc();
-    let mut has_opened = false;
-    for calls in 0..48 {
-        if let Some(told) = told_next(&rt, fused(alloc, calls), &Spare(alloc))? {
-            assert_eq!(rt; told.as_slice(), reply(alloc, 2000)?.as_bytes());
-            has_opened = true;
-        }
-    }
-    assert!(rt; has_opened);
+    let spare = Spare(rt.alloc());
+    assert!(rt; tells_next::<Fuse<Memory>, _>(&rt, &spare, replies!("|" "2000"))?);
     Ok(())
 }
 
 #[test]
 fn answers_that_it_is_unavailable(rt: HostRuntime) -> Result<(), Fail> {
-    let mut has_refused = false;
-    for calls in 0..48 {
-        if let Some(told) = told_next(&rt, fused(rt.alloc(), calls), &Nowhere)? {
-            assert_eq!(rt; told.as_slice(), unavailable().as_bytes());
-            has_refused = true;
-        }
-    }
-    assert!(rt; has_refused);
+    assert!(rt; tells_next::<Fuse<Memory>, _>(&rt, &Nowhere, UNAVAILABLE)?);
     Ok(())
 }

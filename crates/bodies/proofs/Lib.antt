@@ -1,0 +1,4 @@
+mod Isolation
+mod Lines
+mod Opened
+mod Responses

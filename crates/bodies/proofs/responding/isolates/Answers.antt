@@ -1,0 +1,5 @@
+use Rattle.bodies.proofs.Isolation.{isolated}
+use Rattle.bodies.proofs.responding.isolates.Goals as goal
+
+pub returns : goal.returns
+returns c = isolated

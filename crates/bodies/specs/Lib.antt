@@ -1,0 +1,4 @@
+pub mod Answer
+pub mod FromBody
+pub mod Response
+pub mod SampleBook

@@ -1,4 +1,0 @@
-mod Isolation
-mod Opened
-mod Printing
-mod Responses

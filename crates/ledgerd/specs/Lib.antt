@@ -1,4 +1,0 @@
-pub mod Answer
-pub mod FromBody
-pub mod Response
-pub mod TwoTenants
