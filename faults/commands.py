@@ -58,7 +58,8 @@ def refuse(program, control, refusal, case):
     was_refused = control.end(refusal[0])
     what = f"{words[0]} with call {refusal[1]} refused"
     faults = (UNAVAILABLE,) if refusal[0] == MEMORY else (UNAVAILABLE, UNREADABLE)
-    want(told == ample or (was_refused and told in faults), f"{what}: {told}")
+    is_told = told == ample or (was_refused and unbegun(words, told, ample) in faults)
+    want(is_told, f"{what}: {told}")
     again = run(program, *words)
     if begin is None:
         want(again == ample, f"{what}, and again: {again}")
@@ -70,6 +71,13 @@ def refuse(program, control, refusal, case):
         want(again in (ample, *done), f"{what}, and again: {again}")
     check(program, words[2])
     return was_refused
+
+
+def unbegun(words, told, ample):
+    """What was told, less the beginning of a statement: its rows go out as they are read."""
+    status, out, err = told
+    is_begun = words[0] == "statement" and out != ample[1] and ample[1].startswith(out)
+    return (status, "" if is_begun else out, err)
 
 
 def files(db):
