@@ -44,28 +44,3 @@ pub fn columns_keep_order()
     ensures one_to_one { IsOneToOne }
     ensures order { KeepsOrder }
 {}
-
-#[cfg(test)]
-mod tests {
-    use super::*;
-    use std::test::Fail;
-
-    #[test]
-    fn a_column_has_the_greatest_byte_first(rt: HostRuntime) {
-        let mut one = [0; 16];
-        one[15] = 1;
-        assert_eq!(rt; Amount::new(1).to_column(), one);
-        assert_eq!(rt; Amount::MAX.to_column(), [0xff; 16]);
-        assert_eq!(rt; Amount::from_column(&one), Ok(Amount::new(1)));
-        assert_eq!(rt; Amount::from_column(&[0xff; 16]), Ok(Amount::MAX));
-    }
-
-    #[test]
-    fn a_column_has_sixteen_bytes(rt: HostRuntime) -> Result<(), Fail> {
-        assert_eq!(rt; Amount::from_column(&[0; 15]), Err(ColumnFault));
-        assert_eq!(rt; Amount::from_column(&[0; 17]), Err(ColumnFault));
-        let message = ColumnFault.to_string(rt.alloc())?;
-        assert_eq!(rt; message.as_str(), "a column of an amount has 16 bytes");
-        Ok(())
-    }
-}

@@ -14,8 +14,6 @@ mod pending;
 mod refusals;
 mod retry_laws;
 mod step_laws;
-#[cfg(test)]
-mod tests;
 mod transfers;
 
 pub use accounts::decide_account;
@@ -27,10 +25,6 @@ pub use laws::{
     release_is_without, sent_again_is_same, sums_fit,
 };
 pub use pending::{due, release};
-pub use records::{
-    Accepted, AccountWithBalances, Ending, ExistingTransfer, PendingState, PendingTransfer,
-    TransferFacts,
-};
 pub use retry_laws::{failed_stays_failed, retry_adds_nothing};
 pub use step_laws::{later_of_later_is_later, steps_lead_to_later, steps_stay_valid};
 pub use transfers::decide_transfer;

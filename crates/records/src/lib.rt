@@ -16,11 +16,7 @@ mod row_sink;
 mod side;
 mod source;
 mod statement_row;
-#[cfg(test)]
-mod stream_tests;
 mod streamed;
-#[cfg(test)]
-mod tests;
 mod transfer;
 mod transfer_checks;
 mod transfer_flags;

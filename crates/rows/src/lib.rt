@@ -15,8 +15,6 @@ mod status_cells;
 mod status_row;
 mod table_laws;
 mod tenant_rows;
-#[cfg(test)]
-mod tests;
 mod transfer_cells;
 
 pub use account_cells::AccountCells;

@@ -13,8 +13,6 @@ mod running;
 mod settle;
 mod statuses;
 mod tables;
-#[cfg(test)]
-mod tests;
 
 pub use entry::Entry;
 pub use replaying::{

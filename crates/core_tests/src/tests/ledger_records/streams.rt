@@ -1,4 +1,4 @@
-use crate::{Drain, Failed, Source, Streamed, put_all};
+use records::{Drain, Failed, Source, Streamed, put_all};
 use std::io::{self, ErrorKind, Read, Write};
 use std::test::Fail;
 

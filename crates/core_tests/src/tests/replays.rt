@@ -1,7 +1,9 @@
-use crate::{Entry, ReplayFault, replay};
+//! A tenant in ordered maps, out of its entries.
+
 use amount::Amount;
 use records::{Account, AccountFlags, Balances, PendingState, Side, Sums, Transfer, TransferFlags};
 use rows::{BalanceRow, HistoryRow, StatusRow};
+use running::{Entry, ReplayFault, replay};
 use std::alloc::Global;
 use std::test::Fail;
 
@@ -145,6 +147,17 @@ fn a_pending_transfer_expires(rt: HostRuntime) -> Result<(), Fail> {
         [expired].as_slice()
     );
     assert_eq!(rt; replayed.history_rows().len(), 2);
+    Ok(())
+}
+
+#[test]
+fn prints_why_entries_are_not_replayed(rt: HostRuntime) -> Result<(), Fail> {
+    for (fault, text) in [
+        (ReplayFault::Refused(3), "entry 3 is not accepted"),
+        (ReplayFault::Memory, "out of memory"),
+    ] {
+        assert_eq!(rt; format!(in rt.alloc(); "{fault}")?.as_str(), text);
+    }
     Ok(())
 }
 

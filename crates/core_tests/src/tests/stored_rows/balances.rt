@@ -1,0 +1,49 @@
+use super::column;
+use records::Balances;
+use rows::{BalanceCells, BalanceRow, HistoryCells, HistoryRow};
+
+// Four balances that are all different.
+fn balances() -> Balances {
+    samples::balances((60, 40), (u128::MAX, 0))
+}
+
+#[test]
+fn one_balance(rt: HostRuntime) {
+    let row = BalanceRow {
+        account: 1,
+        balances: balances(),
+    };
+    let cells = BalanceCells {
+        account: column(1),
+        dp: column(60),
+        dd: column(40),
+        cp: [0xff; 16],
+        cc: [0; 16],
+    };
+    assert_eq!(rt; BalanceCells::from_row(&row), cells);
+    assert_eq!(rt; cells.to_row(), row);
+}
+
+#[test]
+fn one_history_row(rt: HostRuntime) {
+    let row = HistoryRow {
+        account: 2,
+        timestamp: 5,
+        balances: balances(),
+    };
+    let cells = HistoryCells {
+        account: column(2),
+        timestamp: 5,
+        dp: column(60),
+        dd: column(40),
+        cp: [0xff; 16],
+        cc: [0; 16],
+    };
+    assert_eq!(rt; HistoryCells::from_row(&row), cells);
+    assert_eq!(rt; cells.to_row(), Some(row));
+    let before_all = HistoryCells {
+        timestamp: -5,
+        ..cells
+    };
+    assert_eq!(rt; before_all.to_row(), None);
+}

@@ -1,0 +1,4 @@
+//! Keys and their digests, and names.
+
+mod keys;
+mod names;
