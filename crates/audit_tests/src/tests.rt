@@ -1,4 +1,4 @@
-use audit::{AuditFault, check};
+use audit::{AuditFault, Damage, DamageKind, check};
 use rows::TenantOfDigest;
 use std::alloc::Global;
 use std::test::Fail;
@@ -137,5 +137,21 @@ fn the_first_of_all_tenants(rt: HostRuntime) -> Result<(), Fail> {
         tenants.push(tenant(rt.alloc(), 3, digest, &sample)?)?;
     }
     assert_eq!(rt; told(rt.alloc(), 3, tenants), Some((4, 7, 1)));
+    Ok(())
+}
+
+#[test]
+fn prints_why_rows_do_not_pass(rt: HostRuntime) -> Result<(), Fail> {
+    let damage = Damage {
+        kind: DamageKind::Clock,
+        digest: [7; 32],
+        place: 0,
+    };
+    for (fault, text) in [
+        (AuditFault::Damaged(damage), "damaged"),
+        (AuditFault::Memory, "out of memory"),
+    ] {
+        assert_eq!(rt; format!(in rt.alloc(); "{fault}")?.as_str(), text);
+    }
     Ok(())
 }

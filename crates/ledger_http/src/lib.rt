@@ -16,8 +16,6 @@ mod reply;
 mod request;
 mod route;
 mod routing;
-#[cfg(test)]
-mod tests;
 mod writing;
 
 pub use asking::asked;

@@ -10,35 +10,53 @@ use std::process::Abort;
 use std::test::Fail;
 use wire::{Items, Outcome, batch_text_accounts, batch_text_transfers, refusal_text, reply_bytes};
 
-#[test]
-fn tells_results(rt: HostRuntime) -> Result<(), Fail> {
-    let outcome = Outcome::TransferResults {
-        clock: 1000,
-        results: items(rt.alloc(), &[])?,
-    };
-    is_json(&rt, &outcome, "29", r#"{"clock":"1000","results":[]}"#)?;
+const FAILED: EventResult<TransferResult> = EventResult {
+    result: TransferResult::IdAlreadyFailed,
+    timestamp: u64::MAX,
+};
 
-    let failed = EventResult {
-        result: TransferResult::IdAlreadyFailed,
-        timestamp: u64::MAX,
-    };
-    let outcome = Outcome::TransferResults {
-        clock: u64::MAX,
-        results: items(rt.alloc(), &[failed])?,
-    };
-    let body = concat!(
-        r#"{"clock":"18446744073709551615","results":[{"number":60,"result":"id_already_failed","#,
-        r#""timestamp":"18446744073709551615"}]}"#
-    );
-    is_json(&rt, &outcome, "122", body)?;
-
-    let opened = [1001, 1002].map(|timestamp| EventResult {
+const OPENED: [EventResult<AccountResult>; 2] = [
+    EventResult {
         result: AccountResult::Accepted,
-        timestamp,
-    });
+        timestamp: 1001,
+    },
+    EventResult {
+        result: AccountResult::Accepted,
+        timestamp: 1002,
+    },
+];
+
+/// The clock, the results, and the length and the text of the reply's body.
+type Results<R> = (u64, &'static [EventResult<R>], &'static str, &'static str);
+
+const TRANSFER_RESULTS: [Results<TransferResult>; 2] = [
+    (1000, &[], "29", r#"{"clock":"1000","results":[]}"#),
+    (
+        u64::MAX,
+        &[FAILED],
+        "122",
+        concat!(
+            r#"{"clock":"18446744073709551615","results":[{"number":60,"#,
+            r#""result":"id_already_failed","timestamp":"18446744073709551615"}]}"#
+        ),
+    ),
+];
+
+#[test]
+fn tells_results_of_transfers(rt: HostRuntime) -> Result<(), Fail> {
+    for (clock, results, length, body) in TRANSFER_RESULTS {
+        let results = items(rt.alloc(), results)?;
+        let outcome = Outcome::TransferResults { clock, results };
+        is_json(&rt, &outcome, length, body)?;
+    }
+    Ok(())
+}
+
+#[test]
+fn tells_results_of_accounts(rt: HostRuntime) -> Result<(), Fail> {
     let outcome = Outcome::AccountResults {
         clock: 1002,
-        results: items(rt.alloc(), &opened)?,
+        results: items(rt.alloc(), &OPENED)?,
     };
     let body = concat!(
         r#"{"clock":"1002","results":[{"number":0,"result":"ok","timestamp":"1001"},"#,
@@ -182,15 +200,18 @@ fn tells_balances(rt: HostRuntime) -> Result<(), Fail> {
 }
 
 #[test]
-fn tells_statements_and_refusals(rt: HostRuntime) -> Result<(), Fail> {
+fn tells_statements(rt: HostRuntime) -> Result<(), Fail> {
     let csv = concat!(
         "timestamp,transfer_id,side,kind,amount,",
         "debits_pending,debits_posted,credits_pending,credits_posted\n",
         "3,1,debit,single,10,0,10,0,0\n"
     );
     let outcome = Outcome::Statement(items(rt.alloc(), csv.as_bytes())?);
-    is_reply(&rt, &outcome, "128", "text/csv", csv)?;
+    is_reply(&rt, &outcome, "128", "text/csv", csv)
+}
 
+#[test]
+fn tells_refusals(rt: HostRuntime) -> Result<(), Fail> {
     let text = concat!(
         "HTTP/1.1 401 Unauthorized\r\ncontent-length: 23\r\n",
         "content-type: application/json\r\n\r\n",

@@ -1,5 +1,5 @@
 use super::sample::{KEY, message, refusal_of, refused};
-use crate::{Refusal, Route, asked};
+use ledger_http::{Refusal, Route, asked};
 use std::alloc::AllocError;
 use tenants::Key;
 

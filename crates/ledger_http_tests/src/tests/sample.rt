@@ -2,7 +2,7 @@
 ghost use Rattle.std.specs.Prelude.{◌≡◌, false};
 ghost use Rattle.records.specs.Streamed.{stream_failed};
 
-use crate::{Message, Refusal, asked, read_message};
+use ledger_http::{Message, Refusal, asked, read_message};
 use records::Streamed;
 use std::alloc::AllocError;
 use std::io::{self, ErrorKind, Read, Write};

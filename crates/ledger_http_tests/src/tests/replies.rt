@@ -1,5 +1,5 @@
 use super::sample::Narrow;
-use crate::{ContentType, Refusal, Reply, write_reply};
+use ledger_http::{ContentType, Refusal, Reply, write_reply};
 use records::Streamed;
 use std::alloc::AllocError;
 

@@ -1,7 +1,7 @@
 use super::sample::{
     KEY, is_of_reading, is_read_whole, message, reader_of, refusal_of, refusal_read, refused,
 };
-use crate::{Message, Refusal, read_message};
+use ledger_http::{Message, Refusal, read_message};
 use std::alloc::AllocError;
 
 // Whether what is refused while it is read is told so, and all else is read whole.
