@@ -5,8 +5,6 @@ mod app;
 mod commands;
 mod fault;
 mod read;
-#[cfg(test)]
-mod tests;
 
 pub use commands::Command;
 pub use fault::LineFault;

@@ -9,8 +9,8 @@ use Rattle.store.specs.declared.place.Place.{Place}
 use Rattle.store.specs.declared.place.Place.TheVariants as at
 use Rattle.store.specs.Joining.{HasJoined}
 use Rattle.store.specs.Stores.{OfDatabaseAt}
-use Rattle.commands.specs.declared.fault.Fault.{Fault}
-use Rattle.commands.specs.declared.fault.Fault.TheVariants.{Output}
+use Rattle.command_texts.specs.declared.fault.Fault.{Fault}
+use Rattle.command_texts.specs.declared.fault.Fault.TheVariants.{Output}
 use Rattle.commands.specs.Adding.{IsAdded, add_fault}
 
 -- what follows of the databases, where something holds of them

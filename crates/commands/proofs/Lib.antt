@@ -1,3 +1,2 @@
 mod ServedConnections
-mod LineLemmas
 mod AddLemmas

@@ -4,9 +4,9 @@ use Rattle.sqlite.specs.Effect.{Database}
 use Rattle.store.specs.declared.joining.AddTenant.{AddTenant}
 use Rattle.store.specs.declared.joining.AddTenant.TheVariants as add
 use Rattle.store.specs.Joining.{HasJoined}
-use Rattle.commands.specs.declared.fault.Fault.{Fault}
-use Rattle.commands.specs.declared.fault.Fault.TheVariants.{NameTaken, DigestTaken, Unavailable}
-use Rattle.commands.specs.declared.fault.Fault.TheVariants.{Output}
+use Rattle.command_texts.specs.declared.fault.Fault.{Fault}
+use Rattle.command_texts.specs.declared.fault.Fault.TheVariants.{NameTaken, DigestTaken, Unavailable}
+use Rattle.command_texts.specs.declared.fault.Fault.TheVariants.{Output}
 
 -- the fault that the program tells where a tenant is not added
 abbrev pub add_fault : AddTenant → Fault

@@ -7,7 +7,7 @@ use Rattle.store.specs.declared.store.Store.{Store}
 use Rattle.commands.specs.Closed.{closed_meaning}
 use Rattle.commands.specs.Connections.{Serves}
 use Rattle.commands.specs.declared.closed.Closed.{Closed}
-use Rattle.commands.specs.declared.fault.Fault.{Fault}
+use Rattle.command_texts.specs.declared.fault.Fault.{Fault}
 
 module _ {D : Type 0} {g : disk.Ghosts D} where
   -- a store that answers calls stays as it is

@@ -1,10 +1,7 @@
-pub mod Faults
 pub mod Connections
 pub mod Closed
 pub mod Kept
 pub mod Statements
-pub mod Words
-pub mod Lines
 pub mod Adding
 pub mod Openings
 pub mod Migrating

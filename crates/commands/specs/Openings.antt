@@ -1,8 +1,8 @@
 -- The faults of openings.
 use Rattle.store.specs.declared.opening.OpenFault.{OpenFault}
 use Rattle.store.specs.declared.opening.OpenFault.TheVariants as opening
-use Rattle.commands.specs.declared.fault.Fault.{Fault}
-use Rattle.commands.specs.declared.fault.Fault.TheVariants as told
+use Rattle.command_texts.specs.declared.fault.Fault.{Fault}
+use Rattle.command_texts.specs.declared.fault.Fault.TheVariants as told
 
 -- the fault that the program tells where a file is not opened
 abbrev pub open_fault : OpenFault → Fault

@@ -14,13 +14,13 @@ use Rattle.command_line.specs.declared.commands.Command.{Command}
 use Rattle.command_line.specs.declared.commands.Command.TheVariants as command
 use Rattle.command_line.specs.declared.fault.LineFault.{LineFault}
 use Rattle.command_line.specs.declared.fault.LineFault.TheVariants.{Refused, Memory}
-use Rattle.commands.specs.Faults.{status_of}
-use Rattle.commands.specs.Lines.{IsWritten, added_line, damage_line, fault_line, schema_line}
+use Rattle.command_texts.specs.Faults.{status_of}
+use Rattle.command_texts.specs.Lines.{IsWritten, added_line, damage_line, fault_line, schema_line}
 use Rattle.commands.specs.declared.ended.Ended.{Ended}
-use Rattle.commands.specs.declared.fault.Fault.{Fault}
-use Rattle.commands.specs.declared.fault.Fault.TheVariants.{BadName, BadKey, BadAccount}
-use Rattle.commands.specs.declared.fault.Fault.TheVariants.{BadVersion}
-use Rattle.commands.specs.declared.fault.Fault.TheVariants.{Unavailable}
+use Rattle.command_texts.specs.declared.fault.Fault.{Fault}
+use Rattle.command_texts.specs.declared.fault.Fault.TheVariants.{BadName, BadKey, BadAccount}
+use Rattle.command_texts.specs.declared.fault.Fault.TheVariants.{BadVersion}
+use Rattle.command_texts.specs.declared.fault.Fault.TheVariants.{Unavailable}
 
 -- an account's id, in canonical decimal
 abbrev pub IsAccountId : List ℕ → Type 0

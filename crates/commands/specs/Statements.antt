@@ -10,9 +10,9 @@ use Rattle.chain.specs.declared.reads.ReadFault.{ReadFault}
 use Rattle.chain.specs.declared.reads.ReadFault.TheVariants as read
 use Rattle.chain.specs.LedgerReads.{Seen, seen_in}
 use Rattle.statement.specs.Text.{statement_text}
-use Rattle.commands.specs.declared.fault.Fault.{Fault}
-use Rattle.commands.specs.declared.fault.Fault.TheVariants.{NoTenant, NoAccount, Unavailable}
-use Rattle.commands.specs.declared.fault.Fault.TheVariants.{Output}
+use Rattle.command_texts.specs.declared.fault.Fault.{Fault}
+use Rattle.command_texts.specs.declared.fault.Fault.TheVariants.{NoTenant, NoAccount, Unavailable}
+use Rattle.command_texts.specs.declared.fault.Fault.TheVariants.{Output}
 
 -- what a tenant, if there is one, answers when it is asked for an account's statement
 abbrev pub answer_in :

@@ -3,10 +3,9 @@ ghost use Rattle.std.specs.Prelude.{◌≡◌, false, OnOk};
 ghost use Rattle.std.specs.Io.KnownBytes.{Appends};
 ghost use Rattle.store.specs.Stores.{Follows, IsLive, IsUsable, OfDatabases};
 ghost use Rattle.commands.specs.Adding.{IsAdded, add_fault};
-ghost use Rattle.commands.specs.Lines.{added_line};
+ghost use Rattle.command_texts.specs.Lines.{added_line};
 
-use crate::Fault;
-use crate::lines::put_added;
+use command_texts::{Fault, put_added};
 use records::Drain;
 use sqlite_disk::Disk;
 use store::{AddTenant, Store};

@@ -4,10 +4,11 @@ ghost use Rattle.store.specs.Stores.{IsUsable};
 ghost use Rattle.commands.specs.Kept.{KeptOn, Renews, ServesStore};
 ghost use Rattle.commands.specs.Openings.{IsOpeningFault};
 
+use crate::SystemMoments;
 use crate::closed::Closed;
 use crate::opening::open_file;
 use crate::serving::{listen, serve_connection};
-use crate::{Fault, SystemMoments};
+use command_texts::Fault;
 use records::Unavailable;
 use service::Moments;
 use sqlite_disk::Disk;

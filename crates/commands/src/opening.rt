@@ -4,8 +4,8 @@ ghost use Rattle.store.specs.Migrating.{IsMigratable};
 ghost use Rattle.store.specs.Stores.{IsUsable};
 ghost use Rattle.commands.specs.Openings.{IsOpeningFault, open_fault};
 
-use crate::Fault;
 use audit::Damage;
+use command_texts::Fault;
 use records::Unavailable;
 use sqlite::Options;
 use sqlite_disk::Unknown;

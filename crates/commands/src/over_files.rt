@@ -3,13 +3,13 @@ ghost use Rattle.std.specs.Prelude.{◌≡◌, false};
 ghost use Rattle.commands.specs.Migrating.{migrate_fault};
 ghost use Rattle.commands.specs.Program.{AddsTenant, Checks, Migrates, WritesStatement};
 
-use crate::Fault;
 use crate::adding::add_tenant;
 use crate::ended::Ended;
-use crate::lines::{damage_line, put_schema, put_text};
 use crate::opening::{examine, open_file, open_or_make, open_to_migrate};
 use crate::statements::write_statement;
-use crate::words::{account_id, key_digest, name, version};
+use command_texts::{
+    Fault, account_id, damage_line, key_digest, name, put_schema, put_text, version,
+};
 use migrate::{MigrateFault, migrate};
 use records::{Drain, Order};
 

@@ -2,8 +2,8 @@
 ghost use Rattle.std.specs.Prelude.{◌≡◌, ◌≤◌, IfErr};
 ghost use Rattle.commands.specs.Connections.{Serves};
 
-use crate::Fault;
 use chain::Ledgers;
+use command_texts::Fault;
 use records::Streamed;
 use service::{Moments, ServeFault, serve};
 use std::alloc::Global;

@@ -3,8 +3,8 @@ ghost use Rattle.std.specs.Prelude.{◌≡◌, false};
 ghost use Rattle.chain.specs.LedgerReads.{Reads};
 ghost use Rattle.commands.specs.Statements.{IsStatementTold, statement_fault, answer_in};
 
-use crate::Fault;
 use chain::{Ledgers, ReadFault};
+use command_texts::Fault;
 use records::{Drain, Order, SinkFault};
 use statement::{StatementWriter, rows_make_a_statement};
 use std::alloc::Global;

@@ -2,11 +2,10 @@
 ghost use Rattle.std.specs.Prelude.{◌≡◌, false, map};
 ghost use Rattle.commands.specs.Program.{Does, HasRun, IsRefusalTold, Tells, told};
 
-use crate::Fault;
 use crate::ended::Ended;
-use crate::lines::tell_fault;
 use crate::over_files::{run_add_tenant, run_check, run_migrate, run_statement};
 use command_line::{Command, LineFault, command};
+use command_texts::{Fault, tell_fault};
 use records::{Drain, Order, put_all};
 use std::alloc::Global;
 use std::convert::AsStr;

@@ -5,7 +5,8 @@
 mod run;
 
 use command_line::{Command, command};
-use commands::{Fault, program, serve_file, tell_fault};
+use command_texts::{Fault, tell_fault};
+use commands::{program, serve_file};
 use records::Streamed;
 use std::env;
 use std::io::{self, ErrorKind};

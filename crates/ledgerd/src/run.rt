@@ -1,5 +1,5 @@
 use bodies::printed;
-use commands::Fault;
+use command_texts::Fault;
 use std::io::{self, ErrorKind, Read, Write};
 
 // What the program tells where standard input or output fails.

@@ -4,7 +4,7 @@ use Rattle.std.proofs.Common.{◌≡◌, ℕ, Bool, List, [], Option, Result, Ok
 use Rattle.std.proofs.lemmas.List.{append-nil}
 use Rattle.std.specs.Io.KnownBytes.{Appends}
 use Rattle.records.specs.Streams.{AppendsFront}
-use Rattle.commands.specs.Lines.{IsWritten}
+use Rattle.command_texts.specs.Lines.{IsWritten}
 
 -- what a writer has, whatever the writing answers
 pub is_written :

@@ -1,5 +1,7 @@
-use crate::{Command, LineFault, command};
+//! The words of the command line, read as commands.
+
 use clap::error::ErrorKind;
+use command_line::{Command, LineFault, command};
 use std::test::Fail;
 
 // Lines, and the commands that they are.

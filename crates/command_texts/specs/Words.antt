@@ -1,8 +1,8 @@
 -- Keys on the command line.
 use Rattle.std.specs.Prelude.{◌≡◌, ℕ, List, Option, Some, None, Result, Ok, Err}
 use Rattle.sha2.specs.Sha256.{sha256}
-use Rattle.commands.specs.declared.fault.Fault.{Fault}
-use Rattle.commands.specs.declared.fault.Fault.TheVariants.{BadKey}
+use Rattle.command_texts.specs.declared.fault.Fault.{Fault}
+use Rattle.command_texts.specs.declared.fault.Fault.TheVariants.{BadKey}
 
 -- the digest of the key that is read, or the fault where none is
 abbrev pub IsDigestOfKey : Option (List ℕ) → Result (List ℕ) Fault → Type 0

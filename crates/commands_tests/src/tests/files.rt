@@ -1,15 +1,16 @@
 //! Steps on files of this machine: what is done to a file, and what the program tells of it.
 ghost use Rattle.std.specs.Prelude.{◌≡◌, false};
 
-use super::firms::{KEY, post_in_part};
-use crate::opening::open_file;
-use crate::program;
+use super::firms::{ADDING, post_in_part};
+use command_texts::Fault;
+use commands::{program, serve_file};
 use records::{Drain, Streamed};
-use sqlite::Connection;
+use sqlite::{Connection, Options};
 use sqlite_disk::Unknown;
 use std::alloc::AllocError;
 use std::fs;
 use std::test::Fail;
+use store::{FullAudit, Store};
 
 /// A step on a file. Words are the program's, but for `--db`, with which they end.
 #[derive(Clone, Copy)]
@@ -24,6 +25,8 @@ pub enum Step {
     Fills(&'static str, &'static str),
     /// The ledger of 'posted in part' is made; its tenant is `a`.
     Posts,
+    /// A port on which the file is served, for no replies, and the fault with which that ends.
+    Serves(u16, Option<Fault>),
     /// A statement of SQL is run.
     Changes(&'static str),
     /// These bytes are written to the file in place of what it held.
@@ -47,7 +50,11 @@ fn take_step(rt: &HostRuntime, db: &str, step: Step) -> Result<(), Fail> {
             tells(rt, &line(rt, words, db)?, status, "", &told)
         }
         Step::Fills(words, out) => fills(rt, &line(rt, words, db)?, out),
-        Step::Posts => post(rt, db),
+        Step::Posts => {
+            tells(rt, &line(rt, ADDING, db)?, 0, "added a\n", "")?;
+            post(rt, db)
+        }
+        Step::Serves(port, fault) => serves(rt, db, port, fault),
         Step::Changes(sql) => change(rt, db, sql),
         Step::Writes(bytes) => Ok(fs::write(rt, db, bytes)?),
     }
@@ -107,14 +114,20 @@ pub fn remove(rt: &HostRuntime, paths: [&str; 2]) {
     }
 }
 
-// Adds the firm, and sends its messages of 'posted in part' to the ledger in a file.
+// Sends the firm's messages of 'posted in part' to the ledger in a file.
 fn post(rt: &HostRuntime, db: &str) -> Result<(), Fail> {
-    let line = format!(in rt.alloc(); "tenant-add --db={db} --name=a --key={KEY}")?;
-    tells(rt, &line, 0, "added a\n", "")?;
-    match open_file(rt, db) {
-        Ok(mut store) => Ok(post_in_part(rt.alloc(), &mut store)?),
-        Err(_) => Err("not opened".into()),
+    let mut store = Store::open_at(rt, db, Unknown, Options::new(7), &FullAudit)?;
+    post_in_part(rt.alloc(), &mut store);
+    Ok(())
+}
+
+// Serves a file for no replies, and looks at the fault.
+fn serves(rt: &HostRuntime, db: &str, port: u16, want: Option<Fault>) -> Result<(), Fail> {
+    let fault = serve_file(rt, db, port, 0).err();
+    if fault == want {
+        return Ok(());
     }
+    Err(Fail::new(format_args!("served on {port}: {fault:?}, and not {want:?}")))
 }
 
 // Runs a statement of SQL on a file.

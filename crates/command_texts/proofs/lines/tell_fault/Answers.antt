@@ -1,7 +1,7 @@
 use Rattle.std.proofs.Common.{◌∙◌, subst}
-use Rattle.commands.specs.Lines.{IsWritten}
-use Rattle.commands.proofs.LineLemmas.{is_written}
-use Rattle.commands.proofs.lines.tell_fault.Goals as goal
+use Rattle.command_texts.specs.Lines.{IsWritten}
+use Rattle.command_texts.proofs.LineLemmas.{is_written}
+use Rattle.command_texts.proofs.lines.tell_fault.Goals as goal
 
 pub returns-clause-line : goal.returns-clause-line
 returns-clause-line g c =

@@ -1,5 +1,5 @@
 //! The moments that a clock gives.
-use crate::SystemMoments;
+use commands::SystemMoments;
 use service::Moments;
 use std::io::{self, ErrorKind};
 use std::time::{Clock, Duration};

@@ -2,10 +2,11 @@
 ghost use Rattle.std.specs.Prelude.{IfSome};
 ghost use Rattle.store.specs.Stores.{IsUsable};
 
-use super::firms::KEY;
-use crate::serving::listen as listen_on;
-use crate::words::key_digest;
-use crate::{Fault, Home, serve_store};
+use super::files::Step::{Posts, Serves};
+use super::files::take_steps;
+use super::firms::{KEY, NO_TRANSFERS};
+use command_texts::Fault;
+use commands::{Home, serve_store};
 use service::Moments;
 use sqlite::{Files, Options};
 use sqlite_disk::{Disk, Fuse, Memory};
@@ -14,16 +15,9 @@ use std::io::{Read, Write};
 use std::net::{Ipv4Addr, Shutdown, SocketAddr, TcpListener, TcpStream};
 use std::test::Fail;
 use store::{OnceFailing, Store};
-use tenants::TenantName;
+use tenants::{Key, TenantName, digest};
 
-// The firm's batch of no transfers.
-const MESSAGE: &str = concat!(
-    "POST /transfers HTTP/1.1\r\nx-ledger-key: ",
-    "0000000000000000000000000000000000000000000000000000000000000000",
-    "\r\ncontent-length: 2\r\n\r\n[]"
-);
-
-// The replies to it at these clocks, each behind a text. Before what a client is told stands a bar.
+// The replies to batches of no transfers at these clocks, each behind a text. Before what a client is told stands a bar.
 macro_rules! replies {
     ($($before:literal $clock:literal),*) => {
         concat!($(
@@ -87,11 +81,11 @@ fn firm_store<D: Faulty>(alloc: Global, calls: u64) -> Option<Store<D>>
         return None;
     }
     let name = TenantName::read("firm")?;
-    let digest = key_digest(KEY).ok()?;
+    let key = Key::read(KEY.as_bytes())?;
     let Ok(mut store) = Store::create(alloc, files, Options::new(7)) else {
         return None;
     };
-    match store.add_tenant(&name, &digest) {
+    match store.add_tenant(&name, &digest(&key)) {
         Ok(()) => Some(store),
         Err(_) => None,
     }
@@ -141,7 +135,7 @@ fn listen(rt: &HostRuntime) -> Result<TcpListener, Fail> {
 fn client(rt: &HostRuntime, listener: &TcpListener, messages: u64) -> Result<TcpStream, Fail> {
     let mut client = TcpStream::connect(rt, listener.local_addr()?)?;
     for _ in 0..messages {
-        client.write_all(MESSAGE.as_bytes())?;
+        client.write_all(NO_TRANSFERS.as_bytes())?;
     }
     if messages != 0 {
         client.shutdown(Shutdown::Write)?;
@@ -210,8 +204,13 @@ fn accepts_nothing_for_no_replies(rt: HostRuntime) -> Result<(), Fail> {
 fn takes_no_port_in_use(rt: HostRuntime) -> Result<(), Fail> {
     let listener = listen(&rt)?;
     let port = listener.local_addr()?.port();
-    assert_eq!(rt; listen_on(&rt, port).err(), Some(Fault::Socket));
-    Ok(())
+    let steps = [
+        Serves(port, Some(Fault::Unreadable)),
+        Posts,
+        Serves(port, Some(Fault::Socket)),
+        Serves(0, None),
+    ];
+    take_steps(&rt, "port.db", &steps)
 }
 
 // Whether the first of two clients is told at some call that fails that the service is unavailable,

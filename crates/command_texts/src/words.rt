@@ -3,14 +3,14 @@ ghost use Rattle.std.specs.Prelude.{◌≡◌, ◌≢◌, ◌^◌, ◌<◌, ◌�
 ghost use Rattle.amount.specs.Decimal.{decimal_of};
 ghost use Rattle.tenants.specs.KeyText.{key_of};
 ghost use Rattle.tenants.specs.NameText.{IsTenantName};
-ghost use Rattle.commands.specs.Words.{IsDigestOfKey};
+ghost use Rattle.command_texts.specs.Words.{IsDigestOfKey};
 
 use crate::Fault;
 use amount::Amount;
 use tenants::{Key, TenantName, digest};
 
 /// A tenant's name.
-pub(crate) fn name(text: &str) -> Result<TenantName, Fault>
+pub fn name(text: &str) -> Result<TenantName, Fault>
     ensures good { IsOk result ↔ IsTenantName text.now }
     ensures same { IfOk result (λ name. name ≡ text.now) }
     ensures fault { IfErr result (λ fault. fault ≡ Fault.BadName) }
@@ -19,7 +19,7 @@ pub(crate) fn name(text: &str) -> Result<TenantName, Fault>
 }
 
 /// The digest by which the tenant with a key is known.
-pub(crate) fn key_digest(text: &str) -> Result<[u8; 32], Fault>
+pub fn key_digest(text: &str) -> Result<[u8; 32], Fault>
     ensures { IsDigestOfKey (key_of text.now) result }
 {
     let key = Key::read(text.as_bytes()).ok_or(Fault::BadKey)?;
@@ -27,7 +27,7 @@ pub(crate) fn key_digest(text: &str) -> Result<[u8; 32], Fault>
 }
 
 /// An account's id, in canonical decimal.
-pub(crate) fn account_id(text: &str) -> Result<u128, Fault>
+pub fn account_id(text: &str) -> Result<u128, Fault>
     ensures ok { IfOk result (λ id. text.now ≡ decimal_of id) }
     ensures err { IfErr result (λ fault. (fault ≡ Fault.BadAccount)
         × ((id : ℕ) → id < 2 ^ 128 → text.now ≢ decimal_of id)) }
@@ -37,7 +37,7 @@ pub(crate) fn account_id(text: &str) -> Result<u128, Fault>
 }
 
 /// A version of the schema up to the current one, in canonical decimal.
-pub(crate) fn version(text: &str) -> Result<u32, Fault>
+pub fn version(text: &str) -> Result<u32, Fault>
     ensures known { IfOk result (λ version. (1 ≤ version) × (version ≤ 3)) }
     ensures ok { IfOk result (λ version. text.now ≡ decimal_of version) }
     ensures err { IfErr result (λ fault. (fault ≡ Fault.BadVersion)

@@ -2,7 +2,7 @@
 use super::files::Step::{Changes, Fills, Posts, Refuses, Tells, Writes};
 use super::files::{Step, remove, run_program, take_steps, tells};
 use super::firms::KEY;
-use crate::program;
+use commands::program;
 use records::Streamed;
 use std::test::Fail;
 

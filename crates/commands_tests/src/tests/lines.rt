@@ -1,6 +1,5 @@
 //! What commands write.
-use crate::Fault;
-use crate::lines::tell_fault;
+use command_texts::{Fault, tell_fault};
 use records::Streamed;
 
 const FAULTS: [(Fault, &str, u8); 16] = [

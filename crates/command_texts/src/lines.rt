@@ -2,8 +2,8 @@
 ghost use Rattle.std.specs.Prelude.{◌≡◌, false, is_err, IfOk, IfErr, OnOk};
 ghost use Rattle.std.specs.String.{string_bytes};
 ghost use Rattle.std.specs.Io.KnownBytes.{Appends};
-ghost use Rattle.commands.specs.Faults.{status_of};
-ghost use Rattle.commands.specs.Lines.{IsWritten, added_line, damage_line, fault_line, schema_line};
+ghost use Rattle.command_texts.specs.Faults.{status_of};
+ghost use Rattle.command_texts.specs.Lines.{IsWritten, added_line, damage_line, fault_line, schema_line};
 
 use crate::Fault;
 use audit::Damage;
@@ -23,7 +23,7 @@ pub fn tell_fault<E: Drain>(err: &mut E, fault: Fault) -> u8
 }
 
 /// Writes a text to standard output.
-pub(crate) fn put_text<O: Drain>(out: &mut O, text: &str) -> Result<(), Fault>
+pub fn put_text<O: Drain>(out: &mut O, text: &str) -> Result<(), Fault>
     requires { O.failed out.old ≡ false }
     ensures ok { OnOk result (Appends (O.written out.old) (O.written out.new) text.now) }
     ensures fault { IfErr result (λ fault. fault ≡ Fault.Output) }
@@ -33,7 +33,7 @@ pub(crate) fn put_text<O: Drain>(out: &mut O, text: &str) -> Result<(), Fault>
 }
 
 /// Tells a new tenant.
-pub(crate) fn put_added<O: Drain>(out: &mut O, name: &TenantName) -> Result<(), Fault>
+pub fn put_added<O: Drain>(out: &mut O, name: &TenantName) -> Result<(), Fault>
     requires { O.failed out.old ≡ false }
     ensures ok { OnOk result (Appends (O.written out.old) (O.written out.new)
         (added_line name.now)) }
@@ -46,7 +46,7 @@ pub(crate) fn put_added<O: Drain>(out: &mut O, name: &TenantName) -> Result<(), 
 }
 
 /// Tells the version that a file has come to, as it was written.
-pub(crate) fn put_schema<O: Drain>(out: &mut O, version: &str) -> Result<(), Fault>
+pub fn put_schema<O: Drain>(out: &mut O, version: &str) -> Result<(), Fault>
     requires { O.failed out.old ≡ false }
     ensures ok { OnOk result (Appends (O.written out.old) (O.written out.new)
         (schema_line version.now)) }
@@ -59,7 +59,7 @@ pub(crate) fn put_schema<O: Drain>(out: &mut O, version: &str) -> Result<(), Fau
 }
 
 /// The line that tells where a file is damaged.
-pub(crate) fn damage_line(alloc: Global, damage: &Damage) -> Result<String, Fault>
+pub fn damage_line(alloc: Global, damage: &Damage) -> Result<String, Fault>
     ensures ok { IfOk result (λ line. string_bytes line ≡ damage_line damage.now) }
     ensures fault { IfErr result (λ fault. fault ≡ Fault.Unavailable) }
 {

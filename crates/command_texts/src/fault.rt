@@ -1,7 +1,7 @@
 ghost use Rattle.std.specs.Prelude.{◌≡◌};
-ghost use Rattle.commands.specs.Faults.{status_of};
-ghost use Rattle.commands.specs.Lines.{fault_line};
-ghost use Rattle.commands.specs.declared.fault.Fault.TheVariants.{Unavailable};
+ghost use Rattle.command_texts.specs.Faults.{status_of};
+ghost use Rattle.command_texts.specs.Lines.{fault_line};
+ghost use Rattle.command_texts.specs.declared.fault.Fault.TheVariants.{Unavailable};
 
 use std::alloc::AllocError;
 

@@ -6,8 +6,8 @@ use Rattle.hex.specs.Hex.{encode_lower}
 use Rattle.audit.specs.declared.damage.Damage.{Damage}
 use Rattle.audit.specs.Damage.{kind_number}
 use Rattle.records.specs.Streams.{AppendsFront}
-use Rattle.commands.specs.declared.fault.Fault.{Fault}
-use Rattle.commands.specs.Faults.{word_of}
+use Rattle.command_texts.specs.declared.fault.Fault.{Fault}
+use Rattle.command_texts.specs.Faults.{word_of}
 
 -- the line on standard error that tells a fault
 abbrev pub fault_line : Fault → List ℕ

@@ -1,5 +1,5 @@
 use Rattle.std.proofs.Common.{append_assoc}
-use Rattle.commands.proofs.lines.damage_line.Goals as goal
+use Rattle.command_texts.proofs.lines.damage_line.Goals as goal
 
 pub returns-clause-ok : goal.returns-clause-ok
 returns-clause-ok c =

@@ -1,11 +1,11 @@
 -- The faults of commands: the word that tells each, and the status with which the program ends.
 use Rattle.std.specs.Prelude.{ℕ, List, codes}
-use Rattle.commands.specs.declared.fault.Fault.{Fault}
-use Rattle.commands.specs.declared.fault.Fault.TheVariants.{NameTaken, DigestTaken, NoTenant}
-use Rattle.commands.specs.declared.fault.Fault.TheVariants.{NoAccount, BadName, BadKey, BadAccount}
-use Rattle.commands.specs.declared.fault.Fault.TheVariants.{BadVersion, Unavailable, Socket, Output}
-use Rattle.commands.specs.declared.fault.Fault.TheVariants.{Unreadable, NotALedger, OldSchema}
-use Rattle.commands.specs.declared.fault.Fault.TheVariants.{NewerSchema, Damaged}
+use Rattle.command_texts.specs.declared.fault.Fault.{Fault}
+use Rattle.command_texts.specs.declared.fault.Fault.TheVariants.{NameTaken, DigestTaken, NoTenant}
+use Rattle.command_texts.specs.declared.fault.Fault.TheVariants.{NoAccount, BadName, BadKey, BadAccount}
+use Rattle.command_texts.specs.declared.fault.Fault.TheVariants.{BadVersion, Unavailable, Socket, Output}
+use Rattle.command_texts.specs.declared.fault.Fault.TheVariants.{Unreadable, NotALedger, OldSchema}
+use Rattle.command_texts.specs.declared.fault.Fault.TheVariants.{NewerSchema, Damaged}
 
 -- the word on standard error
 abbrev pub word_of : Fault → List ℕ

@@ -1,0 +1,53 @@
+//! A firm, and the messages that it sends.
+use chain::Ledgers;
+use service::respond;
+use std::alloc::Global;
+
+/// The key of the firm.
+pub const KEY: &str = "0000000000000000000000000000000000000000000000000000000000000000";
+
+/// The words that add the firm, as `a`.
+pub const ADDING: &str = concat!(
+    "tenant-add --name=a --key=",
+    "0000000000000000000000000000000000000000000000000000000000000000"
+);
+
+// A request of the firm by POST, with the length of its body.
+macro_rules! message {
+    ($path:literal, $length:literal, $($body:literal),*) => {
+        concat!(
+            "POST ", $path, " HTTP/1.1\r\nx-ledger-key: ",
+            "0000000000000000000000000000000000000000000000000000000000000000",
+            "\r\ncontent-length: ", $length, "\r\n\r\n" $(, $body)*
+        )
+    };
+}
+
+/// The firm's batch of no transfers.
+pub const NO_TRANSFERS: &str = message!("/transfers", "2", "[]");
+
+// The accounts 1 to 4.
+const ACCOUNTS: &str = message!(
+    "/accounts",
+    "140",
+    "[{\"id\":\"1\",\"ledger\":7,\"code\":10},{\"id\":\"2\",\"ledger\":7,\"code\":10},",
+    "{\"id\":\"3\",\"ledger\":7,\"code\":10,\"flags\":10},",
+    "{\"id\":\"4\",\"ledger\":7,\"code\":10}]"
+);
+
+// A pending transfer of 100 from account 1 to account 2, and a post of 40.
+const TRANSFERS: &str = message!(
+    "/transfers",
+    "162",
+    "[{\"id\":\"100\",\"debit_account_id\":\"1\",\"credit_account_id\":\"2\",",
+    "\"amount\":\"100\",\"ledger\":7,\"code\":1,\"flags\":2},",
+    "{\"id\":\"101\",\"pending_id\":\"100\",\"amount\":\"40\",\"flags\":4}]"
+);
+
+/// Sends the firm's messages of 'posted in part': its accounts, a pending transfer, and its post.
+pub fn post_in_part<L: Ledgers>(alloc: Global, ledgers: &mut L)
+    requires { L.means.is_usable ledgers.old }
+{
+    let _reply = respond(alloc, ledgers, ACCOUNTS.as_bytes(), 0);
+    let _reply = respond(alloc, ledgers, TRANSFERS.as_bytes(), 0);
+}
