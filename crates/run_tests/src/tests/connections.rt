@@ -1,7 +1,7 @@
 //! Connections over a store: several messages, ends, and writers that fail.
 ghost use Rattle.std.specs.Prelude.{◌≡◌};
 
-use super::disks::{Fails, new_store};
+use super::disks::{NEVER, new_store};
 use super::messages::{asked, wanted};
 use super::scripts::runs;
 use chain::Ledgers;
@@ -203,7 +203,7 @@ fn serves<L: Ledgers>(
 
 #[test]
 fn serves_connections(rt: HostRuntime) -> Result<(), Fail> {
-    let mut store = new_store(rt.alloc(), Fails::Never, Fails::Never)?;
+    let mut store = new_store(rt.alloc(), NEVER, NEVER)?;
     runs(&rt, rt.alloc(), &mut store, BASES)?;
     for connection in &CONNECTIONS {
         serves(&rt, rt.alloc(), &mut store, connection)?;

@@ -1,15 +1,17 @@
-//! Disks in memory, which may stop, or fail one call.
+//! Disks in memory, which may fail from some call on, and stores over them.
 ghost use Rattle.std.specs.Prelude.{IfOk};
 ghost use Rattle.store.specs.Stores.{IsUsable};
 
+use records::Unavailable;
+use rows::AllRows;
 use sqlite::{Files, Options};
-use sqlite_disk::{Disk, Fuse, Memory};
+use sqlite_disk::{Crash, Disk, Fuse, Memory};
 use std::alloc::Global;
 use std::test::Fail;
-use store::{OnceFailing, Store};
+use store::{FullAudit, OpenFault, Store};
 
-/// A disk in memory that may stop, or fail one call.
-pub type TestDisk = OnceFailing<Fuse<Memory>>;
+/// A disk in memory that fails behind so many calls, until a crash.
+pub type TestDisk = Fuse<Memory>;
 
 /// Few pages, and so short a log that commits copy it into the database file.
 const SMALL: Options = Options {
@@ -20,41 +22,73 @@ const SMALL: Options = Options {
 };
 
 /// More calls than any of these runs makes.
-const NEVER: u64 = 1_000_000;
+pub const NEVER: u64 = 1_000_000;
 
-/// How a disk fails.
-#[derive(Clone, Copy, Debug)]
-pub enum Fails {
-    Never,
-    /// One read or write, which has so many others before it.
-    Once(u64),
-    /// Each call behind so many, until a crash.
-    From(u64),
+/// Empty files, whose disks fail behind so many calls.
+pub fn empty(alloc: Global, log: u64, database: u64) -> Files<TestDisk> {
+    Files {
+        log: Fuse::new(Memory::new(alloc), log),
+        db: Fuse::new(Memory::new(alloc), database),
+    }
 }
 
-/// A disk that fails so.
-fn disk(alloc: Global, fails: Fails) -> TestDisk {
-    let (calls, before) = match fails {
-        Fails::Never => (NEVER, NEVER),
-        Fails::Once(before) => (NEVER, before),
-        Fails::From(calls) => (calls, NEVER),
-    };
-    OnceFailing::new(Fuse::new(Memory::new(alloc), calls), before)
-}
-
-/// A new store, whose log and whose database file fail so.
-pub fn new_store(alloc: Global, log: Fails, database: Fails) -> Result<Store<TestDisk>, Fail>
+/// A store that is made in files, or why it is not, with the files.
+pub fn made(
+    alloc: Global,
+    files: Files<TestDisk>,
+) -> Result<Store<TestDisk>, (OpenFault, Files<TestDisk>)>
     ensures { IfOk result IsUsable }
 {
-    let files = Files {
-        log: disk(alloc, log),
-        db: disk(alloc, database),
-    };
     if !(files.log.may_be_used() && files.db.may_be_used()) {
-        return Err("not new".into());
+        return Err((OpenFault::Unavailable(Unavailable::Disk), files));
     }
-    match Store::create(alloc, files, SMALL) {
+    Store::create(alloc, files, SMALL)
+}
+
+/// A new store, whose disks fail behind so many calls.
+pub fn new_store(alloc: Global, log: u64, database: u64) -> Result<Store<TestDisk>, Fail>
+    ensures { IfOk result IsUsable }
+{
+    match made(alloc, empty(alloc, log, database)) {
         Ok(store) => Ok(store),
-        Err(_) => Err("not made".into()),
+        Err((fault, _files)) => Err(fault.into()),
+    }
+}
+
+/// What a crash leaves of files, on disks that fail no more.
+pub fn crashed(mut files: Files<TestDisk>) -> Files<TestDisk> {
+    files.log.crash();
+    files.db.crash();
+    files
+}
+
+/// The store that is found in files.
+pub fn opened(alloc: Global, files: Files<TestDisk>) -> Result<Store<TestDisk>, Fail>
+    ensures { IfOk result IsUsable }
+{
+    if !(files.log.may_be_used() && files.db.may_be_used()) {
+        return Err("a file is not to be used".into());
+    }
+    match Store::open(alloc, files, SMALL, &FullAudit) {
+        Ok(store) => Ok(store),
+        Err((fault, _files)) => Err(fault.into()),
+    }
+}
+
+/// The store that is found in the files of another after a crash.
+pub fn after_a_crash(alloc: Global, store: Store<TestDisk>) -> Result<Store<TestDisk>, Fail>
+    ensures { IfOk result IsUsable }
+{
+    opened(alloc, crashed(store.close()))
+}
+
+/// All rows, once there is memory to read them.
+pub fn rows_in(store: &mut Store<TestDisk>) -> Result<AllRows, Fail>
+    requires { IsUsable store.old }
+    ensures { IsUsable store.new }
+{
+    match store.all_rows() {
+        Err(Unavailable::Memory) => Ok(store.all_rows()?),
+        rows => Ok(rows?),
     }
 }

@@ -1,8 +1,34 @@
 //! Messages of tenants and the replies to them, from texts in few words.
-use std::alloc::{AllocError, Global};
-use std::test::Fail;
+use std::alloc::{AllocError, AllocFailed, Global};
+use std::num::ParseIntError;
 use tenants::{Key, TenantName, digest};
 use whole_runs::Step;
+
+/// Why a message is not made from a text.
+#[derive(Debug, Drop)]
+pub enum Unmade {
+    Memory,
+    /// The text means no message.
+    Text,
+}
+
+impl From<AllocError> for Unmade {
+    fn from(_error: AllocError) -> Unmade {
+        Unmade::Memory
+    }
+}
+
+impl<T: Drop> From<AllocFailed<T>> for Unmade {
+    fn from(_error: AllocFailed<T>) -> Unmade {
+        Unmade::Memory
+    }
+}
+
+impl From<ParseIntError> for Unmade {
+    fn from(_error: ParseIntError) -> Unmade {
+        Unmade::Text
+    }
+}
 
 /// Accounts 1 to 4 of ledger 7 and code 10, the third with a limit on its debits and a history.
 const BASE: &str = concat!(
@@ -136,13 +162,13 @@ pub fn wanted(alloc: Global, text: &str) -> Result<String, AllocError> {
 }
 
 /// A key's 64 digits, from its number.
-fn key(alloc: Global, number: &str) -> Result<String, Fail> {
+fn key(alloc: Global, number: &str) -> Result<String, Unmade> {
     let number: u64 = number.parse()?;
     Ok(format!(in alloc; "{number:064}")?)
 }
 
 /// A message: the first line, the number of its key, and the body.
-fn message(alloc: Global, line: &str, number: &str, body: &str) -> Result<String, Fail> {
+fn message(alloc: Global, line: &str, number: &str, body: &str) -> Result<String, Unmade> {
     let length = body.len();
     let key = key(alloc, number)?;
     Ok(format!(in alloc;
@@ -172,9 +198,9 @@ fn many(alloc: Global) -> Result<String, AllocError> {
     Ok(body)
 }
 
-/// A message of the tenant with this number: transfers, accounts, or a method, a path and a body; or
+/// A message of the tenant of this number: transfers, accounts, or a method, a path and a body; or
 /// a message as it is written.
-pub fn asked(alloc: Global, number: &str, text: &str) -> Result<String, Fail> {
+pub fn asked(alloc: Global, number: &str, text: &str) -> Result<String, Unmade> {
     let (word, rest) = text.split_once(' ').unwrap_or((text, ""));
     match word {
         "raw" => Ok(written(alloc, rest)?),
@@ -189,20 +215,20 @@ pub fn asked(alloc: Global, number: &str, text: &str) -> Result<String, Fail> {
 }
 
 /// The digest of the key with this number.
-pub fn digest_of(alloc: Global, number: &str) -> Result<[u8; 32], Fail> {
-    let key = Key::read(key(alloc, number)?.as_bytes()).ok_or("no key")?;
+fn digest_of(alloc: Global, number: &str) -> Result<[u8; 32], Unmade> {
+    let key = Key::read(key(alloc, number)?.as_bytes()).ok_or(Unmade::Text)?;
     Ok(digest(&key))
 }
 
 /// A new tenant, with the numbers of its key and of its name.
-fn adds(alloc: Global, text: &str) -> Result<Step, Fail> {
+fn adds(alloc: Global, text: &str) -> Result<Step, Unmade> {
     let (number, name) = text.split_once(" named ").unwrap_or((text, text));
-    let name = TenantName::read(&format!(in alloc; "tenant-{name}")?).ok_or("no name")?;
+    let name = TenantName::read(&format!(in alloc; "tenant-{name}")?).ok_or(Unmade::Text)?;
     Ok(Step::AddTenant(name, digest_of(alloc, number)?))
 }
 
 /// A step: a new tenant, a reopening, or a message of a tenant at a moment.
-pub fn step(alloc: Global, text: &str) -> Result<Step, Fail> {
+pub fn step(alloc: Global, text: &str) -> Result<Step, Unmade> {
     let (who, what) = text.split_once(' ').unwrap_or((text, ""));
     match who.split_once('@') {
         Some((number, moment)) => {

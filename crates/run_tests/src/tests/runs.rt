@@ -1,6 +1,6 @@
 //! Runs over lists, and over disks in memory.
 
-use super::disks::{Fails, new_store};
+use super::disks::{NEVER, new_store};
 use super::examples::{EXAMPLES, TENANTS};
 use super::requests::{CLOCKS, READS, REFUSALS};
 use super::scripts::runs;
@@ -80,7 +80,7 @@ fn runs_over_disks(rt: HostRuntime) -> Result<(), Fail> {
         runs(
             &rt,
             rt.alloc(),
-            &mut new_store(rt.alloc(), Fails::Never, Fails::Never)?,
+            &mut new_store(rt.alloc(), NEVER, NEVER)?,
             script,
         )?;
     }
@@ -89,9 +89,5 @@ fn runs_over_disks(rt: HostRuntime) -> Result<(), Fail> {
 
 #[test]
 fn examples_over_disks(rt: HostRuntime) -> Result<(), Fail> {
-    examples(
-        &rt,
-        rt.alloc(),
-        &mut new_store(rt.alloc(), Fails::Never, Fails::Never)?,
-    )
+    examples(&rt, rt.alloc(), &mut new_store(rt.alloc(), NEVER, NEVER)?)
 }

@@ -9,7 +9,7 @@
 //!
 //! A line that begins with two spaces goes on with the one before it.
 
-use super::messages::{step, wanted};
+use super::messages::{Unmade, step, wanted};
 use std::alloc::{AllocError, Global};
 use std::process::Abort;
 use std::test::Fail;
@@ -18,7 +18,7 @@ use whole_runs::{Answer, Reopening, Step, run_all};
 use wire::NoMemory;
 
 /// What a step is told, as text.
-fn told(answer: &Answer) -> &[u8] {
+pub fn told(answer: &Answer) -> &[u8] {
     match answer {
         Answer::Replied(reply) => reply.bytes(),
         Answer::Added(Ok(())) => b"added",
@@ -43,7 +43,7 @@ fn joined(alloc: Global, script: &str) -> Result<String, AllocError> {
 }
 
 /// Runs steps, and forgets what a run promises.
-fn answers<L: Reopening>(
+pub fn answers<L: Reopening>(
     alloc: Global,
     ledgers: &mut L,
     steps: &[Step],
@@ -55,7 +55,7 @@ fn answers<L: Reopening>(
 }
 
 /// The steps of a script.
-fn steps(alloc: Global, text: &str) -> Result<Vec<Step>, Fail> {
+pub fn steps(alloc: Global, text: &str) -> Result<Vec<Step>, Unmade> {
     let mut steps = Vec::new(alloc);
     for line in text.lines() {
         if let Some((what, _)) = line.split_once(" = ") {

@@ -4,8 +4,11 @@ use super::bench::fault_shown;
 use super::disks::WIDE;
 use super::driven::Driven;
 use super::playing::play_on;
-use sqlite_disk::Unknown;
+use sqlite_disk::{Disk, Unknown};
+use std::alloc::Global;
 use std::fs;
+use std::process::Abort;
+use store::OpenFault;
 
 const PATH: &str = "store_tests.db";
 
@@ -37,18 +40,32 @@ fn refusal(rt: &HostRuntime, path: &str) -> Option<String> {
     }
 }
 
+/// Whether nothing is opened at a path, for this reason.
+fn is_refused(rt: &HostRuntime, path: &str, why: &str) -> bool {
+    refusal(rt, path).is_some_and(|told| told.as_str() == why)
+}
+
+/// Calls a ledger that was made or opened.
+fn plays<D: Disk + Drop>(
+    rt: &impl Abort,
+    alloc: Global,
+    store: Result<Driven<D>, OpenFault>,
+    script: &str,
+) {
+    match store {
+        Ok(mut store) => play_on(rt, alloc, &mut store, script),
+        Err(fault) => panic!(rt; "no ledger: {fault:?}"),
+    }
+}
+
 #[test]
 fn a_ledger_goes_on_in_a_file(rt: HostRuntime) {
     remove(&rt);
-    assert_eq!(rt; refusal(&rt, ":memory:").as_deref(), Some("Unreadable"));
-    assert_eq!(rt; refusal(&rt, PATH).as_deref(), Some("NotALedger"));
-    match Driven::make_at(&rt, PATH, Unknown, WIDE) {
-        Ok(mut store) => play_on(&rt, rt.alloc(), &mut store, POSTED),
-        Err(_) => panic!(rt; "not made"),
-    }
-    match Driven::open_at(&rt, PATH, Unknown, WIDE) {
-        Ok(mut store) => play_on(&rt, rt.alloc(), &mut store, RETRIED),
-        Err(_) => panic!(rt; "not opened"),
-    }
+    assert!(rt; is_refused(&rt, ":memory:", "Unreadable"));
+    assert!(rt; is_refused(&rt, PATH, "NotALedger"));
+    let made = Driven::make_at(&rt, PATH, Unknown, WIDE);
+    plays(&rt, rt.alloc(), made, POSTED);
+    let opened = Driven::open_at(&rt, PATH, Unknown, WIDE);
+    plays(&rt, rt.alloc(), opened, RETRIED);
     remove(&rt);
 }

@@ -57,6 +57,9 @@ impl Bench {
         matches!(self.ledger, Ledger::Opened(_))
     }
 
+    /// Lets the ledger go.
+    pub fn end(self) {}
+
     /// What is answered to a command about the files.
     fn on_files(&mut self, verb: &str, rest: &str) -> Text {
         let files = match mem::replace(&mut self.ledger, Ledger::Lost) {

@@ -103,26 +103,36 @@ pub fn shown<T: Debug>(alloc: Global, value: &T) -> Text {
 
 /// What a store answers.
 pub fn answer<D: Disk + Drop>(store: &mut Driven<D>, command: &Command<'_>) -> Text {
-    let alloc = command.alloc;
-    let digest = command.digest();
     match command.verb {
         "accounts" => open(store, command),
         "transfers" => send(store, command),
         "ones" => fill(store, command),
         "fail" => fail(store, command),
-        "see" => {
-            let account = number(command.rest);
-            shown(alloc, &store.run(&digest, Looking { account }))
-        }
-        "rows" => table(alloc, &store.rows_of(&digest), command.rest),
-        "directory" => directory(alloc, &store.all_rows()),
-        "knows" => shown(alloc, &store.knows(&digest)),
+        "see" => see(store, command),
+        "add" | "digest" => of_name(store, command),
+        _ => of_all(store, command),
+    }
+}
+
+/// What is answered about the rows and the store.
+fn of_all<D: Disk + Drop>(store: &mut Driven<D>, command: &Command<'_>) -> Text {
+    let alloc = command.alloc;
+    match command.verb {
+        "rows" => table(alloc, store.rows_of(&command.digest()), command.rest),
+        "directory" => directory(alloc, store.all_rows()),
+        "knows" => shown(alloc, &store.knows(&command.digest())),
         "ready" => shown(alloc, &store.is_ready()),
         "reopen" => shown(alloc, &store.reopen(&FullAudit)),
         "reopen-without-memory" => shown(alloc, &store.reopen(&NoMemory)),
-        "add" | "digest" => of_name(store, command),
         _ => read(store, command),
     }
+}
+
+/// An account, transfer 100 and the clock.
+fn see<D: Disk + Drop>(store: &mut Driven<D>, command: &Command<'_>) -> Text {
+    let account = number(command.rest);
+    let seen = store.run(&command.digest(), Looking { account });
+    shown(command.alloc, &seen)
 }
 
 /// What concerns a tenant's name.
@@ -151,7 +161,7 @@ fn open<D: Disk + Drop>(store: &mut Driven<D>, command: &Command<'_>) -> Text {
         accounts: &accounts,
         moment,
     };
-    told(alloc, &store.run(&command.digest(), opening))
+    told(alloc, store.run(&command.digest(), opening))
 }
 
 /// Sends a batch of transfers.
@@ -164,7 +174,7 @@ fn send<D: Disk + Drop>(store: &mut Driven<D>, command: &Command<'_>) -> Text {
         transfers: &transfers,
         moment,
     };
-    told(alloc, &store.run(&command.digest(), sending))
+    told(alloc, store.run(&command.digest(), sending))
 }
 
 /// Sends transfers of 1 with the ids from a first one, before a last, and tells whether they were
@@ -195,7 +205,7 @@ fn fail<D: Disk + Drop>(store: &mut Driven<D>, command: &Command<'_>) -> Text {
 }
 
 /// A result that has a number.
-trait Numbered: Copy {
+pub trait Numbered: Copy {
     fn its_number(self) -> u16;
 }
 
@@ -212,19 +222,22 @@ impl Numbered for TransferResult {
 }
 
 /// The reply to a batch: the clock, and the number and timestamp of each result.
-fn told<R: Numbered>(alloc: Global, reply: &Result<BatchReply<R>, BatchFault>) -> Text {
+fn told<R: Numbered>(alloc: Global, reply: Result<BatchReply<R>, BatchFault>) -> Text {
     match reply {
-        Err(fault) => shown(alloc, fault),
+        Err(fault) => shown(alloc, &fault),
         Ok(BatchReply::ClockExhausted) => said(alloc, "the clock is exhausted"),
-        Ok(BatchReply::Done { clock, results }) => results_told(alloc, *clock, results),
+        Ok(BatchReply::Done { clock, results }) => results_told(alloc, clock, &results),
     }
 }
 
 fn results_told<R: Numbered>(alloc: Global, clock: u64, results: &[EventResult<R>]) -> Text {
     let mut text = format!(in alloc; "clock {clock}:")?;
     for each in results {
-        let number = each.result.its_number();
-        text.push_str(format!(in alloc; " {number}@{}", each.timestamp)?.as_str())?;
+        text.push_str(result_told(alloc, each)?.as_str())?;
     }
     Ok(text)
+}
+
+fn result_told<R: Numbered>(alloc: Global, each: &EventResult<R>) -> Text {
+    format!(in alloc; " {}@{}", each.result.its_number(), each.timestamp)
 }

@@ -1,6 +1,6 @@
 //! The worked examples of `docs/MODEL.md`, each beside one of another tenant.
 
-use super::playing::{blank, play, play_from_base};
+use super::playing::{play_from_base, play_from_nothing};
 
 const WORKED: &str = "\
 North transfers 100: 1>2 100 pending; 101: post=100 40; 102: post=100 60 => clock 7: 0@5 0@6 32@7
@@ -154,5 +154,5 @@ South rows clock => 1 rows: 0";
 
 #[test]
 fn names_and_digests(rt: HostRuntime) {
-    play(&rt, &mut blank(rt.alloc()), DIRECTORY);
+    play_from_nothing(&rt, rt.alloc(), &[DIRECTORY]);
 }

@@ -1,36 +1,151 @@
 //! Want of memory, where `bench/refuse_alloc.c` refuses an allocation: the call answers so, nothing
-//! has changed, and the same call then succeeds. An allocation of the disk in memory itself is the
-//! disk's fault instead, which these tests do not expect (`docs/TESTING.md`).
+//! has changed, and the same call then succeeds. A disk in memory that wants it has failed: its
+//! files are opened again, and hold the whole request or nothing of it.
 
+use super::commands::Numbered;
 use super::disks::{Calls, InMemory, WIDE, disk};
 use super::driven::Driven;
 use super::events::{accounts, ones, transfer};
 use super::works::{Looking, Opening, Sending};
-use chain::{BatchFault, Listed, ReadFault, Tables, Work};
+use chain::{BatchFault, BatchReply, Listed, ReadFault, Tables, Work};
 use records::{
-    AccountFilter, BatchReply, FilterFlags, Order, SinkFault, TransferEvent, Unavailable,
+    AccountEvent, AccountFilter, FilterFlags, Order, SinkFault, TransferEvent, Unavailable,
 };
 use sqlite::Files;
+use sqlite_disk::Crash;
 use std::alloc::Global;
 use std::process::Abort;
-use store::AddTenant;
+use store::{AddTenant, FullAudit, OpenFault};
 use tenants::TenantName;
 
 type InMemoryStore = Driven<InMemory>;
 
 const NORTH: [u8; 32] = [1; 32];
 
-const MEMORY: Unavailable = Unavailable::Memory;
-
 /// How many entries an account has that is read.
 const ENTRIES: usize = 40;
 
-/// Runs a batch of transfers, and tells whether its results have these numbers and timestamps.
+/// The store as it is, or where its disk failed, on what its files hold after a crash.
+fn mended(
+    rt: &impl Abort,
+    alloc: Global,
+    mut store: InMemoryStore,
+    fault: Unavailable,
+) -> InMemoryStore {
+    let has_failed = fault == Unavailable::Disk;
+    assert!(rt; has_failed || fault == Unavailable::Memory, "{fault:?}");
+    assert_eq!(rt; store.is_ready(), (!has_failed, 3));
+    if has_failed {
+        assert_eq!(rt; store.knows(&NORTH), Err(Unavailable::Disk));
+        store = reopened(rt, alloc, crashed(store.close()));
+    }
+    store
+}
+
+/// Files after a crash.
+fn crashed(mut files: Files<InMemory>) -> Files<InMemory> {
+    files.log.crash();
+    files.db.crash();
+    files
+}
+
+/// A ledger that is there.
+fn reopened(rt: &impl Abort, alloc: Global, files: Files<InMemory>) -> InMemoryStore {
+    match Driven::open(alloc, files, WIDE, &FullAudit) {
+        Ok(store) => store,
+        Err((fault, _)) => panic!(rt; "not opened: {fault:?}"),
+    }
+}
+
+/// A new ledger, once there is memory for it. A making that failed may have left the whole of it.
+fn made(rt: &impl Abort, alloc: Global) -> InMemoryStore {
+    let files = Files {
+        log: disk(alloc, Calls::All),
+        db: disk(alloc, Calls::All),
+    };
+    match Driven::make(alloc, files, WIDE) {
+        Ok(store) => store,
+        Err((fault, files)) => made_again(rt, alloc, fault, files),
+    }
+}
+
+/// The same, after a fault.
+fn made_again(
+    rt: &impl Abort,
+    alloc: Global,
+    fault: OpenFault,
+    files: Files<InMemory>,
+) -> InMemoryStore {
+    let has_failed = fault == OpenFault::Unavailable(Unavailable::Disk);
+    assert!(rt;
+        has_failed || fault == OpenFault::Unavailable(Unavailable::Memory),
+        "{fault:?}"
+    );
+    match Driven::make(alloc, crashed(files), WIDE) {
+        Ok(store) => store,
+        Err((refusal, files)) => {
+            assert!(rt; has_failed && refusal == OpenFault::NotALedger);
+            reopened(rt, alloc, files)
+        }
+    }
+}
+
+/// Adds a tenant once there is memory for it: it is not known before, or after a fault of the disk
+/// it may be, and then its name is taken.
+fn adds(rt: &impl Abort, alloc: Global, mut store: InMemoryStore) -> InMemoryStore {
+    let north = TenantName::read("North").expect(rt, "no name");
+    match store.add(&north, &NORTH) {
+        Ok(()) => store,
+        Err(AddTenant::Unavailable(fault)) => {
+            store = mended(rt, alloc, store, fault);
+            adds_again(rt, &mut store, &north, fault);
+            store
+        }
+        Err(fault) => panic!(rt; "{fault:?}"),
+    }
+}
+
+/// The same, after a fault.
+fn adds_again(rt: &impl Abort, store: &mut InMemoryStore, north: &TenantName, fault: Unavailable) {
+    let is_kept = store.knows(&NORTH) == Ok(true);
+    assert!(rt; fault == Unavailable::Disk || !is_kept);
+    let want = if is_kept {
+        Err(AddTenant::NameTaken)
+    } else {
+        Ok(())
+    };
+    assert_eq!(rt; store.add(north, &NORTH), want);
+    assert_eq!(rt; store.knows(&NORTH), Ok(true));
+}
+
+/// What a batch has.
+#[derive(Clone, Copy)]
+enum Events<'a> {
+    Accounts(&'a [AccountEvent]),
+    Transfers(&'a [TransferEvent]),
+}
+
+/// Runs a batch, and tells whether its results have these numbers, at timestamps behind a clock.
 #[derive(Clone, Copy)]
 struct Comparing<'a> {
     alloc: Global,
-    transfers: &'a [TransferEvent],
-    want: &'a [(u16, u64)],
+    events: Events<'a>,
+    clock: u64,
+    want: &'a [u16],
+}
+
+impl Comparing<'_> {
+    /// Whether this is what is wanted.
+    fn is_met<R: Numbered>(&self, reply: &BatchReply<R>) -> bool {
+        let BatchReply::Done { clock: _, results } = reply else {
+            return false;
+        };
+        let told = results
+            .iter()
+            .map(|each| (each.result.its_number(), each.timestamp));
+        let timestamps = self.clock.saturating_add(1)..u64::MAX;
+        told.eq(self.want.iter().copied().zip(timestamps))
+    }
 }
 
 impl Work for Comparing<'_> {
@@ -39,109 +154,124 @@ impl Work for Comparing<'_> {
     ghost gives = { λ _ _ _ _. Unit {0} };
 
     fn run<T: Tables>(self, tables: &mut T) -> Result<bool, Unavailable> {
-        let sending = Sending {
-            alloc: self.alloc,
-            transfers: self.transfers,
-            moment: 0,
-        };
-        let BatchReply::Done { clock: _, results } = sending.run(tables)? else {
-            return Ok(false);
-        };
-        let told = results
-            .iter()
-            .map(|each| (each.result.number(), each.timestamp));
-        Ok(told.eq(self.want.iter().copied()))
+        let alloc = self.alloc;
+        match self.events {
+            Events::Accounts(accounts) => {
+                let opening = Opening {
+                    alloc,
+                    accounts,
+                    moment: 0,
+                };
+                Ok(self.is_met(&opening.run(tables)?))
+            }
+            Events::Transfers(transfers) => {
+                let sending = Sending {
+                    alloc,
+                    transfers,
+                    moment: 0,
+                };
+                Ok(self.is_met(&sending.run(tables)?))
+            }
+        }
+    }
+}
+
+/// A batch, and the numbers of its results where it is run first, and where it was run before.
+#[derive(Clone, Copy)]
+struct Request<'a> {
+    events: Events<'a>,
+    first: &'a [u16],
+    again: &'a [u16],
+}
+
+/// Why a batch was not run; its tenant is known.
+fn cause(rt: &impl Abort, fault: BatchFault) -> Unavailable {
+    match fault {
+        BatchFault::Unavailable(why) => why,
+        BatchFault::UnknownKey => panic!(rt; "the tenant is not known"),
     }
 }
 
 /// The clock, once there is memory to tell it.
-fn clock(rt: &impl Abort, store: &mut InMemoryStore) -> u64 {
-    let mut seen = store.run(&NORTH, Looking { account: 1 });
-    if seen == Err(BatchFault::Unavailable(MEMORY)) {
-        seen = store.run(&NORTH, Looking { account: 1 });
+fn seen(rt: &impl Abort, alloc: Global, mut store: InMemoryStore) -> (InMemoryStore, u64) {
+    let looking = Looking { account: 1 };
+    let mut told = store.run(&NORTH, looking);
+    if let Err(fault) = told {
+        store = mended(rt, alloc, store, cause(rt, fault));
+        told = store.run(&NORTH, looking);
     }
-    seen.expect(rt, "not seen").2
+    (store, told.expect(rt, "not seen").2)
 }
 
-/// Sends transfers until there is memory: the clock is as before where there was none.
-fn sends(rt: &impl Abort, store: &mut InMemoryStore, before: u64, batch: Comparing<'_>) {
+/// Sends a batch once there is memory for it. It is not kept before, or after a fault of the disk
+/// the whole of it may be, and then the same batch is a retry. Tells the clock behind it.
+fn sends(
+    rt: &impl Abort,
+    alloc: Global,
+    (mut store, before): (InMemoryStore, u64),
+    request: Request<'_>,
+) -> (InMemoryStore, u64) {
+    let mut batch = Comparing {
+        alloc,
+        events: request.events,
+        clock: before,
+        want: request.first,
+    };
     let mut told = store.run(&NORTH, batch);
-    if told == Err(BatchFault::Unavailable(MEMORY)) {
-        assert_eq!(rt; clock(rt, store), before);
+    if let Err(fault) = told {
+        let fault = cause(rt, fault);
+        (store, batch.clock) = seen(rt, alloc, mended(rt, alloc, store, fault));
+        if batch.clock != before {
+            assert_eq!(rt;
+                (fault, batch.clock),
+                (Unavailable::Disk, behind(before, request))
+            );
+            batch.want = request.again;
+        }
         told = store.run(&NORTH, batch);
     }
     assert_eq!(rt; told, Ok(true));
+    let (store, after) = seen(rt, alloc, store);
+    assert_eq!(rt; after, behind(batch.clock, request));
+    (store, after)
+}
+
+/// The clock behind a batch.
+fn behind(before: u64, request: Request<'_>) -> u64 {
+    before.saturating_add(request.first.len() as u64)
+}
+
+/// Opens the accounts of the base, if there is memory for the events. It gives the clock too.
+fn opens(rt: &impl Abort, alloc: Global) -> Option<(InMemoryStore, u64)> {
+    let accounts = accounts(alloc, "1; 2; 3 flags=10; 4").ok()?;
+    let store = adds(rt, alloc, made(rt, alloc));
+    let opening = Request {
+        events: Events::Accounts(&accounts),
+        first: &[0; 4],
+        again: &[13; 4],
+    };
+    Some(sends(rt, alloc, (store, 0), opening))
 }
 
 /// A chain that falls, whose id that fails is told from then on, and not before.
-fn falls(rt: &impl Abort, alloc: Global, store: &mut InMemoryStore) {
-    let chain = [transfer("103: 1>2 1 linked"), transfer("104: 3>2 1")];
-    let again = [transfer("104: 1>2 1")];
-    let falling = Comparing {
-        alloc,
-        transfers: &chain,
-        want: &[(2, 5), (55, 6)],
-    };
-    sends(rt, store, 4, falling);
-    let refused = Comparing {
-        alloc,
-        transfers: &again,
-        want: &[(60, 7)],
-    };
-    sends(rt, store, 6, refused);
-    assert_eq!(rt; clock(rt, store), 7);
-}
-
-/// A new ledger, if there is memory for it.
-fn made(alloc: Global) -> Option<InMemoryStore> {
-    let files = Files {
-        log: disk(alloc, Calls::All),
-        db: disk(alloc, Calls::All),
-    };
-    match Driven::make(alloc, files, WIDE) {
-        Ok(store) => Some(store),
-        Err(_) => None,
-    }
-}
-
-/// Adds a tenant: it is not known where there was no memory to add it.
-fn adds(rt: &impl Abort, store: &mut InMemoryStore) {
-    let north = TenantName::read("North").expect(rt, "no name");
-    let mut told = store.add(&north, &NORTH);
-    if told == Err(AddTenant::Unavailable(MEMORY)) {
-        assert_eq!(rt; store.knows(&NORTH), Ok(false));
-        told = store.add(&north, &NORTH);
-    }
-    assert_eq!(rt; told, Ok(()));
-}
-
-/// Opens the accounts of the base: the clock is as before where there was no memory.
-fn opens(rt: &impl Abort, alloc: Global, store: &mut InMemoryStore) -> bool {
-    let Ok(accounts) = accounts(alloc, "1; 2; 3 flags=10; 4") else {
-        return false;
-    };
-    for _ in 0..2u8 {
-        let opening = Opening {
-            alloc,
-            accounts: &accounts,
-            moment: 0,
-        };
-        if store.run(&NORTH, opening).is_ok() {
-            return true;
-        }
-        assert_eq!(rt; clock(rt, store), 0);
-    }
-    false
-}
-
 #[test]
 fn want_of_memory_in_batches(rt: HostRuntime) {
-    let Some(mut store) = made(rt.alloc()) else {
-        return;
+    let alloc = rt.alloc();
+    let chain = [transfer("103: 1>2 1 linked"), transfer("104: 3>2 1")];
+    let falling = Request {
+        events: Events::Transfers(&chain),
+        first: &[2, 55],
+        again: &[2, 60],
     };
-    adds(&rt, &mut store);
-    if opens(&rt, rt.alloc(), &mut store) {
-        falls(&rt, rt.alloc(), &mut store);
+    let single = [transfer("104: 1>2 1")];
+    let refused = Request {
+        events: Events::Transfers(&single),
+        first: &[60],
+        again: &[60],
+    };
+    if let Some(opened) = opens(&rt, alloc) {
+        let fallen = sends(&rt, alloc, opened, falling);
+        let _told = sends(&rt, alloc, fallen, refused);
     }
 }
 
@@ -175,36 +305,40 @@ fn listed(alloc: Global, store: &mut InMemoryStore, kind: u8) -> Result<usize, R
     }
 }
 
+/// Why a read has no answer, which is there.
+fn want(rt: &impl Abort, fault: ReadFault) -> Unavailable {
+    match fault {
+        ReadFault::Unavailable(why) => why,
+        ReadFault::Sink(SinkFault::Memory) => Unavailable::Memory,
+        _ => panic!(rt; "{fault:?}"),
+    }
+}
+
 /// Each kind of read, which lists what is there once there is memory.
-fn reads(rt: &impl Abort, alloc: Global, store: &mut InMemoryStore) {
-    for (kind, want) in [(0, 2), (1, 2), (2, ENTRIES), (3, ENTRIES), (4, ENTRIES)] {
-        let mut told = listed(alloc, store, kind);
-        if told.is_err() {
-            let is_known = told == Err(ReadFault::Unavailable(MEMORY))
-                || told == Err(ReadFault::Sink(SinkFault::Memory));
-            assert!(rt; is_known, "{told:?}");
-            told = listed(alloc, store, kind);
+fn reads(rt: &impl Abort, alloc: Global, mut store: InMemoryStore) {
+    for (kind, entries) in [(0, 2), (1, 2), (2, ENTRIES), (3, ENTRIES), (4, ENTRIES)] {
+        let mut told = listed(alloc, &mut store, kind);
+        if let Err(fault) = told {
+            store = mended(rt, alloc, store, want(rt, fault));
+            told = listed(alloc, &mut store, kind);
         }
-        assert_eq!(rt; told, Ok(want));
+        assert_eq!(rt; told, Ok(entries));
     }
 }
 
 #[test]
 fn want_of_memory_in_reads(rt: HostRuntime) {
-    let Some(mut store) = made(rt.alloc()) else {
+    let alloc = rt.alloc();
+    let Ok(transfers) = ones(alloc, 1000, 1040) else {
         return;
     };
-    adds(&rt, &mut store);
-    let Ok(transfers) = ones(rt.alloc(), 1000, 1040) else {
-        return;
+    let filling = Request {
+        events: Events::Transfers(&transfers),
+        first: &[0; ENTRIES],
+        again: &[18; ENTRIES],
     };
-    let sending = Sending {
-        alloc: rt.alloc(),
-        transfers: &transfers,
-        moment: 0,
-    };
-    let is_filled = opens(&rt, rt.alloc(), &mut store) && store.run(&NORTH, sending).is_ok();
-    if is_filled {
-        reads(&rt, rt.alloc(), &mut store);
+    if let Some(opened) = opens(&rt, alloc) {
+        let (store, _) = sends(&rt, alloc, opened, filling);
+        reads(&rt, alloc, store);
     }
 }

@@ -1,7 +1,7 @@
 //! Files that are no ledger, or a changed one, and why they are not opened. Those of a ledger are
 //! opened again, and it goes on.
 
-use super::playing::{base, blank, play};
+use super::playing::{play_from_base, play_from_nothing};
 
 /// One tenant, and 'posted in part'.
 const POSTED: &str = "\
@@ -70,16 +70,12 @@ North see 1 => Ok((Some([0, 40, 0, 0]), Some(Posted), 9))";
 
 #[test]
 fn a_changed_ledger_is_not_opened(rt: HostRuntime) {
-    let mut bench = blank(rt.alloc());
-    play(&rt, &mut bench, POSTED);
-    play(&rt, &mut bench, DAMAGES);
+    play_from_nothing(&rt, rt.alloc(), &[POSTED, DAMAGES]);
 }
 
 #[test]
 fn the_first_damage_is_told(rt: HostRuntime) {
-    let mut bench = blank(rt.alloc());
-    play(&rt, &mut bench, POSTED);
-    play(&rt, &mut bench, MORE_DAMAGE);
+    play_from_nothing(&rt, rt.alloc(), &[POSTED, MORE_DAMAGE]);
 }
 
 /// The table of failed ids, behind which 101 is accepted and the second of those that failed would
@@ -125,10 +121,8 @@ File open => NotALedger";
 
 #[test]
 fn other_ledgers_are_not_opened(rt: HostRuntime) {
-    play(&rt, &mut base(&rt, rt.alloc()), FAILED);
-    let mut bench = blank(rt.alloc());
-    play(&rt, &mut bench, POSTED);
-    play(&rt, &mut bench, OTHER_LEDGERS);
+    play_from_base(&rt, rt.alloc(), FAILED);
+    play_from_nothing(&rt, rt.alloc(), &[POSTED, OTHER_LEDGERS]);
 }
 
 /// Files of 0 bytes, a stranger's, and noise.
@@ -151,6 +145,6 @@ North transfers 100: 1>2 10 => clock 5: 0@5";
 
 #[test]
 fn other_files_are_no_ledger(rt: HostRuntime) {
-    play(&rt, &mut blank(rt.alloc()), OTHER_FILES);
-    play(&rt, &mut base(&rt, rt.alloc()), WITHOUT_A_TENANT);
+    play_from_nothing(&rt, rt.alloc(), &[OTHER_FILES]);
+    play_from_base(&rt, rt.alloc(), WITHOUT_A_TENANT);
 }

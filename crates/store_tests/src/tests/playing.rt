@@ -1,8 +1,8 @@
 //! Scripts: lines of a command and its answer.
 
 use super::bench::Bench;
-use super::commands::{Command, answer};
-use super::disks::{Calls, InMemory, WIDE};
+use super::commands::{Command, Text, answer};
+use super::disks::{Calls, WIDE};
 use super::driven::Driven;
 use sqlite_disk::Disk;
 use std::alloc::Global;
@@ -21,12 +21,17 @@ fn parts(line: &str) -> (&str, &str) {
     line.split_once(" => ").unwrap_or((line, ""))
 }
 
+/// Compares what is told with a line's answer.
+fn compare(rt: &impl Abort, line: &str, told: Text) {
+    let (command, want) = parts(line);
+    let told = told.expect(rt, line);
+    assert_eq!(rt; told.as_str(), want, "{command}");
+}
+
 /// Gives each command of a script, and compares the answers.
 pub fn play(rt: &impl Abort, bench: &mut Bench, script: &str) {
     for line in script.split('\n') {
-        let (command, want) = parts(line);
-        let told = bench.answer(command).expect(rt, line);
-        assert_eq!(rt; told.as_str(), want, "{command}");
+        compare(rt, line, bench.answer(parts(line).0));
     }
 }
 
@@ -38,9 +43,8 @@ pub fn play_on<D: Disk + Drop>(
     script: &str,
 ) {
     for line in script.split('\n') {
-        let (command, want) = parts(line);
-        let told = answer(store, &Command::read(alloc, command)).expect(rt, line);
-        assert_eq!(rt; told.as_str(), want, "{command}");
+        let command = Command::read(alloc, parts(line).0);
+        compare(rt, line, answer(store, &command));
     }
 }
 
@@ -56,21 +60,18 @@ pub fn other_answer(rt: &impl Abort, bench: &mut Bench, script: &str) -> Option<
     None
 }
 
-/// New files on disks in memory on which nothing fails.
-pub fn blank(alloc: Global) -> Bench {
-    Bench::new(alloc, WIDE, Calls::All, Calls::All)
-}
-
-/// A ledger of two tenants, each with the accounts of the base.
-pub fn base(rt: &impl Abort, alloc: Global) -> Bench {
-    let mut bench = blank(alloc);
-    play(rt, &mut bench, BASE);
-    bench
+/// Plays scripts, one behind the other, on new files in memory, on which nothing fails.
+pub fn play_from_nothing(rt: &impl Abort, alloc: Global, scripts: &[&str]) {
+    let mut bench = Bench::new(alloc, WIDE, Calls::All, Calls::All);
+    for script in scripts {
+        play(rt, &mut bench, script);
+    }
+    bench.end();
 }
 
 /// Plays each paragraph for tenants of its own.
 pub fn play_from_base(rt: &impl Abort, alloc: Global, paragraphs: &str) {
     for script in paragraphs.split("\n\n") {
-        play(rt, &mut base(rt, alloc), script);
+        play_from_nothing(rt, alloc, &[BASE, script]);
     }
 }

@@ -1,7 +1,7 @@
 //! What each read answers. A filter is an account, flags, a limit and two times.
 
 use super::commands::Text;
-use super::playing::{base, play, play_from_base};
+use super::playing::play_from_base;
 use std::alloc::Global;
 
 /// After 'posted in part', after 'posted too late' and a transfer, and after 'balancing'.
@@ -88,16 +88,17 @@ fn page(alloc: Global, first: u64, newest_first: bool) -> Text {
     Ok(text)
 }
 
+/// The history, and then pages of a thousand entries from both ends.
+fn paged(alloc: Global) -> Text {
+    let oldest = page(alloc, 1000, false)?;
+    let newest = page(alloc, 1001, true)?;
+    format!(in alloc;
+        "{LONG}\nNorth history 3 3 1000 => {oldest}\nNorth history 3 7 1000 => {newest}"
+    )
+}
+
 #[test]
 fn pages_of_a_long_history(rt: HostRuntime) {
-    let mut bench = base(&rt, rt.alloc());
-    play(&rt, &mut bench, LONG);
-    assert_eq!(rt;
-        bench.answer("North history 3 3 1000"),
-        page(rt.alloc(), 1000, false)
-    );
-    assert_eq!(rt;
-        bench.answer("North history 3 7 1000"),
-        page(rt.alloc(), 1001, true)
-    );
+    let script = paged(rt.alloc()).expect(&rt, "no memory");
+    play_from_base(&rt, rt.alloc(), &script);
 }

@@ -54,11 +54,15 @@ impl Entry for BalanceAt {
     }
 }
 
-fn listed<T: Entry>(alloc: Global, found: &Result<Listed<T>, ReadFault>) -> Text {
-    let found = match found {
-        Ok(found) => found,
-        Err(fault) => return shown(alloc, fault),
-    };
+/// What was listed, or the fault.
+fn listed<T: Entry + Drop>(alloc: Global, found: Result<Listed<T>, ReadFault>) -> Text {
+    match found {
+        Ok(found) => entries_told(alloc, &found),
+        Err(fault) => shown(alloc, &fault),
+    }
+}
+
+fn entries_told<T: Entry>(alloc: Global, found: &Listed<T>) -> Text {
     let mut text = format!(in alloc; "clock {}:", found.clock)?;
     for entry in found.entries.iter() {
         text.push_str(format!(in alloc; " {}", entry.entry(alloc)?)?.as_str())?;
@@ -66,11 +70,15 @@ fn listed<T: Entry>(alloc: Global, found: &Result<Listed<T>, ReadFault>) -> Text
     Ok(text)
 }
 
-fn ids_listed(alloc: Global, found: &Result<Listed<Transfer>, ReadFault>) -> Text {
-    let found = match found {
-        Ok(found) => found,
-        Err(fault) => return shown(alloc, fault),
-    };
+/// The same, of each transfer its id alone.
+fn ids_listed(alloc: Global, found: Result<Listed<Transfer>, ReadFault>) -> Text {
+    match found {
+        Ok(found) => ids_told(alloc, &found),
+        Err(fault) => shown(alloc, &fault),
+    }
+}
+
+fn ids_told(alloc: Global, found: &Listed<Transfer>) -> Text {
     let mut text = format!(in alloc; "clock {}:", found.clock)?;
     for entry in found.entries.iter() {
         text.push_str(format!(in alloc; " {}", entry.id)?.as_str())?;
@@ -110,25 +118,35 @@ pub fn read<D: Disk + Drop>(store: &mut Driven<D>, command: &Command<'_>) -> Tex
     let digest = command.digest();
     let asked = command.filter();
     match command.verb {
-        "account" => {
-            let ids = command.ids()?;
-            listed(alloc, &store.lookup_accounts(alloc, &digest, &ids))
-        }
-        "transfer" => {
-            let ids = command.ids()?;
-            listed(alloc, &store.lookup_transfers(alloc, &digest, &ids))
-        }
-        "history" => ids_listed(alloc, &store.history_transfers(alloc, &digest, &asked)),
-        "balances" => listed(alloc, &store.history_balances(alloc, &digest, &asked)),
-        _ => {
-            let order = if asked.flags.is_newest_first() {
-                Order::Newest
-            } else {
-                Order::Oldest
-            };
-            let wanted = (asked.account_id, order, asked.limit as usize);
-            let (rows, ended) = store.statement(alloc, &digest, wanted);
-            stated(alloc, &rows, &ended)
-        }
+        "account" | "transfer" => look_up(store, command),
+        "history" => ids_listed(alloc, store.history_transfers(alloc, &digest, &asked)),
+        "balances" => listed(alloc, store.history_balances(alloc, &digest, &asked)),
+        _ => state(store, command),
     }
+}
+
+/// Accounts, or transfers, of ids.
+fn look_up<D: Disk + Drop>(store: &mut Driven<D>, command: &Command<'_>) -> Text {
+    let alloc = command.alloc;
+    let digest = command.digest();
+    let ids = command.ids()?;
+    if command.verb == "account" {
+        listed(alloc, store.lookup_accounts(alloc, &digest, &ids))
+    } else {
+        listed(alloc, store.lookup_transfers(alloc, &digest, &ids))
+    }
+}
+
+/// A statement.
+fn state<D: Disk + Drop>(store: &mut Driven<D>, command: &Command<'_>) -> Text {
+    let alloc = command.alloc;
+    let asked = command.filter();
+    let order = if asked.flags.is_newest_first() {
+        Order::Newest
+    } else {
+        Order::Oldest
+    };
+    let wanted = (asked.account_id, order, asked.limit as usize);
+    let (rows, ended) = store.statement(alloc, &command.digest(), wanted);
+    stated(alloc, &rows, &ended)
 }

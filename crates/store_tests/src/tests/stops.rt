@@ -88,23 +88,34 @@ const REOPENED: &str = "\
 File crash => closed
 File open => opened";
 
-/// What is answered to a command where a disk stops after so many calls, if the base was made.
-fn told(
-    rt: &impl Abort,
-    alloc: Global,
-    (stopping, calls): (Stopping, u64),
-    command: &str,
-) -> Option<(Bench, String)> {
+/// New files, of which one is on a disk that stops after so many calls.
+fn bench(alloc: Global, (stopping, calls): (Stopping, u64)) -> Bench {
     let (log, database) = match stopping {
         Stopping::Log => (Calls::First(calls), Calls::All),
         Stopping::Database => (Calls::All, Calls::First(calls)),
     };
-    let mut bench = Bench::new(alloc, SMALL, log, database);
-    if other_answer(rt, &mut bench, BASE).is_some() {
+    Bench::new(alloc, SMALL, log, database)
+}
+
+/// What is answered to a command on new files, if the base was made.
+fn told(rt: &impl Abort, bench: &mut Bench, command: &str) -> Option<String> {
+    if other_answer(rt, bench, BASE).is_some() {
         return None;
     }
-    let told = bench.answer(command).expect(rt, command);
-    Some((bench, told))
+    Some(bench.answer(command).expect(rt, command))
+}
+
+/// The same, where a disk stops.
+fn told_there(
+    rt: &impl Abort,
+    alloc: Global,
+    stopping: (Stopping, u64),
+    command: &str,
+) -> Option<String> {
+    let mut bench = bench(alloc, stopping);
+    let told = told(rt, &mut bench, command);
+    bench.end();
+    told
 }
 
 /// Whether the disk failed in a batch.
@@ -112,23 +123,47 @@ fn is_refused(answer: &str) -> bool {
     answer == "Unavailable(Disk)"
 }
 
+/// Whether the disk failed in the request, as is then told to every later one. Else its answer is
+/// the right one.
+fn was_refused(rt: &impl Abort, bench: &mut Bench, answer: &str, request: &Request) -> bool {
+    if is_refused(answer) {
+        play(rt, bench, NOTHING);
+        return true;
+    }
+    assert_eq!(rt; answer, request.answer);
+    false
+}
+
+/// Whether an opening after the crash finds the rows after the request; else those before it.
+fn was_kept(rt: &impl Abort, bench: &mut Bench, request: &Request) -> bool {
+    play(rt, bench, REOPENED);
+    play(rt, bench, OTHERS);
+    if other_answer(rt, bench, request.after).is_none() {
+        return true;
+    }
+    play(rt, bench, BEFORE);
+    false
+}
+
+/// Whether the disk failed in the request, and whether it was kept.
+fn sent(rt: &impl Abort, bench: &mut Bench, request: &Request) -> (bool, bool) {
+    let answer = told(rt, bench, request.command).expect(rt, "no base");
+    let was_refused = was_refused(rt, bench, &answer, request);
+    (was_refused, was_kept(rt, bench, request))
+}
+
+/// Whether a batch that wants memory in the end meets the stop.
+fn is_early(rt: &impl Abort, alloc: Global, stopping: (Stopping, u64), request: &Request) -> bool {
+    let failing = told_there(rt, alloc, stopping, request.failing);
+    failing.is_some_and(|told| told.as_str() == REFUSED_EARLIER)
+}
+
 /// Where the stop after so many calls falls.
 fn stopped(rt: &impl Abort, alloc: Global, stopping: (Stopping, u64), request: &Request) -> Stop {
-    let (mut bench, answer) = told(rt, alloc, stopping, request.command).expect(rt, "no base");
-    let was_refused = is_refused(&answer);
-    if was_refused {
-        play(rt, &mut bench, NOTHING);
-    } else {
-        assert_eq!(rt; answer.as_str(), request.answer);
-    }
-    play(rt, &mut bench, REOPENED);
-    play(rt, &mut bench, OTHERS);
-    let is_kept = other_answer(rt, &mut bench, request.after).is_none();
-    if !is_kept {
-        play(rt, &mut bench, BEFORE);
-    }
-    let failing = told(rt, alloc, stopping, request.failing);
-    let is_early = failing.is_some_and(|(_, told)| told.as_str() == REFUSED_EARLIER);
+    let mut bench = bench(alloc, stopping);
+    let (was_refused, is_kept) = sent(rt, &mut bench, request);
+    bench.end();
+    let is_early = is_early(rt, alloc, stopping, request);
     match (was_refused, is_early, is_kept) {
         (true, true, false) => Stop::Before,
         (true, false, _) => Stop::Inside,
@@ -139,8 +174,8 @@ fn stopped(rt: &impl Abort, alloc: Global, stopping: (Stopping, u64), request: &
 
 /// Whether so many calls are too few to make the base and answer a command.
 fn are_too_few(rt: &impl Abort, alloc: Global, stopping: (Stopping, u64), command: &str) -> bool {
-    match told(rt, alloc, stopping, command) {
-        Some((_bench, answer)) => is_refused(&answer),
+    match told_there(rt, alloc, stopping, command) {
+        Some(answer) => is_refused(&answer),
         None => true,
     }
 }
@@ -158,12 +193,22 @@ fn least(rt: &impl Abort, alloc: Global, stopping: Stopping, command: &str) -> u
     least
 }
 
-/// Whether a request's last call may fall there: that of the log is in the commit, that of the
+/// Where a disk stops in a request's calls.
+#[derive(Clone, Copy, Debug)]
+enum Place {
+    AtFirst,
+    AtLast,
+    BehindAll,
+}
+
+/// Whether such a stop may fall there. The last call of the log is in the commit, that of the
 /// database file, which is written where the log is long, in the commit or before it.
-fn may_be_last(stopping: Stopping, stop: Stop) -> bool {
-    match stopping {
-        Stopping::Log => stop == Stop::Inside,
-        Stopping::Database => stop != Stop::After,
+fn may_fall(stopping: Stopping, place: Place, stop: Stop) -> bool {
+    match (place, stopping) {
+        (Place::AtFirst, _) => stop == Stop::Before,
+        (Place::AtLast, Stopping::Log) => stop == Stop::Inside,
+        (Place::AtLast, Stopping::Database) => stop != Stop::After,
+        (Place::BehindAll, _) => stop == Stop::After,
     }
 }
 
@@ -171,15 +216,18 @@ fn may_be_last(stopping: Stopping, stop: Stop) -> bool {
 fn stop_thrice(rt: &impl Abort, alloc: Global, stopping: Stopping, request: &Request) {
     let first = least(rt, alloc, stopping, "North ready");
     let kept = least(rt, alloc, stopping, request.command);
-    let found = stopped(rt, alloc, (stopping, first), request);
-    assert_eq!(rt; found, Stop::Before, "{stopping:?} after {first}");
-    let found = stopped(rt, alloc, (stopping, kept.saturating_sub(1)), request);
-    assert!(rt;
-        may_be_last(stopping, found),
-        "{stopping:?} before {kept}: {found:?}"
-    );
-    let found = stopped(rt, alloc, (stopping, kept), request);
-    assert_eq!(rt; found, Stop::After, "{stopping:?} after {kept}");
+    let last = kept.saturating_sub(1);
+    for (calls, place) in [
+        (first, Place::AtFirst),
+        (last, Place::AtLast),
+        (kept, Place::BehindAll),
+    ] {
+        let found = stopped(rt, alloc, (stopping, calls), request);
+        assert!(rt;
+            may_fall(stopping, place, found),
+            "{stopping:?} after {calls}, {place:?}: {found:?}"
+        );
+    }
 }
 
 #[test]

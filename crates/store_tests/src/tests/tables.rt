@@ -3,7 +3,8 @@
 use super::commands::{Text, said, shown};
 use records::Unavailable;
 use rows::{
-    AccountCells, AllRows, BalanceCells, HistoryCells, StatusCells, TenantRows, TransferCells,
+    AccountCells, AllRows, BalanceCells, DirectoryRow, HistoryCells, StatusCells, TenantOfDigest,
+    TenantRows, TransferCells,
 };
 use std::alloc::Global;
 
@@ -87,12 +88,16 @@ fn rows_told<C: Cells>(alloc: Global, rows: &[C]) -> Text {
 }
 
 /// The rows of a tenant in one of its tables.
-pub fn table(alloc: Global, told: &Result<Option<TenantRows>, Unavailable>, name: &str) -> Text {
-    let rows = match told {
-        Ok(Some(rows)) => rows,
-        Ok(None) => return said(alloc, "no tenant"),
-        Err(fault) => return shown(alloc, fault),
-    };
+pub fn table(alloc: Global, told: Result<Option<TenantRows>, Unavailable>, name: &str) -> Text {
+    match told {
+        Ok(Some(rows)) => named(alloc, &rows, name),
+        Ok(None) => said(alloc, "no tenant"),
+        Err(fault) => shown(alloc, &fault),
+    }
+}
+
+/// The rows of the table of this name.
+fn named(alloc: Global, rows: &TenantRows, name: &str) -> Text {
     match name {
         "account" => rows_told(alloc, &rows.accounts),
         "transfer" => rows_told(alloc, &rows.transfers),
@@ -106,17 +111,23 @@ pub fn table(alloc: Global, told: &Result<Option<TenantRows>, Unavailable>, name
 
 /// The version of the schema, each tenant's number, name and the first byte of its digest, and how
 /// many transfers it has.
-pub fn directory(alloc: Global, told: &Result<AllRows, Unavailable>) -> Text {
-    let all = match told {
-        Ok(all) => all,
-        Err(fault) => return shown(alloc, fault),
-    };
+pub fn directory(alloc: Global, told: Result<AllRows, Unavailable>) -> Text {
+    match told {
+        Ok(all) => tenants_told(alloc, &all),
+        Err(fault) => shown(alloc, &fault),
+    }
+}
+
+fn tenants_told(alloc: Global, all: &AllRows) -> Text {
     let mut text = format!(in alloc; "version {}:", all.version)?;
     for (row, tenant) in all.directory.iter().zip(all.tenants.iter()) {
-        let its = [row.digest[0], tenant.digest[0]];
-        let transfers = tenant.rows.transfers.len();
-        let line = format!(in alloc; " {} {} {its:?} {transfers};", row.number, row.name)?;
-        text.push_str(line.as_str())?;
+        text.push_str(tenant_told(alloc, row, tenant)?.as_str())?;
     }
     Ok(text)
+}
+
+fn tenant_told(alloc: Global, row: &DirectoryRow, tenant: &TenantOfDigest) -> Text {
+    let its = [row.digest[0], tenant.digest[0]];
+    let transfers = tenant.rows.transfers.len();
+    format!(in alloc; " {} {} {its:?} {transfers};", row.number, row.name)
 }

@@ -1,0 +1,117 @@
+//! Disks that fail while a tenant sends a chain, or while a tenant is added. What an opening finds
+//! then is all of that or nothing, and no other tenant's rows are touched.
+
+use super::deeds::{CHAIN, Deed, JOINING, Spelled, Told};
+use super::disks::{NEVER, after_a_crash, new_store, rows_in};
+use super::scripts::runs;
+use rows::AllRows;
+use std::alloc::Global;
+use std::process::Abort;
+use std::test::Fail;
+
+/// Two tenants with their accounts.
+const TWO: &str = "tenant 0 = added
+tenant 1 = added
+0@0 base = 0@1 0@2 0@3 0@4
+1@0 base = 0@1 0@2 0@3 0@4";
+
+/// Which of the two files is on a disk that fails.
+#[derive(Clone, Copy)]
+enum Failing {
+    Log,
+    Database,
+}
+
+/// What becomes of a deed.
+#[derive(Clone, Copy, Debug, PartialEq, Eq)]
+enum Outcome {
+    /// It was told to be unavailable, and nothing of it is found.
+    Undone,
+    /// It was told to be unavailable, and it is found.
+    DoneUntold,
+    /// It was told, and it is found.
+    Done,
+}
+
+/// The outcomes for a disk that fails at the first call of a deed, at its last one, or behind it.
+/// The last call of the log is of the commit: until it has been made nothing is kept, and none is
+/// made after it. The last of the database file comes before that. So no deed of these is told to
+/// be unavailable and found all the same.
+const OUTCOMES: [Outcome; 3] = [Outcome::Undone, Outcome::Undone, Outcome::Done];
+
+/// The rows before a deed, and those after it. It touches no row of the second tenant.
+fn both(rt: &impl Abort, alloc: Global, deed: &Spelled) -> Result<(AllRows, AllRows), Fail> {
+    let mut store = new_store(alloc, NEVER, NEVER)?;
+    runs(rt, alloc, &mut store, TWO)?;
+    let before = rows_in(&mut store)?;
+    assert_eq!(rt; deed.told(alloc, &mut store), Told::Done);
+    let after = rows_in(&mut store)?;
+    assert!(rt; before != after);
+    let second = before.tenants.get(1).ok_or("no second tenant")?;
+    assert!(rt; after.tenants.get(1) == Some(second));
+    Ok((before, after))
+}
+
+/// What becomes of a deed where a file fails behind so many calls, as found after a crash. The same
+/// deed is told then whether it was done. None where it became anything else.
+fn became(
+    rt: &impl Abort,
+    alloc: Global,
+    (failing, calls): (Failing, u64),
+    deed: &Spelled,
+    (before, after): (&AllRows, &AllRows),
+) -> Result<Option<Outcome>, Fail> {
+    let (log, database) = match failing {
+        Failing::Log => (calls, NEVER),
+        Failing::Database => (NEVER, calls),
+    };
+    let mut store = new_store(alloc, log, database)?;
+    runs(rt, alloc, &mut store, TWO)?;
+    let told = deed.told(alloc, &mut store);
+    let mut store = after_a_crash(alloc, store)?;
+    let found = rows_in(&mut store)?;
+    let again = deed.told(alloc, &mut store);
+    Ok(match (told, again) {
+        (Told::Unavailable, Told::Done) if found == *before => Some(Outcome::Undone),
+        (Told::Unavailable, Told::DoneBefore) if found == *after => Some(Outcome::DoneUntold),
+        (Told::Done, Told::DoneBefore) if found == *after => Some(Outcome::Done),
+        _ => None,
+    })
+}
+
+/// A deed has each outcome in turn where a file fails behind so many calls.
+fn has_each_outcome(
+    rt: &impl Abort,
+    alloc: Global,
+    deed: &Deed,
+    failing: Failing,
+    calls: [u64; 3],
+) -> Result<(), Fail> {
+    let deed = deed.spelled(alloc)?;
+    let (before, after) = both(rt, alloc, &deed)?;
+    for (calls, want) in calls.into_iter().zip(OUTCOMES) {
+        let got = became(rt, alloc, (failing, calls), &deed, (&before, &after))?;
+        assert_eq!(rt; got, Some(want), "behind {calls} calls");
+    }
+    Ok(())
+}
+
+#[test]
+fn a_chain_over_a_log_that_fails(rt: HostRuntime) -> Result<(), Fail> {
+    has_each_outcome(&rt, rt.alloc(), &CHAIN, Failing::Log, [91, 108, 109])
+}
+
+#[test]
+fn a_chain_over_a_database_file_that_fails(rt: HostRuntime) -> Result<(), Fail> {
+    has_each_outcome(&rt, rt.alloc(), &CHAIN, Failing::Database, [42, 53, 54])
+}
+
+#[test]
+fn a_tenant_over_a_log_that_fails(rt: HostRuntime) -> Result<(), Fail> {
+    has_each_outcome(&rt, rt.alloc(), &JOINING, Failing::Log, [91, 108, 109])
+}
+
+#[test]
+fn a_tenant_over_a_database_file_that_fails(rt: HostRuntime) -> Result<(), Fail> {
+    has_each_outcome(&rt, rt.alloc(), &JOINING, Failing::Database, [42, 49, 50])
+}

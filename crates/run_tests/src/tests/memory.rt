@@ -1,0 +1,150 @@
+//! Want of memory. To be run with each allocation refused in turn (`make alloc`). A disk in memory
+//! that wants memory has failed: what was to be written may be found after a crash, or not.
+ghost use Rattle.std.specs.Prelude.{IfOk, IfSome};
+ghost use Rattle.store.specs.Stores.{IsUsable};
+
+use super::deeds::{CHAIN, Told};
+use super::disks::{NEVER, TestDisk, after_a_crash, crashed, empty, made, opened, rows_in};
+use super::scripts::{answers, steps};
+use records::Unavailable;
+use rows::AllRows;
+use sqlite::Files;
+use std::alloc::Global;
+use std::test::Fail;
+use store::{FullAudit, OpenFault, Store};
+
+/// A tenant with its accounts.
+const ONE: &str = "tenant 0 = added
+0@0 base = 0@1 0@2 0@3 0@4";
+
+/// A new store, once there is memory for it.
+fn created(alloc: Global) -> Result<Store<TestDisk>, Fail>
+    ensures { IfOk result IsUsable }
+{
+    match made(alloc, empty(alloc, NEVER, NEVER)) {
+        Ok(store) => Ok(store),
+        Err((OpenFault::Unavailable(Unavailable::Memory), files)) => created_again(alloc, files),
+        Err((OpenFault::Unavailable(Unavailable::Disk), files)) => {
+            created_or_found(alloc, crashed(files))
+        }
+        Err((fault, _files)) => Err(fault.into()),
+    }
+}
+
+/// A store that is made in the files that were given back.
+fn created_again(alloc: Global, files: Files<TestDisk>) -> Result<Store<TestDisk>, Fail>
+    ensures { IfOk result IsUsable }
+{
+    match made(alloc, files) {
+        Ok(store) => Ok(store),
+        Err((fault, _files)) => Err(fault.into()),
+    }
+}
+
+/// A store that is made after a crash, or that is there.
+fn created_or_found(alloc: Global, files: Files<TestDisk>) -> Result<Store<TestDisk>, Fail>
+    ensures { IfOk result IsUsable }
+{
+    match made(alloc, files) {
+        Ok(store) => Ok(store),
+        Err((OpenFault::NotALedger, files)) => opened(alloc, files),
+        Err((fault, _files)) => Err(fault.into()),
+    }
+}
+
+#[test]
+fn want_of_memory_in_create(rt: HostRuntime) -> Result<(), Fail> {
+    let mut store = created(rt.alloc())?;
+    let rows = rows_in(&mut store)?;
+    assert!(rt;
+        rows.directory.is_empty() && rows.tenants.is_empty(),
+        "{rows:?}"
+    );
+    Ok(())
+}
+
+/// A store with a tenant, and all rows, if there is memory for that.
+fn base(alloc: Global) -> Option<(Store<TestDisk>, AllRows)>
+    ensures { IfSome result (λ base. IsUsable base.0) }
+{
+    let Ok(mut store) = made(alloc, empty(alloc, NEVER, NEVER)) else {
+        return None;
+    };
+    let steps = steps(alloc, ONE).ok()?;
+    let _answers = answers(alloc, &mut store, &steps).ok()?;
+    let rows = store.all_rows().ok()?;
+    if !matches!(rows.tenants.as_slice(), [tenant] if tenant.rows.accounts.len() == 4) {
+        return None;
+    }
+    Some((store, rows))
+}
+
+/// The same, once there is memory for it.
+fn whole_base(alloc: Global) -> Result<(Store<TestDisk>, AllRows), Fail>
+    ensures { IfOk result (λ base. IsUsable base.0) }
+{
+    match base(alloc) {
+        Some(base) => Ok(base),
+        None => Ok(base(alloc).ok_or("no base")?),
+    }
+}
+
+/// The store opened again, once there is memory for it.
+fn reopened(alloc: Global, mut store: Store<TestDisk>) -> Result<Store<TestDisk>, Fail>
+    ensures { IfOk result IsUsable }
+{
+    match store.reopen(&FullAudit) {
+        Ok(()) => Ok(store),
+        Err(OpenFault::Unavailable(Unavailable::Memory)) => {
+            store.reopen(&FullAudit)?;
+            Ok(store)
+        }
+        Err(OpenFault::Unavailable(Unavailable::Disk)) => after_a_crash(alloc, store),
+        Err(fault) => Err(fault.into()),
+    }
+}
+
+#[test]
+fn want_of_memory_in_reopen(rt: HostRuntime) -> Result<(), Fail> {
+    let (store, before) = whole_base(rt.alloc())?;
+    let mut store = reopened(rt.alloc(), store)?;
+    assert_eq!(rt; rows_in(&mut store)?, before);
+    Ok(())
+}
+
+/// A store on the same files where its disk has failed, or else itself.
+fn served_again(alloc: Global, store: Store<TestDisk>) -> Result<Store<TestDisk>, Fail>
+    requires { IsUsable store }
+    ensures { IfOk result IsUsable }
+{
+    if store.is_ready() {
+        return Ok(store);
+    }
+    after_a_crash(alloc, store)
+}
+
+#[test]
+fn want_of_memory_in_run_all(rt: HostRuntime) -> Result<(), Fail> {
+    let chain = match CHAIN.spelled(rt.alloc()) {
+        Ok(chain) => chain,
+        Err(_) => CHAIN.spelled(rt.alloc())?,
+    };
+    let (mut store, before) = whole_base(rt.alloc())?;
+    let told = chain.told(rt.alloc(), &mut store);
+    if told == Told::Done {
+        return Ok(());
+    }
+    assert_eq!(rt; told, Told::Unavailable);
+    let has_failed = !store.is_ready();
+    let mut store = served_again(rt.alloc(), store)?;
+    let is_as_before = rows_in(&mut store)? == before;
+    let again = chain.told(rt.alloc(), &mut store);
+    let want = if is_as_before {
+        Told::Done
+    } else {
+        Told::DoneBefore
+    };
+    assert!(rt; is_as_before || has_failed);
+    assert_eq!(rt; again, want);
+    Ok(())
+}
