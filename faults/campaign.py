@@ -15,6 +15,7 @@ import tempfile
 import time
 import traceback
 
+import chosen
 import commands
 import damaged
 import refused
@@ -26,6 +27,7 @@ import worked
 TRIALS = {
     "model": lambda trial: f"{worked.check()} worked examples are as docs/MODEL.md has them",
     "runs": runs.long_runs,
+    "chosen": chosen.chosen,
     "killed": runs.killed,
     "full": runs.full,
     "refused": refused.refused_bytes,

@@ -199,6 +199,10 @@ class Desk:
     def ask(self, method, path, body=b""):
         """The reply to a message: None where it is `unavailable`."""
         self.connection.send(message(method, path, self.key, body))
+        return self.answer(method, path)
+
+    def answer(self, method, path):
+        """The next reply of the connection, likewise."""
         status, kind, told = self.connection.reply()
         if told == b'{"error":"unavailable"}':
             want(status == "503 Service Unavailable", f"unavailable comes with {status}")
@@ -259,14 +263,18 @@ class Desk:
         expected = list(self.expected())
         self.connect(service)
         for request, reply in expected:
-            told = self.ask(*request)
-            if request[0] == "GET":
-                told = told.splitlines()[1:]
-            elif request[1] == "/history/balances":
-                told = [[each["timestamp"], *(each[name] for name in BALANCES)]
-                        for each in told["balances"]]
-                reply = [[words[0], *words[5:]] for words in reply]
-            want(told == reply, f"{request[:2]}: {told}, not {reply}")
+            look_at(request, self.ask(*request), reply)
+
+
+def look_at(request, told, reply):
+    """Compares what a request is told with what it has to be told."""
+    if request[0] == "GET":
+        told = told.splitlines()[1:]
+    elif request[1] == "/history/balances":
+        told = [[each["timestamp"], *(each[name] for name in BALANCES)]
+                for each in told["balances"]]
+        reply = [[words[0], *words[5:]] for words in reply]
+    want(told == reply, f"{request[:2]}: {told}, not {reply}")
 
 
 def lookup(path, ids):
