@@ -17,7 +17,8 @@ use std::test::Fail;
 use store::{OnceFailing, Store};
 use tenants::{Key, TenantName, digest};
 
-// The replies to batches of no transfers at these clocks, each behind a text. Before what a client is told stands a bar.
+// The replies to batches of no transfers at these clocks, each behind a text. Before what a client
+// is told stands a bar.
 macro_rules! replies {
     ($($before:literal $clock:literal),*) => {
         concat!($(
