@@ -1,15 +1,13 @@
 """Each command with one call refused: it says what it says else, or a fault."""
 
 import os
-import shutil
 
 from control import DISK, MEMORY, Control, places
+from copies import copy, remove
+from migrations import refused_migrations
 from runs import House
-from service import check, run, want
+from service import UNAVAILABLE, UNREADABLE, check, run, want
 
-UNAVAILABLE = (3, "", "ledgerd: unavailable\n")
-# A file whose first page cannot be read is told so.
-UNREADABLE = (4, "", "ledgerd: unreadable\n")
 NAME_TAKEN = (1, "", "ledgerd: name_taken\n")
 KEY = "5" * 64
 
@@ -32,7 +30,8 @@ def refused_commands(trial):
              (add, added, lambda: remove(scratch)))
     refused = [refuse_in_turn(trial, control, kind, cases) for kind in (MEMORY, DISK)]
     return (f"{refused[MEMORY]} allocations and {refused[DISK]} calls of the disk refused: "
-            f"answered as ever, or a fault and nothing half done")
+            f"answered as ever, or a fault and nothing half done; "
+            f"{refused_migrations(trial, control)}")
 
 
 def refuse_in_turn(trial, control, kind, cases):
@@ -78,20 +77,3 @@ def unbegun(words, told, ample):
     status, out, err = told
     is_begun = words[0] == "statement" and out != ample[1] and ample[1].startswith(out)
     return (status, "" if is_begun else out, err)
-
-
-def files(db):
-    return [db + end for end in ("", "-wal", "-shm")]
-
-
-def remove(db):
-    for path in files(db):
-        if os.path.exists(path):
-            os.remove(path)
-
-
-def copy(db, to):
-    remove(to)
-    for old, new in zip(files(db), files(to)):
-        if os.path.exists(old):
-            shutil.copy(old, new)

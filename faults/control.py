@@ -35,6 +35,13 @@ class Control:
         struct.pack_into("q", self.shared, SIZE * kind + 8, 0)
         return struct.unpack_from("q", self.shared, SIZE * kind + 24)[0]
 
+    def count(self, kind, act):
+        """How many calls of a kind an act makes, with none refused."""
+        self.refuse(kind, ALL)
+        act()
+        self.end(kind)
+        return struct.unpack_from("q", self.shared, SIZE * kind + 16)[0]
+
 
 def places(trial):
     """The calls to be refused: each, or a sample that grows thinner."""
@@ -42,3 +49,12 @@ def places(trial):
     while True:
         yield place
         place += 1 if trial.is_long or place < 8 else trial.random.randint(1, 2 + place // 2)
+
+
+def sampled(trial, count):
+    """Of so many calls those to be refused: each, or the first, the last and some between."""
+    if trial.is_long:
+        return range(count)
+    ends = {place for place in range(8) if place < count}
+    between = trial.random.sample(range(count), min(count, 24))
+    return sorted({*ends, *between, *(count - 1 - place for place in ends)})

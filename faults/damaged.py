@@ -5,7 +5,7 @@ import os
 import shutil
 import sqlite3
 
-from commands import copy, files
+from copies import copy, files
 from plain_audit import FAULTS, KEYS, TABLES, agrees, expect, rows_of, verdict
 from runs import House
 from service import Service, Surprise, check, run, want

@@ -73,6 +73,29 @@ def difference(rows, expected):
     return first(rows[place:place + 1] != expected[place:place + 1] for place in range(longest))
 
 
+def sums(balances):
+    return tuple(balances[name] for name in SUMS)
+
+
+def balance_rows(ledger):
+    """The rows of `balance` that a ledger has at its clock."""
+    return [(each, *sums(ledger.balances(each))) for each in sorted(ledger.accounts)]
+
+
+def status_rows(ledger):
+    """Those of `status`."""
+    return sorted((each["id"], STATES[ledger.ending(each, ledger.clock)], due_of(each))
+                  for each in ledger.transfers.values() if each["flags"] & PENDING)
+
+
+def history_rows(ledger):
+    """Those of `history`."""
+    return sorted((account, each["timestamp"],
+                   *sums(ledger.balances(account, each["at"], each["timestamp"])))
+                  for each in ledger.transfers.values()
+                  for account in (each["debit_account_id"], each["credit_account_id"]))
+
+
 class Tenant:
     """The rows of one tenant, and the ledger that its entries lead to."""
 
@@ -141,9 +164,7 @@ class Tenant:
 
     def balances(self):
         self.settle()
-        ledger = self.ledger
-        expected = [(each, *self.sums(ledger.balances(each))) for each in sorted(ledger.accounts)]
-        return difference(self.rows["balance"], expected)
+        return difference(self.rows["balance"], balance_rows(self.ledger))
 
     def settle(self):
         """The clock comes to the one that is told, if it can."""
@@ -152,22 +173,11 @@ class Tenant:
         if self.latest <= told <= LATEST:
             self.ledger.clock = told
 
-    def sums(self, balances):
-        return tuple(balances[name] for name in SUMS)
-
     def statuses(self):
-        ledger = self.ledger
-        expected = [(each["id"], STATES[ledger.ending(each, ledger.clock)], due_of(each))
-                    for each in ledger.transfers.values() if each["flags"] & PENDING]
-        return difference(self.rows["status"], sorted(expected))
+        return difference(self.rows["status"], status_rows(self.ledger))
 
     def history(self):
-        expected = []
-        for each in self.ledger.transfers.values():
-            for account in (each["debit_account_id"], each["credit_account_id"]):
-                sums = self.ledger.balances(account, each["at"], each["timestamp"])
-                expected.append((account, each["timestamp"], *self.sums(sums)))
-        return difference(self.rows["history"], sorted(expected))
+        return difference(self.rows["history"], history_rows(self.ledger))
 
     def clock(self):
         return None if self.latest <= self.rows["clock"][0][0] <= LATEST else 0

@@ -18,7 +18,10 @@ TOP = pathlib.Path(__file__).resolve().parent.parent
 PATIENCE = 60
 STRINGS = {"id", "debit_account_id", "credit_account_id", "amount", "pending_id", "user_data_128",
            "user_data_64", "timestamp", *BALANCES}
-UNAVAILABLE = "unavailable"
+# What a command tells that memory or the disk has failed; a file whose first page cannot be read is
+# told as the second.
+UNAVAILABLE = (3, "", "ledgerd: unavailable\n")
+UNREADABLE = (4, "", "ledgerd: unreadable\n")
 
 
 class Surprise(Exception):
