@@ -17,6 +17,8 @@ def read(lines):
     names = next(lines).split()[1:]
     cases = []
     for line in lines:
+        if line.startswith("of the port's own opening"):
+            break
         words = line.split()
         if len(words) < 2:
             continue

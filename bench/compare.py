@@ -5,7 +5,8 @@ microseconds of each program, and how many times another's the first one takes.
 
 A case is the words behind the file, as `write 10000 0`. A program prints lines of a name, its
 microseconds, and numbers whose product is how often that was done in them. One that has no such
-case prints nothing."""
+case prints nothing. Behind the table stands what the first program's opening of a file and its
+parts take of the port's own opening of that file."""
 
 import glob
 import math
@@ -49,6 +50,16 @@ def measured(programs, data, rounds, cases):
     return told
 
 
+def shares(told, program):
+    """A line for each part of an opening."""
+    for what, by_name in told.items():
+        part, _, length = what.partition("/")
+        port = told.get(f"port_opening/{length}", {}).get(program)
+        if part in ("opening", "reading", "check") and port:
+            share = statistics.median(by_name[program]) / statistics.median(port)
+            yield f"{what:26} {share:10.2f}"
+
+
 def main():
     data, rounds, *words = sys.argv[1:]
     split = words.index("--") if "--" in words else len(words)
@@ -66,6 +77,9 @@ def main():
             ratio = "" if name == first else f"{ours / micros:.2f}"
             line += f" {micros:10.1f} {ratio:6}"
         print(line)
+    lines = list(shares(told, first))
+    if lines:
+        print("of the port's own opening", *lines, sep="\n")
 
 
 main()
