@@ -14,7 +14,6 @@ mod ledgers;
 mod lookups;
 mod migrating;
 mod older;
-mod once_failing;
 mod opened;
 mod opening;
 mod place;
@@ -30,8 +29,8 @@ mod whole_rows;
 mod whole_tables;
 
 pub use auditing::{Audit, FullAudit};
+pub use failing_disk::OnceFailing;
 pub use joining::AddTenant;
 pub use laws::joining_adds_one;
-pub use once_failing::OnceFailing;
 pub use opening::OpenFault;
 pub use store::Store;

@@ -1,6 +1,6 @@
 //! A disk that fails one call and goes on, for tests.
 
-ghost use Rattle.std.specs.Prelude.{◌≡◌, ◌+◌, false};
+ghost use Rattle.std.specs.Prelude.{◌≡◌, ◌+◌, false, is_none};
 ghost use Rattle.sqlite_disk.specs.Disk.{CountsFault};
 ghost use Rattle.sqlite_disk.specs.Refusal.{finds_no_room};
 
@@ -28,7 +28,9 @@ impl<D: Disk> OnceFailing<D> {
     }
 
     /// Whether the call has failed already.
-    pub fn has_failed(&self) -> bool {
+    pub fn has_failed(&self) -> bool
+        ensures { result ≡ is_none self.now.before }
+    {
         self.before.is_none()
     }
 }
