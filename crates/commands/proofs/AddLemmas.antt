@@ -3,11 +3,11 @@ use Rattle.std.specs.Prelude.{IfErr, ⊤}
 use Rattle.std.proofs.Common.{◌≡◌, ℕ, List, Result, Ok, Err, sym, subst}
 use Rattle.sqlite_disk.specs.declared.Disk as disk
 use Rattle.sqlite.specs.Effect.{Database}
-use Rattle.store.specs.declared.joining.AddTenant.{AddTenant}
-use Rattle.store.specs.declared.joining.AddTenant.TheVariants as add
+use Rattle.stored_ledgers.specs.declared.joining.AddTenant.{AddTenant}
+use Rattle.stored_ledgers.specs.declared.joining.AddTenant.TheVariants as add
 use Rattle.store.specs.declared.place.Place.{Place}
 use Rattle.store.specs.declared.place.Place.TheVariants as at
-use Rattle.store.specs.Joining.{HasJoined}
+use Rattle.stored_ledgers.specs.Joining.{HasJoined}
 use Rattle.store.specs.Stores.{OfDatabaseAt}
 use Rattle.command_texts.specs.declared.fault.Fault.{Fault}
 use Rattle.command_texts.specs.declared.fault.Fault.TheVariants.{Output}

@@ -1,9 +1,9 @@
 -- The adding of a tenant, as the program tells it.
 use Rattle.std.specs.Prelude.{◌≡◌, ℕ, ⊤, List, Result, Ok, Err}
 use Rattle.sqlite.specs.Effect.{Database}
-use Rattle.store.specs.declared.joining.AddTenant.{AddTenant}
-use Rattle.store.specs.declared.joining.AddTenant.TheVariants as add
-use Rattle.store.specs.Joining.{HasJoined}
+use Rattle.stored_ledgers.specs.declared.joining.AddTenant.{AddTenant}
+use Rattle.stored_ledgers.specs.declared.joining.AddTenant.TheVariants as add
+use Rattle.stored_ledgers.specs.Joining.{HasJoined}
 use Rattle.command_texts.specs.declared.fault.Fault.{Fault}
 use Rattle.command_texts.specs.declared.fault.Fault.TheVariants.{NameTaken, DigestTaken, Unavailable}
 use Rattle.command_texts.specs.declared.fault.Fault.TheVariants.{Output}

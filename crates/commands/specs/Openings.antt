@@ -1,6 +1,6 @@
 -- The faults of openings.
-use Rattle.store.specs.declared.opening.OpenFault.{OpenFault}
-use Rattle.store.specs.declared.opening.OpenFault.TheVariants as opening
+use Rattle.openings.specs.declared.opening.OpenFault.{OpenFault}
+use Rattle.openings.specs.declared.opening.OpenFault.TheVariants as opening
 use Rattle.command_texts.specs.declared.fault.Fault.{Fault}
 use Rattle.command_texts.specs.declared.fault.Fault.TheVariants as told
 

@@ -9,13 +9,13 @@ use Rattle.audit.specs.declared.damage.AuditFault.{AuditFault}
 use Rattle.audit.specs.declared.damage.AuditFault.TheVariants as audit
 use Rattle.audit.specs.declared.damage.Damage.{Damage}
 use Rattle.store.specs.Stores.{OfDatabaseAt}
-use Rattle.store.specs.Whole.{AreAllRows}
-use Rattle.store.specs.declared.opening.OpenFault.{OpenFault}
-use Rattle.store.specs.declared.opening.OpenFault.TheVariants as opening
+use Rattle.openings.specs.Whole.{AreAllRows}
+use Rattle.openings.specs.declared.opening.OpenFault.{OpenFault}
+use Rattle.openings.specs.declared.opening.OpenFault.TheVariants as opening
 use Rattle.store.specs.declared.place.Place.{Place}
 use Rattle.store.specs.declared.place.Place.TheVariants as at
 use Rattle.migrate.specs.Faults.{audit_fault, upgrade_fault, IfDamaged}
-use Rattle.store.specs.Damage.{HasFirstDamage}
+use Rattle.openings.specs.Damage.{HasFirstDamage}
 use Rattle.migrate.specs.declared.fault.MigrateFault.{MigrateFault}
 use Rattle.migrate.specs.declared.fault.MigrateFault.TheVariants as fault
 

@@ -5,7 +5,7 @@ use Rattle.sqlite_trees.specs.Tree.{Trees}
 use Rattle.sqlite.specs.Effect.{Database}
 use Rattle.sqlite.specs.Files.{file_state}
 use Rattle.store.specs.Stores.{IsLive, IsLiveAt, IsHonest, OfDatabase, OfDatabaseAt, OfDatabases, Goes}
-use Rattle.store.specs.Upgrading.{KeepsMachines}
+use Rattle.openings.specs.Upgrading.{KeepsMachines}
 use Rattle.store.specs.declared.place.Place.{Place}
 use Rattle.store.specs.declared.place.Place.TheVariants as at
 use Rattle.store.specs.declared.store.Store.{Store}

@@ -3,8 +3,8 @@ use Rattle.records.specs.declared.unavailable.Unavailable.TheVariants.{Memory, S
 use Rattle.audit.specs.declared.damage.AuditFault.{AuditFault}
 use Rattle.audit.specs.declared.damage.AuditFault.TheVariants as audit
 use Rattle.audit.specs.declared.damage.Damage.{Damage}
-use Rattle.store.specs.declared.opening.OpenFault.{OpenFault}
-use Rattle.store.specs.declared.opening.OpenFault.TheVariants as opening
+use Rattle.openings.specs.declared.opening.OpenFault.{OpenFault}
+use Rattle.openings.specs.declared.opening.OpenFault.TheVariants as opening
 use Rattle.migrate.specs.declared.fault.MigrateFault.{MigrateFault}
 use Rattle.migrate.specs.declared.fault.MigrateFault.TheVariants.{NewerSchema, Damaged, Unavailable}
 

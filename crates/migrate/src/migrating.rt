@@ -1,9 +1,9 @@
 ghost use Rattle.std.specs.Prelude.{◌≡◌, ◌≢◌, ◌<◌, ◌≤◌, Err, IsOk, IfOk, IfErr, OnOk, OnErr};
 ghost use Rattle.migrate.specs.Faults.{IfDamaged};
-ghost use Rattle.store.specs.Damage.{HasFirstDamage};
+ghost use Rattle.openings.specs.Damage.{HasFirstDamage};
 ghost use Rattle.store.specs.Migrating.{HasRisen, IsMigratable};
 ghost use Rattle.store.specs.Stores.{IsHonest, IsLive, Goes, OfDatabase, OfDatabases, version_of};
-ghost use Rattle.store.specs.Upgrading.{KeepsMachines, Raised};
+ghost use Rattle.openings.specs.Upgrading.{KeepsMachines, Raised};
 
 use crate::{MigrateFault, rows_in_version};
 use audit::check;

@@ -12,7 +12,7 @@ use Rattle.chain.specs.declared.ledgers.BatchFault.TheVariants as batch_fault
 use Rattle.chain.specs.declared.reads.Listed.{Listed}
 use Rattle.chain.specs.Ledgers.{Tenants, KeepsAll, KeepsOthers, IsRun}
 use Rattle.chain.specs.Tables.{Meaning, State}
-use Rattle.store.specs.TenantReads.{LooksUp}
+use Rattle.store.specs.Lookups.{LooksUp}
 
 -- the first of some ids are looked up, and the tables are as before
 pub record HasLooked {S A : Type 0} (t : Meaning S) (look : Machine → ℕ → Option A) (ids : List ℕ)

@@ -10,14 +10,14 @@ use Rattle.sqlite.specs.Files.{file_state}
 use Rattle.sqlite.specs.Held.{Held}
 use Rattle.sqlite.specs.State.{State, HasCleanDisk}
 use Rattle.ledger_sql.specs.Frames.{Live, Follows}
-use Rattle.store.specs.Directory.{tenants_in}
-use Rattle.store.specs.DueSets.{DueSets}
-use Rattle.store.specs.Resting.{IsSame, Serves, HoldsHere}
+use Rattle.stored_ledgers.specs.Directory.{tenants_in}
+use Rattle.stored_ledgers.specs.DueSets.{DueSets}
+use Rattle.stored_ledgers.specs.Resting.{IsSame, Serves, HoldsHere}
 use Rattle.store.specs.Stores.{IsUsable, IsUsableAt, IsLiveAt, IsHonestAt, tenants_at, may_find_at, Reads}
 use Rattle.store.specs.declared.place.Place.{Place}
 use Rattle.store.specs.declared.place.Place.TheVariants as at
 use Rattle.store.specs.declared.store.Store.{Store}
-use Rattle.store.proofs.OutcomeLemmas.{still_rests}
+use Rattle.stored_ledgers.specs.RestingLaws.{still_rests}
 
 live_before : (a b : State) → Follows a b → Live b → Live a
 live_before a b f live = (omega (arith, f.survives.clean, live.0), f.live live)

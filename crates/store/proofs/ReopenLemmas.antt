@@ -8,8 +8,8 @@ use Rattle.sqlite_wal.specs.Files.{outcomes}
 use Rattle.sqlite_wal.specs.Reads.{AreClean}
 use Rattle.sqlite.specs.Effect.{Database}
 use Rattle.sqlite.specs.Files.{HoldsDatabase, AreFoundIn, image_of, file_state}
-use Rattle.store.specs.Damage.{Hold}
-use Rattle.store.specs.Opened.{IsOpenedAt}
+use Rattle.openings.specs.Damage.{Hold}
+use Rattle.store.specs.Stores.{IsOpenedAt}
 use Rattle.store.specs.Stores.{FindsAt, GivesBackAt, left_in, may_find_at}
 use Rattle.store.specs.declared.place.Place.{Place}
 use Rattle.store.specs.declared.place.Place.TheVariants as at

@@ -5,9 +5,9 @@ use Rattle.sqlite.specs.Effect.{Database}
 use Rattle.sqlite.specs.Files.{file_state}
 use Rattle.sqlite.specs.State.{HasCleanDisk}
 use Rattle.ledger_sql.specs.Frames.{Live}
-use Rattle.store.specs.DueSets.{DueSets}
+use Rattle.stored_ledgers.specs.DueSets.{DueSets}
 use Rattle.store.specs.Stores.{IsUsable}
-use Rattle.store.specs.Upgrading.{IsOlder, IsRaised, older_schema}
+use Rattle.openings.specs.Upgrading.{IsOlder, IsRaised, older_schema}
 use Rattle.store.specs.declared.place.Place.{Place}
 use Rattle.store.specs.declared.place.Place.TheVariants as at
 use Rattle.store.specs.declared.store.Store.{Store}

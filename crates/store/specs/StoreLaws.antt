@@ -1,15 +1,14 @@
 -- What every run of calls on a store keeps, and what a live one holds.
-use Rattle.std.proofs.Common.{◌≡◌, ℕ, ℤ, List, Option, Some, None, option_map, refl, ◌∙◌, subst}
+use Rattle.std.proofs.Common.{◌≡◌, ℤ, Option, Some, None, option_map, refl, ◌∙◌, subst}
 use Rattle.sqlite_disk.specs.declared.Disk as disk
-use Rattle.records.specs.Machine.{Machine}
 use Rattle.records.specs.Valid.{IsValid}
 use Rattle.chain.specs.Ledgers.{LedgersMeaning, AreValid}
 use Rattle.sqlite.specs.Effect.{Database}
 use Rattle.sqlite.specs.Files.{file_state}
 use Rattle.stored_tables.specs.MachineOf.{machine_of}
-use Rattle.store.specs.Directory.{number_of, tenants_in}
-use Rattle.store.specs.DueSets.{DueSets}
-use Rattle.store.specs.Ledger.{HoldsLedgers}
+use Rattle.stored_ledgers.specs.Directory.{number_of, tenants_in}
+use Rattle.stored_ledgers.specs.DueSets.{DueSets}
+use Rattle.stored_ledgers.specs.Ledger.{HoldsLedgers}
 use Rattle.store.specs.Stores.{IsUsable, IsUsableAt, IsLive, IsLiveAt, Follows, FindsTenants, tenants_of, tenants_at}
 use Rattle.store.specs.declared.place.Place.{Place}
 use Rattle.store.specs.declared.place.Place.TheVariants as at

@@ -13,10 +13,11 @@ use Rattle.records.specs.declared.unavailable.Unavailable.{Unavailable}
 use Rattle.records.specs.declared.unavailable.Unavailable.TheVariants.{Disk as DiskFailed}
 use Rattle.chain.specs.Ledgers.{Tenants, KeepsAll}
 use Rattle.ledger_sql.specs.Frames.{Live}
-use Rattle.store.specs.Directory.{tenants_in}
-use Rattle.store.specs.DueSets.{DueSets}
-use Rattle.store.specs.Found.{IsSettled, Yields}
-use Rattle.store.specs.Resting.{IsResting}
+use Rattle.stored_ledgers.specs.Directory.{tenants_in}
+use Rattle.stored_ledgers.specs.DueSets.{DueSets}
+use Rattle.openings.specs.Found.{IsSettled, Yields}
+use Rattle.openings.specs.Opened.{IsOpened}
+use Rattle.stored_ledgers.specs.Resting.{IsResting}
 use Rattle.store.specs.declared.place.Place.{Place}
 use Rattle.store.specs.declared.place.Place.TheVariants as at
 use Rattle.store.specs.declared.store.Store.{Store}
@@ -152,3 +153,15 @@ module _ {D : Type 0} {g : disk.Ghosts D} where
     pub answers : Answers old new result
     pub same : IsLive new → KeepsAll (tenants_of old) (tenants_of new)
     pub finds : Goes old new (λ db. ⊥)
+
+  -- a store was opened on what the files held
+  abbrev pub IsOpenedAt : Image → Place D g → Type 0
+  IsOpenedAt image (at.Open conn) = IsOpened image (file_state conn)
+  IsOpenedAt image (at.Shut files) = ⊥
+
+  abbrev pub IsOpenedOn : Image → Store D g → Type 0
+  IsOpenedOn image store = IsOpenedAt image store.place
+
+  -- a crash of the store may have left such a database
+  abbrev pub MayHold : Store D g → (Trees → Type 0) → Type 0
+  MayHold store P = ∥ ((trees : Trees) × may_find store trees × P trees) ∥₁

@@ -3,13 +3,12 @@
 ghost use Rattle.std.specs.Prelude.{◌≡◌, IfOk};
 ghost use Rattle.sqlite_wal.specs.Files.{image_at};
 ghost use Rattle.ledger_sql.specs.Creating.{IsEmptyLedger};
-ghost use Rattle.store.specs.Opened.{IsOpenedOn};
-ghost use Rattle.store.specs.Stores.{IsHonest, IsLive, IsReady, IsUsable, OfDatabase, version_of};
+ghost use Rattle.store.specs.Stores.{IsHonest, IsLive, IsOpenedOn, IsReady, IsUsable, OfDatabase, version_of};
 
 use crate::Store;
-use crate::auditing::Audit;
-use crate::opening::{OpenFault, files_at};
-use crate::store::CURRENT_VERSION;
+use openings::auditing::Audit;
+use openings::opened::CURRENT_VERSION;
+use openings::opening::{OpenFault, files_at};
 use sqlite::Options;
 use sqlite_disk::Start;
 use sqlite_std_file::FileFrom;

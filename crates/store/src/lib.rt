@@ -2,35 +2,17 @@
 #![tactic(auto)]
 
 mod at_path;
-mod auditing;
-mod batches;
-mod creating;
-mod directory;
-mod due_sets;
-mod filling;
-mod joining;
-mod laws;
 mod ledgers;
 mod lookups;
 mod migrating;
-mod older;
-mod opened;
-mod opening;
 mod place;
-mod probe;
 mod reads;
 mod reopening;
-mod shape;
-mod standing;
 mod store;
-mod tenant_reads;
-mod upgrading;
-mod whole_rows;
-mod whole_tables;
 
-pub use auditing::{Audit, FullAudit};
 pub use failing_disk::OnceFailing;
-pub use joining::AddTenant;
-pub use laws::joining_adds_one;
-pub use opening::OpenFault;
+pub use openings::auditing::{Audit, FullAudit};
+pub use openings::opening::OpenFault;
 pub use store::Store;
+pub use stored_ledgers::joining::AddTenant;
+pub use stored_ledgers::laws::joining_adds_one;

@@ -2,7 +2,7 @@
 
 ghost use Rattle.std.specs.Prelude.{◌≡◌, IfOk, OnOk};
 ghost use Rattle.records.specs.Reads.{found_accounts, found_transfers};
-ghost use Rattle.store.specs.TenantReads.{read_answer};
+ghost use Rattle.store.specs.Lookups.{read_answer};
 
 use chain::{BatchFault, Listed, ReadFault, Tables, Work};
 use records::{AccountWithBalances, Transfer, Unavailable};
@@ -18,7 +18,7 @@ pub(crate) struct AccountLookup<'a> {
 impl Work for AccountLookup<'_> {
     type Output = Listed<AccountWithBalances>;
 
-    ghost use Rattle.store.specs.TenantReads.{LooksUp};
+    ghost use Rattle.store.specs.Lookups.{LooksUp};
 
     ghost gives = { λ work. LooksUp found_accounts work.ids.now };
 
@@ -39,7 +39,7 @@ pub(crate) struct TransferLookup<'a> {
 impl Work for TransferLookup<'_> {
     type Output = Listed<Transfer>;
 
-    ghost use Rattle.store.specs.TenantReads.{LooksUp};
+    ghost use Rattle.store.specs.Lookups.{LooksUp};
 
     ghost gives = { λ work. LooksUp found_transfers work.ids.now };
 

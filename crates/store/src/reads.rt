@@ -4,15 +4,17 @@ ghost use Rattle.std.specs.Prelude.{◌≡◌, false};
 ghost use Rattle.records.specs.Reads.{history_answer, history_balances_answer, statement_answer};
 ghost use Rattle.chain.specs.LedgerReads.{seen_in, IsListed, HandsOut, is_refused};
 ghost use Rattle.store.specs.Stores.{IsLive, IsUsable, tenants_of, Reads};
-ghost use Rattle.store.specs.TenantReads.{reach_of};
+ghost use Rattle.stored_ledgers.specs.TenantReads.{reach_of};
 
 use crate::Store;
 use crate::place::Place;
-use crate::tenant_reads::{each_statement_row, history_balances, history_transfers, is_disk_fault};
 use chain::{Listed, ReadFault};
 use records::{AccountFilter, BalanceAt, Order, RowSink, Transfer, Unavailable};
 use sqlite_disk::Disk;
 use std::alloc::Global;
+use stored_ledgers::tenant_reads::{
+    each_statement_row, history_balances, history_transfers, is_disk_fault,
+};
 
 const DISK_FAILED: ReadFault = ReadFault::Unavailable(Unavailable::Disk);
 

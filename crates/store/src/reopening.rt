@@ -1,16 +1,16 @@
 //! How a store is opened again.
 
 ghost use Rattle.std.specs.Prelude.{◌≡◌, false, IfErr, OnOk, OnErr};
-ghost use Rattle.store.specs.Damage.{IfDamaged, IsDamagedIn, MayHold};
+ghost use Rattle.openings.specs.Damage.{IfDamaged, IsDamagedIn};
 ghost use Rattle.store.specs.Stores.{IsHonest, IsLive, IsReady, IsUsable};
-ghost use Rattle.store.specs.Stores.{Finds, may_find, version_of};
+ghost use Rattle.store.specs.Stores.{Finds, MayHold, may_find, version_of};
 
 use crate::Store;
-use crate::auditing::Audit;
-use crate::opening::OpenFault;
 use crate::place::Place;
-use crate::store::CURRENT_VERSION;
 use core::mem::replace_with;
+use openings::auditing::Audit;
+use openings::opened::CURRENT_VERSION;
+use openings::opening::OpenFault;
 use records::Unavailable;
 use sqlite::{Files, Options};
 use sqlite_disk::Disk;

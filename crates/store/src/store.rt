@@ -5,40 +5,38 @@ ghost use Rattle.records.specs.declared.unavailable.Unavailable.TheVariants.{Dis
 ghost use Rattle.chain.specs.Ledgers.{IsRun};
 ghost use Rattle.chain.specs.declared.ledgers.BatchFault.TheVariants.{Unavailable as AreUnavailable};
 ghost use Rattle.sqlite.specs.Files.{image_of};
-ghost use Rattle.store.specs.Outcomes.{IsAfterBatch};
+ghost use Rattle.stored_ledgers.specs.Outcomes.{IsAfterBatch};
 ghost use Rattle.sqlite_wal.specs.Reads.{AreClean};
 ghost use Rattle.ledger_sql.specs.Creating.{IsEmptyLedger};
-ghost use Rattle.store.specs.Damage.{Hold, IfDamaged, IsDamagedIn};
-ghost use Rattle.store.specs.Directory.{digest_in};
-ghost use Rattle.store.specs.Found.{FindsOurs, LeavesNew};
-ghost use Rattle.store.specs.Joining.{HasJoined, Joined};
-ghost use Rattle.store.specs.Opened.{IsOpenedOn, LeavesRefused};
-ghost use Rattle.store.specs.Stores.{IsLive, IsHonest, IsReady, tenants_of, version_of, GivesBack, IsUsable, Follows, Goes, OfDatabase, OfDatabases, IsSettledStore, Reads};
-ghost use Rattle.store.specs.Whole.{AreAllRows, AreRowsOf};
-ghost use Rattle.store.specs.declared.opening.OpenFault.TheVariants.{NotALedger};
+ghost use Rattle.openings.specs.Damage.{Hold, IfDamaged, IsDamagedIn};
+ghost use Rattle.stored_ledgers.specs.Directory.{digest_in};
+ghost use Rattle.openings.specs.Found.{FindsOurs, LeavesNew};
+ghost use Rattle.stored_ledgers.specs.Joining.{HasJoined, Joined};
+ghost use Rattle.openings.specs.Opened.{LeavesRefused};
+ghost use Rattle.store.specs.Stores.{IsLive, IsHonest, IsOpenedOn, IsReady, tenants_of, version_of, GivesBack, IsUsable, Follows, Goes, OfDatabase, OfDatabases, IsSettledStore, Reads};
+ghost use Rattle.openings.specs.Whole.{AreAllRows, AreRowsOf};
+ghost use Rattle.openings.specs.declared.opening.OpenFault.TheVariants.{NotALedger};
 
-use crate::auditing::Audit;
-use crate::batches::{DueSets, batch_answer, in_batch};
-use crate::creating::fill_new;
-use crate::directory::{digest_of, knows};
-use crate::joining::{AddTenant, join, joining_answer};
-use crate::opened::examine;
-use crate::opening::{OpenFault, open_on};
-use crate::place::{Place, is_settled, shut};
-use crate::probe::is_disk_fault;
-use crate::whole_rows::{all_rows, rows_of};
+use crate::place::Place;
 use chain::{BatchFault, Work};
+use openings::auditing::Audit;
+use openings::closing::{is_settled, shut};
+use openings::creating::create_ledger;
+use openings::ledgers::open_ledger;
+use openings::opened::CURRENT_VERSION;
+use openings::opening::OpenFault;
+use openings::whole_rows::{all_rows, rows_of};
 use records::Unavailable;
-use rows::{AllRows, TenantRows, rows_fit};
+use rows::{AllRows, TenantRows};
 use sqlite::{Connection, FileStore, Files, Options};
 use sqlite_disk::Disk;
 use std::alloc::Global;
 use std::collections::BTreeMap;
-use stored_tables::held_machines;
+use stored_ledgers::batches::{DueSets, batch_answer, in_batch};
+use stored_ledgers::directory::{digest_of, knows};
+use stored_ledgers::joining::{AddTenant, join, joining_answer};
+use stored_ledgers::probe::is_disk_fault;
 use tenants::TenantName;
-
-/// The version of the schema that a new ledger has.
-pub(crate) const CURRENT_VERSION: u32 = 3;
 
 /// The ledgers of many tenants in one database, in two files: a log and the database file.
 ///
@@ -75,7 +73,7 @@ impl<D: Disk + Drop> Store<D> {
             → FindsOurs (image_of D.Disk files)) }
         ensures left { IfErr result (λ e. LeavesNew D.Disk files e.1) }
     {
-        let conn = fill_new(open_on(alloc, files, options)?)?;
+        let conn = create_ledger(alloc, files, options)?;
         Ok(Store {
             place: Place::Open(conn),
             ready: true,
@@ -107,21 +105,15 @@ impl<D: Disk + Drop> Store<D> {
             → IfDamaged e.0 (λ damage. Hold D.Disk files (IsDamagedIn CURRENT_VERSION damage))) }
         ensures left { IfErr result (λ e. LeavesRefused D.Disk files e.1) }
     {
-        rows_fit();
-        held_machines();
-        let mut conn = open_on(alloc, files, options)?;
-        let version = CURRENT_VERSION;
-        match examine(alloc, &mut conn, audit) {
-            Ok(due) => Ok(Store {
-                place: Place::Open(conn),
-                ready: true,
-                version,
-                due,
-                options,
-                alloc,
-            }),
-            Err(fault) => Err((fault, shut(conn))),
-        }
+        let (conn, due) = open_ledger(alloc, files, options, audit)?;
+        Ok(Store {
+            place: Place::Open(conn),
+            ready: true,
+            version: CURRENT_VERSION,
+            due,
+            options,
+            alloc,
+        })
     }
 
     /// The version of the schema that the store's making or its last opening set or found.

@@ -6,8 +6,8 @@ use Rattle.std.proofs.Math.Seq.{take-suc}
 use Rattle.std.specs.List.{AllZip}
 use Rattle.chain.specs.Ledgers.{Tenants, KeepsAll}
 use Rattle.service.specs.OwnRequests as message
-use Rattle.store.specs.declared.joining.AddTenant.TheVariants.{Unavailable}
-use Rattle.store.specs.declared.opening.OpenFault.{OpenFault}
+use Rattle.stored_ledgers.specs.declared.joining.AddTenant.TheVariants.{Unavailable}
+use Rattle.openings.specs.declared.opening.OpenFault.{OpenFault}
 use Rattle.whole_runs.specs.declared.steps.Step.{Step}
 use Rattle.whole_runs.specs.declared.steps.Step.TheVariants as step
 use Rattle.whole_runs.specs.declared.steps.Answer.{Answer}

@@ -13,9 +13,9 @@ use Rattle.service.specs.Responds.{Isolates}
 use Rattle.store.specs.declared.place.Place.{Place}
 use Rattle.store.specs.declared.place.Place.TheVariants as at
 use Rattle.store.specs.declared.store.Store.{Store}
-use Rattle.store.specs.Directory.{number_of, tenants_in}
-use Rattle.store.specs.DueSets.{DueSets}
-use Rattle.store.specs.Ledger.{HoldsLedgers}
+use Rattle.stored_ledgers.specs.Directory.{number_of, tenants_in}
+use Rattle.stored_ledgers.specs.DueSets.{DueSets}
+use Rattle.stored_ledgers.specs.Ledger.{HoldsLedgers}
 use Rattle.store.specs.Stores.{IsUsable, IsUsableAt, IsLive, IsLiveAt, tenants_of, tenants_at}
 use Rattle.whole_runs.specs.SameRows.{HasSameRows, AgreeAs, Agree, AgreeAt, StoresAgree}
 use Rattle.whole_runs.specs.SameRows.{StoresIsolate, StoresStay}

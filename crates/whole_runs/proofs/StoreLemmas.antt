@@ -9,15 +9,15 @@ use Rattle.sqlite_trees.specs.Tree.{Trees}
 use Rattle.sqlite.specs.Effect.{Database}
 use Rattle.sqlite.specs.Files.{file_state}
 use Rattle.chain.specs.Ledgers.{Tenants}
-use Rattle.store.specs.declared.joining.AddTenant.{AddTenant}
-use Rattle.store.specs.declared.joining.AddTenant.TheVariants.{NameTaken, DigestTaken, Unavailable}
-use Rattle.store.specs.declared.opening.OpenFault.{OpenFault}
+use Rattle.stored_ledgers.specs.declared.joining.AddTenant.{AddTenant}
+use Rattle.stored_ledgers.specs.declared.joining.AddTenant.TheVariants.{NameTaken, DigestTaken, Unavailable}
+use Rattle.openings.specs.declared.opening.OpenFault.{OpenFault}
 use Rattle.store.specs.declared.place.Place.{Place}
 use Rattle.store.specs.declared.place.Place.TheVariants as at
 use Rattle.store.specs.declared.store.Store.{Store}
-use Rattle.store.specs.Directory.{tenants_in}
-use Rattle.store.specs.DueSets.{DueSets}
-use Rattle.store.specs.Joining.{HasJoined, Joined, JoiningAddsOne}
+use Rattle.stored_ledgers.specs.Directory.{tenants_in}
+use Rattle.stored_ledgers.specs.DueSets.{DueSets}
+use Rattle.stored_ledgers.specs.Joining.{HasJoined, Joined, JoiningAddsOne}
 use Rattle.store.specs.StoreLaws.{store_meaning}
 use Rattle.store.specs.Stores.{IsUsable, IsUsableAt, IsLive, IsLiveAt, IsHonest, IsHonestAt}
 use Rattle.store.specs.Stores.{tenants_of, tenants_at, may_find, may_find_at, FindsTenants, Finds}

@@ -7,8 +7,8 @@ use Rattle.ledger_http.specs.Question.{Question}
 use Rattle.service.specs.OwnRequests as message
 use Rattle.service.specs.Replies.{unavailable}
 use Rattle.service.specs.Served.{served}
-use Rattle.store.specs.declared.joining.AddTenant.{AddTenant}
-use Rattle.store.specs.declared.joining.AddTenant.TheVariants.{Unavailable}
+use Rattle.stored_ledgers.specs.declared.joining.AddTenant.{AddTenant}
+use Rattle.stored_ledgers.specs.declared.joining.AddTenant.TheVariants.{Unavailable}
 
 -- what one tenant's ledger goes through: a question at a moment, or that the tenant joins
 pub data Deed : Type 0 where

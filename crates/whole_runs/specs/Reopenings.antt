@@ -3,7 +3,7 @@ use Rattle.std.specs.Prelude.{ℕ, List, Result, Ok, Err}
 use Rattle.chain.specs.Ledgers.{LedgersMeaning, Tenants, KeepsAll}
 use Rattle.ledger_http.specs.declared.reply.Reply.{Reply}
 use Rattle.service.specs.OwnRequests as message
-use Rattle.store.specs.declared.opening.OpenFault.{OpenFault}
+use Rattle.openings.specs.declared.opening.OpenFault.{OpenFault}
 use Rattle.whole_runs.specs.declared.steps.Step.{Step}
 use Rattle.whole_runs.specs.declared.steps.Step.TheVariants as step
 use Rattle.whole_runs.specs.declared.steps.Answer.{Answer}

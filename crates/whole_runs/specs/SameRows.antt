@@ -13,7 +13,7 @@ use Rattle.service.specs.Responds.{Responds, IsCaller}
 use Rattle.store.specs.declared.place.Place.{Place}
 use Rattle.store.specs.declared.place.Place.TheVariants as at
 use Rattle.store.specs.declared.store.Store.{Store}
-use Rattle.store.specs.Directory.{number_of}
+use Rattle.stored_ledgers.specs.Directory.{number_of}
 use Rattle.store.specs.StoreLaws.{store_meaning}
 
 -- a tenant of one database has the same rows as a tenant of another, in any order, but for the

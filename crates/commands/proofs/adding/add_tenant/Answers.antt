@@ -1,5 +1,5 @@
 use Rattle.std.proofs.Common.{Ok, Err}
-use Rattle.store.specs.Joining.{HasJoined}
+use Rattle.stored_ledgers.specs.Joining.{HasJoined}
 use Rattle.commands.specs.Adding.{IsAdded}
 use Rattle.commands.proofs.AddLemmas.{of_both, told_refused, told_added}
 use Rattle.commands.proofs.adding.add_tenant.Goals as goal

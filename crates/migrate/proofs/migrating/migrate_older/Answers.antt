@@ -3,7 +3,7 @@ use Rattle.std.proofs.lemmas.Result.{err_from_is_err_and}
 use Rattle.sqlite.specs.Effect.{Database}
 use Rattle.store.specs.Migrating.{HasRisen}
 use Rattle.store.specs.Stores.{Goes, OfDatabase, OfDatabases}
-use Rattle.store.specs.Upgrading.{KeepsMachines, Raised}
+use Rattle.openings.specs.Upgrading.{KeepsMachines, Raised}
 use Rattle.migrate.proofs.FaultLemmas.{no_newer_by_upgrade, undamaged_by_upgrade}
 use Rattle.migrate.proofs.StoreLemmas.{then_changed, goes_then, goes_weaker}
 use Rattle.migrate.proofs.migrating.migrate_older.Goals as goal

@@ -1,8 +1,9 @@
 use Rattle.std.proofs.Common.{subst}
 use Rattle.audit.specs.declared.damage.Damage.{Damage}
-use Rattle.store.specs.Damage.{IsDamagedIn, Hold, MayHold}
+use Rattle.openings.specs.Damage.{IsDamagedIn, Hold}
+use Rattle.store.specs.Stores.{MayHold}
 use Rattle.store.specs.Stores.{IsHonestAt}
-use Rattle.store.proofs.DamageLemmas.{if_damaged_more}
+use Rattle.openings.specs.DamageLaws.{if_damaged_more}
 use Rattle.store.proofs.ReopenLemmas.{finds_again, held_again}
 use Rattle.store.proofs.reopening.reopened.Goals as goal
 

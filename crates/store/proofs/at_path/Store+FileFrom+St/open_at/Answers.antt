@@ -1,7 +1,7 @@
 use Rattle.std.proofs.Common.{ℕ, Bool, cond, List, ap₂, subst}
 use Rattle.sqlite_disk.specs.Events.{Event, replay}
 use Rattle.sqlite_wal.specs.Recovery.{Image}
-use Rattle.store.specs.Opened.{IsOpenedOn}
+use Rattle.store.specs.Stores.{IsOpenedOn}
 use Rattle.store.proofs.at_path.Store+FileFrom+St.open_at.Goals as goal
 
 abbrev image : List ℕ → List ℕ → Image

@@ -1,4 +1,4 @@
-use Rattle.store.specs.TenantReads.{LooksUp}
+use Rattle.store.specs.Lookups.{LooksUp}
 use Rattle.records.specs.Reads.{found_transfers}
 use Rattle.store.proofs.FindsLemmas.{finds_batch, finds_looked}
 use Rattle.store.proofs.LookupLemmas.{looks_up_keeps}

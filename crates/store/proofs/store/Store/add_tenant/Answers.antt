@@ -1,7 +1,6 @@
-use Rattle.std.proofs.Common.{◌⊎◌, not, sym, subst, ap, ◌∙◌}
-use Rattle.store.specs.Joining.{Joined}
+use Rattle.std.proofs.Common.{◌⊎◌, not, sym, subst, ap}
+use Rattle.stored_ledgers.specs.Joining.{Joined}
 use Rattle.store.specs.Stores.{may_find_at, OfDatabaseAt}
-use Rattle.store.proofs.JoinLemmas.{answered_disk}
 use Rattle.store.proofs.store.Store.add_tenant.Goals as goal
 
 pub returns-clause-finds : goal.returns-clause-finds
@@ -12,4 +11,4 @@ returns-clause-finds g c honest db may =
 
 pub returns-clause-disk : goal.returns-clause-disk
 returns-clause-disk g c is =
-    ap not (c.is_disk_fault.ensures.1 (answered_disk c.join-joined.result (sym c.joining_answer.ensures ∙ is)))
+    ap not (c.is_disk_fault.ensures.1 (c.joining_answer.ensures.disk is))

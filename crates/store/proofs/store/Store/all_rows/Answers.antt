@@ -1,13 +1,12 @@
 use Rattle.std.proofs.Common.{◌≡◌, true, refl, rules}
 use Rattle.store.proofs.ReadLemmas.{serves_open, holds_here, reads_open}
-use Rattle.store.proofs.WholeLemmas.{can_be_read}
 use Rattle.store.proofs.store.Store.all_rows.Goals as goal
 
 pub all_rows-rows-requires : goal.all_rows-rows-requires
 all_rows-rows-requires g c =
     let answers : c.args.self.now.ready ≡ true = search rules in
-    can_be_read c.args.self.now.version _ (holds_here _ _ (serves_open g.D.Disk _ c.args.self.now.due
-    c.args.self.now.place _ c.in-Open.is answers c.requires))
+    holds_here _ _ (serves_open g.D.Disk _ c.args.self.now.due c.args.self.now.place _ c.in-Open.is
+    answers c.requires)
 
 pub returns-clause-reads : goal.returns-clause-reads
 returns-clause-reads g c =

@@ -2,7 +2,7 @@ use Rattle.std.proofs.Common.{◌≡◌, true, refl, sym, subst, rules}
 use Rattle.records.specs.Reads.{history_answer}
 use Rattle.chain.specs.LedgerReads.{seen_in, IsListed}
 use Rattle.store.specs.Stores.{tenants_at}
-use Rattle.store.specs.TenantReads.{reach_of}
+use Rattle.stored_ledgers.specs.TenantReads.{reach_of}
 use Rattle.store.proofs.ReadLemmas.{serves_open, holds_here, reads_open}
 use Rattle.store.proofs.store.Store.history_transfers.Goals as goal
 

@@ -1,5 +1,5 @@
 use Rattle.std.proofs.Common.{◌⊎◌, sym, subst}
-use Rattle.store.specs.Outcomes.{IsAfterBatch}
+use Rattle.stored_ledgers.specs.Outcomes.{IsAfterBatch}
 use Rattle.store.specs.Stores.{may_find_at, OfDatabaseAt}
 use Rattle.store.proofs.store.Store.in_batch.Goals as goal
 

@@ -3,10 +3,11 @@ use Rattle.sqlite.specs.Effect.{Database}
 use Rattle.sqlite.specs.Files.{file_state}
 use Rattle.sqlite.specs.State.{HasCleanDisk}
 use Rattle.store.specs.Migrating.{HasRisen}
-use Rattle.store.specs.Resting.{IsQuiet, IsSame}
+use Rattle.stored_ledgers.specs.Resting.{IsQuiet, IsSame}
 use Rattle.store.specs.Stores.{IsHonestAt, IsLiveAt, may_find_at, OfDatabaseAt}
-use Rattle.store.specs.Upgrading.{Raised, KeepsMachines, IsRaised}
-use Rattle.store.proofs.MigratingLemmas.{other_err, unless_fault, older_open, of_both, still_migratable, raised_kept, raised_migratable}
+use Rattle.openings.specs.Upgrading.{Raised, KeepsMachines, IsRaised}
+use Rattle.store.proofs.MigratingLemmas.{other_err, unless_fault, older_open, of_both, still_migratable, raised_migratable}
+use Rattle.openings.specs.UpgradingLaws.{raised_kept}
 use Rattle.store.proofs.store.Store.upgrade.Goals as goal
 
 pub upgrade_open-upgraded-requires-clause-older : goal.upgrade_open-upgraded-requires-clause-older

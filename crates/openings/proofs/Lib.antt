@@ -1,0 +1,15 @@
+mod FileLemmas
+mod EmptyLemmas
+mod WholeLemmas
+mod Passed
+mod OrderedTables
+mod RisingRows
+mod RuledRows
+mod HeldMachines
+mod OpenedLedger
+mod OpenedLemmas
+mod KeptSets
+mod UpgradeLemmas
+mod OlderLemmas
+mod RaiseLemmas
+mod DamageLemmas

@@ -1,0 +1,52 @@
+-- What a file of an older version has.
+use Rattle.std.proofs.Common.{◌≡◌, ◌<◌, ℕ, ℤ, pos, cond, drop, List, [], ◌∷◌, map, Result, Ok, Err, IfOk, inl, inr, sym, ap, subst, ◌∙◌, arith}
+use Rattle.std.specs.List.Sorted.{IsPermutation}
+use Rattle.std.proofs.lemmas.Bool.Decides.{eqb_tells}
+use Rattle.sqlite_schema.specs.declared.schema.Schema.{Schema}
+use Rattle.sqlite_value.specs.Order.{Row}
+use Rattle.ledger_sql.specs.Effects.{StartsAs}
+use Rattle.ledger_sql.specs.Schema.{after_schema, list_schema, balance_schema}
+use Rattle.ledger_sql.specs.Values.{version_values}
+use Rattle.openings.specs.Upgrading.{older_schema}
+use Rattle.whole_tables.specs.Reading.{HasTables}
+use Rattle.openings.proofs.HeldMachines.{only_one}
+
+-- the one version that a file names
+pub named_version : {E : Type 0} (r : Result ℕ E) (rows : List Row) (versions items : List ℤ)
+    → IsPermutation rows (map version_values items) → versions ≡ items → IfOk r (λ version. versions ≡ pos version ∷ [])
+    → IfOk r (λ version. rows ≡ version_values (pos version) ∷ [])
+named_version (Ok version) rows versions items all same is =
+    only_one rows (version_values (pos version))
+    (subst (λ xs. IsPermutation rows (map version_values xs)) (sym same ∙ is) all)
+named_version (Err fault) rows versions items all same is = is
+
+-- the schema of an older version has its tables
+pub older_tables : (version : ℕ) (schema : Schema) → version < 3 → schema ≡ older_schema version → HasTables version schema
+older_tables version schema less is = elim (eqb_tells version 1) [
+  | inl one ↦
+      let lists : schema ≡ list_schema = is ∙ ap (λ b. cond b list_schema balance_schema) one.0 in
+      let first : version ≡ 1 = one.1 in
+      record {
+        lists = ([], ap (λ (s : Schema). s.tables) lists);
+        derived = λ two. absurd (omega (arith, two, first));
+        failed = λ three. absurd (omega (arith, three, less));
+      }
+  | inr other ↦
+      let balances : schema ≡ balance_schema = is ∙ ap (λ b. cond b list_schema balance_schema) other.0 in
+      record {
+        lists = (drop 5 balance_schema.tables, ap (λ (s : Schema). s.tables) balances);
+        derived = λ two. ([], ap (λ (s : Schema). s.tables) balances);
+        failed = λ three. absurd (omega (arith, three, less));
+      }
+]
+
+-- and begins with the table of the version
+pub older_starts : (version : ℕ) (schema : Schema) → schema ≡ older_schema version → StartsAs after_schema.tables schema
+older_starts version schema is = elim (eqb_tells version 1) [
+  | inl one ↦
+      let lists : schema ≡ list_schema = is ∙ ap (λ b. cond b list_schema balance_schema) one.0 in
+      (drop 1 list_schema.tables, ap (λ (s : Schema). s.tables) lists)
+  | inr other ↦
+      let balances : schema ≡ balance_schema = is ∙ ap (λ b. cond b list_schema balance_schema) other.0 in
+      (drop 1 balance_schema.tables, ap (λ (s : Schema). s.tables) balances)
+]

@@ -1,0 +1,38 @@
+use Rattle.std.proofs.Common.{◌∙◌, sym, subst, rules, arith}
+use Rattle.sqlite.specs.Effect.{Database}
+use Rattle.sqlite.specs.Held.{state}
+use Rattle.sqlite.specs.State.{HasCleanDisk}
+use Rattle.whole_tables.specs.Reading.{HasTables, ReadsWhole}
+use Rattle.openings.proofs.Passed.{passed}
+use Rattle.stored_ledgers.specs.DirectoryLaws.{found_number}
+use Rattle.openings.proofs.WholeLemmas.{has_tables}
+use Rattle.openings.proofs.whole_rows.try_rows_of.Goals as goal
+
+pub returns-in_default-clause-whole : goal.returns-in_default-clause-whole
+returns-in_default-clause-whole g c clean =
+    let before : HasCleanDisk (state g.S.Store c.args.conn.now) =
+    omega (arith, c.in_ok-number.ensures.follows.survives.clean, clean) in
+    found_number c.args.digest.now _ c.in_ok-number.field-0
+    ((c.requires before).2.distinct.digests c.args.digest.now) (c.in_ok-number.ensures.ok clean)
+    ∙ c.in_default.is
+
+pub returns-clause-whole : goal.returns-clause-whole
+returns-clause-whole g c clean =
+    let first : HasCleanDisk (state g.S.Store c.find_tenant.new.conn) =
+    omega (arith, c.in_ok-tables.ensures.follows.survives.clean, clean) in
+    let before : HasCleanDisk (state g.S.Store c.args.conn.now) =
+    omega (arith, c.in_ok-number.ensures.follows.survives.clean, first) in
+    let ledgers = (c.requires before).2 in
+    let kept = c.in_ok-number.ensures.same first in (
+      c.in-Some.number,
+      found_number c.args.digest.now _ c.in_ok-number.field-0 (ledgers.distinct.digests c.args.digest.now)
+          (c.in_ok-number.ensures.ok first) ∙ c.in-Some.is,
+      record {
+        tables = c.in_ok-tables.tables;
+        whole = subst (λ (db : Database). ReadsWhole c.args.version db.trees c.in_ok-tables.tables) kept.0.now_is
+            (c.in_ok-tables.ensures.whole clean
+            (subst (λ (db : Database). HasTables c.args.version db.schema) (sym kept.0.now_is)
+            (has_tables c.args.version _ ledgers.schema)));
+        own = rw (passed c.in-Some.number (search rules)) at c.in_ok-own_tables.ensures;
+      },
+    )

@@ -1,0 +1,51 @@
+-- Which damage an opening tells.
+use Rattle.std.specs.Prelude.{◌≡◌, ℕ, pos}
+use Rattle.rows.specs.declared.all_rows.AllRows.{AllRows}
+use Rattle.audit.specs.Damage.{IsFirstDamage}
+use Rattle.audit.specs.declared.damage.Damage.{Damage}
+use Rattle.sqlite_disk.specs.declared.Disk as disk
+use Rattle.sqlite_disk.specs.declared.Files.{Files}
+use Rattle.sqlite_trees.specs.Tree.{Trees}
+use Rattle.sqlite_wal.specs.Reads.{AreClean}
+use Rattle.sqlite.specs.Files.{HoldsDatabase, AreFoundIn, image_of}
+use Rattle.whole_tables.specs.Filling.{NamesVersion}
+use Rattle.openings.specs.Whole.{AreAllRows}
+use Rattle.openings.specs.declared.opening.OpenFault.{OpenFault}
+use Rattle.openings.specs.declared.opening.OpenFault.TheVariants.{Unreadable, NotALedger, OldSchema}
+use Rattle.openings.specs.declared.opening.OpenFault.TheVariants.{NewerSchema, Damaged, Unavailable}
+
+-- a fact of the damage that is told, if it is
+abbrev pub IfDamaged : OpenFault → (Damage → Type 0) → Type 0
+IfDamaged Unreadable P = Unit {0}
+IfDamaged NotALedger P = Unit {0}
+IfDamaged OldSchema P = Unit {0}
+IfDamaged NewerSchema P = Unit {0}
+IfDamaged (Damaged damage) P = P damage
+IfDamaged (Unavailable why) P = Unit {0}
+
+-- no damage is told
+abbrev pub IsNoDamage : OpenFault → Type 0
+IsNoDamage fault = IfDamaged fault (λ damage. ⊥)
+
+-- of all rows of the database, in this version, this is the first damage
+pub record HasFirstDamage (version : ℕ) (damage : Damage) (trees : Trees) : Type 0 where
+  pub all : AllRows
+  pub read : AreAllRows version trees all
+  pub first : IsFirstDamage version all.tenants.items damage
+
+-- so it is of a file that names this version
+pub record IsDamagedIn (version : ℕ) (damage : Damage) (trees : Trees) : Type 0 where
+  pub named : NamesVersion (pos version) trees
+  pub damaged : HasFirstDamage version damage trees
+
+-- so it is in the version that the file names
+abbrev pub IsDamaged : Damage → Trees → Type 0
+IsDamaged damage trees = (version : ℕ) × IsDamagedIn version damage trees
+
+-- the files were honest, and what an opening finds in them is such a database
+pub record Hold {D : Type 0} (g : disk.Ghosts D) (files : Files D) (P : Trees → Type 0) : Type 0 where
+  pub honest : AreClean g files.log files.db
+  pub trees : Trees
+  pub reads : AreFoundIn (image_of g files) trees
+  pub holds : (other : Trees) → HoldsDatabase (image_of g files) other → trees ≡ other
+  pub is : P trees

@@ -1,0 +1,9 @@
+pub mod Whole
+pub mod Shape
+pub mod Found
+pub mod Faults
+pub mod Opened
+pub mod Upgrading
+pub mod UpgradingLaws
+pub mod Damage
+pub mod DamageLaws

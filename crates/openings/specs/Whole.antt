@@ -1,0 +1,52 @@
+-- All rows of a database, table by table and tenant by tenant.
+use Rattle.std.specs.Prelude.{◌≡◌, ℕ, ℤ, List, map, string_bytes, IsTrue, Option, Some, None}
+use Rattle.rows.specs.declared.all_rows.AllRows.{AllRows}
+use Rattle.rows.specs.declared.all_rows.DirectoryRow.{DirectoryRow}
+use Rattle.rows.specs.declared.all_rows.TenantOfDigest.{TenantOfDigest}
+use Rattle.rows.specs.declared.tenant_rows.TenantRows.{TenantRows}
+use Rattle.rows.specs.TypedRows.{FileRows, lists_of}
+use Rattle.sqlite.specs.State.{State, HasCleanDisk}
+use Rattle.sqlite_trees.specs.Tree.{Trees}
+use Rattle.ledger_sql.specs.Reading.{ReadsRows}
+use Rattle.ledger_sql.specs.Reading.{directory_cmp}
+use Rattle.ledger_sql.specs.TableRows.{directory_rows}
+use Rattle.ledger_sql.specs.Values.{directory_values}
+use Rattle.stored_ledgers.specs.Directory.{number_of}
+use Rattle.stored_ledgers.specs.Resting.{IsQuiet}
+use Rattle.whole_tables.specs.declared.reading.WholeTables.{WholeTables}
+use Rattle.whole_tables.specs.Reading.{HasTables, ReadsWhole, own_lists}
+
+-- the rows of a tenant with its digest
+abbrev pub lists_in : TenantOfDigest → List ℕ × FileRows
+lists_in tenant = (tenant.digest, lists_of tenant.rows)
+
+-- the same of the tenant in a row of the directory
+abbrev pub lists_for : WholeTables → DirectoryRow → List ℕ × FileRows
+lists_for tables row = (row.digest, own_lists tables row.number)
+
+-- all rows of a database in this version: the directory, and each tenant's rows at its place there,
+-- all in order of key
+pub record AreAllRows (version : ℕ) (trees : Trees) (all : AllRows) : Type 0 where
+  pub version_is : all.version ≡ version
+  pub directory : ReadsRows (λ row. directory_values row.number (string_bytes row.name) row.digest)
+      directory_cmp (directory_rows trees) all.directory.items
+  pub tables : WholeTables
+  pub whole : ReadsWhole version trees tables
+  pub tenants : map lists_in all.tenants.items ≡ map (lists_for tables) all.directory.items
+
+-- a tenant's rows of each table of this version, all in order of key
+pub record AreTenantRows (version : ℕ) (number : ℤ) (trees : Trees) (rows : TenantRows)
+    : Type 0 where
+  pub tables : WholeTables
+  pub whole : ReadsWhole version trees tables
+  pub own : lists_of rows ≡ own_lists tables number
+
+-- the rows of the tenant with this digest, if there is one
+abbrev pub AreRowsOf : ℕ → List ℕ → Trees → Option TenantRows → Type 0
+AreRowsOf version digest trees None = number_of digest trees ≡ None
+AreRowsOf version digest trees (Some rows) =
+    (number : ℤ) × (number_of digest trees ≡ Some number) × AreTenantRows version number trees rows
+
+-- as long as the disk was honest it is open and quiet, over the tables of this version
+abbrev pub CanBeRead : ℕ → State → Type 0
+CanBeRead version s = HasCleanDisk s → IsTrue s.is_open × IsQuiet s × HasTables version s.now.schema

@@ -1,0 +1,113 @@
+//! What an opening looks at before a ledger is served.
+
+ghost use Rattle.std.specs.Prelude.{◌≡◌, pos, [], ◌∷◌, IfOk, IfErr, OnOk, IsTrue};
+ghost use Rattle.sqlite.specs.State.{HasCleanDisk, IsUnchanged};
+ghost use Rattle.sqlite.specs.Held.{state};
+ghost use Rattle.ledger_sql.specs.Effects.{IsLedger};
+ghost use Rattle.ledger_sql.specs.Frames.{Live, Follows};
+ghost use Rattle.openings.specs.Damage.{IfDamaged, IsDamagedIn, IsNoDamage};
+ghost use Rattle.openings.specs.Opened.{HasCurrentVersion, HasNames, IsExamined};
+ghost use Rattle.stored_ledgers.specs.Resting.{IsQuiet, IsSame};
+ghost use Rattle.openings.specs.Whole.{AreAllRows};
+
+use crate::auditing::Audit;
+use crate::due_sets::due_sets;
+use crate::opening::OpenFault;
+use crate::standing::{standing_refusal, version_refusal};
+use crate::whole_rows::read_all;
+use ledger_sql::listing::list_versions;
+use rows::{AllRows, DirectoryRow};
+use sqlite::{Alter, Connection};
+use std::alloc::Global;
+use stored_ledgers::batches::DueSets;
+use tenants::TenantName;
+
+/// The version of the schema that a new ledger has.
+pub const CURRENT_VERSION: u32 = 3;
+
+/// Looks at all that a file holds, and gives the due times of its tenants. It only reads.
+pub(crate) fn examine<S: Alter, A: Audit>(
+    alloc: Global,
+    conn: &mut Connection<S>,
+    audit: &A,
+) -> Result<DueSets, OpenFault>
+    ensures examined { HasCleanDisk (state S.Store conn.new)
+        → IfOk result (λ sets. IsExamined sets (state S.Store conn.old).now) }
+    ensures damaged { HasCleanDisk (state S.Store conn.new)
+        → IfErr result (λ fault. IfDamaged fault
+        (λ damage. IsDamagedIn 3 damage (state S.Store conn.old).now.trees)) }
+    ensures kept { HasCleanDisk (state S.Store conn.new) → OnOk result
+        (IsUnchanged (state S.Store conn.old) (state S.Store conn.new)) }
+    ensures same { Live (state S.Store conn.new) → IsQuiet (state S.Store conn.old)
+        → IsSame (state S.Store conn.old) (state S.Store conn.new) }
+    ensures follows { Follows (state S.Store conn.old) (state S.Store conn.new) }
+{
+    find_current(alloc, conn)?;
+    let rows = read_ledger(alloc, conn)?;
+    audit.audit(alloc, &rows)?;
+    Ok(due_sets(alloc, &rows)?)
+}
+
+/// Refuses each version of the schema but the current one.
+fn find_current<S: Alter>(alloc: Global, conn: &mut Connection<S>) -> Result<(), OpenFault>
+    ensures current { HasCleanDisk (state S.Store conn.new)
+        → IsLedger (state S.Store conn.old).now.schema
+        → OnOk result (HasCurrentVersion (state S.Store conn.old).now.trees) }
+    ensures undamaged { IfErr result IsNoDamage }
+    ensures kept { HasCleanDisk (state S.Store conn.new) → OnOk result
+        (IsUnchanged (state S.Store conn.old) (state S.Store conn.new)) }
+    ensures same { Live (state S.Store conn.new) → IsQuiet (state S.Store conn.old)
+        → IsSame (state S.Store conn.old) (state S.Store conn.new) }
+    ensures follows { Follows (state S.Store conn.old) (state S.Store conn.new) }
+{
+    if let Some(fault) = version_refusal(conn.schema()) {
+        return Err(fault);
+    }
+    let versions = list_versions(alloc, conn)?;
+    version_fault(versions.as_slice())
+}
+
+fn version_fault(versions: &[i64]) -> Result<(), OpenFault>
+    ensures current { OnOk result (versions.now ≡ pos 3 ∷ []) }
+    ensures undamaged { IfErr result IsNoDamage }
+{
+    match versions {
+        [3] => Ok(()),
+        [1 | 2] => Err(OpenFault::OldSchema),
+        [version] if *version > 3 => Err(OpenFault::NewerSchema),
+        _ => Err(OpenFault::NotALedger),
+    }
+}
+
+/// Reads all rows of a file of the current version.
+fn read_ledger<S: Alter>(alloc: Global, conn: &mut Connection<S>) -> Result<AllRows, OpenFault>
+    ensures ledger { HasCleanDisk (state S.Store conn.new) → OnOk result
+        (IsLedger (state S.Store conn.old).now.schema) }
+    ensures read { HasCleanDisk (state S.Store conn.new)
+        → IfOk result (AreAllRows CURRENT_VERSION (state S.Store conn.old).now.trees) }
+    ensures undamaged { IfErr result IsNoDamage }
+    ensures names { IfOk result (λ rows. HasNames rows.directory.items) }
+    ensures kept { HasCleanDisk (state S.Store conn.new) → OnOk result
+        (IsUnchanged (state S.Store conn.old) (state S.Store conn.new)) }
+    ensures same { Live (state S.Store conn.new) → IsQuiet (state S.Store conn.old)
+        → IsSame (state S.Store conn.old) (state S.Store conn.new) }
+    ensures follows { Follows (state S.Store conn.old) (state S.Store conn.new) }
+{
+    if let Some(fault) = standing_refusal(conn.schema()) {
+        return Err(fault);
+    }
+    let rows = read_all(alloc, conn, CURRENT_VERSION)?;
+    if !has_names(&rows.directory) {
+        return Err(OpenFault::NotALedger);
+    }
+    Ok(rows)
+}
+
+/// Whether each tenant has a name that a tenant may have.
+pub(crate) fn has_names(directory: &[DirectoryRow]) -> bool
+    ensures { IsTrue result → HasNames directory.now }
+{
+    directory
+        .iter()
+        .all(|row| TenantName::read(row.name.as_str()).is_some())
+}

@@ -1,0 +1,137 @@
+//! How the database of a store is opened.
+
+ghost use Rattle.std.specs.Prelude.{◌≡◌, ◌≢◌, true, false, IsTrue, IfOk, IfErr};
+ghost use Rattle.sqlite.specs.State.{HasCleanDisk};
+ghost use Rattle.sqlite.specs.Files.{file_state, image_of};
+ghost use Rattle.sqlite_std_file.specs.File.{file_is_usable, IsFresh};
+ghost use Rattle.sqlite_wal.specs.Reads.{AreClean};
+ghost use Rattle.openings.specs.Damage.{IsNoDamage};
+ghost use Rattle.openings.specs.Found.{IsOpenAt, LeavesUnopened};
+
+use crate::closing::is_settled;
+use audit::{AuditFault, Damage};
+use ledger_sql::TableFault;
+use records::Unavailable;
+use sqlite::{Connection, Error, ErrorCode, FileStore, Files, Options};
+use sqlite_disk::{Disk, Start};
+use sqlite_std_file::{FileFrom, OpenError as PathError};
+use std::alloc::Global;
+use std::io::ErrorKind;
+
+/// Why a store was not opened.
+#[derive(Clone, Copy, Debug, PartialEq, Eq)]
+pub enum OpenFault {
+    /// The database refuses the files, or the ledger's tables do not come first in them, or are
+    /// not made as a ledger's.
+    Unreadable,
+    /// The files hold something else.
+    NotALedger,
+    /// The ledger has to be migrated first.
+    OldSchema,
+    /// A later program made the ledger.
+    NewerSchema,
+    /// A tenant's rows are those of no valid machine: the first such place.
+    Damaged(Damage),
+    Unavailable(Unavailable),
+}
+
+impl From<Unavailable> for OpenFault {
+    ghost use Rattle.openings.specs.declared.opening.OpenFault.TheVariants.{Unavailable as IsUnavailable};
+
+    ghost from_gives = { λ cause fault. fault ≡ IsUnavailable cause };
+
+    fn from(cause: Unavailable) -> OpenFault {
+        OpenFault::Unavailable(cause)
+    }
+}
+
+impl From<TableFault> for OpenFault {
+    ghost use Rattle.openings.specs.Faults.{open_fault_of};
+
+    ghost from_gives = { λ cause fault. fault ≡ open_fault_of cause };
+
+    fn from(cause: TableFault) -> OpenFault {
+        match cause {
+            TableFault::Missing => OpenFault::NotALedger,
+            TableFault::Unavailable(cause) => OpenFault::Unavailable(cause),
+        }
+    }
+}
+
+impl From<AuditFault> for OpenFault {
+    ghost use Rattle.openings.specs.Faults.{damage_fault};
+
+    ghost from_gives = { λ cause fault. fault ≡ damage_fault cause };
+
+    fn from(cause: AuditFault) -> OpenFault {
+        match cause {
+            AuditFault::Damaged(damage) => OpenFault::Damaged(damage),
+            AuditFault::Memory => OpenFault::Unavailable(Unavailable::Memory),
+        }
+    }
+}
+
+/// What an error at an opening means to the ledger.
+fn open_fault(error: Error) -> OpenFault
+    ensures ledger { result ≢ OpenFault.NotALedger }
+    ensures undamaged { IsNoDamage result }
+{
+    match error {
+        Error::SqliteFailure(ErrorCode::OutOfMemory) => OpenFault::Unavailable(Unavailable::Memory),
+        Error::SqliteFailure(ErrorCode::SystemIoFailure | ErrorCode::Closed) => {
+            OpenFault::Unavailable(Unavailable::Disk)
+        }
+        Error::SqliteFailure(ErrorCode::DiskFull | ErrorCode::TooBig) => {
+            OpenFault::Unavailable(Unavailable::Size)
+        }
+        _ => OpenFault::Unreadable,
+    }
+}
+
+/// Opens the database in two files, or makes an empty one where there is none.
+pub(crate) fn open_on<D: Disk + Drop>(
+    alloc: Global,
+    files: Files<D>,
+    options: Options,
+) -> Result<Connection<FileStore<D>>, (OpenFault, Files<D>)>
+    requires log { IsTrue (D.Disk.is_usable files.log) }
+    requires db { IsTrue (D.Disk.is_usable files.db) }
+    ensures opened { IfOk result (λ conn. HasCleanDisk (file_state conn)
+        → IsOpenAt (image_of D.Disk files) (file_state conn)) }
+    ensures honest { IfOk result (λ conn. HasCleanDisk (file_state conn)
+        → AreClean D.Disk files.log files.db) }
+    ensures fault { IfErr result (λ e. e.0 ≢ OpenFault.NotALedger) }
+    ensures undamaged { IfErr result (λ e. IsNoDamage e.0) }
+    ensures left { IfErr result (λ e. LeavesUnopened D.Disk files e.1) }
+{
+    match Connection::open_files(alloc, files, options) {
+        Ok(conn) => {
+            is_settled(&conn);
+            Ok(conn)
+        }
+        Err((error, left)) => Err((open_fault(error), left.into_files())),
+    }
+}
+
+/// The two files at a path, made where they are missing. `:memory:` and a URI are refused.
+pub fn files_at<St: Start>(
+    rt: &HostRuntime,
+    path: &str,
+    start: St,
+) -> Result<Files<FileFrom<St>>, OpenFault>
+    ensures log { IfOk result (λ files. IsTrue (file_is_usable St.Start files.log)) }
+    ensures db { IfOk result (λ files. IsTrue (file_is_usable St.Start files.db)) }
+    ensures fresh { IfOk result (λ files. IsFresh true files.log × IsFresh false files.db) }
+{
+    if path == ":memory:" || path.starts_with("file:") {
+        return Err(OpenFault::Unreadable);
+    }
+    match sqlite_std_file::open(rt, path, start) {
+        Ok(files) => Ok(files),
+        Err(PathError::OutOfMemory) => Err(OpenFault::Unavailable(Unavailable::Memory)),
+        Err(PathError::Io(error)) if error.kind() == ErrorKind::OutOfMemory => {
+            Err(OpenFault::Unavailable(Unavailable::Memory))
+        }
+        Err(_) => Err(OpenFault::Unreadable),
+    }
+}

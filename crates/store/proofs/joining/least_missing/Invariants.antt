@@ -1,6 +1,0 @@
-use Rattle.std.proofs.Common.{◌≡◌, ℕ, ◌<◌, true}
-use Rattle.store.specs.Directory.{has_number}
-use Rattle.store.proofs.joining.least_missing.Given as goal
-
-abbrev pub invariant-loop-number : goal.invariant-loop-number
-invariant-loop-number l = (k : ℕ) → 0 < k → k < l.number → has_number l.rows k ≡ true

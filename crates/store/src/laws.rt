@@ -1,8 +1,0 @@
-//! Laws of stores. The functions do nothing; their contracts are the laws.
-
-ghost use Rattle.store.specs.Joining.{JoiningAddsOne};
-
-/// A tenant that joins has a new machine, where it had none, and every other tenant's stays.
-pub fn joining_adds_one()
-    ensures { JoiningAddsOne }
-{}

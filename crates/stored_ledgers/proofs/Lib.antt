@@ -1,0 +1,9 @@
+mod TenantLemmas
+mod LedgerLemmas
+mod BatchLemmas
+mod OutcomeLemmas
+mod TakenLemmas
+mod JoinLemmas
+mod FreeLemmas
+mod JoinedLemmas
+mod TenantReadLemmas

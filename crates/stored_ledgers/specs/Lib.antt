@@ -1,0 +1,10 @@
+pub mod Directory
+pub mod DirectoryLaws
+pub mod DueSets
+pub mod DueSetLaws
+pub mod Ledger
+pub mod Resting
+pub mod RestingLaws
+pub mod Outcomes
+pub mod Joining
+pub mod TenantReads

@@ -1,0 +1,10 @@
+//! The ledgers of many tenants in one database: which there are, batches of work on one, new
+//! tenants, and reads.
+#![tactic(auto)]
+
+pub mod batches;
+pub mod directory;
+pub mod joining;
+pub mod laws;
+pub mod probe;
+pub mod tenant_reads;
