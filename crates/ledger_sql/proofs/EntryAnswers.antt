@@ -1,66 +1,157 @@
 -- An account's entries as they are read, whole or one after the other.
-use Rattle.std.proofs.Common.{◌≡◌, ◌⊎◌, ℕ, ℤ, List, [], map, Bool, true, false, Ok, Err, Result, IfOk, OnOk, OnErr, inl, inr, refl, subst}
+use Rattle.std.proofs.Common.{◌≡◌, ◌⊎◌, ℕ, ◌≤◌, ℤ, pos, List, [], ◌∷◌, ◌++◌, length, map, take, drop, Bool, true, false, Option, Some, None, Ok, Err, Result, IfOk, OnOk, OnErr, inl, inr, refl, sym, ap, subst, ◌∙◌, arith, append_assoc}
 use Rattle.std.specs.Prelude.{IsErr}
 use Rattle.std.specs.declared.cmp.Ordering.{Ordering}
-use Rattle.std.specs.List.Sorted.{IsSorted}
+use Rattle.std.specs.List.Sorted.{IsPermutation, IsSorted}
+use Rattle.std.proofs.lemmas.List.{append-nil, length-append, length-map, length-take, take-append-drop}
 use Rattle.records.specs.declared.unavailable.Unavailable.{Unavailable}
 use Rattle.sqlite_value.specs.declared.value.Value.{Value}
+use Rattle.sqlite_value.specs.declared.value.Value.TheVariants.{Int}
 use Rattle.sqlite_value.specs.Order.{Row}
 use Rattle.sqlite_sql.specs.declared.ops.CompareOp.{CompareOp}
-use Rattle.sqlite_sql.specs.Term.{Env}
-use Rattle.sqlite_sql.specs.Query.{output, output_cmp}
+use Rattle.sqlite_sql.specs.Term.{Term, Env, eval}
+use Rattle.sqlite_sql.specs.Query.{output, output_cmp, as_count, limited}
 use Rattle.sqlite.specs.State.{State, HasCleanDisk, Shown, Begins}
 use Rattle.ledger_sql.specs.declared.entry_cells.EntryCells.{EntryCells}
 use Rattle.ledger_sql.specs.declared.table_fault.TableFault.{TableFault}
-use Rattle.ledger_sql.specs.Entries.{entry_values, entries_when, ReadsEntries, ReadsFirst, HandsEntries}
+use Rattle.ledger_sql.specs.Entries.{entry_values, entries_when, ReadsEntries, ReadsFirst, HandsEntries, HandsUpTo}
 use Rattle.ledger_sql.specs.Handing.{HandsRows}
-use Rattle.ledger_sql.proofs.EntryTexts.{entry_query, IsEntryText}
-use Rattle.ledger_sql.proofs.EntryLemmas.{compares, keys, entries_shown, entries_begun}
+use Rattle.ledger_sql.proofs.EntryTexts.{entry_query, unlimited, given_limit, IsEntryText}
+use Rattle.ledger_sql.proofs.EntryLemmas.{AreFirst, compares, keys, entries_shown, entries_begun}
 
-module _ (sql : List ℕ) (op : CompareOp) (descending : Bool) (tenant : ℤ) (account : List ℕ) (time : ℤ) (in_time : Value → Bool) (tests : (v : Value) → compares op time v ≡ in_time v)
+-- ---- the first of some entries
+
+abbrev behind : Option ℕ → List Row → List Row
+behind None rows = []
+behind (Some n) rows = drop n rows
+
+cut_whole : (much : Option ℕ) (rows : List Row) → limited much rows ++ behind much rows ≡ rows
+cut_whole None rows = append-nil rows
+cut_whole (Some n) rows = take-append-drop n rows
+
+begins_first : (much : Option ℕ) (entries : List Row) (cmp : Row → Row → Ordering) (read : List EntryCells) (tail : List Row) → AreFirst much entries cmp (map entry_values read ++ tail) → ReadsFirst entries (IsSorted cmp) read
+begins_first much entries cmp read tail it =
+    let left = behind much it.ordered in
+    let whole : it.ordered ≡ map entry_values read ++ (tail ++ left) = sym (sym (append_assoc (map entry_values read) tail left) ∙ ap (λ rows. rows ++ left) it.rows_are ∙ cut_whole much it.ordered) in
+    record { rest = tail ++ left; all = subst (IsPermutation entries) whole it.all; order = subst (IsSorted cmp) whole it.order }
+
+no_more_than : (n : ℕ) (entries : List Row) (cmp : Row → Row → Ordering) (read : List EntryCells) (tail : List Row) → AreFirst (Some n) entries cmp (map entry_values read ++ tail) → length read ≤ n
+no_more_than n entries cmp read tail it =
+    let rows_are : map entry_values read ++ tail ≡ take n it.ordered = it.rows_are in
+    let long = ap length rows_are in
+    omega (arith, long, length-append (map entry_values read) tail, length-map read entry_values, length-take n it.ordered)
+
+over_so : {P Q : Type 0} (got : Result (Unit {0}) Unavailable) → (P → Q) → OnOk got P → OnOk got Q
+over_so (Ok u) f p = f p
+over_so (Err e) f p = tt
+
+module _ (sql : List ℕ) (op : CompareOp) (descending : Bool) (limit : Term) (tenant : ℤ) (account : List ℕ) (time : ℤ) (more : Row) (in_time : Value → Bool) (tests : (v : Value) → compares op time v ≡ in_time v)
     (cmp : Row → Row → Ordering)
-    (same : (x y : Env) → output_cmp (entry_query op descending) (output (entry_query op descending) x) (output (entry_query op descending) y)
-    ≡ cmp (output (entry_query op descending) x).1 (output (entry_query op descending) y).1)
-    (old new : State) (key : Row) (is : key ≡ keys tenant account time op in_time tests) where
+    (same : (x y : Env) → output_cmp (entry_query op descending limit) (output (entry_query op descending limit) x) (output (entry_query op descending limit) y)
+    ≡ cmp (output (entry_query op descending limit) x).1 (output (entry_query op descending limit) y).1)
+    (old new : State) (key : Row) (is : key ≡ keys tenant account time more op in_time tests) where
   abbrev entries : List Row
   entries = entries_when tenant account in_time old.now.trees
 
-  pub entries_read : {Y : Type 0} (items_of : Y → List EntryCells) → IsEntryText sql old.now.schema op descending → (read : Result Y TableFault)
-      → IfOk read (λ y. Shown sql key old new (map entry_values (items_of y))) → (got : Result Y Unavailable) → IfOk got (λ y. read ≡ Ok y)
-      → IfOk got (λ y. ReadsEntries entries (IsSorted cmp) (items_of y))
-  entries_read items_of text read ok (Err e) known = tt
-  entries_read items_of text read ok (Ok y) known =
-      let items = items_of y in
-      let it : Shown sql key old new (map entry_values items) = subst (λ r. IfOk r (λ y. Shown sql key old new (map entry_values (items_of y)))) known ok in
-      let got = entries_shown sql old.now.schema op descending text old new refl tenant account time in_time tests cmp same (map entry_values items) (subst (λ k. Shown sql k old new (map entry_values items)) is it) in
-      record { all = got.0; order = got.1 }
+  abbrev much : Option ℕ
+  much = as_count (eval limit (keys tenant account time more op in_time tests ∷ []))
 
-  pub entries_handed : {K : Type 0} (takes : K → EntryCells → K → Type 0) (is_full : K → Bool) → (HasCleanDisk new → IsEntryText sql old.now.schema op descending) → (before after : K)
+  abbrev IsText : Type 0
+  IsText = IsEntryText sql old.now.schema op descending limit
+
+  all_first : IsText → (read : List EntryCells) → Shown sql key old new (map entry_values read) → AreFirst much entries cmp (map entry_values read)
+  all_first text read shown =
+      entries_shown sql old.now.schema op descending limit text old new refl tenant account time more in_time tests cmp same (map entry_values read) (subst (λ k. Shown sql k old new (map entry_values read)) is shown)
+
+  some_first : IsText → (read : List EntryCells) → Begins sql key old (map entry_values read) → (tail : List Row) × AreFirst much entries cmp (map entry_values read ++ tail)
+  some_first text read begun =
+      entries_begun sql old.now.schema op descending limit text old new refl tenant account time more in_time tests cmp same (map entry_values read) (subst (λ k. Begins sql k old (map entry_values read)) is begun)
+
+  read_first : {Y : Type 0} (items_of : Y → List EntryCells) → IsText → (read : Result Y TableFault) → IfOk read (λ y. Shown sql key old new (map entry_values (items_of y)))
+      → (got : Result Y Unavailable) → IfOk got (λ y. read ≡ Ok y) → IfOk got (λ y. AreFirst much entries cmp (map entry_values (items_of y)))
+  read_first items_of text read ok (Err e) known = tt
+  read_first items_of text read ok (Ok y) known = all_first text (items_of y) (subst (λ r. IfOk r (λ y. Shown sql key old new (map entry_values (items_of y)))) known ok)
+
+  module _ {K : Type 0} (takes : K → EntryCells → K → Type 0) (is_full : K → Bool) (text : HasCleanDisk new → IsText) (before after : K)
+      (r : Result (Unit {0}) TableFault) (h : HandsRows takes is_full sql key old new before after r) (got : Result (Unit {0}) Unavailable) where
+    still : (got : Result (Unit {0}) Unavailable) (r : Result (Unit {0}) TableFault) → OnErr got (IsErr r) → OnErr r (is_full after ≡ false) → OnErr got (is_full after ≡ false)
+    still (Ok u) r failed wants = tt
+    still (Err e) (Ok u) failed wants = absurd (cc)
+    still (Err e) (Err f) failed wants = wants
+
+    begun : HasCleanDisk new → (h.handed ≡ []) ⊎ ReadsFirst entries (IsSorted cmp) h.handed
+    begun clean = elim (h.first clean) [
+      | inl none ↦ inl none
+      | inr some ↦ let it = some_first (text clean) h.handed some in inr (begins_first much entries cmp h.handed it.0 it.1)
+    ]
+
+    few : (n : ℕ) → much ≡ Some n → HasCleanDisk new → length h.handed ≤ n
+    few n is_n clean = elim (h.first clean) [
+      | inl none ↦ subst (λ (xs : List EntryCells). length xs ≤ n) (sym none) (omega arith)
+      | inr some ↦
+          let it = some_first (text clean) h.handed some in
+          no_more_than n entries cmp h.handed it.0 (subst (λ o. AreFirst o entries cmp (map entry_values h.handed ++ it.0)) is_n it.1)
+    ]
+
+    over : (got : Result (Unit {0}) Unavailable) → IfOk got (λ u. r ≡ Ok u) → HasCleanDisk new → OnOk got ((is_full after ≡ true) ⊎ AreFirst much entries cmp (map entry_values h.handed))
+    over (Err e) known clean = tt
+    over (Ok u) known clean = elim (subst (λ r. OnOk r ((is_full after ≡ true) ⊎ Shown sql key old new (map entry_values h.handed))) known (h.ended clean)) [
+      | inl full ↦ inl full
+      | inr shown ↦ inr (all_first (text clean) h.handed shown)
+    ]
+
+-- ---- with no limit
+
+module _ (sql : List ℕ) (op : CompareOp) (descending : Bool) (tenant : ℤ) (account : List ℕ) (time : ℤ) (in_time : Value → Bool) (tests : (v : Value) → compares op time v ≡ in_time v)
+    (cmp : Row → Row → Ordering)
+    (same : (x y : Env) → output_cmp (entry_query op descending unlimited) (output (entry_query op descending unlimited) x) (output (entry_query op descending unlimited) y)
+    ≡ cmp (output (entry_query op descending unlimited) x).1 (output (entry_query op descending unlimited) y).1)
+    (old new : State) (key : Row) (is : key ≡ keys tenant account time [] op in_time tests) where
+  abbrev all_entries : List Row
+  all_entries = entries_when tenant account in_time old.now.trees
+
+  whole : (read : List EntryCells) → AreFirst None all_entries cmp (map entry_values read) → ReadsEntries all_entries (IsSorted cmp) read
+  whole read it = record { all = subst (IsPermutation all_entries) (sym it.rows_are) it.all; order = subst (IsSorted cmp) (sym it.rows_are) it.order }
+
+  pub entries_read : {Y : Type 0} (items_of : Y → List EntryCells) → IsEntryText sql old.now.schema op descending unlimited → (read : Result Y TableFault)
+      → IfOk read (λ y. Shown sql key old new (map entry_values (items_of y))) → (got : Result Y Unavailable) → IfOk got (λ y. read ≡ Ok y)
+      → IfOk got (λ y. ReadsEntries all_entries (IsSorted cmp) (items_of y))
+  entries_read items_of text read ok (Err e) known = tt
+  entries_read items_of text read ok (Ok y) known = whole (items_of y) (read_first sql op descending unlimited tenant account time [] in_time tests cmp same old new key is items_of text read ok (Ok y) known)
+
+  pub entries_handed : {K : Type 0} (takes : K → EntryCells → K → Type 0) (is_full : K → Bool) → (HasCleanDisk new → IsEntryText sql old.now.schema op descending unlimited) → (before after : K)
       → (r : Result (Unit {0}) TableFault) → HandsRows takes is_full sql key old new before after r → (got : Result (Unit {0}) Unavailable) → IfOk got (λ u. r ≡ Ok u) → OnErr got (IsErr r)
-      → HandsEntries takes is_full (HasCleanDisk new) entries (IsSorted cmp) before after got
+      → HandsEntries takes is_full (HasCleanDisk new) all_entries (IsSorted cmp) before after got
   entries_handed takes is_full text before after r h got known failed = record {
     handed = h.handed;
     taken = h.taken;
-    first = λ clean. begun (text clean) (h.first clean);
-    ended = λ clean. over (text clean) got known (h.ended clean);
-    wants = still got r failed h.wants;
+    first = begun sql op descending unlimited tenant account time [] in_time tests cmp same old new key is takes is_full text before after r h got;
+    ended = λ clean. over_so got (λ end. elim end [ inl full ↦ inl full | inr all ↦ inr (whole h.handed all) ])
+        (over sql op descending unlimited tenant account time [] in_time tests cmp same old new key is takes is_full text before after r h got got known clean);
+    wants = still sql op descending unlimited tenant account time [] in_time tests cmp same old new key is takes is_full text before after r h got got r failed h.wants;
   }
-    where
-      still : (got : Result (Unit {0}) Unavailable) (r : Result (Unit {0}) TableFault) → OnErr got (IsErr r) → OnErr r (is_full after ≡ false) → OnErr got (is_full after ≡ false)
-      still (Ok u) r failed wants = tt
-      still (Err e) (Ok u) failed wants = absurd (cc)
-      still (Err e) (Err f) failed wants = wants
 
-      begun : IsEntryText sql old.now.schema op descending → (h.handed ≡ []) ⊎ Begins sql key old (map entry_values h.handed) → (h.handed ≡ []) ⊎ ReadsFirst entries (IsSorted cmp) h.handed
-      begun text (inl none) = inl none
-      begun text (inr some) =
-          let got = entries_begun sql old.now.schema op descending text old new refl tenant account time in_time tests cmp same (map entry_values h.handed) (subst (λ k. Begins sql k old (map entry_values h.handed)) is some) in
-          inr (record { rest = got.0; all = got.1; order = got.2 })
+-- ---- so many at most
 
-      over : IsEntryText sql old.now.schema op descending → (got : Result (Unit {0}) Unavailable) → IfOk got (λ u. r ≡ Ok u)
-          → OnOk r ((is_full after ≡ true) ⊎ Shown sql key old new (map entry_values h.handed)) → OnOk got ((is_full after ≡ true) ⊎ ReadsEntries entries (IsSorted cmp) h.handed)
-      over text (Err e) known ended = tt
-      over text (Ok u) known ended = elim (subst (λ r. OnOk r ((is_full after ≡ true) ⊎ Shown sql key old new (map entry_values h.handed))) known ended) [
-        | inl full ↦ inl full
-        | inr shown ↦ let got = entries_shown sql old.now.schema op descending text old new refl tenant account time in_time tests cmp same (map entry_values h.handed) (subst (λ k. Shown sql k old new (map entry_values h.handed)) is shown) in inr (record { all = got.0; order = got.1 })
-      ]
+module _ (sql : List ℕ) (op : CompareOp) (descending : Bool) (tenant : ℤ) (account : List ℕ) (time : ℤ) (count : ℕ) (in_time : Value → Bool) (tests : (v : Value) → compares op time v ≡ in_time v)
+    (cmp : Row → Row → Ordering)
+    (same : (x y : Env) → output_cmp (entry_query op descending given_limit) (output (entry_query op descending given_limit) x) (output (entry_query op descending given_limit) y)
+    ≡ cmp (output (entry_query op descending given_limit) x).1 (output (entry_query op descending given_limit) y).1)
+    (old new : State) (key : Row) (is : key ≡ keys tenant account time (Int (pos count) ∷ []) op in_time tests) where
+  abbrev these : List Row
+  these = entries_when tenant account in_time old.now.trees
+
+  pub entries_up_to : {K : Type 0} (takes : K → EntryCells → K → Type 0) (is_full : K → Bool) → (HasCleanDisk new → IsEntryText sql old.now.schema op descending given_limit) → (before after : K)
+      → (r : Result (Unit {0}) TableFault) → HandsRows takes is_full sql key old new before after r → (got : Result (Unit {0}) Unavailable) → IfOk got (λ u. r ≡ Ok u) → OnErr got (IsErr r)
+      → HandsUpTo takes is_full (HasCleanDisk new) count these (IsSorted cmp) before after got
+  entries_up_to takes is_full text before after r h got known failed =
+      let limits = Int (pos count) ∷ [] in
+      record {
+        handed = h.handed;
+        taken = h.taken;
+        within = few sql op descending given_limit tenant account time limits in_time tests cmp same old new key is takes is_full text before after r h got count refl;
+        first = begun sql op descending given_limit tenant account time limits in_time tests cmp same old new key is takes is_full text before after r h got;
+        ended = λ clean. over_so got (λ end. elim end [ inl full ↦ inl full | inr it ↦ inr (record { ordered = it.ordered; all = it.all; order = it.order; read_is = it.rows_are }) ])
+            (over sql op descending given_limit tenant account time limits in_time tests cmp same old new key is takes is_full text before after r h got got known clean);
+        wants = still sql op descending given_limit tenant account time limits in_time tests cmp same old new key is takes is_full text before after r h got got r failed h.wants;
+      }

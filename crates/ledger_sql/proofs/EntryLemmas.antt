@@ -1,5 +1,5 @@
 -- What a text that reads an account's entries answers.
-use Rattle.std.proofs.Common.{◌≡◌, ℕ, ℤ, List, [], ◌∷◌, ◌++◌, map, filter, Bool, true, false, cond, ◌&&◌, refl, sym, ap, subst, ◌∙◌}
+use Rattle.std.proofs.Common.{◌≡◌, ℕ, ℤ, List, [], ◌∷◌, ◌++◌, map, filter, Option, Bool, true, false, cond, ◌&&◌, refl, sym, ap, subst, ◌∙◌}
 use Rattle.std.specs.declared.cmp.Ordering.{Ordering}
 use Rattle.std.specs.Ordering.{is_eq, is_ge, is_le}
 use Rattle.std.specs.List.{All, flat_map, list_all}
@@ -16,8 +16,8 @@ use Rattle.sqlite_sql.specs.declared.ops.BinaryOp.TheVariants.{Compare}
 use Rattle.sqlite_sql.specs.declared.ops.CompareOp.{CompareOp}
 use Rattle.sqlite_sql.specs.declared.ops.CompareOp.TheVariants.{Ge, Le}
 use Rattle.sqlite_sql.specs.Ops.{binary, is_true}
-use Rattle.sqlite_sql.specs.Term.{Env, eval_all, holds}
-use Rattle.sqlite_sql.specs.Query.{Query, IsAnswer, output, Output, output_cmp}
+use Rattle.sqlite_sql.specs.Term.{Term, Env, eval, eval_all, holds}
+use Rattle.sqlite_sql.specs.Query.{Query, IsAnswer, output, Output, output_cmp, as_count, limited}
 use Rattle.sqlite_sql.specs.Program.{overlay}
 use Rattle.sqlite_schema.specs.declared.schema.Schema.{Schema}
 use Rattle.sqlite_schema.specs.declared.command.Command.TheVariants.{Select}
@@ -86,9 +86,16 @@ flat_filter p f (x ∷ xs) = elim (p x) as (λ b. flat_map f (cond b (x ∷ filt
   | false ↦ flat_filter p f xs
 ]
 
-module _ (tenant : ℤ) (account : List ℕ) (time : ℤ) (op : CompareOp) (in_time : Value → Bool) (tests : (v : Value) → compares op time v ≡ in_time v) where
+-- the first so many of some entries, in order
+pub record AreFirst (much : Option ℕ) (entries : List Row) (cmp : Row → Row → Ordering) (rows : List Row) : Type 0 where
+  pub ordered : List Row
+  pub all : IsPermutation entries ordered
+  pub order : IsSorted cmp ordered
+  pub rows_are : rows ≡ limited much ordered
+
+module _ (tenant : ℤ) (account : List ℕ) (time : ℤ) (more : Row) (op : CompareOp) (in_time : Value → Bool) (tests : (v : Value) → compares op time v ≡ in_time v) where
   abbrev pub keys : Row
-  keys = Int tenant ∷ Blob account ∷ Int time ∷ []
+  keys = Int tenant ∷ Blob account ∷ Int time ∷ more
 
   abbrev history_cells : Row → Row
   history_cells = cells_from 2 6
@@ -145,9 +152,9 @@ module _ (tenant : ℤ) (account : List ℕ) (time : ℤ) (op : CompareOp) (in_t
       ∙ flat_map-map with_own history_cells (filter is_asked hs)
       ∙ flat_filter is_asked (λ h. with_own (history_cells h)) hs)
 
-  module _ (descending : Bool) (history : (db : Trees) → overlay db [] 15 ≡ db 15) (transfers : (db : Trees) → overlay db [] 8 ≡ db 8) (db : Trees) where
+  module _ (descending : Bool) (limit : Term) (history : (db : Trees) → overlay db [] 15 ≡ db 15) (transfers : (db : Trees) → overlay db [] 8 ≡ db 8) (db : Trees) where
     abbrev query : Query
-    query = entry_query op descending
+    query = entry_query op descending limit
 
     abbrev seen : Row → Row → Env
     seen h t = keys ∷ h ∷ t ∷ []
@@ -159,11 +166,13 @@ module _ (tenant : ℤ) (account : List ℕ) (time : ℤ) (op : CompareOp) (in_t
         ∙ ap (λ ts. flat_map (λ h. flat_map (λ t. cond (passes h t) (seen h t ∷ []) []) ts) (db 15)) (transfers db)
         ∙ flat_map_same_on _ (λ h. map (seen h) (filter (passes h) (db 8))) (λ h. found_each (passes h) (seen h) (db 8)) (db 15)
 
-    pub entries_answered : (rows : List Row) → IsAnswer query (overlay db []) keys rows → IsPermutation (entries_when tenant account in_time db) rows
-    entries_answered rows a =
+    abbrev cut : Option ℕ
+    cut = as_count (eval limit (keys ∷ []))
+
+    ordered_all : (rows : List Row) (a : IsAnswer query (overlay db []) keys rows) → IsPermutation (entries_when tenant account in_time db) (map (λ (o : Output). o.1) a.ordered)
+    ordered_all rows a =
         let show : Env → Row = λ env. eval_all query.project env in
         let kept : a.kept ≡ map (output query) a.staged = a.distinct in
-        let moved = IsPermutation-map (λ (o : Output). o.1) a.kept a.ordered a.same in
         let shown : map (λ (o : Output). o.1) a.kept ≡ entries_when tenant account in_time db =
         ap (map (λ (o : Output). o.1)) kept
         ∙ map-map (λ (o : Output). o.1) (output query) a.staged
@@ -171,45 +180,48 @@ module _ (tenant : ℤ) (account : List ℕ) (time : ℤ) (op : CompareOp) (in_t
         ∙ map-flat_map show (λ h. map (seen h) (filter (passes h) (db 8))) (db 15)
         ∙ flat_map_same_on _ (λ h. map (joined h) (filter (passes h) (db 8))) (λ h. map-map show (seen h) (filter (passes h) (db 8))) (db 15)
         ∙ entries_joined db in
-        subst (λ xs. IsPermutation xs rows) shown (subst (IsPermutation (map (λ (o : Output). o.1) a.kept)) (sym a.shown) moved)
+        subst (λ xs. IsPermutation xs (map (λ (o : Output). o.1) a.ordered)) shown (IsPermutation-map (λ (o : Output). o.1) a.kept a.ordered a.same)
 
-    pub entries_sorted : (cmp : Row → Row → Ordering) → ((x y : Env) → output_cmp query (output query x) (output query y) ≡ cmp (output query x).1 (output query y).1)
-        → (rows : List Row) → IsAnswer query (overlay db []) keys rows → IsSorted cmp rows
-    entries_sorted cmp same rows a =
+    pub entries_answered : (cmp : Row → Row → Ordering) → ((x y : Env) → output_cmp query (output query x) (output query y) ≡ cmp (output query x).1 (output query y).1)
+        → (rows : List Row) → IsAnswer query (overlay db []) keys rows → AreFirst cut (entries_when tenant account in_time db) cmp rows
+    entries_answered cmp same rows a =
         let kept : a.kept ≡ map (output query) a.staged = a.distinct in
         let made = subst (All (λ (o : Output). (env : Env) × (o ≡ output query env))) (sym kept) (made_by (output query) [] a.staged) in
-        subst (IsSorted cmp) (sym a.shown) (sorted_shown query db keys cmp same a.kept a.ordered made a.same a.sorted)
+        record {
+          ordered = map (λ (o : Output). o.1) a.ordered;
+          all = ordered_all rows a;
+          order = sorted_shown query db keys cmp same a.kept a.ordered made a.same a.sorted;
+          rows_are = a.shown;
+        }
 
 -- both orders are those of the timestamps
-pub oldest_first : (op : CompareOp) (x y : Env) → output_cmp (entry_query op false) (output (entry_query op false) x) (output (entry_query op false) y)
-    ≡ value_cmp (column (output (entry_query op false) x).1 1) (column (output (entry_query op false) y).1 1)
-oldest_first op x y = then-Equal _
+pub oldest_first : (op : CompareOp) (limit : Term) (x y : Env) → output_cmp (entry_query op false limit) (output (entry_query op false limit) x) (output (entry_query op false limit) y)
+    ≡ value_cmp (column (output (entry_query op false limit) x).1 1) (column (output (entry_query op false limit) y).1 1)
+oldest_first op limit x y = then-Equal _
 
-pub newest_first : (op : CompareOp) (x y : Env) → output_cmp (entry_query op true) (output (entry_query op true) x) (output (entry_query op true) y)
-    ≡ value_cmp (column (output (entry_query op true) y).1 1) (column (output (entry_query op true) x).1 1)
-newest_first op x y = then-Equal _
+pub newest_first : (op : CompareOp) (limit : Term) (x y : Env) → output_cmp (entry_query op true limit) (output (entry_query op true limit) x) (output (entry_query op true limit) y)
+    ≡ value_cmp (column (output (entry_query op true limit) y).1 1) (column (output (entry_query op true limit) x).1 1)
+newest_first op limit x y = then-Equal _
 
-module _ (sql : List ℕ) (schema : Schema) (op : CompareOp) (descending : Bool) (text : IsEntryText sql schema op descending) (old new : State) (has : old.now.schema ≡ schema)
-    (tenant : ℤ) (account : List ℕ) (time : ℤ) (in_time : Value → Bool) (tests : (v : Value) → compares op time v ≡ in_time v) (cmp : Row → Row → Ordering)
-    (same : (x y : Env) → output_cmp (entry_query op descending) (output (entry_query op descending) x) (output (entry_query op descending) y)
-    ≡ cmp (output (entry_query op descending) x).1 (output (entry_query op descending) y).1) where
+module _ (sql : List ℕ) (schema : Schema) (op : CompareOp) (descending : Bool) (limit : Term) (text : IsEntryText sql schema op descending limit) (old new : State) (has : old.now.schema ≡ schema)
+    (tenant : ℤ) (account : List ℕ) (time : ℤ) (more : Row) (in_time : Value → Bool) (tests : (v : Value) → compares op time v ≡ in_time v) (cmp : Row → Row → Ordering)
+    (same : (x y : Env) → output_cmp (entry_query op descending limit) (output (entry_query op descending limit) x) (output (entry_query op descending limit) y)
+    ≡ cmp (output (entry_query op descending limit) x).1 (output (entry_query op descending limit) y).1) where
   abbrev entries : List Row
   entries = entries_when tenant account in_time old.now.trees
 
   abbrev given : Row
-  given = Int tenant ∷ Blob account ∷ Int time ∷ []
+  given = Int tenant ∷ Blob account ∷ Int time ∷ more
 
-  pub entries_shown : (rows : List Row) → Shown sql given old new rows → IsPermutation entries rows × IsSorted cmp rows
+  abbrev much : Option ℕ
+  much = as_count (eval limit (given ∷ []))
+
+  pub entries_shown : (rows : List Row) → Shown sql given old new rows → AreFirst much entries cmp rows
   entries_shown rows h =
-      let got = reads_as sql given old new schema has (Select (record { lets = []; body = entry_query op descending }) text.names) text.is text.plain text.unlisted rows h in (
-        entries_answered tenant account time op in_time tests descending text.history text.transfers old.now.trees rows (got.answer Null),
-        entries_sorted tenant account time op in_time tests descending text.history text.transfers old.now.trees cmp same rows (got.answer Null),
-      )
+      let got = reads_as sql given old new schema has (Select (record { lets = []; body = entry_query op descending limit }) text.names) text.is text.plain text.unlisted rows h in
+      entries_answered tenant account time more op in_time tests descending limit text.history text.transfers old.now.trees cmp same rows (got.answer Null)
 
-  pub entries_begun : (rows : List Row) → Begins sql given old rows → (rest : List Row) × IsPermutation entries (rows ++ rest) × IsSorted cmp (rows ++ rest)
+  pub entries_begun : (rows : List Row) → Begins sql given old rows → (tail : List Row) × AreFirst much entries cmp (rows ++ tail)
   entries_begun rows h =
-      let got = begins_as sql given old new schema has (Select (record { lets = []; body = entry_query op descending }) text.names) text.is text.plain text.unlisted rows h in (
-        got.1.0,
-        entries_answered tenant account time op in_time tests descending text.history text.transfers old.now.trees (rows ++ got.1.0) (got.1.1 Null),
-        entries_sorted tenant account time op in_time tests descending text.history text.transfers old.now.trees cmp same (rows ++ got.1.0) (got.1.1 Null),
-      )
+      let got = begins_as sql given old new schema has (Select (record { lets = []; body = entry_query op descending limit }) text.names) text.is text.plain text.unlisted rows h in
+      (got.1.0, entries_answered tenant account time more op in_time tests descending limit text.history text.transfers old.now.trees cmp same (rows ++ got.1.0) (got.1.1 Null))

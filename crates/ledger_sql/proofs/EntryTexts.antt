@@ -36,8 +36,15 @@ entry_terms bound =
     ∷ op2 (Compare bound Binary) (col 1 3) (col 0 2)
     ∷ []
 
-abbrev pub entry_query : CompareOp → Bool → Query
-entry_query bound descending = record {
+-- no limit; the one that is given behind the keys
+abbrev pub unlimited : Term
+unlimited = lit (Int (negsuc 0))
+
+abbrev pub given_limit : Term
+given_limit = col 0 3
+
+abbrev pub entry_query : CompareOp → Bool → Term → Query
+entry_query bound descending limit = record {
   from = inner 15 (inner 8 end);
   filter = entry_terms bound;
   group = None;
@@ -45,13 +52,13 @@ entry_query bound descending = record {
   distinct = false;
   collations = [];
   order = (col 1 3, record { collation = Binary; descending = descending }) ∷ [];
-  limit = lit (Int (negsuc 0));
+  limit = limit;
   offset = lit (Int (pos 0));
 }
 
-pub record IsEntryText (sql : List ℕ) (schema : Schema) (bound : CompareOp) (descending : Bool) : Type 0 where
+pub record IsEntryText (sql : List ℕ) (schema : Schema) (bound : CompareOp) (descending : Bool) (limit : Term) : Type 0 where
   pub names : List (List ℕ)
-  pub is : command_of (understood schema sql) ≡ Select (record { lets = []; body = entry_query bound descending }) names
+  pub is : command_of (understood schema sql) ≡ Select (record { lets = []; body = entry_query bound descending limit }) names
   pub plain : IsPlain (understood schema sql)
   pub unlisted : reads_listing schema sql ≡ false
   pub history : (db : Trees) → overlay db [] 15 ≡ db 15
@@ -64,12 +71,12 @@ pub from_reads : IsReading from_text
 unfolding everything IsReading
 from_reads = (tt, refl)
 
-from_means : (more : List Table) (indexes : List Index) (views : List View) → IsEntryText from_text (ledger_with more indexes views) Ge false
+from_means : (more : List Table) (indexes : List Index) (views : List View) → IsEntryText from_text (ledger_with more indexes views) Ge false unlimited
 unfolding understood everything
 from_means more indexes views = record { names = _; is = refl; plain = (refl, refl); unlisted = refl; history = λ _. refl; transfers = λ _. refl }
 
-pub from_is : (s : Schema) → IsLedger s → IsEntryText from_text s Ge false
-from_is s h = subst (λ s. IsEntryText from_text s Ge false) (sym (ledger_is s h)) (from_means h.more s.indexes s.views)
+pub from_is : (s : Schema) → IsLedger s → IsEntryText from_text s Ge false unlimited
+from_is s h = subst (λ s. IsEntryText from_text s Ge false unlimited) (sym (ledger_is s h)) (from_means h.more s.indexes s.views)
 
 abbrev pub until_text : List ℕ
 until_text = codes "SELECT history.account, history.timestamp, history.dp, history.dd, history.cp, history.cc, transfer.id, transfer.debit, transfer.credit, transfer.amount, transfer.pending_id, transfer.user_data_128, transfer.user_data_64, transfer.user_data_32, transfer.timeout, transfer.ledger, transfer.code, transfer.flags, transfer.timestamp, transfer.at_clock FROM history JOIN transfer ON transfer.tenant = ?1 AND transfer.timestamp = history.timestamp WHERE history.tenant = ?1 AND history.account = ?2 AND history.timestamp <= ?3 ORDER BY history.timestamp DESC"
@@ -78,9 +85,39 @@ pub until_reads : IsReading until_text
 unfolding everything IsReading
 until_reads = (tt, refl)
 
-until_means : (more : List Table) (indexes : List Index) (views : List View) → IsEntryText until_text (ledger_with more indexes views) Le true
+until_means : (more : List Table) (indexes : List Index) (views : List View) → IsEntryText until_text (ledger_with more indexes views) Le true unlimited
 unfolding understood everything
 until_means more indexes views = record { names = _; is = refl; plain = (refl, refl); unlisted = refl; history = λ _. refl; transfers = λ _. refl }
 
-pub until_is : (s : Schema) → IsLedger s → IsEntryText until_text s Le true
-until_is s h = subst (λ s. IsEntryText until_text s Le true) (sym (ledger_is s h)) (until_means h.more s.indexes s.views)
+pub until_is : (s : Schema) → IsLedger s → IsEntryText until_text s Le true unlimited
+until_is s h = subst (λ s. IsEntryText until_text s Le true unlimited) (sym (ledger_is s h)) (until_means h.more s.indexes s.views)
+
+-- ---- the same, with so many entries at most
+
+abbrev pub first_from_text : List ℕ
+first_from_text = codes "SELECT history.account, history.timestamp, history.dp, history.dd, history.cp, history.cc, transfer.id, transfer.debit, transfer.credit, transfer.amount, transfer.pending_id, transfer.user_data_128, transfer.user_data_64, transfer.user_data_32, transfer.timeout, transfer.ledger, transfer.code, transfer.flags, transfer.timestamp, transfer.at_clock FROM history JOIN transfer ON transfer.tenant = ?1 AND transfer.timestamp = history.timestamp WHERE history.tenant = ?1 AND history.account = ?2 AND history.timestamp >= ?3 ORDER BY history.timestamp LIMIT ?4"
+
+pub first_from_reads : IsReading first_from_text
+unfolding everything IsReading
+first_from_reads = (tt, refl)
+
+first_from_means : (more : List Table) (indexes : List Index) (views : List View) → IsEntryText first_from_text (ledger_with more indexes views) Ge false given_limit
+unfolding understood everything
+first_from_means more indexes views = record { names = _; is = refl; plain = (refl, refl); unlisted = refl; history = λ _. refl; transfers = λ _. refl }
+
+pub first_from_is : (s : Schema) → IsLedger s → IsEntryText first_from_text s Ge false given_limit
+first_from_is s h = subst (λ s. IsEntryText first_from_text s Ge false given_limit) (sym (ledger_is s h)) (first_from_means h.more s.indexes s.views)
+
+abbrev pub first_until_text : List ℕ
+first_until_text = codes "SELECT history.account, history.timestamp, history.dp, history.dd, history.cp, history.cc, transfer.id, transfer.debit, transfer.credit, transfer.amount, transfer.pending_id, transfer.user_data_128, transfer.user_data_64, transfer.user_data_32, transfer.timeout, transfer.ledger, transfer.code, transfer.flags, transfer.timestamp, transfer.at_clock FROM history JOIN transfer ON transfer.tenant = ?1 AND transfer.timestamp = history.timestamp WHERE history.tenant = ?1 AND history.account = ?2 AND history.timestamp <= ?3 ORDER BY history.timestamp DESC LIMIT ?4"
+
+pub first_until_reads : IsReading first_until_text
+unfolding everything IsReading
+first_until_reads = (tt, refl)
+
+first_until_means : (more : List Table) (indexes : List Index) (views : List View) → IsEntryText first_until_text (ledger_with more indexes views) Le true given_limit
+unfolding understood everything
+first_until_means more indexes views = record { names = _; is = refl; plain = (refl, refl); unlisted = refl; history = λ _. refl; transfers = λ _. refl }
+
+pub first_until_is : (s : Schema) → IsLedger s → IsEntryText first_until_text s Le true given_limit
+first_until_is s h = subst (λ s. IsEntryText first_until_text s Le true given_limit) (sym (ledger_is s h)) (first_until_means h.more s.indexes s.views)

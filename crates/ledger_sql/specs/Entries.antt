@@ -1,6 +1,6 @@
 -- An account's entries: the rows of its history, each with the transfer of the same time.
-use Rattle.std.specs.Prelude.{◌≡◌, ◌⊎◌, ◌&&◌, ℕ, ℤ, Bool, true, false, Result, OnOk, OnErr}
-use Rattle.std.specs.Prelude.{List, [], ◌++◌, map, filter, IsPermutation, IsSorted}
+use Rattle.std.specs.Prelude.{◌≡◌, ◌⊎◌, ◌&&◌, ◌≤◌, ℕ, ℤ, Bool, true, false, Result, OnOk, OnErr}
+use Rattle.std.specs.Prelude.{List, [], ◌++◌, length, map, take, filter, IsPermutation, IsSorted}
 use Rattle.std.specs.List.{flat_map}
 use Rattle.records.specs.Streams.{TakesRows}
 use Rattle.sqlite_value.specs.declared.value.Value.{Value}
@@ -62,4 +62,25 @@ pub record HandsEntries {K E : Type 0} (takes : K → EntryCells → K → Type 
   pub taken : TakesRows takes old handed new
   pub first : IsHonest → (handed ≡ []) ⊎ ReadsFirst entries InOrder handed
   pub ended : IsHonest → OnOk result ((is_full new ≡ true) ⊎ ReadsEntries entries InOrder handed)
+  pub wants : OnErr result (is_full new ≡ false)
+
+-- so many of these entries were read, the first in order, or all, if there are no more
+pub record ReadsUpTo (count : ℕ) (entries : List Row) (InOrder : List Row → Type 0)
+    (read : List EntryCells) : Type 0 where
+  pub ordered : List Row
+  pub all : IsPermutation entries ordered
+  pub order : InOrder ordered
+  pub read_is : map entry_values read ≡ take count ordered
+
+-- The first of some entries were handed to a sink, one after the other, and no more than a number
+-- of them. While the disk was honest they are none or the first of these entries in order, and
+-- after Ok the sink is full or has so many of them, or all. After an Err it wants more.
+pub record HandsUpTo {K E : Type 0} (takes : K → EntryCells → K → Type 0)
+    (is_full : K → Bool) (IsHonest : Type 0) (count : ℕ) (entries : List Row)
+    (InOrder : List Row → Type 0) (old new : K) (result : Result (Unit {0}) E) : Type 0 where
+  pub handed : List EntryCells
+  pub taken : TakesRows takes old handed new
+  pub within : IsHonest → length handed ≤ count
+  pub first : IsHonest → (handed ≡ []) ⊎ ReadsFirst entries InOrder handed
+  pub ended : IsHonest → OnOk result ((is_full new ≡ true) ⊎ ReadsUpTo count entries InOrder handed)
   pub wants : OnErr result (is_full new ≡ false)

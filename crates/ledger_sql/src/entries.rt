@@ -7,7 +7,7 @@ ghost use Rattle.sqlite.specs.State.{HasCleanDisk, IsUnchanged};
 ghost use Rattle.sqlite.specs.Held.{state};
 ghost use Rattle.amount.specs.Column.{column_of};
 ghost use Rattle.ledger_sql.specs.Effects.{IsLedger};
-ghost use Rattle.ledger_sql.specs.Entries.{entries_when, AreOldestFirst, AreNewestFirst, ReadsEntries, HandsEntries};
+ghost use Rattle.ledger_sql.specs.Entries.{entries_when, AreOldestFirst, AreNewestFirst, ReadsEntries, HandsEntries, HandsUpTo};
 ghost use Rattle.ledger_sql.specs.Frames.{IsKeptOrUndone, Follows};
 ghost use Rattle.ledger_sql.specs.Handing.{HandsRows};
 ghost use Rattle.ledger_sql.specs.Queries.{IsReading};
@@ -42,6 +42,26 @@ const UNTIL: &str =
         FROM history JOIN transfer ON transfer.tenant = ?1 AND transfer.timestamp = \
         history.timestamp WHERE history.tenant = ?1 AND history.account = ?2 AND \
         history.timestamp <= ?3 ORDER BY history.timestamp DESC";
+
+/// The history from a time on, oldest first, with so many rows at most.
+const FIRST_FROM: &str =
+    "SELECT history.account, history.timestamp, history.dp, history.dd, history.cp, history.cc, \
+        transfer.id, transfer.debit, transfer.credit, transfer.amount, transfer.pending_id, \
+        transfer.user_data_128, transfer.user_data_64, transfer.user_data_32, transfer.timeout, \
+        transfer.ledger, transfer.code, transfer.flags, transfer.timestamp, transfer.at_clock \
+        FROM history JOIN transfer ON transfer.tenant = ?1 AND transfer.timestamp = \
+        history.timestamp WHERE history.tenant = ?1 AND history.account = ?2 AND \
+        history.timestamp >= ?3 ORDER BY history.timestamp LIMIT ?4";
+
+/// The same up to a time, newest first.
+const FIRST_UNTIL: &str =
+    "SELECT history.account, history.timestamp, history.dp, history.dd, history.cp, history.cc, \
+        transfer.id, transfer.debit, transfer.credit, transfer.amount, transfer.pending_id, \
+        transfer.user_data_128, transfer.user_data_64, transfer.user_data_32, transfer.timeout, \
+        transfer.ledger, transfer.code, transfer.flags, transfer.timestamp, transfer.at_clock \
+        FROM history JOIN transfer ON transfer.tenant = ?1 AND transfer.timestamp = \
+        history.timestamp WHERE history.tenant = ?1 AND history.account = ?2 AND \
+        history.timestamp <= ?3 ORDER BY history.timestamp DESC LIMIT ?4";
 
 /// The entries of a tenant's account from a time on, in nanoseconds, oldest first.
 pub fn entries_from<S: Alter>(
@@ -137,6 +157,68 @@ pub fn each_entry_until<S: Alter, K: EntrySink>(
 {
     let key = account.to_be_bytes();
     known(hand_out(conn, UNTIL, params![tenant, key.as_slice(), time], sink))
+}
+
+/// Hands the entries of a tenant's account from a time on, in nanoseconds, oldest first and so many
+/// at most, to a sink until it is full. After an `Err` it has taken the first of them.
+pub fn first_entries_from<S: Alter, K: EntrySink>(
+    conn: &mut Connection<S>,
+    tenant: i64,
+    account: u128,
+    time: i64,
+    count: u32,
+    sink: &mut K,
+) -> Result<(), Unavailable>
+    requires ledger { HasCleanDisk (state S.Store conn.old) → IsLedger
+        (state S.Store conn.old).now.schema }
+    requires open { K.is_full sink.old ≡ false }
+    ensures handed { HandsUpTo K.takes K.is_full (HasCleanDisk (state S.Store conn.new)) count
+        (entries_when tenant (column_of account) (is_from time) (state S.Store conn.old).now.trees)
+        AreOldestFirst sink.old sink.new result }
+    ensures same { HasCleanDisk (state S.Store conn.new) → OnOk result
+        (IsUnchanged (state S.Store conn.old) (state S.Store conn.new)) }
+    ensures kept { HasCleanDisk (state S.Store conn.new) → IsKeptOrUndone
+        (state S.Store conn.old) (state S.Store conn.new) }
+    ensures follows { Follows (state S.Store conn.old) (state S.Store conn.new) }
+{
+    let key = account.to_be_bytes();
+    known(hand_out(
+        conn,
+        FIRST_FROM,
+        params![tenant, key.as_slice(), time, count],
+        sink,
+    ))
+}
+
+/// Hands the entries of a tenant's account up to a time, in nanoseconds, newest first and so many at
+/// most, to a sink until it is full. After an `Err` it has taken the first of them.
+pub fn first_entries_until<S: Alter, K: EntrySink>(
+    conn: &mut Connection<S>,
+    tenant: i64,
+    account: u128,
+    time: i64,
+    count: u32,
+    sink: &mut K,
+) -> Result<(), Unavailable>
+    requires ledger { HasCleanDisk (state S.Store conn.old) → IsLedger
+        (state S.Store conn.old).now.schema }
+    requires open { K.is_full sink.old ≡ false }
+    ensures handed { HandsUpTo K.takes K.is_full (HasCleanDisk (state S.Store conn.new)) count
+        (entries_when tenant (column_of account) (is_until time) (state S.Store conn.old).now.trees)
+        AreNewestFirst sink.old sink.new result }
+    ensures same { HasCleanDisk (state S.Store conn.new) → OnOk result
+        (IsUnchanged (state S.Store conn.old) (state S.Store conn.new)) }
+    ensures kept { HasCleanDisk (state S.Store conn.new) → IsKeptOrUndone
+        (state S.Store conn.old) (state S.Store conn.new) }
+    ensures follows { Follows (state S.Store conn.old) (state S.Store conn.new) }
+{
+    let key = account.to_be_bytes();
+    known(hand_out(
+        conn,
+        FIRST_UNTIL,
+        params![tenant, key.as_slice(), time, count],
+        sink,
+    ))
 }
 
 /// Hands the rows of a query's answer to a sink until it is full.

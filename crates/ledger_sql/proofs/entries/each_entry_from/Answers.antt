@@ -3,7 +3,7 @@ use Rattle.sqlite_value.specs.Order.{column, value_cmp}
 use Rattle.sqlite_sql.specs.declared.ops.CompareOp.TheVariants.{Ge}
 use Rattle.amount.specs.Column.{column_of}
 use Rattle.ledger_sql.specs.TableRows.{is_from}
-use Rattle.ledger_sql.proofs.EntryTexts.{from_text, from_reads, from_is}
+use Rattle.ledger_sql.proofs.EntryTexts.{unlimited, from_text, from_reads, from_is}
 use Rattle.ledger_sql.proofs.EntryLemmas.{compares_from, oldest_first}
 use Rattle.ledger_sql.proofs.EntryAnswers.{entries_handed}
 use Rattle.ledger_sql.proofs.entries.each_entry_from.Goals as goal
@@ -14,5 +14,5 @@ hand_out-requires-clause-reading g c = from_reads
 pub returns-clause-handed : goal.returns-clause-handed
 unfolding column_of
 returns-clause-handed g c =
-    entries_handed from_text Ge false c.args.tenant (column_of c.args.account) c.args.time (is_from c.args.time) (compares_from c.args.time) (λ a b. value_cmp (column a 1) (column b 1)) (oldest_first Ge) _ _ _ (search rules) g.K.EntrySink.takes g.K.EntrySink.is_full
+    entries_handed from_text Ge false c.args.tenant (column_of c.args.account) c.args.time (is_from c.args.time) (compares_from c.args.time) (λ a b. value_cmp (column a 1) (column b 1)) (oldest_first Ge unlimited) _ _ _ (search rules) g.K.EntrySink.takes g.K.EntrySink.is_full
     (λ clean. from_is c.args.conn.now.schema (c.requires.ledger (omega (arith, c.hand_out.ensures.follows.survives.clean, clean)))) _ _ c.hand_out.result c.hand_out.ensures.handed c.known.result c.known.ensures.ok c.known.ensures.err
