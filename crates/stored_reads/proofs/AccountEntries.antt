@@ -1,7 +1,7 @@
 -- What is handed out of a database is handed out of the machine's entries.
-use Rattle.std.proofs.Common.{◌≡◌, ◌⊎◌, ℕ, ◌+◌, ◌-◌, ◌<◌, ◌≤◌, ◌^◌, ℤ, pos, Bool, true, false, List, [], ◌∷◌, ◌++◌, map, filter, flat_map, reverse, Result, Ok, Err, OnOk, OnErr, refl, sym, ap, subst, ◌∙◌, arith, inl, inr, IsPermutation}
+use Rattle.std.proofs.Common.{◌≡◌, ◌⊎◌, ℕ, zero, suc, ◌+◌, ◌-◌, ◌<◌, ◌≤◌, ◌^◌, ℤ, pos, Bool, true, false, List, [], ◌∷◌, ◌++◌, map, filter, flat_map, reverse, take, Result, Ok, Err, OnOk, OnErr, refl, sym, ap, subst, ◌∙◌, arith, inl, inr, IsPermutation}
 use Rattle.std.specs.List.{AllByRecursion}
-use Rattle.std.proofs.lemmas.List.{reverse-append}
+use Rattle.std.proofs.lemmas.List.{reverse-append, take-map}
 use Rattle.std.proofs.lemmas.List.Elements.{All-weaker, recursion_from_All}
 use Rattle.std.proofs.lemmas.List.Sorted.{IsPermutation-trans, IsPermutation-sym, IsPermutation-map, IsPermutation-reverse}
 use Rattle.amount.specs.Column.{column_of, IsOneToOne}
@@ -19,11 +19,12 @@ use Rattle.sqlite_value.specs.Order.{Row}
 use Rattle.sqlite_trees.specs.Tree.{Trees, IsAscending}
 use Rattle.sqlite_trees.proofs.ListLemmas.{all_weaker, all-filter, all_both, all-permutation, ascending-filter, ascending_weaker, ascending-append}
 use Rattle.ledger_sql.specs.declared.entry_cells.EntryCells.{EntryCells}
-use Rattle.ledger_sql.specs.Entries.{entry_values, entries_when, AreOldestFirst, AreNewestFirst, ReadsEntries, ReadsFirst, HandsEntries}
+use Rattle.ledger_sql.specs.Entries.{entry_values, entries_when, AreOldestFirst, AreNewestFirst, ReadsEntries, ReadsFirst, ReadsUpTo, HandsEntries, HandsUpTo}
 use Rattle.ledger_sql.specs.TableRows.{is_from, is_until}
 use Rattle.stored_tables.specs.Holds.{HoldsMachine}
 use Rattle.stored_reads.specs.Entries.{account_entries, entry_cells}
 use Rattle.stored_reads.specs.Handing.{AreFirst, AreAll, HandsAccount, entries_behind}
+use Rattle.stored_reads.proofs.ChunkEnds.{first_within}
 use Rattle.stored_reads.proofs.AccountRows.{entries_there, own_all, alone_in, of_entries, is_timed, HasTwoAccounts}
 use Rattle.stored_reads.proofs.AccountOrder.{ReadInOrder, IsStorableEntry, rows_of, oldest_rows, newest_rows, are_first, are_all}
 
@@ -144,3 +145,26 @@ module _ {K : Type 0} (takes : K → EntryCells → K → Type 0) (is_full : K �
     ended = λ honest. ended_so result h.handed honest (h.ended honest);
     wants = h.wants;
   }
+
+  -- and so are the first of them, so many at most
+  module _ (count : ℕ) where
+    few_fit : (n : ℕ) (es : List Entry) → AllByRecursion (IsStorableEntry account) es → AllByRecursion (IsStorableEntry account) (take n es)
+    few_fit zero es all = tt
+    few_fit (suc n) [] all = tt
+    few_fit (suc n) (e ∷ es) all = (all.0, few_fit n es all.1)
+
+    ended_few : {E : Type 0} (result : Result (Unit {0}) E) (handed : List EntryCells) → H → OnOk result ((is_full new ≡ true) ⊎ ReadsUpTo count entries InOrder handed) → OnOk result ((is_full new ≡ true) ⊎ AreAll account (take count es) handed)
+    ended_few (Err e) handed honest ended = tt
+    ended_few (Ok u) handed honest (inl full) = inl full
+    ended_few (Ok u) handed honest (inr few) =
+        inr (are_all account (take count es) handed (few_fit count es (fits_all honest))
+        (sym (take-map (λ e. entry_values (entry_cells account e)) count es) ∙ ap (take count) (read honest few.ordered few.all few.order) ∙ sym few.read_is))
+
+    pub hands_few : {E : Type 0} (result : Result (Unit {0}) E) → HandsUpTo takes is_full H count entries InOrder old new result → HandsAccount takes is_full H account (take count es) old new result
+    hands_few result h = record {
+      handed = h.handed;
+      taken = h.taken;
+      first = λ honest. first_within account count es h.handed (h.within honest) (begun_so h.handed honest (h.first honest));
+      ended = λ honest. ended_few result h.handed honest (h.ended honest);
+      wants = h.wants;
+    }

@@ -1,6 +1,9 @@
 pub mod AccountRows
 pub mod AccountOrder
 pub mod AccountEntries
+pub mod ChunkEnds
+pub mod NextEntries
+pub mod ChunkHands
 pub mod PageGrowth
 pub mod PageTimes
 pub mod PageValue

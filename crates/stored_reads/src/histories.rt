@@ -13,7 +13,7 @@ ghost use Rattle.stored_reads.specs.Idle.{CanRead, machine_at, OnlyReads};
 ghost use Rattle.stored_reads.specs.Pages.{stored_page};
 
 use crate::bounds::{first_time, last_time};
-use crate::entries::each_entry;
+use crate::chunks::each_entry_in_chunks;
 use crate::page::Page;
 use crate::reading::account_at_clock;
 use crate::stored_entry::StoredEntry;
@@ -115,12 +115,13 @@ fn page<S: Alter>(
         return Ok(Vec::new(alloc));
     }
     let mut page = Page::new(alloc, *asked);
-    each_entry(
+    each_entry_in_chunks(
         conn,
         tenant,
         asked.account_id,
         order(asked),
         bound(asked),
+        asked.limit,
         &mut page,
     )?;
     page.finish()

@@ -2,6 +2,7 @@
 #![tactic(auto)]
 
 mod bounds;
+mod chunks;
 mod entries;
 mod histories;
 mod page;
