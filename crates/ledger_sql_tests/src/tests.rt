@@ -5,6 +5,7 @@ mod any_file;
 mod calls;
 mod entries;
 mod finds;
+mod grown;
 mod lists;
 mod many;
 mod places;
@@ -15,8 +16,9 @@ mod shapes;
 mod statements;
 mod unclaimed;
 
+use grown::GROWN;
 use places::run_both;
-use scenarios::{GROWN, SCENARIOS};
+use scenarios::SCENARIOS;
 use std::test::Fail;
 
 #[test]

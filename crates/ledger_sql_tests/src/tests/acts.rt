@@ -120,14 +120,16 @@ pub enum Act {
     Entries(Asked, Told),
     /// The times of the first two.
     FirstTwo(Asked, (Option<i64>, Option<i64>)),
+    /// The times of the first entries, so many at most.
+    Page(Asked, u32, &'static [i64]),
     /// Whether the store is told to be open, as it is not inside a transaction.
     IsOpen(bool),
     /// The tables are told to be missing.
     MissesTables,
     /// Adds so many rows to each table of tenant 1.
     AddMany(u16),
-    /// From here on no text takes more steps than one by a whole key does.
-    LimitSteps,
+    /// From here on no text takes more steps.
+    LimitSteps(u64),
     /// A text of SQL is refused.
     Fails(&'static str),
 }

@@ -1,6 +1,6 @@
 //! The entries of an account.
 
-ghost use Rattle.std.specs.Prelude.{◌≡◌, None, IfOk, is_some};
+ghost use Rattle.std.specs.Prelude.{◌≡◌, None, false, IfOk, is_some};
 
 use super::acts::Asked;
 use super::unclaimed::{Unclaimed, claims_nothing};
@@ -57,6 +57,59 @@ fn take_two<S: Unclaimed>(
     match asked {
         Asked::From(account, time) => entries::each_entry_from(conn, 1, *account, *time, two),
         Asked::Until(account, time) => entries::each_entry_until(conn, 1, *account, *time, two),
+    }
+}
+
+/// Takes the times of all entries that memory has room for.
+#[derive(Drop)]
+struct Times {
+    times: Vec<i64>,
+    is_out_of_memory: bool,
+}
+
+impl EntrySink for Times {
+    ghost takes = { λ _ _ _. Unit {0} };
+
+    ghost is_full = { λ times. times.is_out_of_memory };
+
+    fn entry(&mut self, entry: &EntryCells) -> bool {
+        self.is_out_of_memory = self.times.push(entry.history.timestamp).is_err();
+        !self.is_out_of_memory
+    }
+}
+
+/// Whether the first entries, so many at most, have these times.
+pub fn tells_page<S: Unclaimed>(
+    alloc: Global,
+    conn: &mut Connection<S>,
+    asked: &Asked,
+    count: u32,
+    times: &[i64],
+) -> Result<bool, Unavailable> {
+    let mut taken = Times {
+        times: Vec::new(alloc),
+        is_out_of_memory: false,
+    };
+    take_page(conn, asked, count, &mut taken)?;
+    Ok(taken.times.as_slice() == times)
+}
+
+fn take_page<S: Unclaimed>(
+    conn: &mut Connection<S>,
+    asked: &Asked,
+    count: u32,
+    taken: &mut Times,
+) -> Result<(), Unavailable>
+    requires { taken.old.is_out_of_memory ≡ false }
+{
+    claims_nothing(conn);
+    match asked {
+        Asked::From(account, time) => {
+            entries::first_entries_from(conn, 1, *account, *time, count, taken)
+        }
+        Asked::Until(account, time) => {
+            entries::first_entries_until(conn, 1, *account, *time, count, taken)
+        }
     }
 }
 

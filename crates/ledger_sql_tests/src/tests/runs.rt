@@ -2,7 +2,7 @@
 
 use super::acts::{Act, Call, Row};
 use super::calls::{Done, answer};
-use super::entries::{tells, tells_two};
+use super::entries::{tells, tells_page, tells_two};
 use super::finds::{Found, find, number_of};
 use super::lists::{lists, lists_cells, misses_tables};
 use super::many::add_many;
@@ -14,9 +14,6 @@ use std::alloc::Global;
 use std::fmt::Debug;
 use std::process::Abort;
 use std::test::Fail;
-
-/// The steps that a text by a whole key may take, whatever its table holds.
-const STEPS: u64 = 8;
 
 /// Does one thing after the other. `what` is told where one is not so.
 pub fn run<S: Unclaimed>(
@@ -50,11 +47,12 @@ fn first_wrong<S: Unclaimed>(
         Act::ListsCells => said(lists_cells(alloc, conn)),
         Act::Entries(asked, told) => said(tells(alloc, conn, asked, told)),
         Act::FirstTwo(asked, times) => said(tells_two(conn, asked, times)),
+        Act::Page(asked, count, times) => said(tells_page(alloc, conn, asked, *count, times)),
         Act::IsOpen(open) => Ok(unless(is_open(conn) == *open)),
         Act::MissesTables => Ok(unless(misses_tables(alloc, conn))),
         Act::AddMany(rows) => Ok(unless(add_many(alloc, conn, *rows)?)),
-        Act::LimitSteps => {
-            conn.set_step_limit(Some(STEPS));
+        Act::LimitSteps(steps) => {
+            conn.set_step_limit(Some(*steps));
             Ok(None)
         }
         Act::Fails(text) => Ok(unless(number(conn, text).is_err())),

@@ -14,10 +14,10 @@ use super::acts::{Act, Call};
 use records::PendingState::{Open, Posted, Voided};
 
 /// No sums.
-const NONE: [u32; 4] = [0; 4];
+pub const NONE: [u32; 4] = [0; 4];
 
 /// The base, in a transaction that stays open.
-const BASE: &[Call] = &[
+pub const BASE: &[Call] = &[
     Take(Begin),
     Make(AllTables),
     Add(Tenant(1, "North", 0x66)),
@@ -32,7 +32,7 @@ const BASE: &[Call] = &[
     Add(Balance(1, 4, NONE)),
 ];
 
-const COMMIT: &[Call] = &[Take(Commit)];
+pub const COMMIT: &[Call] = &[Take(Commit)];
 
 /// Pending transfer 100, with all that it adds.
 const PENDING_100: &[Call] = &[
@@ -56,12 +56,6 @@ pub const SCENARIOS: &[Scenario] = &[
     ("what is undone", &[UNDONE]),
     ("the balance schema", &[BALANCE_SCHEMA]),
     ("a file found again", &[WRITTEN, FOUND_AGAIN]),
-];
-
-/// Texts by a whole key, over few rows in each table and over many.
-pub const GROWN: &[Scenario] = &[
-    ("over few rows", &[OVER_FEW, BY_KEY]),
-    ("over many rows", &[OVER_MANY, BY_KEY]),
 ];
 
 const THE_BASE: &[Act] = &[
@@ -273,6 +267,17 @@ const ENTRIES: &[Act] = &[
     FirstTwo(From(2, 0), (Some(100), Some(101))),
     FirstTwo(Until(1, i64::MAX), (Some(102), Some(101))),
     FirstTwo(Until(1, 100), (Some(100), None)),
+    Page(From(1, 0), 2, &[100, 101]),
+    Page(From(1, 0), 3, &[100, 101, 102]),
+    Page(From(1, 0), 4, &[100, 101, 102]),
+    Page(From(2, 101), 1, &[101]),
+    Page(From(1, 0), 0, &[]),
+    Page(From(3, 0), 10, &[]),
+    Page(Until(2, i64::MAX), 2, &[102, 101]),
+    Page(Until(2, i64::MAX), 3, &[102, 101, 100]),
+    Page(Until(2, i64::MAX), u32::MAX, &[102, 101, 100]),
+    Page(Until(1, 101), 1, &[101]),
+    Page(Until(1, 99), 10, &[]),
 ];
 
 /// Of the failed ids 1 to 6, marks and undone transactions leave 1 and 4.
@@ -340,42 +345,6 @@ const BALANCE_SCHEMA: &[Act] = &[
         ("SELECT version FROM schema", 2),
         ("SELECT timestamp FROM history WHERE tenant = 1", 5),
     ]),
-];
-
-const OVER_FEW: &[Act] = &[Does(BASE), AddMany(100), Does(COMMIT)];
-
-const OVER_MANY: &[Act] = &[Does(BASE), AddMany(1000), Does(COMMIT)];
-
-/// Each text by a whole key takes few steps, and a scan is refused.
-const BY_KEY: &[Act] = &[
-    LimitSteps,
-    Fails("SELECT count(*) FROM account WHERE code = 10"),
-    Does(&[
-        Take(Begin),
-        Add(Tenant(2, "South", 2)),
-        Add(Clock(2, 4)),
-        Add(Account(1, 5, 5, 10)),
-        Add(Balance(1, 5, NONE)),
-        Add(Pending(100, 6)),
-        Add(Status(100, Open, 6)),
-        AddHistory(6, 1, 2, 100),
-        Add(Failed(1, 101)),
-        Set(NewBalance(1, [100, 0, 0, 0])),
-        Set(NewStatus(100, Voided, 6)),
-        Set(NewClock(1, 6)),
-        Take(Commit),
-    ]),
-    Finds(&[
-        Tenant(1, "North", 0x66),
-        Clock(1, 6),
-        Account(1, 5, 5, 10),
-        Balance(1, 1, [100, 0, 0, 0]),
-        Pending(100, 6),
-        Status(100, Voided, 6),
-        Failed(1, 101),
-    ]),
-    FirstTwo(From(1, 0), (Some(6), Some(1000))),
-    FirstTwo(Until(2, 1001), (Some(1001), Some(1000))),
 ];
 
 /// Rows of two tenants.

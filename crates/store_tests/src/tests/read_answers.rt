@@ -37,6 +37,15 @@ North transfers 100: 1>3 50; 101: 3>2 20; 102: 3>2 MAX flags=16 => clock 7: 0@5 
 North history 3 7 2 => clock 7: 102 101
 North history 3 7 1 => clock 7: 102
 North history 3 3 1 => clock 7: 100
+North history 3 3 3 => clock 7: 100 101 102
+North history 3 7 3 => clock 7: 102 101 100
+North history 3 3 4 => clock 7: 100 101 102
+North history 3 1 1 => clock 7: 101
+North history 3 1 2 => clock 7: 101 102
+North history 3 2 1 => clock 7: 100
+North history 3 5 1 => clock 7: 102
+North history 3 5 2 => clock 7: 102 101
+North history 3 6 1 => clock 7: 100
 North history 1 3 10 => clock 7: 100
 North history 3 1 10 => clock 7: 101 102
 North history 3 2 10 => clock 7: 100
@@ -78,6 +87,15 @@ North history 3 7 1 => clock 1005: 2000
 North balances 3 3 1 => clock 1005: (5, [0, 0, 0, 1])
 North balances 3 7 1 => clock 1005: (1005, [0, 0, 0, 1001])";
 
+/// Pages of one side, where a thousand entries of the other are passed over.
+const ONE_SIDE: &str = "\
+North history 3 1 1 => clock 1005:
+North history 3 5 1 => clock 1005:
+North transfers 3000: 3>1 1 => clock 1006: 0@1006
+North history 3 1 1 => clock 1006: 3000
+North history 3 5 1 => clock 1006: 3000
+North balances 3 6 1 => clock 1006: (1005, [0, 0, 0, 1001])";
+
 /// A page of a thousand ids: from the first one on, or the other way round.
 fn page(alloc: Global, first: u64, newest_first: bool) -> Text {
     let mut text = format!(in alloc; "clock 1005:")?;
@@ -88,12 +106,12 @@ fn page(alloc: Global, first: u64, newest_first: bool) -> Text {
     Ok(text)
 }
 
-/// The history, and then pages of a thousand entries from both ends.
+/// The history, pages of a thousand entries from both ends, and those of one side.
 fn paged(alloc: Global) -> Text {
     let oldest = page(alloc, 1000, false)?;
     let newest = page(alloc, 1001, true)?;
     format!(in alloc;
-        "{LONG}\nNorth history 3 3 1000 => {oldest}\nNorth history 3 7 1000 => {newest}"
+        "{LONG}\nNorth history 3 3 1000 => {oldest}\nNorth history 3 7 1000 => {newest}\n{ONE_SIDE}"
     )
 }
 
