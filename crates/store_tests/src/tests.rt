@@ -10,7 +10,7 @@ mod examples;
 mod faults;
 mod memory;
 mod on_files;
-mod openings;
+mod opened_files;
 mod playing;
 mod read_answers;
 mod reads;
