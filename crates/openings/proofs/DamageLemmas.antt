@@ -18,7 +18,6 @@ use Rattle.openings.specs.Faults.{damage_fault}
 use Rattle.openings.specs.Found.{IsOpenAt}
 use Rattle.openings.specs.Whole.{AreAllRows}
 use Rattle.openings.specs.declared.opening.OpenFault.{OpenFault}
-use Rattle.openings.specs.declared.opening.OpenFault.TheVariants as fault
 
 -- damage is told as it was found
 told_damage : (cause : AuditFault) (P : Damage → Type 0) → IfAuditDamaged cause P → IfDamaged (damage_fault cause) P

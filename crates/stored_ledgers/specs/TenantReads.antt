@@ -2,8 +2,6 @@
 use Rattle.std.specs.Prelude.{◌≢◌, Result, Ok, Err, IsTrue}
 use Rattle.records.specs.declared.unavailable.Unavailable.{Unavailable}
 use Rattle.records.specs.declared.unavailable.Unavailable.TheVariants.{Disk}
-use Rattle.chain.specs.declared.ledgers.BatchFault.{BatchFault}
-use Rattle.chain.specs.declared.ledgers.BatchFault.TheVariants as batch_fault
 use Rattle.chain.specs.declared.reads.ReadFault.{ReadFault}
 use Rattle.chain.specs.declared.reads.ReadFault.TheVariants as fault
 use Rattle.sqlite.specs.State.{State, HasCleanDisk}
