@@ -190,8 +190,8 @@ pub fn first_entries_from<S: Alter, K: EntrySink>(
     ))
 }
 
-/// Hands the entries of a tenant's account up to a time, in nanoseconds, newest first and so many at
-/// most, to a sink until it is full. After an `Err` it has taken the first of them.
+/// Hands the entries of a tenant's account up to a time, in nanoseconds, newest first and so many
+/// at most, to a sink until it is full. After an `Err` it has taken the first of them.
 pub fn first_entries_until<S: Alter, K: EntrySink>(
     conn: &mut Connection<S>,
     tenant: i64,
