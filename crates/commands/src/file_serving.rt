@@ -6,7 +6,7 @@ ghost use Rattle.commands.specs.Openings.{IsOpeningFault};
 
 use crate::SystemMoments;
 use crate::closed::Closed;
-use crate::opening::open_file;
+use crate::opening::open_served;
 use crate::serving::{listen, serve_connection};
 use command_texts::Fault;
 use records::Unavailable;
@@ -34,7 +34,7 @@ struct HostFile<'a> {
 
 impl Home<File> for HostFile<'_> {
     fn open_store(&self) -> Result<Store<File>, Fault> {
-        open_file(self.rt, self.path)
+        open_served(self.rt, self.path)
     }
 }
 

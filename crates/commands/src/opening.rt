@@ -15,6 +15,13 @@ use std::hash::{BuildHasher, RandomState};
 use std::io::ErrorKind;
 use store::{FullAudit, OpenFault, Store};
 
+/// How many pages of 4,096 bytes a command keeps in memory, of those that it read and of those that
+/// it wrote.
+const PAGES: usize = 2_000;
+
+/// The same of a ledger that is served: 80 megabytes.
+const SERVED_PAGES: usize = 20_000;
+
 /// What stands at a path, before anything is opened.
 #[derive(Clone, Copy, Debug, PartialEq, Eq)]
 enum Found {
@@ -28,7 +35,22 @@ pub(crate) fn open_file(rt: &HostRuntime, path: &str) -> Result<Store<File>, Fau
     ensures usable { IfOk result IsUsable }
     ensures fault { IfErr result IsOpeningFault }
 {
-    match open_at(rt, path) {
+    open_with(rt, path, PAGES)
+}
+
+/// The same, to be served.
+pub(crate) fn open_served(rt: &HostRuntime, path: &str) -> Result<Store<File>, Fault>
+    ensures usable { IfOk result IsUsable }
+    ensures fault { IfErr result IsOpeningFault }
+{
+    open_with(rt, path, SERVED_PAGES)
+}
+
+fn open_with(rt: &HostRuntime, path: &str, pages: usize) -> Result<Store<File>, Fault>
+    ensures usable { IfOk result IsUsable }
+    ensures fault { IfErr result IsOpeningFault }
+{
+    match open_at(rt, path, pages) {
         Ok(store) => Ok(store),
         Err(fault) => Err(open_fault(fault)),
     }
@@ -63,23 +85,23 @@ fn migratable_at(rt: &HostRuntime, path: &str) -> Result<Store<File>, OpenFault>
     ensures { IfOk result IsMigratable }
 {
     find(rt, path)?;
-    Store::open_for_migration_at(rt, path, Unknown, options(rt)?, &FullAudit)
+    Store::open_for_migration_at(rt, path, Unknown, options(rt, PAGES)?, &FullAudit)
 }
 
 /// Where the ledger in a file that is there is damaged.
 pub(crate) fn examine(rt: &HostRuntime, path: &str) -> Result<Option<Damage>, Fault> {
-    match open_at(rt, path) {
+    match open_at(rt, path, PAGES) {
         Ok(_store) => Ok(None),
         Err(OpenFault::Damaged(damage)) => Ok(Some(damage)),
         Err(fault) => Err(open_fault(fault)),
     }
 }
 
-fn open_at(rt: &HostRuntime, path: &str) -> Result<Store<File>, OpenFault>
+fn open_at(rt: &HostRuntime, path: &str, pages: usize) -> Result<Store<File>, OpenFault>
     ensures { IfOk result IsUsable }
 {
     find(rt, path)?;
-    Store::open_at(rt, path, Unknown, options(rt)?, &FullAudit)
+    Store::open_at(rt, path, Unknown, options(rt, pages)?, &FullAudit)
 }
 
 // Opening would make a database of a file that is absent or empty, so it is looked for first.
@@ -106,7 +128,7 @@ fn look(rt: &HostRuntime, path: &str) -> Result<Found, OpenFault> {
 fn make(rt: &HostRuntime, path: &str) -> Result<Store<File>, Fault>
     ensures { IfOk result IsUsable }
 {
-    let options = options(rt).map_err(open_fault)?;
+    let options = options(rt, PAGES).map_err(open_fault)?;
     match Store::create_at(rt, path, Unknown, options) {
         Ok(store) => Ok(store),
         Err(fault) => Err(open_fault(fault)),
@@ -124,9 +146,13 @@ fn make_over(rt: &HostRuntime, path: &str) -> Result<Store<File>, Fault>
 }
 
 // The salts of the log are drawn at random.
-fn options(rt: &HostRuntime) -> Result<Options, OpenFault> {
+fn options(rt: &HostRuntime, pages: usize) -> Result<Options, OpenFault> {
     match RandomState::new(rt) {
-        Ok(random) => Ok(Options::new(random.hash_one(&0u8))),
+        Ok(random) => Ok(Options {
+            cache_pages: pages,
+            spill_pages: pages,
+            ..Options::new(random.hash_one(&0u8))
+        }),
         Err(_) => Err(OpenFault::Unavailable(Unavailable::Disk)),
     }
 }
