@@ -307,7 +307,7 @@ static void open_file(const char *path) {
     run("PRAGMA journal_mode = WAL");
     run("PRAGMA synchronous = FULL");
     run("PRAGMA foreign_keys = ON");
-    run("PRAGMA cache_size = 2000");
+    run("PRAGMA cache_size = 20000");
     run("PRAGMA wal_autocheckpoint = 1000");
 }
 
@@ -368,7 +368,7 @@ static void tell(const char *what, uint64_t about, uint64_t stored, int size, do
 }
 
 static void send_sizes(const char *what, uint64_t accounts, uint64_t stored) {
-    static const struct { int count, size; } sizes[] = {{10000, 1000}, {5000, 100}, {300, 1}};
+    static const struct { int count, size; } sizes[] = {{10000, 1000}, {5000, 100}, {3000, 1}};
     for (int i = 0; i < 3; i++) {
         double total = send(accounts, sizes[i].count, sizes[i].size, 0);
         tell(what, accounts, stored, sizes[i].size, total, sizes[i].count);
