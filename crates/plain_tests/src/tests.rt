@@ -1,6 +1,8 @@
 //! Tables of one tenant, batches over a book, and the reads of the model's worked examples.
 
+mod asserting;
 mod batches;
-mod fixture;
+mod firms;
 mod reads;
+mod statements;
 mod tables;

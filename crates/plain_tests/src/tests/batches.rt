@@ -1,8 +1,14 @@
-use super::fixture::*;
-use chain::{BatchFault, BatchReply, Ledgers, ReadFault, Tables, Work};
-use records::{AccountFilter, FilterFlags, Order, TransferResult, Unavailable};
+use super::asserting::same;
+use super::firms::*;
+use chain::{BatchFault, BatchReply, ReadFault, Tables, Work};
+use records::{
+    AccountFilter, EventResult, FilterFlags, Order, TransferEvent, TransferResult, Unavailable,
+};
 use samples::transfer;
+use std::alloc::Global;
 use std::test::Fail;
+
+const UNKNOWN_KEY: Option<ReadFault> = Some(ReadFault::UnknownKey);
 
 // Runs a batch and wants memory at its end.
 #[derive(Drop)]
@@ -23,68 +29,77 @@ impl Work for Failing<'_> {
 
 #[test]
 fn knows_each_tenant_by_its_digest(rt: HostRuntime) -> Result<(), Fail> {
-    let mut book = base(rt.alloc())?;
-    assert_eq!(rt; book.knows(&FIRM), Ok(true));
-    assert_eq!(rt; book.knows(&OTHER), Ok(true));
-    assert_eq!(rt; book.knows(&NOBODY), Ok(false));
+    let mut firms = Firms::base(rt.alloc())?;
+    for (case, digest, want) in [
+        ("the first firm", FIRM, true),
+        ("the other firm", OTHER, true),
+        ("nobody", NOBODY, false),
+    ] {
+        same(&rt, case, firms.knows(&digest), Ok(want));
+    }
     Ok(())
+}
+
+// The clock and the results of a batch of the first firm.
+fn sent(
+    firms: &mut Firms,
+    sending: Sending<'_>,
+) -> Result<(u64, Vec<EventResult<TransferResult>>), Fail> {
+    match firms.run(&FIRM, sending)? {
+        BatchReply::Done { clock, results } => Ok((clock, results)),
+        BatchReply::ClockExhausted => Err("the clock is exhausted".into()),
+    }
 }
 
 #[test]
 fn a_batch_is_its_tenants_alone(rt: HostRuntime) -> Result<(), Fail> {
-    let mut book = base(rt.alloc())?;
-    let sending = Sending {
-        alloc: rt.alloc(),
-        transfers: &[transfer(100, (1, 2), 10)],
-        moment: 0,
-    };
-    let BatchReply::Done { clock, results } = book.in_batch(&FIRM, sending)? else {
-        return Err("the clock is exhausted".into());
-    };
-    assert_eq!(rt; clock, 5);
-    assert_eq!(rt; results.len(), 1);
-    assert_eq!(rt; results[0].result, TransferResult::Accepted);
-    assert_eq!(rt; results[0].timestamp, 5);
+    let mut firms = Firms::base(rt.alloc())?;
+    let transfers = [transfer(100, (1, 2), 10)];
+    let (clock, results) = sent(&mut firms, sending(rt.alloc(), &transfers, 0))?;
+    same(&rt, "the clock", clock, 5);
+    let accepted = [EventResult {
+        result: TransferResult::Accepted,
+        timestamp: 5,
+    }];
+    same(&rt, "results", results.as_slice(), accepted.as_slice());
 
-    let of_other = book.lookup_transfers(rt.alloc(), &OTHER, &[100])?;
-    assert_eq!(rt; of_other.clock, 0);
-    assert_eq!(rt; of_other.entries.len(), 0);
+    let of_other = firms.transfers(&OTHER, &[100])?;
+    same(&rt, "the other firm's clock", of_other.clock, 0);
+    same(&rt, "the other firm", of_other.entries.len(), 0);
     Ok(())
 }
 
 #[test]
 fn a_batch_that_fails_keeps_nothing(rt: HostRuntime) -> Result<(), Fail> {
-    let mut book = base(rt.alloc())?;
+    let mut firms = Firms::base(rt.alloc())?;
+    let transfers = [transfer(100, (1, 2), 10), transfer(101, (9, 2), 1)];
     let failing = Failing {
-        sending: Sending {
-            alloc: rt.alloc(),
-            transfers: &[transfer(100, (1, 2), 10), transfer(101, (9, 2), 1)],
-            moment: 50,
-        },
+        sending: sending(rt.alloc(), &transfers, 50),
     };
-    let told = book.in_batch(&FIRM, failing);
-    assert_eq!(rt; told, Err(BatchFault::Unavailable(Unavailable::Memory)));
-    let found = book.lookup_transfers(rt.alloc(), &FIRM, &[100])?;
-    assert_eq!(rt; found.clock, 4);
-    assert_eq!(rt; found.entries.len(), 0);
+    let told = firms.run(&FIRM, failing);
+    let memory = BatchFault::Unavailable(Unavailable::Memory);
+    same(&rt, "the batch", told, Err(memory));
+    let found = firms.transfers(&FIRM, &[100])?;
+    same(&rt, "the clock", found.clock, 4);
+    same(&rt, "what is kept", found.entries.len(), 0);
     Ok(())
 }
 
 #[test]
-fn nobody_is_told_anything(rt: HostRuntime) -> Result<(), Fail> {
-    let mut book = base(rt.alloc())?;
-    let alloc = rt.alloc();
-    let sending = Sending {
-        alloc,
-        transfers: &[],
-        moment: 0,
-    };
-    let told = book.in_batch(&NOBODY, sending);
-    assert!(rt; matches!(told, Err(BatchFault::UnknownKey)));
-    let told = book.lookup_accounts(alloc, &NOBODY, &[1]);
-    assert!(rt; matches!(told, Err(ReadFault::UnknownKey)));
-    let told = book.lookup_transfers(alloc, &NOBODY, &[100]);
-    assert!(rt; matches!(told, Err(ReadFault::UnknownKey)));
+fn nobody_sends_or_looks_up(rt: HostRuntime) -> Result<(), Fail> {
+    let mut firms = Firms::base(rt.alloc())?;
+    let told = firms.run(&NOBODY, sending(rt.alloc(), &[], 0));
+    same(&rt, "a batch", told.err(), Some(BatchFault::UnknownKey));
+    let accounts = firms.accounts(&NOBODY, &[1]).err();
+    same(&rt, "accounts", accounts, UNKNOWN_KEY);
+    let transfers = firms.transfers(&NOBODY, &[100]).err();
+    same(&rt, "transfers", transfers, UNKNOWN_KEY);
+    Ok(())
+}
+
+#[test]
+fn nobody_is_told_of_an_account(rt: HostRuntime) -> Result<(), Fail> {
+    let mut firms = Firms::base(rt.alloc())?;
     let asked = AccountFilter {
         account_id: 1,
         timestamp_min: 0,
@@ -92,13 +107,20 @@ fn nobody_is_told_anything(rt: HostRuntime) -> Result<(), Fail> {
         limit: 10,
         flags: FilterFlags(3),
     };
-    let told = book.history_transfers(alloc, &NOBODY, &asked);
-    assert!(rt; matches!(told, Err(ReadFault::UnknownKey)));
-    let told = book.history_balances(alloc, &NOBODY, &asked);
-    assert!(rt; matches!(told, Err(ReadFault::UnknownKey)));
-    let mut rows = Rows::new(alloc, 10);
-    let told = book.each_statement_row(alloc, &NOBODY, 1, Order::Oldest, &mut rows);
-    assert_eq!(rt; told, Err(ReadFault::UnknownKey));
-    assert_eq!(rt; rows.taken.len(), 0);
+    let history = firms.history(&NOBODY, &asked).err();
+    same(&rt, "a history", history, UNKNOWN_KEY);
+    let balances = firms.balances(&NOBODY, &asked).err();
+    same(&rt, "balances", balances, UNKNOWN_KEY);
+    let (told, rows) = firms.statement(&NOBODY, 1, Order::Oldest, 10);
+    same(&rt, "a statement", told.err(), UNKNOWN_KEY);
+    same(&rt, "its rows", rows.len(), 0);
     Ok(())
+}
+
+fn sending(alloc: Global, transfers: &[TransferEvent], moment: u64) -> Sending<'_> {
+    Sending {
+        alloc,
+        transfers,
+        moment,
+    }
 }

@@ -1,17 +1,14 @@
-ghost use Rattle.std.specs.Prelude.{IfOk};
-ghost use Rattle.chain.specs.Ledgers.{AreValid};
-ghost use Rattle.plain.specs.BookLedgers.{machines_in};
-
-use super::fixture::*;
+use super::asserting::same;
+use super::firms::{FIRM, Firms};
 use amount::Amount;
-use chain::{Ledgers, ReadFault};
-use plain::Book;
+use chain::ReadFault;
 use records::{
-    Account, AccountFilter, AccountWithBalances, BalanceAt, FilterFlags, Kind, Order, Side,
-    SinkFault, StatementRow, Transfer, TransferEvent, TransferFlags,
+    Account, AccountFilter, AccountWithBalances, BalanceAt, FilterFlags, Order, Transfer,
+    TransferFlags,
 };
 use samples::{BALANCING_DEBIT, PENDING, POST, balances, post, transfer, with};
 use std::alloc::Global;
+use std::process::Abort;
 use std::test::Fail;
 
 // The flags of a filter.
@@ -22,6 +19,8 @@ const CREDITS: u16 = 2;
 const BOTH_SIDES: u16 = 3;
 
 const NEWEST_OF_BOTH_SIDES: u16 = 7;
+
+const NO_ACCOUNT: Option<ReadFault> = Some(ReadFault::NoAccount);
 
 // All that a filter of an account can ask for.
 fn filter(account_id: u128, flags: u16, limit: u32) -> AccountFilter {
@@ -35,26 +34,22 @@ fn filter(account_id: u128, flags: u16, limit: u32) -> AccountFilter {
 }
 
 // `100: 1>2 100` pending, posted in part by 101.
-fn posted_in_part(alloc: Global) -> Result<Book, Fail>
-    ensures { IfOk result (λ book. AreValid (machines_in book)) }
-{
+pub(super) fn posted_in_part(alloc: Global) -> Result<Firms, Fail> {
     let transfers = [
         with(PENDING, transfer(100, (1, 2), 100)),
         post(101, 100, 40),
         post(102, 100, 60),
     ];
-    after(alloc, &transfers)
+    Firms::after(alloc, &transfers)
 }
 
 // `100: 1>3 50`, `101: 3>2 20` and a balancing `102: 3>2`, each in a batch of its own.
-fn balancing(alloc: Global) -> Result<Book, Fail>
-    ensures { IfOk result (λ book. AreValid (machines_in book)) }
-{
-    let mut book = after(alloc, &[transfer(100, (1, 3), 50)])?;
-    send(&mut book, alloc, 0, &[transfer(101, (3, 2), 20)])?;
+fn balancing(alloc: Global) -> Result<Firms, Fail> {
+    let mut firms = Firms::after(alloc, &[transfer(100, (1, 3), 50)])?;
+    firms.send(0, &[transfer(101, (3, 2), 20)])?;
     let balancing = with(BALANCING_DEBIT, transfer(102, (3, 2), u128::MAX));
-    send(&mut book, alloc, 0, &[balancing])?;
-    Ok(book)
+    firms.send(0, &[balancing])?;
+    Ok(firms)
 }
 
 // The account with this id, opened at the timestamp of the same number.
@@ -80,15 +75,16 @@ fn credited() -> AccountWithBalances {
 }
 
 #[test]
-fn looks_up_in_the_order_asked(rt: HostRuntime) -> Result<(), Fail> {
-    let mut book = posted_in_part(rt.alloc())?;
-    let found = book.lookup_accounts(rt.alloc(), &FIRM, &[2, 9, 1, 2])?;
-    assert_eq!(rt; found.clock, 7);
+fn looks_up_accounts_in_the_order_asked(rt: HostRuntime) -> Result<(), Fail> {
+    let found = posted_in_part(rt.alloc())?.accounts(&FIRM, &[2, 9, 1, 2])?;
+    same(&rt, "the clock", found.clock, 7);
     let want = [credited(), debited(), credited()];
-    assert_eq!(rt; found.entries.as_slice(), want.as_slice());
+    same(&rt, "accounts", found.entries.as_slice(), want.as_slice());
+    Ok(())
+}
 
-    let found = book.lookup_transfers(rt.alloc(), &FIRM, &[101, 9, 100])?;
-    assert_eq!(rt; found.clock, 7);
+// The transfers 100 and 101 as they are kept.
+fn pending_and_post() -> (Transfer, Transfer) {
     let pending = Transfer {
         id: 100,
         debit_account_id: 1,
@@ -109,36 +105,45 @@ fn looks_up_in_the_order_asked(rt: HostRuntime) -> Result<(), Fail> {
         timestamp: 6,
         ..pending
     };
-    assert_eq!(rt; found.entries.as_slice(), [posted, pending].as_slice());
+    (pending, posted)
+}
+
+#[test]
+fn looks_up_transfers_in_the_order_asked(rt: HostRuntime) -> Result<(), Fail> {
+    let found = posted_in_part(rt.alloc())?.transfers(&FIRM, &[101, 9, 100])?;
+    same(&rt, "the clock", found.clock, 7);
+    let (pending, posted) = pending_and_post();
+    let want = [posted, pending];
+    same(&rt, "transfers", found.entries.as_slice(), want.as_slice());
     Ok(())
 }
 
-// Whether the transfers that a filter asks for have these ids.
-fn shows(book: &mut Book, alloc: Global, asked: AccountFilter, want: &[u128]) -> Result<bool, Fail>
-    requires { AreValid (machines_in book.old) }
-    ensures { AreValid (machines_in book.new) }
-{
-    let found = book.history_transfers(alloc, &FIRM, &asked)?;
-    let same = found
-        .entries
-        .iter()
-        .zip(want)
-        .all(|(entry, id)| entry.id == *id);
-    Ok(same && found.entries.len() == want.len())
+// Looks whether the transfers that filters ask for have these ids.
+fn are_shown(
+    rt: &impl Abort,
+    alloc: Global,
+    cases: &[(AccountFilter, &[u128])],
+) -> Result<(), Fail> {
+    let mut firms = balancing(alloc)?;
+    for (asked, want) in cases {
+        let found = firms.history(&FIRM, asked)?;
+        let ids: Vec<u128> = found.entries.iter().map(|entry| entry.id).collect(alloc)?;
+        same(rt, "the ids", ids.as_slice(), *want);
+    }
+    Ok(())
 }
 
 #[test]
 fn history_of_an_account(rt: HostRuntime) -> Result<(), Fail> {
-    let alloc = rt.alloc();
-    let mut book = balancing(alloc)?;
-    let newest = filter(3, NEWEST_OF_BOTH_SIDES, 2);
-    assert!(rt; shows(&mut book, alloc, newest, &[102, 101])?);
-    let without_history = filter(1, BOTH_SIDES, 10);
-    assert!(rt; shows(&mut book, alloc, without_history, &[100])?);
-    assert!(rt; shows(&mut book, alloc, filter(3, DEBITS, 10), &[101, 102])?);
-    assert!(rt; shows(&mut book, alloc, filter(3, CREDITS, 10), &[100])?);
-    assert!(rt; shows(&mut book, alloc, filter(3, 0, 10), &[])?);
-    Ok(())
+    let cases: [(AccountFilter, &[u128]); 5] = [
+        (filter(3, NEWEST_OF_BOTH_SIDES, 2), &[102, 101]),
+        // Of this account no history is kept.
+        (filter(1, BOTH_SIDES, 10), &[100]),
+        (filter(3, DEBITS, 10), &[101, 102]),
+        (filter(3, CREDITS, 10), &[100]),
+        (filter(3, 0, 10), &[]),
+    ];
+    are_shown(&rt, rt.alloc(), &cases)
 }
 
 // All entries of account 3 between two timestamps, themselves included.
@@ -152,133 +157,49 @@ fn between(timestamp_min: u64, timestamp_max: u64) -> AccountFilter {
 
 #[test]
 fn history_between_two_timestamps(rt: HostRuntime) -> Result<(), Fail> {
-    let alloc = rt.alloc();
-    let mut book = balancing(alloc)?;
-    assert!(rt; shows(&mut book, alloc, between(6, 6), &[101])?);
-    assert!(rt; shows(&mut book, alloc, between(6, 0), &[101, 102])?);
-    assert!(rt; shows(&mut book, alloc, between(0, 6), &[100, 101])?);
-    assert!(rt; shows(&mut book, alloc, between(7, 6), &[])?);
-    Ok(())
+    let cases: [(AccountFilter, &[u128]); 4] = [
+        (between(6, 6), &[101]),
+        (between(6, 0), &[101, 102]),
+        (between(0, 6), &[100, 101]),
+        (between(7, 6), &[]),
+    ];
+    are_shown(&rt, rt.alloc(), &cases)
+}
+
+fn balance_at(timestamp: u64, debits_posted: u128) -> BalanceAt {
+    BalanceAt {
+        timestamp,
+        balances: balances((0, debits_posted), (0, 50)),
+    }
 }
 
 #[test]
 fn balances_after_each_entry(rt: HostRuntime) -> Result<(), Fail> {
-    let mut book = balancing(rt.alloc())?;
     let asked = filter(3, BOTH_SIDES, 10);
-    let found = book.history_balances(rt.alloc(), &FIRM, &asked)?;
-    assert_eq!(rt; found.clock, 7);
-    let want = [
-        BalanceAt {
-            timestamp: 5,
-            balances: balances((0, 0), (0, 50)),
-        },
-        BalanceAt {
-            timestamp: 6,
-            balances: balances((0, 20), (0, 50)),
-        },
-        BalanceAt {
-            timestamp: 7,
-            balances: balances((0, 50), (0, 50)),
-        },
-    ];
-    assert_eq!(rt; found.entries.as_slice(), want.as_slice());
+    let found = balancing(rt.alloc())?.balances(&FIRM, &asked)?;
+    same(&rt, "the clock", found.clock, 7);
+    let want = [balance_at(5, 0), balance_at(6, 20), balance_at(7, 50)];
+    same(&rt, "balances", found.entries.as_slice(), want.as_slice());
     Ok(())
 }
 
 #[test]
 fn no_account_and_no_history(rt: HostRuntime) -> Result<(), Fail> {
-    let mut book = balancing(rt.alloc())?;
-    let alloc = rt.alloc();
-    let asked = filter(1, BOTH_SIDES, 10);
-    let told = book.history_balances(alloc, &FIRM, &asked);
-    assert!(rt; matches!(told, Err(ReadFault::NoHistory)));
+    let mut firms = balancing(rt.alloc())?;
+    let of_first = firms.balances(&FIRM, &filter(1, BOTH_SIDES, 10));
+    same(
+        &rt,
+        "balances of 1",
+        of_first.err(),
+        Some(ReadFault::NoHistory),
+    );
     let asked = filter(9, BOTH_SIDES, 10);
-    let told = book.history_transfers(alloc, &FIRM, &asked);
-    assert!(rt; matches!(told, Err(ReadFault::NoAccount)));
-    let told = book.history_balances(alloc, &FIRM, &asked);
-    assert!(rt; matches!(told, Err(ReadFault::NoAccount)));
-    let mut rows = Rows::new(alloc, 10);
-    let told = book.each_statement_row(alloc, &FIRM, 9, Order::Oldest, &mut rows);
-    assert_eq!(rt; told, Err(ReadFault::NoAccount));
-    assert_eq!(rt; rows.taken.len(), 0);
-    Ok(())
-}
-
-// A row of account 1, which every transfer debits.
-fn debit(
-    timestamp: u64,
-    transfer_id: u128,
-    kind: Kind,
-    amount: u128,
-    debits: (u128, u128),
-) -> StatementRow {
-    StatementRow {
-        timestamp,
-        transfer_id,
-        side: Side::Debit,
-        kind,
-        amount: Amount::new(amount),
-        balances: balances(debits, (0, 0)),
-    }
-}
-
-// The rows of account 1 after a part is posted.
-fn pending_row() -> StatementRow {
-    debit(5, 100, Kind::Pending, 100, (100, 0))
-}
-
-fn post_row() -> StatementRow {
-    debit(6, 101, Kind::Post, 40, (0, 40))
-}
-
-#[test]
-fn statement_of_an_account(rt: HostRuntime) -> Result<(), Fail> {
-    let mut book = posted_in_part(rt.alloc())?;
-    let mut rows = Rows::new(rt.alloc(), 10);
-    book.each_statement_row(rt.alloc(), &FIRM, 1, Order::Oldest, &mut rows)?;
-    assert_eq!(rt;
-        rows.taken.as_slice(),
-        [pending_row(), post_row()].as_slice()
-    );
-    let mut rows = Rows::new(rt.alloc(), 10);
-    book.each_statement_row(rt.alloc(), &FIRM, 1, Order::Newest, &mut rows)?;
-    assert_eq!(rt;
-        rows.taken.as_slice(),
-        [post_row(), pending_row()].as_slice()
-    );
-    Ok(())
-}
-
-#[test]
-fn statement_after_an_expiry(rt: HostRuntime) -> Result<(), Fail> {
-    let pending = TransferEvent {
-        timeout: 1,
-        ..with(PENDING, transfer(100, (1, 2), 100))
-    };
-    let mut book = after(rt.alloc(), &[pending])?;
-    send(
-        &mut book,
-        rt.alloc(),
-        1_000_000_004,
-        &[post(101, 100, u128::MAX)],
-    )?;
-    send(&mut book, rt.alloc(), 0, &[transfer(102, (1, 2), 10)])?;
-    let mut rows = Rows::new(rt.alloc(), 10);
-    book.each_statement_row(rt.alloc(), &FIRM, 1, Order::Oldest, &mut rows)?;
-    let want = [
-        pending_row(),
-        debit(1_000_000_006, 102, Kind::Single, 10, (0, 10)),
-    ];
-    assert_eq!(rt; rows.taken.as_slice(), want.as_slice());
-    Ok(())
-}
-
-#[test]
-fn a_refused_row_ends_the_statement(rt: HostRuntime) -> Result<(), Fail> {
-    let mut book = posted_in_part(rt.alloc())?;
-    let mut rows = Rows::new(rt.alloc(), 1);
-    let told = book.each_statement_row(rt.alloc(), &FIRM, 1, Order::Newest, &mut rows);
-    assert_eq!(rt; told, Err(ReadFault::Sink(SinkFault::Write)));
-    assert_eq!(rt; rows.taken.as_slice(), [post_row()].as_slice());
+    let history = firms.history(&FIRM, &asked).err();
+    same(&rt, "a history of 9", history, NO_ACCOUNT);
+    let balances = firms.balances(&FIRM, &asked).err();
+    same(&rt, "balances of 9", balances, NO_ACCOUNT);
+    let (told, rows) = firms.statement(&FIRM, 9, Order::Oldest, 10);
+    same(&rt, "a statement of 9", told.err(), NO_ACCOUNT);
+    same(&rt, "its rows", rows.len(), 0);
     Ok(())
 }
