@@ -2,6 +2,7 @@
 //! expected is of `docs/MODEL.md` and of the standards that a test names.
 
 mod amounts;
+mod asserting;
 mod decisions;
 mod ledger_records;
 mod replays;

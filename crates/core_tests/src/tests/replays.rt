@@ -1,11 +1,15 @@
 //! A tenant in ordered maps, out of its entries.
 
+use crate::tests::asserting::{displays, same};
 use amount::Amount;
 use records::{Account, AccountFlags, Balances, PendingState, Side, Sums, Transfer, TransferFlags};
 use rows::{BalanceRow, HistoryRow, StatusRow};
-use running::{Entry, ReplayFault, replay};
-use std::alloc::Global;
-use std::test::Fail;
+use running::{Entry, ReplayFault, Running, replay};
+use std::alloc::{AllocError, Global};
+use std::process::Abort;
+
+// When a timeout of a second ends that began at 5.
+const A_SECOND_LATER: u64 = 1_000_000_005;
 
 // An account of ledger 7 and code 10.
 fn account(id: u128, timestamp: u64) -> Account {
@@ -72,97 +76,133 @@ fn posted_in_part(amount: u128) -> [Entry; 4] {
     ]
 }
 
+// The rows that are derived from entries.
+#[derive(Drop)]
+struct Rows {
+    balances: Vec<BalanceRow>,
+    statuses: Vec<StatusRow>,
+    history: Vec<HistoryRow>,
+}
+
+fn rows_of(alloc: Global, running: &Running) -> Result<Rows, AllocError> {
+    Ok(Rows {
+        balances: running.balance_rows(alloc)?,
+        statuses: running.status_rows(alloc)?,
+        history: running.history_rows().to_vec(alloc)?,
+    })
+}
+
+// The rows right after the last entry.
+fn replayed(alloc: Global, entries: &[Entry]) -> Result<Rows, ReplayFault> {
+    let running = replay(alloc, entries)?;
+    Ok(rows_of(alloc, &running)?)
+}
+
+// The rows once a second is over.
+fn settled(rt: &impl Abort, alloc: Global, entries: &[Entry]) -> Result<Rows, ReplayFault> {
+    let mut running = replay(alloc, entries)?;
+    assert!(rt; running.clock() <= A_SECOND_LATER);
+    running.settle_to(A_SECOND_LATER)?;
+    Ok(rows_of(alloc, &running)?)
+}
+
 // 40 of 100 are posted: nothing is pending any more, and the history has both entries twice.
 #[test]
-fn a_part_is_posted(rt: HostRuntime) -> Result<(), Fail> {
-    let replayed = replay(rt.alloc(), posted_in_part(40).as_slice())?;
-    assert_eq!(rt;
-        replayed.balance_rows(rt.alloc())?.as_slice(),
-        [
-            balance(1, on(Side::Debit, 0, 40)),
-            balance(2, on(Side::Credit, 0, 40))
-        ]
-        .as_slice()
+fn a_part_is_posted(rt: HostRuntime) -> Result<(), ReplayFault> {
+    let rows = replayed(rt.alloc(), posted_in_part(40).as_slice())?;
+    let balances = [
+        balance(1, on(Side::Debit, 0, 40)),
+        balance(2, on(Side::Credit, 0, 40)),
+    ];
+    same(
+        &rt,
+        "balances",
+        rows.balances.as_slice(),
+        balances.as_slice(),
     );
-    assert_eq!(rt;
-        replayed.status_rows(rt.alloc())?.as_slice(),
-        [StatusRow {
-            transfer: 100,
-            state: PendingState::Posted,
-            due: None
-        }]
-        .as_slice()
-    );
-    assert_eq!(rt;
-        replayed.history_rows(),
-        [
-            told(1, 5, on(Side::Debit, 100, 0)),
-            told(2, 5, on(Side::Credit, 100, 0)),
-            told(1, 6, on(Side::Debit, 0, 40)),
-            told(2, 6, on(Side::Credit, 0, 40)),
-        ]
-        .as_slice()
-    );
+    let posted = [status(PendingState::Posted, None)];
+    same(&rt, "statuses", rows.statuses.as_slice(), posted.as_slice());
+    let history = [
+        told(1, 5, on(Side::Debit, 100, 0)),
+        told(2, 5, on(Side::Credit, 100, 0)),
+        told(1, 6, on(Side::Debit, 0, 40)),
+        told(2, 6, on(Side::Credit, 0, 40)),
+    ];
+    same(&rt, "history", rows.history.as_slice(), history.as_slice());
     Ok(())
 }
 
-// More than is pending is not posted; nor does an entry come twice.
+// More than is pending is not posted.
 #[test]
 fn the_first_that_is_not_accepted(rt: HostRuntime) {
-    assert_eq!(rt;
-        refused_at(rt.alloc(), posted_in_part(101).as_slice()),
-        Some(3)
-    );
-    let twice = [Entry::Opened(account(1, 1)), Entry::Opened(account(1, 2))];
-    assert_eq!(rt; refused_at(rt.alloc(), twice.as_slice()), Some(1));
-    let shared = [Entry::Opened(account(1, 1)), Entry::Opened(account(2, 1))];
-    assert_eq!(rt; refused_at(rt.alloc(), shared.as_slice()), Some(1));
-    let at_zero = [Entry::Opened(account(1, 0))];
-    assert_eq!(rt; refused_at(rt.alloc(), at_zero.as_slice()), Some(0));
-    assert_eq!(rt; refused_at(rt.alloc(), posted_in_part(40).as_slice()), None);
+    for (amount, want) in [(101, Some(3)), (40, None)] {
+        let told = refused_at(rt.alloc(), posted_in_part(amount).as_slice());
+        same(&rt, "posted in part", told, want);
+    }
 }
 
-// A timeout of a second ends at 1,000,000,005.
+// Nor does an entry come twice, or one at no time.
 #[test]
-fn a_pending_transfer_expires(rt: HostRuntime) -> Result<(), Fail> {
+fn accounts_that_are_not_accepted(rt: HostRuntime) {
+    for (case, second, want) in [
+        ("an id twice", account(1, 2), 1),
+        ("a shared timestamp", account(2, 1), 1),
+    ] {
+        let entries = [Entry::Opened(account(1, 1)), Entry::Opened(second)];
+        same(&rt, case, refused_at(rt.alloc(), &entries), Some(want));
+    }
+    let at_zero = [Entry::Opened(account(1, 0))];
+    same(&rt, "at 0", refused_at(rt.alloc(), &at_zero), Some(0));
+}
+
+#[test]
+fn a_pending_transfer_expires(rt: HostRuntime) -> Result<(), ReplayFault> {
     let entries = [
         Entry::Opened(account(1, 1)),
         Entry::Opened(account(2, 2)),
         Entry::Moved(pending(1)),
     ];
-    let mut replayed = replay(rt.alloc(), entries.as_slice())?;
-    assert!(rt; replayed.clock() <= 1_000_000_005);
-    replayed.settle_to(1_000_000_005)?;
-    assert_eq!(rt;
-        replayed.balance_rows(rt.alloc())?.as_slice(),
-        [balance(1, Balances::ZERO), balance(2, Balances::ZERO)].as_slice()
+    let rows = settled(&rt, rt.alloc(), &entries)?;
+    let balances = [balance(1, Balances::ZERO), balance(2, Balances::ZERO)];
+    same(
+        &rt,
+        "balances",
+        rows.balances.as_slice(),
+        balances.as_slice(),
     );
-    let expired = StatusRow {
-        transfer: 100,
-        state: PendingState::Expired,
-        due: Some(1_000_000_005),
-    };
-    assert_eq!(rt;
-        replayed.status_rows(rt.alloc())?.as_slice(),
-        [expired].as_slice()
+    let expired = [status(PendingState::Expired, Some(1_000_000_005))];
+    same(
+        &rt,
+        "statuses",
+        rows.statuses.as_slice(),
+        expired.as_slice(),
     );
-    assert_eq!(rt; replayed.history_rows().len(), 2);
+    same(&rt, "history", rows.history.len(), 2);
     Ok(())
 }
 
 #[test]
-fn prints_why_entries_are_not_replayed(rt: HostRuntime) -> Result<(), Fail> {
+fn prints_why_entries_are_not_replayed(rt: HostRuntime) -> Result<(), AllocError> {
     for (fault, text) in [
         (ReplayFault::Refused(3), "entry 3 is not accepted"),
         (ReplayFault::Memory, "out of memory"),
     ] {
-        assert_eq!(rt; format!(in rt.alloc(); "{fault}")?.as_str(), text);
+        displays(&rt, rt.alloc(), &fault, text)?;
     }
     Ok(())
 }
 
 fn balance(account: u128, balances: Balances) -> BalanceRow {
     BalanceRow { account, balances }
+}
+
+// What transfer 100 has come to.
+fn status(state: PendingState, due: Option<u64>) -> StatusRow {
+    StatusRow {
+        transfer: 100,
+        state,
+        due,
+    }
 }
 
 fn told(account: u128, timestamp: u64, balances: Balances) -> HistoryRow {

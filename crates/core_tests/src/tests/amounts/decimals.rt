@@ -1,3 +1,4 @@
+use crate::tests::asserting::same;
 use amount::{Amount, MAX_DIGITS};
 
 const LARGEST: &str = "340282366920938463463374607431768211455";
@@ -9,7 +10,7 @@ fn reads_what_an_amount_is_written_as(rt: HostRuntime) {
         ("100", Amount::new(100)),
         (LARGEST, Amount::MAX),
     ] {
-        assert_eq!(rt; Amount::read_decimal(text), Some(amount), "{text}");
+        same(&rt, text, Amount::read_decimal(text), Some(amount));
     }
 }
 
@@ -27,7 +28,7 @@ fn reads_nothing_else(rt: HostRuntime) {
         "340282366920938463463374607431768211456",
         "1000000000000000000000000000000000000000",
     ] {
-        assert_eq!(rt; Amount::read_decimal(text), None, "{text}");
+        same(&rt, text, Amount::read_decimal(text), None);
     }
 }
 
@@ -35,12 +36,12 @@ fn reads_nothing_else(rt: HostRuntime) {
 #[test]
 fn writes_the_digits_in_front(rt: HostRuntime) {
     let mut digits = [0; MAX_DIGITS];
-    for (amount, text) in [
-        (Amount::MAX, LARGEST),
-        (Amount::new(907), "907"),
-        (Amount::ZERO, "0"),
+    for (text, amount) in [
+        (LARGEST, Amount::MAX),
+        ("907", Amount::new(907)),
+        ("0", Amount::ZERO),
     ] {
         let len = amount.write_decimal(&mut digits);
-        assert_eq!(rt; &digits[..len], text.as_bytes(), "{text}");
+        same(&rt, text, &digits[..len], text.as_bytes());
     }
 }

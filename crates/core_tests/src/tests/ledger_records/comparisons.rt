@@ -1,7 +1,8 @@
+use crate::tests::asserting::same;
 use amount::Amount;
 use records::{
-    Account, AccountResult, Transfer, TransferFlags, TransferResult, compare_account,
-    compare_transfer,
+    Account, AccountResult, Transfer, TransferEvent, TransferFlags, TransferResult,
+    compare_account, compare_transfer,
 };
 use samples::{BALANCING_DEBIT, POST, VOID, account, post, transfer, void, with};
 
@@ -36,37 +37,43 @@ fn stored(flags: u16, pending_id: u128, amount: u128) -> Transfer {
 #[test]
 fn compares_accounts(rt: HostRuntime) {
     let other_flags = compare_account(&opened(), &account(1, 6));
-    assert_eq!(rt; other_flags, Some(AccountResult::ExistsWithDifferentFlags));
+    let want = Some(AccountResult::ExistsWithDifferentFlags);
+    same(&rt, "other flags", other_flags, want);
     // The balances of an event are not compared.
     let mut again = account(1, 0);
     again.debits_posted = Amount::new(5);
-    assert_eq!(rt; compare_account(&opened(), &again), None);
+    let told = compare_account(&opened(), &again);
+    same(&rt, "a balance", told, None);
+}
+
+// What differs from the kept post or void of transfer 100, which was of 100.
+fn differing(flags: u16, amount: u128, again: &TransferEvent) -> Option<TransferResult> {
+    compare_transfer(&stored(flags, 100, amount), again, Amount::new(100))
 }
 
 // A retry may leave open what a post or void may leave open.
 #[test]
 fn compares_posts_and_voids(rt: HostRuntime) {
-    for (old, again, want) in [
-        (
-            stored(POST, 100, 40),
-            post(101, 100, u128::MAX),
-            DIFFERENT_AMOUNT,
-        ),
-        (stored(POST, 100, 100), post(101, 100, u128::MAX), None),
-        (stored(VOID, 100, 100), void(101, 100, 0), None),
-        (stored(VOID, 100, 100), void(101, 100, 99), DIFFERENT_AMOUNT),
-    ] {
-        let found = compare_transfer(&old, &again, Amount::new(100));
-        assert_eq!(rt; found, want);
-    }
+    let all = post(101, 100, u128::MAX);
+    let of_part = differing(POST, 40, &all);
+    same(&rt, "all of a part", of_part, DIFFERENT_AMOUNT);
+    same(&rt, "all of all", differing(POST, 100, &all), None);
+    let whole = differing(VOID, 100, &void(101, 100, 0));
+    same(&rt, "a void of all", whole, None);
+    let less = differing(VOID, 100, &void(101, 100, 99));
+    same(&rt, "a void of less", less, DIFFERENT_AMOUNT);
 }
 
 #[test]
 fn compares_balancing_transfers(rt: HostRuntime) {
     let old = stored(BALANCING_DEBIT, 0, 30);
-    for (amount, want) in [(29, DIFFERENT_AMOUNT), (30, None), (u128::MAX, None)] {
+    for (case, amount, want) in [
+        ("less", 29, DIFFERENT_AMOUNT),
+        ("as much", 30, None),
+        ("all", u128::MAX, None),
+    ] {
         let again = with(BALANCING_DEBIT, transfer(101, (1, 2), amount));
         let found = compare_transfer(&old, &again, old.amount);
-        assert_eq!(rt; found, want, "at {amount}");
+        same(&rt, case, found, want);
     }
 }

@@ -1,6 +1,7 @@
+use crate::tests::asserting::same;
 use records::{Drain, Failed, Source, Streamed, put_all};
+use std::alloc::Global;
 use std::io::{self, ErrorKind, Read, Write};
-use std::test::Fail;
 
 // Reads one byte a call, and fails once it has read them all.
 #[derive(Drop)]
@@ -46,41 +47,55 @@ impl Write for Narrow {
     }
 }
 
-#[test]
-fn reads_until_the_reader_fails(rt: HostRuntime) {
-    let mut piece = [0u8; 4];
+// What two calls read of three bytes, each with its piece, and how many a third.
+fn three_bytes() -> Result<([usize; 3], [[u8; 2]; 2]), Failed> {
+    let mut front = [0u8; 2];
+    let mut back = [0u8; 2];
     let mut bytes = Streamed::new([7u8, 8, 9].as_slice());
-    assert_eq!(rt; bytes.take(&mut piece[..2]), Ok(2));
-    assert_eq!(rt; bytes.take(&mut piece[2..]), Ok(1));
-    assert_eq!(rt; piece, [7, 8, 9, 0]);
-    assert_eq!(rt; bytes.take(&mut piece), Ok(0));
+    let first = bytes.take(&mut front)?;
+    let second = bytes.take(&mut back)?;
+    let end = bytes.take(&mut [0u8; 4])?;
+    Ok(([first, second, end], [front, back]))
+}
+
+// What two calls read of one byte that a failure follows.
+fn one_byte() -> Result<(usize, Result<usize, Failed>), Failed> {
+    let mut piece = [0u8; 4];
     let mut reader = Streamed::new(FailsAtEnd { left: 1 });
-    assert_eq!(rt; reader.take(&mut piece), Ok(1));
-    assert_eq!(rt; reader.take(&mut piece), Err(Failed));
+    let first = reader.take(&mut piece)?;
+    Ok((first, reader.take(&mut piece)))
 }
 
 #[test]
-fn writes_all_or_a_beginning(rt: HostRuntime) -> Result<(), Fail> {
+fn reads_until_the_reader_fails(rt: HostRuntime) {
+    let all = Ok(([2, 1, 0], [[7, 8], [9, 0]]));
+    same(&rt, "three bytes", three_bytes(), all);
+    let failing = Ok((1, Err(Failed)));
+    same(&rt, "a failing reader", one_byte(), failing);
+}
+
+// What becomes of five bytes, and what of them was taken.
+fn written(alloc: Global, room: usize, fails: bool) -> (Result<(), Failed>, Vec<u8>) {
+    let taken = Vec::new(alloc);
+    let mut writer = Streamed::new(Narrow { taken, room, fails });
+    let told = put_all(&mut writer, &[1, 2, 3, 4, 5]);
+    let Narrow { taken, .. } = writer.into_inner();
+    (told, taken)
+}
+
+#[test]
+fn writes_all_or_a_beginning(rt: HostRuntime) {
     let text = [1u8, 2, 3, 4, 5];
-    for (room, fails) in [
-        (9, false),
-        (5, true),
-        (4, true),
-        (3, false),
-        (0, true),
-        (0, false),
+    for (case, room, fails, want) in [
+        ("room", 9, false, Ok(())),
+        ("just room, then a failure", 5, true, Ok(())),
+        ("a failure behind two pieces", 4, true, Err(Failed)),
+        ("stuck in a piece", 3, false, Err(Failed)),
+        ("a failure at once", 0, true, Err(Failed)),
+        ("stuck at once", 0, false, Err(Failed)),
     ] {
-        let taken = Vec::new(rt.alloc());
-        let mut writer = Streamed::new(Narrow { taken, room, fails });
-        let written = put_all(&mut writer, &text);
-        let want = if room < 5 { Err(Failed) } else { Ok(()) };
-        assert_eq!(rt; written, want, "with room for {room}");
-        let Narrow { taken, .. } = writer.into_inner();
-        assert_eq!(rt;
-            taken.as_slice(),
-            &text[..room.min(5)],
-            "with room for {room}"
-        );
+        let (told, taken) = written(rt.alloc(), room, fails);
+        same(&rt, case, told, want);
+        same(&rt, case, taken.as_slice(), &text[..room.min(5)]);
     }
-    Ok(())
 }

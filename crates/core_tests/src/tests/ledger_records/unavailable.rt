@@ -1,14 +1,15 @@
+use crate::tests::asserting::displays;
 use records::Unavailable;
-use std::test::Fail;
+use std::alloc::AllocError;
 
 #[test]
-fn prints_why_a_ledger_is_unavailable(rt: HostRuntime) -> Result<(), Fail> {
+fn prints_why_a_ledger_is_unavailable(rt: HostRuntime) -> Result<(), AllocError> {
     for (why, text) in [
         (Unavailable::Memory, "out of memory"),
         (Unavailable::Size, "the store is full"),
         (Unavailable::Disk, "the disk failed"),
     ] {
-        assert_eq!(rt; format!(in rt.alloc(); "{why}")?.as_str(), text);
+        displays(&rt, rt.alloc(), &why, text)?;
     }
     Ok(())
 }

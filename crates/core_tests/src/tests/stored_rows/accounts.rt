@@ -1,6 +1,7 @@
 ghost use Rattle.std.specs.Prelude.{◌≡◌};
 
 use super::column;
+use crate::tests::asserting::same;
 use records::{Account, AccountFlags};
 use rows::AccountCells;
 
@@ -20,48 +21,42 @@ fn third_account() -> Account
     }
 }
 
-fn account_cells() -> AccountCells {
+// The cells of that account, but for these numbers: user_data_32, ledger, code, flags, timestamp.
+fn cells_with(numbers: [i64; 5]) -> AccountCells {
+    let [user_data_32, ledger, code, flags, timestamp] = numbers;
     AccountCells {
         id: column(3),
         user_data_128: [0xff; 16],
         user_data_64: [0, 0, 0, 0, 0, 0, 1, 2],
-        user_data_32: 4294967295,
-        ledger: 7,
-        code: 10,
-        flags: 10,
-        timestamp: 3,
+        user_data_32,
+        ledger,
+        code,
+        flags,
+        timestamp,
     }
 }
 
 #[test]
 fn one_account(rt: HostRuntime) {
-    let cells = AccountCells::from_account(&third_account());
-    assert_eq!(rt; cells, account_cells());
-    assert_eq!(rt; account_cells().to_account(), Some(third_account()));
+    let cells = cells_with([4294967295, 7, 10, 10, 3]);
+    same(
+        &rt,
+        "to cells",
+        AccountCells::from_account(&third_account()),
+        cells,
+    );
+    same(&rt, "from cells", cells.to_account(), Some(third_account()));
 }
 
 #[test]
 fn no_account_outside_its_widths(rt: HostRuntime) {
-    let good = account_cells();
-    for bad in [
-        AccountCells {
-            user_data_32: -1,
-            ..good
-        },
-        AccountCells {
-            ledger: 4294967296,
-            ..good
-        },
-        AccountCells {
-            code: 65536,
-            ..good
-        },
-        AccountCells { flags: -10, ..good },
-        AccountCells {
-            timestamp: i64::MIN,
-            ..good
-        },
+    for (case, numbers) in [
+        ("user_data_32", [-1, 7, 10, 10, 3]),
+        ("ledger", [4294967295, 4294967296, 10, 10, 3]),
+        ("code", [4294967295, 7, 65536, 10, 3]),
+        ("flags", [4294967295, 7, 10, -10, 3]),
+        ("timestamp", [4294967295, 7, 10, 10, i64::MIN]),
     ] {
-        assert_eq!(rt; bad.to_account(), None);
+        same(&rt, case, cells_with(numbers).to_account(), None);
     }
 }

@@ -1,4 +1,5 @@
 use super::column;
+use crate::tests::asserting::same;
 use records::Balances;
 use rows::{BalanceCells, BalanceRow, HistoryCells, HistoryRow};
 
@@ -20,8 +21,8 @@ fn one_balance(rt: HostRuntime) {
         cp: [0xff; 16],
         cc: [0; 16],
     };
-    assert_eq!(rt; BalanceCells::from_row(&row), cells);
-    assert_eq!(rt; cells.to_row(), row);
+    same(&rt, "to cells", BalanceCells::from_row(&row), cells);
+    same(&rt, "from cells", cells.to_row(), row);
 }
 
 #[test]
@@ -39,11 +40,11 @@ fn one_history_row(rt: HostRuntime) {
         cp: [0xff; 16],
         cc: [0; 16],
     };
-    assert_eq!(rt; HistoryCells::from_row(&row), cells);
-    assert_eq!(rt; cells.to_row(), Some(row));
+    same(&rt, "to cells", HistoryCells::from_row(&row), cells);
+    same(&rt, "from cells", cells.to_row(), Some(row));
     let before_all = HistoryCells {
         timestamp: -5,
         ..cells
     };
-    assert_eq!(rt; before_all.to_row(), None);
+    same(&rt, "a negative timestamp", before_all.to_row(), None);
 }

@@ -1,4 +1,5 @@
 use super::column;
+use crate::tests::asserting::same;
 use records::PendingState;
 use rows::{StatusCells, StatusRow};
 
@@ -20,8 +21,8 @@ fn each_state(rt: HostRuntime) {
             state: number,
             due: 0,
         };
-        assert_eq!(rt; StatusCells::from_row(&row), cells);
-        assert_eq!(rt; cells.to_row(), Some(row));
+        same(&rt, "to cells", StatusCells::from_row(&row), cells);
+        same(&rt, "from cells", cells.to_row(), Some(row));
     }
 }
 
@@ -38,8 +39,8 @@ fn a_due_time(rt: HostRuntime) {
         state: 3,
         due: 1_000_000_005,
     };
-    assert_eq!(rt; StatusCells::from_row(&row), cells);
-    assert_eq!(rt; cells.to_row(), Some(row));
+    same(&rt, "to cells", StatusCells::from_row(&row), cells);
+    same(&rt, "from cells", cells.to_row(), Some(row));
 }
 
 #[test]
@@ -50,6 +51,6 @@ fn no_status_outside_its_widths(rt: HostRuntime) {
             state,
             due,
         };
-        assert_eq!(rt; cells.to_row(), None);
+        same(&rt, "no such status", cells.to_row(), None);
     }
 }

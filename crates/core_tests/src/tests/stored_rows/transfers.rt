@@ -1,6 +1,7 @@
 ghost use Rattle.std.specs.Prelude.{◌≡◌};
 
 use super::column;
+use crate::tests::asserting::same;
 use amount::Amount;
 use records::{Transfer, TransferFlags};
 use rows::TransferCells;
@@ -25,7 +26,18 @@ fn post() -> Transfer
     }
 }
 
-fn post_cells() -> TransferCells {
+// The cells of that transfer, but for these numbers: user_data_32, timeout, ledger, code, flags,
+// timestamp, at_clock.
+fn cells_with(numbers: [i64; 7]) -> TransferCells {
+    let [
+        user_data_32,
+        timeout,
+        ledger,
+        code,
+        flags,
+        timestamp,
+        at_clock,
+    ] = numbers;
     TransferCells {
         id: column(101),
         debit: column(1),
@@ -34,52 +46,39 @@ fn post_cells() -> TransferCells {
         pending_id: column(100),
         user_data_128: [0; 16],
         user_data_64: [0; 8],
-        user_data_32: 0,
-        timeout: 0,
-        ledger: 7,
-        code: 1,
-        flags: 4,
-        timestamp: 6,
-        at_clock: 7,
+        user_data_32,
+        timeout,
+        ledger,
+        code,
+        flags,
+        timestamp,
+        at_clock,
     }
 }
 
 #[test]
 fn one_transfer(rt: HostRuntime) {
-    assert_eq!(rt; TransferCells::from_transfer(&post()), post_cells());
-    assert_eq!(rt; post_cells().to_transfer(), Some(post()));
+    let cells = cells_with([0, 0, 7, 1, 4, 6, 7]);
+    same(
+        &rt,
+        "to cells",
+        TransferCells::from_transfer(&post()),
+        cells,
+    );
+    same(&rt, "from cells", cells.to_transfer(), Some(post()));
 }
 
 #[test]
 fn no_transfer_outside_its_widths(rt: HostRuntime) {
-    let good = post_cells();
-    for bad in [
-        TransferCells {
-            user_data_32: 4294967296,
-            ..good
-        },
-        TransferCells {
-            timeout: -1,
-            ..good
-        },
-        TransferCells { ledger: -7, ..good },
-        TransferCells {
-            code: 65536,
-            ..good
-        },
-        TransferCells {
-            flags: 65540,
-            ..good
-        },
-        TransferCells {
-            timestamp: -6,
-            ..good
-        },
-        TransferCells {
-            at_clock: -1,
-            ..good
-        },
+    for (case, numbers) in [
+        ("user_data_32", [4294967296, 0, 7, 1, 4, 6, 7]),
+        ("timeout", [0, -1, 7, 1, 4, 6, 7]),
+        ("ledger", [0, 0, -7, 1, 4, 6, 7]),
+        ("code", [0, 0, 7, 65536, 4, 6, 7]),
+        ("flags", [0, 0, 7, 1, 65540, 6, 7]),
+        ("timestamp", [0, 0, 7, 1, 4, -6, 7]),
+        ("at_clock", [0, 0, 7, 1, 4, 6, -1]),
     ] {
-        assert_eq!(rt; bad.to_transfer(), None);
+        same(&rt, case, cells_with(numbers).to_transfer(), None);
     }
 }

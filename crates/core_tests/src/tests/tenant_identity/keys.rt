@@ -1,6 +1,14 @@
+use crate::tests::asserting::{debugs, same};
 use sha2::{Digest, Sha256};
+use std::alloc::Global;
 use std::test::Fail;
 use tenants::{Key, digest};
+
+// The digest of a key, in hexadecimal digits.
+fn digits(alloc: Global, text: &str) -> Result<String, Fail> {
+    let key = Key::read(text.as_bytes()).ok_or("refused")?;
+    Ok(hex::encode(alloc, digest(&key).as_slice())?)
+}
 
 // The second is the message of 256 bits among NIST's short messages for SHA-256.
 #[test]
@@ -10,14 +18,17 @@ fn digests_keys(rt: HostRuntime) -> Result<(), Fail> {
     let short = "09fc1accc230a205e4a208e64a8f204291f581a12756392da4b8c0cf5ef02b95";
     let of_short = "4f44c1c7fbebb6f9601829f3897bfd650c56fa07844be76489076356ac1886a4";
     for (text, want) in [(zeros, of_zeros), (short, of_short)] {
-        let key = Key::read(text.as_bytes()).ok_or("refused")?;
-        let text = hex::encode(rt.alloc(), digest(&key).as_slice())?;
-        assert_eq!(rt; text.as_str(), want);
+        same(&rt, text, digits(rt.alloc(), text)?.as_str(), want);
     }
     Ok(())
 }
 
 // A key is known by the digest of its bytes.
+fn known(text: &str) -> Option<[u8; 32]> {
+    let key = Key::read(text.as_bytes())?;
+    Some(digest(&key))
+}
+
 #[test]
 fn reads_either_case(rt: HostRuntime) {
     let mut bytes = [0xab; 32];
@@ -31,9 +42,8 @@ fn reads_either_case(rt: HostRuntime) {
         "0FABABABABABABABABABABABABABABABABABABABABABABABABABABABABABABC9",
         "0FababABaBAbababababababababABABABababababababababababababababC9",
     ] {
-        let read = Key::read(text.as_bytes());
-        assert_eq!(rt; read, key, "at {text}");
-        assert_eq!(rt; read.map(|key| digest(&key)), want, "at {text}");
+        same(&rt, text, &Key::read(text.as_bytes()), &key);
+        same(&rt, text, &known(text), &want);
     }
 }
 
@@ -55,7 +65,7 @@ fn refuses_other_texts(rt: HostRuntime) {
         "0x00000000000000000000000000000000000000000000000000000000000000",
         "é00000000000000000000000000000000000000000000000000000000000000",
     ] {
-        assert_eq!(rt; Key::read(text.as_bytes()), None, "at {text}");
+        same(&rt, text, Key::read(text.as_bytes()), None);
     }
 }
 
@@ -63,6 +73,6 @@ fn refuses_other_texts(rt: HostRuntime) {
 fn does_not_show_a_key(rt: HostRuntime) -> Result<(), Fail> {
     let text = "abababababababababababababababababababababababababababababababab";
     let key = Key::read(text.as_bytes()).ok_or("refused")?;
-    assert_eq!(rt; format!(in rt.alloc(); "{key:?}")?.as_str(), "Key(..)");
+    debugs(&rt, rt.alloc(), &key, "Key(..)")?;
     Ok(())
 }

@@ -1,8 +1,16 @@
+use crate::tests::asserting::{debugs, same};
 use std::test::Fail;
 use tenants::TenantName;
 
+fn is_read_back(text: &str) -> bool {
+    match TenantName::read(text) {
+        Some(name) => name.as_str() == text,
+        None => false,
+    }
+}
+
 #[test]
-fn reads_names_back(rt: HostRuntime) -> Result<(), Fail> {
+fn reads_names_back(rt: HostRuntime) {
     for text in [
         "a",
         "Z",
@@ -11,10 +19,8 @@ fn reads_names_back(rt: HostRuntime) -> Result<(), Fail> {
         "North-2",
         "abcdefghijklmnopqrstuvwxyz-ABCDEFGHIJKLMNOPQRSTUVWXYZ-0123456789",
     ] {
-        let name = TenantName::read(text).ok_or("refused")?;
-        assert_eq!(rt; name.as_str(), text);
+        same(&rt, text, is_read_back(text), true);
     }
-    Ok(())
 }
 
 #[test]
@@ -29,7 +35,7 @@ fn refuses_other_texts(rt: HostRuntime) {
         "nörth",
         "北",
     ] {
-        assert_eq!(rt; TenantName::read(text), None, "at {text}");
+        same(&rt, text, TenantName::read(text), None);
     }
 }
 
@@ -37,11 +43,11 @@ fn refuses_other_texts(rt: HostRuntime) {
 fn tells_names_apart(rt: HostRuntime) -> Result<(), Fail> {
     let name = TenantName::read("north").ok_or("refused")?;
     let copy = name;
-    assert_eq!(rt; name, copy);
+    same(&rt, "a copy", copy, name);
     for other in ["North", "north0", "nort", "south"] {
-        assert_ne!(rt; TenantName::read(other), Some(name));
+        let is_same = TenantName::read(other) == Some(name);
+        same(&rt, other, is_same, false);
     }
-    let text = format!(in rt.alloc(); "{name:?}")?;
-    assert_eq!(rt; text.as_str(), "TenantName(\"north\")");
+    debugs(&rt, rt.alloc(), &name, "TenantName(\"north\")")?;
     Ok(())
 }
