@@ -1,8 +1,10 @@
 use audit::{AuditFault, Damage, DamageKind, check};
 use rows::TenantOfDigest;
-use std::alloc::Global;
+use std::alloc::{AllocError, Global};
+use std::process::Abort;
 use std::test::Fail;
 
+mod asserting;
 mod damaged;
 mod dice;
 mod generated;
@@ -12,6 +14,7 @@ mod plain_tables;
 mod random;
 mod samples;
 
+use asserting::same;
 use damaged::damaged_ledger;
 use samples::{Sample, column, expired, file, posted_in_part, tenant};
 
@@ -27,67 +30,90 @@ fn told(alloc: Global, version: u32, tenants: Vec<TenantOfDigest>) -> Option<(u8
     }
 }
 
-// The number of the kind and the place, of one tenant.
-fn found(alloc: Global, version: u32, sample: &Sample) -> Result<Option<(u8, usize)>, Fail> {
+// The same of one tenant alone.
+fn told_alone(
+    alloc: Global,
+    version: u32,
+    one: TenantOfDigest,
+) -> Result<Option<(u8, u8, usize)>, AllocError> {
     let mut tenants = Vec::new(alloc);
-    tenants.push(tenant(alloc, version, 1, sample)?)?;
-    Ok(told(alloc, version, tenants).map(|(kind, _, place)| (kind, place)))
+    tenants.push(one)?;
+    Ok(told(alloc, version, tenants))
+}
+
+// The number of the kind and the place, of one tenant.
+fn found(alloc: Global, version: u32, sample: &Sample) -> Result<Option<(u8, usize)>, AllocError> {
+    let one = tenant(alloc, version, 1, sample)?;
+    Ok(told_alone(alloc, version, one)?.map(|(kind, _, place)| (kind, place)))
+}
+
+// Looks at what is found in each version.
+fn is_found(
+    rt: &impl Abort,
+    alloc: Global,
+    case: &str,
+    sample: &Sample,
+    wrong: Option<(u8, usize)>,
+) -> Result<(), AllocError> {
+    for version in [1, 2, 3] {
+        same(rt, case, &found(alloc, version, sample)?, &wrong);
+    }
+    Ok(())
 }
 
 #[test]
-fn undamaged(rt: HostRuntime) -> Result<(), Fail> {
-    for version in [1, 2, 3] {
-        for sample in [posted_in_part(), expired()] {
-            assert_eq!(rt; found(rt.alloc(), version, &sample)?, None);
-        }
-    }
-    let no_tenants = told(rt.alloc(), 3, Vec::new(rt.alloc()));
-    assert_eq!(rt; no_tenants, None);
+fn undamaged(rt: HostRuntime) -> Result<(), AllocError> {
+    let alloc = rt.alloc();
+    is_found(&rt, alloc, "posted in part", &posted_in_part(), None)?;
+    is_found(&rt, alloc, "expired", &expired(), None)?;
+    let no_tenants = told(alloc, 3, Vec::new(alloc));
+    same(&rt, "no tenants", no_tenants, None);
     Ok(())
 }
 
 // A damage is told alike in each version that has its rows.
-#[test]
-fn each_damage(rt: HostRuntime) -> Result<(), Fail> {
-    for case in 0..21 {
-        let (sample, first, wrong) = damaged_ledger(case).ok_or("no such case")?;
-        for version in first..4 {
-            let answer = found(rt.alloc(), version, &sample)?;
-            assert_eq!(rt; answer, Some(wrong), "case {case} in version {version}");
-        }
+fn is_told(rt: &impl Abort, alloc: Global, case: u8) -> Result<(), Fail> {
+    let (sample, first, wrong) = damaged_ledger(case).ok_or("no such case")?;
+    for version in first..4 {
+        let answer = found(alloc, version, &sample)?;
+        assert_eq!(rt; answer, Some(wrong), "case {case} in version {version}");
     }
     Ok(())
 }
 
 #[test]
-fn a_row_too_many_or_too_few(rt: HostRuntime) -> Result<(), Fail> {
-    let mut one = tenant(rt.alloc(), 3, 1, &posted_in_part())?;
-    one.rows.balances.truncate(3);
-    let mut tenants = Vec::new(rt.alloc());
-    tenants.push(one)?;
-    assert_eq!(rt; told(rt.alloc(), 3, tenants), Some((4, 1, 3)));
-    let mut one = tenant(rt.alloc(), 3, 1, &posted_in_part())?;
-    one.rows.history.push(posted_in_part().history[0])?;
-    let mut tenants = Vec::new(rt.alloc());
-    tenants.push(one)?;
-    assert_eq!(rt; told(rt.alloc(), 3, tenants), Some((6, 1, 4)));
+fn each_damage(rt: HostRuntime) -> Result<(), Fail> {
+    for case in 0..21 {
+        is_told(&rt, rt.alloc(), case)?;
+    }
     Ok(())
 }
 
 #[test]
-fn clocks(rt: HostRuntime) -> Result<(), Fail> {
+fn a_row_too_many_or_too_few(rt: HostRuntime) -> Result<(), AllocError> {
+    let mut few = tenant(rt.alloc(), 3, 1, &posted_in_part())?;
+    few.rows.balances.truncate(3);
+    let found = told_alone(rt.alloc(), 3, few)?;
+    same(&rt, "a balance less", found, Some((4, 1, 3)));
+    let mut many = tenant(rt.alloc(), 3, 1, &posted_in_part())?;
+    many.rows.history.push(posted_in_part().history[0])?;
+    let found = told_alone(rt.alloc(), 3, many)?;
+    same(&rt, "an entry more", found, Some((6, 1, 4)));
+    Ok(())
+}
+
+#[test]
+fn clocks(rt: HostRuntime) -> Result<(), AllocError> {
     let mut sample = posted_in_part();
-    for (clock, wrong) in [
-        (3, Some((7, 0))),
-        (6, Some((7, 0))),
-        (8, None),
-        (1 << 62, None),
-        ((1 << 62) + 1, Some((7, 0))),
+    for (case, clock, wrong) in [
+        ("behind the accounts", 3, Some((7, 0))),
+        ("behind the batch", 6, Some((7, 0))),
+        ("later", 8, None),
+        ("the latest", 1 << 62, None),
+        ("too late", (1 << 62) + 1, Some((7, 0))),
     ] {
         sample.clock = Some(clock);
-        for version in [1, 2, 3] {
-            assert_eq!(rt; found(rt.alloc(), version, &sample)?, wrong);
-        }
+        is_found(&rt, rt.alloc(), case, &sample, wrong)?;
     }
     Ok(())
 }
@@ -99,7 +125,12 @@ fn a_clock_behind_the_entries(rt: HostRuntime) -> Result<(), Fail> {
     sample.clock = Some(4);
     for (state, wrong) in [(3, (7, 0)), (0, (5, 0))] {
         sample.statuses[0].state = state;
-        assert_eq!(rt; found(rt.alloc(), 3, &sample)?, Some(wrong));
+        same(
+            &rt,
+            "the clock 4",
+            found(rt.alloc(), 3, &sample)?,
+            Some(wrong),
+        );
     }
     Ok(())
 }
@@ -116,27 +147,33 @@ fn failed_ids(rt: HostRuntime) -> Result<(), Fail> {
     ] {
         let mut sample = posted_in_part();
         sample.failed = failed;
-        assert_eq!(rt; found(rt.alloc(), 3, &sample)?, wrong);
+        same(&rt, "failed ids", found(rt.alloc(), 3, &sample)?, wrong);
     }
     Ok(())
 }
 
+fn with_wrong_balance() -> Sample {
+    let mut sample = posted_in_part();
+    sample.balances[1].dd = column(41);
+    sample
+}
+
+fn with_wrong_history() -> Sample {
+    let mut sample = posted_in_part();
+    sample.history[0].dp = column(1);
+    sample
+}
+
 #[test]
-fn the_first_of_all_tenants(rt: HostRuntime) -> Result<(), Fail> {
-    let mut balances = posted_in_part();
-    balances.balances[1].dd = column(41);
-    let mut history = posted_in_part();
-    history.history[0].dp = column(1);
-    let mut tenants = Vec::new(rt.alloc());
-    for (digest, sample) in [
-        (5, posted_in_part()),
-        (3, history),
-        (9, balances),
-        (7, balances),
-    ] {
-        tenants.push(tenant(rt.alloc(), 3, digest, &sample)?)?;
-    }
-    assert_eq!(rt; told(rt.alloc(), 3, tenants), Some((4, 7, 1)));
+fn the_first_of_all_tenants(rt: HostRuntime) -> Result<(), AllocError> {
+    let alloc = rt.alloc();
+    let mut tenants = Vec::new(alloc);
+    tenants.push(tenant(alloc, 3, 5, &posted_in_part())?)?;
+    tenants.push(tenant(alloc, 3, 3, &with_wrong_history())?)?;
+    tenants.push(tenant(alloc, 3, 9, &with_wrong_balance())?)?;
+    tenants.push(tenant(alloc, 3, 7, &with_wrong_balance())?)?;
+    let first = told(alloc, 3, tenants);
+    same(&rt, "of four tenants", first, Some((4, 7, 1)));
     Ok(())
 }
 
@@ -151,7 +188,8 @@ fn prints_why_rows_do_not_pass(rt: HostRuntime) -> Result<(), Fail> {
         (AuditFault::Damaged(damage), "damaged"),
         (AuditFault::Memory, "out of memory"),
     ] {
-        assert_eq!(rt; format!(in rt.alloc(); "{fault}")?.as_str(), text);
+        let told = fault.to_string(rt.alloc())?;
+        same(&rt, "the words", told.as_str(), text);
     }
     Ok(())
 }

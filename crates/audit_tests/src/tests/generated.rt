@@ -1,14 +1,14 @@
 //! A ledger of many transfers, kept by plain running sums that know nothing of the machine.
 
+use crate::tests::asserting::same;
 use crate::tests::dice::Dice;
 use crate::tests::plain::plain_find;
-use crate::tests::told;
+use crate::tests::told_alone;
 use rows::{
     AccountCells, BalanceCells, HistoryCells, StatusCells, TenantOfDigest, TenantRows,
     TransferCells,
 };
 use std::alloc::{AllocError, Global};
-use std::test::Fail;
 
 // The sums of an account.
 #[derive(Clone, Copy)]
@@ -345,36 +345,40 @@ fn made(alloc: Global, seed: u64, transfers: usize) -> Result<TenantRows, AllocE
     maker.rows(alloc)
 }
 
-fn found(alloc: Global, version: u32, rows: TenantRows) -> Result<Option<(u8, usize)>, Fail> {
-    let mut tenants = Vec::new(alloc);
-    tenants.push(TenantOfDigest {
+fn found(alloc: Global, version: u32, rows: TenantRows) -> Result<Option<(u8, usize)>, AllocError> {
+    let one = TenantOfDigest {
         digest: [0; 32],
         rows,
-    })?;
-    Ok(told(alloc, version, tenants).map(|(kind, _, place)| (kind, place)))
+    };
+    Ok(told_alone(alloc, version, one)?.map(|(kind, _, place)| (kind, place)))
 }
 
 #[test]
-fn many_small_ledgers(rt: HostRuntime) -> Result<(), Fail> {
+fn many_small_ledgers(rt: HostRuntime) -> Result<(), AllocError> {
     for seed in 0..20 {
         let rows = made(rt.alloc(), seed, 30)?;
-        assert_eq!(rt; plain_find(rt.alloc(), 3, &rows)?, None);
-        assert_eq!(rt; found(rt.alloc(), 3, rows)?, None);
+        same(&rt, "plainly", plain_find(rt.alloc(), 3, &rows)?, None);
+        same(&rt, "by the audit", found(rt.alloc(), 3, rows)?, None);
     }
     Ok(())
 }
 
-#[test]
-fn a_ledger_of_many_transfers(rt: HostRuntime) -> Result<(), Fail> {
-    let rows = made(rt.alloc(), 1, 2000)?;
-    assert_eq!(rt; found(rt.alloc(), 2, rows)?, None);
-    let mut rows = made(rt.alloc(), 1, 2000)?;
+// Two damages: a due time, and a sum in the history.
+fn damage(rows: &mut TenantRows) {
     if let Some(status) = rows.statuses.get_mut(100) {
         status.due = status.due.wrapping_add(1);
     }
     if let Some(row) = rows.history.get_mut(50) {
         row.dd = [1; 16];
     }
-    assert_eq!(rt; found(rt.alloc(), 3, rows)?, Some((5, 100)));
+}
+
+#[test]
+fn a_ledger_of_many_transfers(rt: HostRuntime) -> Result<(), AllocError> {
+    let rows = made(rt.alloc(), 1, 2000)?;
+    same(&rt, "undamaged", found(rt.alloc(), 2, rows)?, None);
+    let mut rows = made(rt.alloc(), 1, 2000)?;
+    damage(&mut rows);
+    same(&rt, "damaged", found(rt.alloc(), 3, rows)?, Some((5, 100)));
     Ok(())
 }

@@ -4,7 +4,7 @@ use crate::tests::dice::Dice;
 use crate::tests::found;
 use crate::tests::plain::plain_find;
 use crate::tests::samples::{Sample, column, expired, posted_in_part, tenant};
-use std::test::Fail;
+use std::alloc::{AllocError, Global};
 
 fn change(sample: &mut Sample, dice: &mut Dice) {
     match dice.roll(6) {
@@ -79,27 +79,38 @@ fn change_status(sample: &mut Sample, dice: &mut Dice) {
     }
 }
 
+fn changed(dice: &mut Dice) -> Sample {
+    let mut sample = if dice.roll(2) == 0 {
+        posted_in_part()
+    } else {
+        expired()
+    };
+    change(&mut sample, dice);
+    if dice.roll(2) == 0 {
+        change(&mut sample, dice);
+    }
+    sample
+}
+
+// What the plain audit finds.
+fn plainly_found(
+    alloc: Global,
+    version: u32,
+    sample: &Sample,
+) -> Result<Option<(u8, usize)>, AllocError> {
+    let rows = tenant(alloc, version, 1, sample)?.rows;
+    plain_find(alloc, version, &rows)
+}
+
 #[test]
-fn one_or_two_cells_changed(rt: HostRuntime) -> Result<(), Fail> {
+fn one_or_two_cells_changed(rt: HostRuntime) -> Result<(), AllocError> {
     let mut dice = Dice(7);
     for round in 0..400 {
-        let mut sample = if dice.roll(2) == 0 {
-            posted_in_part()
-        } else {
-            expired()
-        };
-        change(&mut sample, &mut dice);
-        if dice.roll(2) == 0 {
-            change(&mut sample, &mut dice);
-        }
+        let sample = changed(&mut dice);
         let version = [1, 2, 3][dice.roll(3)];
-        let rows = tenant(rt.alloc(), version, 1, &sample)?.rows;
-        let plain = plain_find(rt.alloc(), version, &rows)?;
-        assert_eq!(rt;
-            found(rt.alloc(), version, &sample)?,
-            plain,
-            "in round {round}"
-        );
+        let plain = plainly_found(rt.alloc(), version, &sample)?;
+        let told = found(rt.alloc(), version, &sample)?;
+        assert_eq!(rt; told, plain, "in round {round}");
     }
     Ok(())
 }
