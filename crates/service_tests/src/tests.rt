@@ -1,3 +1,4 @@
+mod asserting;
 mod connections;
 mod events;
 mod examples;

@@ -1,6 +1,7 @@
 //! Connections: several messages, ends and faults.
 ghost use Rattle.std.specs.Prelude.{◌≡◌};
 
+use super::asserting::same;
 use super::firms::Firms;
 use super::messages::{BATCH, CUT_SHORT, FIRST, good, post};
 use super::played::base;
@@ -71,10 +72,20 @@ fn served(
     most: u64,
 ) -> Result<(Vec<u8>, Result<u64, ServeFault>), Fail> {
     let mut firms = Firms::with(alloc, FIRST)?;
+    Ok(written(alloc, &mut firms, input, most))
+}
+
+/// What is written to a firm's connection, and how it ends.
+fn written(
+    alloc: Global,
+    firms: &mut Firms,
+    input: impl Read + Drop,
+    most: u64,
+) -> (Vec<u8>, Result<u64, ServeFault>) {
     let mut reader = Streamed::new(input);
     let mut writer = Streamed::new(Vec::new(alloc));
     let ended = firms.serve(&mut reader, &mut writer, &mut Thousands(1000), most);
-    Ok((writer.into_inner(), ended))
+    (writer.into_inner(), ended)
 }
 
 const FIRST_REPLY: &str = concat!(
@@ -131,8 +142,8 @@ fn serves_to_the_end(rt: HostRuntime) -> Result<(), Fail> {
         let input = together(rt.alloc(), sent)?;
         let want = together(rt.alloc(), replies)?;
         let (written, ended) = served(rt.alloc(), input.as_bytes(), *most)?;
-        assert_eq!(rt; ended, Ok(*count));
-        assert_eq!(rt; written.as_slice(), want.as_bytes());
+        same(&rt, "the connection", ended, Ok(*count));
+        same(&rt, "what is written", written.as_slice(), want.as_bytes());
     }
     Ok(())
 }
@@ -140,8 +151,9 @@ fn serves_to_the_end(rt: HostRuntime) -> Result<(), Fail> {
 #[test]
 fn tells_that_the_reader_failed(rt: HostRuntime) -> Result<(), Fail> {
     let (written, ended) = served(rt.alloc(), Breaks(BATCH.as_bytes()), 9)?;
-    assert_eq!(rt; ended, Err(ServeFault::Read(1)));
-    assert_eq!(rt; written.as_slice(), FIRST_REPLY.as_bytes());
+    same(&rt, "the connection", ended, Err(ServeFault::Read(1)));
+    let want = FIRST_REPLY.as_bytes();
+    same(&rt, "what is written", written.as_slice(), want);
     Ok(())
 }
 
@@ -158,6 +170,21 @@ const TOLD_AGAIN: &str = concat!(
     "{\"number\":18,\"result\":\"exists\",\"timestamp\":\"6\"}]}"
 );
 
+/// How a firm's connection ends that takes so many bytes, and those.
+fn cut_off(
+    alloc: Global,
+    firms: &mut Firms,
+    input: &[u8],
+    room: usize,
+) -> (Result<u64, ServeFault>, Vec<u8>) {
+    let mut reader = Streamed::new(input);
+    let taken = Vec::new(alloc);
+    let mut writer = Streamed::new(Narrow { taken, room });
+    let ended = firms.serve(&mut reader, &mut writer, &mut Thousands(0), 9);
+    let Narrow { taken, .. } = writer.into_inner();
+    (ended, taken)
+}
+
 #[test]
 fn keeps_what_it_could_not_tell(rt: HostRuntime) -> Result<(), Fail> {
     let input = post(rt.alloc(), "/transfers", FIRST, ONE_TRANSFER)?;
@@ -165,14 +192,12 @@ fn keeps_what_it_could_not_tell(rt: HostRuntime) -> Result<(), Fail> {
     let again = good(rt.alloc(), TOLD_AGAIN)?;
     for room in [0, 1, 40] {
         let mut firms = base(&rt, rt.alloc(), FIRST)?;
-        let mut reader = Streamed::new(input.as_slice());
-        let taken = Vec::new(rt.alloc());
-        let mut writer = Streamed::new(Narrow { taken, room });
-        let ended = firms.serve(&mut reader, &mut writer, &mut Thousands(0), 9);
-        assert_eq!(rt; ended, Err(ServeFault::Write(0)));
-        let Narrow { taken, .. } = writer.into_inner();
-        assert_eq!(rt; taken.as_slice(), &whole[..room.min(whole.len())]);
-        assert_eq!(rt; firms.answer(&input, 0).bytes(), again.as_slice());
+        let (ended, taken) = cut_off(rt.alloc(), &mut firms, &input, room);
+        same(&rt, "the connection", ended, Err(ServeFault::Write(0)));
+        let front = &whole[..room.min(whole.len())];
+        same(&rt, "what is written", taken.as_slice(), front);
+        let reply = firms.answer(&input, 0);
+        same(&rt, "the reply", reply.bytes(), again.as_slice());
     }
     Ok(())
 }

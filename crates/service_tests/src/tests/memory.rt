@@ -1,4 +1,5 @@
 //! Want of memory. To be run with each allocation refused in turn (`make alloc`).
+use super::asserting::same;
 use super::examples::PENDING_AND_POST;
 use super::firms::Firms;
 use super::messages::FIRST;
@@ -33,7 +34,7 @@ fn answers_once_there_is_memory(
     if reply.bytes() == UNAVAILABLE.as_bytes() {
         reply = firms.answer(message, moment);
     }
-    assert_eq!(rt; reply.bytes(), want);
+    same(rt, "the reply", reply.bytes(), want);
 }
 
 #[test]

@@ -1,4 +1,5 @@
 //! Exchanges as tables, and how they are played.
+use super::asserting::same;
 use super::events::{Sent, body_of, results};
 use super::firms::Firms;
 use super::messages::{FIRST, get, good, post, reply};
@@ -80,7 +81,7 @@ pub(crate) fn play(
         let message = message(alloc, key, asked)?;
         let want = wanted(alloc, want)?;
         let reply = firms.answer(&message, *moment);
-        assert_eq!(rt; reply.bytes(), want.as_slice(), "{name}");
+        same(rt, *name, reply.bytes(), want.as_slice());
     }
     Ok(())
 }

@@ -3,6 +3,7 @@ ghost use Rattle.std.specs.Prelude.{Some, None, IfOk, bytes_eq, if◌then◌else
 ghost use Rattle.std.proofs.Common.{refl, ◌∙◌};
 ghost use Rattle.chain.specs.Ledgers.{AreValid};
 
+use super::asserting::same;
 use super::examples::PENDING_AND_POST;
 use super::memory::UNAVAILABLE;
 use super::messages::FIRST;
@@ -209,7 +210,8 @@ fn scarce_base(rt: &impl Abort, alloc: Global, room: u64) -> Result<ScarceLedger
     let (asked, moment, want) = &FOUR_ACCOUNTS;
     let message = message(alloc, FIRST, asked)?;
     let reply = respond(alloc, &mut ledger, &message, *moment);
-    assert_eq!(rt; reply.bytes(), wanted(alloc, want)?.as_slice());
+    let want = wanted(alloc, want)?;
+    same(rt, "the base", reply.bytes(), want.as_slice());
     Ok(ledger)
 }
 
@@ -218,20 +220,20 @@ fn keeps_nothing_of_a_batch_that_ran_out_of_memory(rt: HostRuntime) -> Result<()
     let mut ledger = scarce_base(&rt, rt.alloc(), 1)?;
     let message = message(rt.alloc(), FIRST, &PENDING_AND_POST)?;
     let reply = respond(rt.alloc(), &mut ledger, &message, 0);
-    assert_eq!(rt; reply.bytes(), UNAVAILABLE.as_bytes());
+    same(&rt, "too little", reply.bytes(), UNAVAILABLE.as_bytes());
     let tables = &mut ledger.scarce.tables;
     tables.begin();
-    assert_eq!(rt; tables.clock()?, 4);
+    same(&rt, "the clock", tables.clock()?, 4);
     let lengths = (
         tables.accounts().len(),
         tables.transfers().len(),
         tables.failed_ids().len(),
     );
-    assert_eq!(rt; lengths, (4, 0, 0));
+    same(&rt, "what is kept", lengths, (4, 0, 0));
 
     ledger.scarce.room = 2;
     let reply = respond(rt.alloc(), &mut ledger, &message, 0);
     let want = wanted(rt.alloc(), &Want::Results(6, &[(0, 5), (0, 6)]))?;
-    assert_eq!(rt; reply.bytes(), want.as_slice());
+    same(&rt, "enough", reply.bytes(), want.as_slice());
     Ok(())
 }
