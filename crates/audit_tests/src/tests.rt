@@ -76,7 +76,8 @@ fn is_told(rt: &impl Abort, alloc: Global, case: u8) -> Result<(), Fail> {
     let (sample, first, wrong) = damaged_ledger(case).ok_or("no such case")?;
     for version in first..4 {
         let answer = found(alloc, version, &sample)?;
-        assert_eq!(rt; answer, Some(wrong), "case {case} in version {version}");
+        let told = (case, version, answer);
+        same(rt, "the damage", told, (case, version, Some(wrong)));
     }
     Ok(())
 }

@@ -1,5 +1,6 @@
 //! Worked ledgers with cells changed at random, looked at in two ways.
 
+use crate::tests::asserting::same;
 use crate::tests::dice::Dice;
 use crate::tests::found;
 use crate::tests::plain::plain_find;
@@ -110,7 +111,7 @@ fn one_or_two_cells_changed(rt: HostRuntime) -> Result<(), AllocError> {
         let version = [1, 2, 3][dice.roll(3)];
         let plain = plainly_found(rt.alloc(), version, &sample)?;
         let told = found(rt.alloc(), version, &sample)?;
-        assert_eq!(rt; told, plain, "in round {round}");
+        same(&rt, "the round", (round, told), (round, plain));
     }
     Ok(())
 }

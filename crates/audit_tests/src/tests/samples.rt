@@ -157,31 +157,45 @@ pub(crate) fn tenant(
     first_byte: u8,
     sample: &Sample,
 ) -> Result<TenantOfDigest, AllocError> {
+    let mut rows = no_rows(alloc);
+    add_entries(&mut rows, sample)?;
+    if version >= 2 {
+        add_derived(&mut rows, sample)?;
+    }
     let mut digest = [0; 32];
     digest[0] = first_byte;
-    let mut rows = TenantRows {
-        clocks: sample.clock.into_iter().collect(alloc)?,
-        accounts: sample.accounts.to_vec(alloc)?,
-        transfers: sample.transfers.to_vec(alloc)?,
-        balances: sample.balances.to_vec(alloc)?,
-        statuses: sample.statuses.to_vec(alloc)?,
-        history: sample.history.to_vec(alloc)?,
-        failed: failed(alloc, sample)?,
-    };
-    if version < 2 {
-        rows.balances.clear();
-        rows.statuses.clear();
-        rows.history.clear();
-    }
     Ok(TenantOfDigest { digest, rows })
 }
 
-fn failed(alloc: Global, sample: &Sample) -> Result<Vec<[u8; 16]>, AllocError> {
-    let mut ids = Vec::new(alloc);
-    for id in sample.failed.iter().flatten() {
-        ids.push(column(*id))?;
+fn no_rows(alloc: Global) -> TenantRows {
+    TenantRows {
+        clocks: Vec::new(alloc),
+        accounts: Vec::new(alloc),
+        transfers: Vec::new(alloc),
+        balances: Vec::new(alloc),
+        statuses: Vec::new(alloc),
+        history: Vec::new(alloc),
+        failed: Vec::new(alloc),
     }
-    Ok(ids)
+}
+
+fn add_entries(rows: &mut TenantRows, sample: &Sample) -> Result<(), AllocError> {
+    if let Some(clock) = sample.clock {
+        rows.clocks.push(clock)?;
+    }
+    rows.accounts.extend_from_slice(&sample.accounts)?;
+    rows.transfers.extend_from_slice(&sample.transfers)?;
+    for id in sample.failed.iter().flatten() {
+        rows.failed.push(column(*id))?;
+    }
+    Ok(())
+}
+
+// The rows that the entries lead to.
+fn add_derived(rows: &mut TenantRows, sample: &Sample) -> Result<(), AllocError> {
+    rows.balances.extend_from_slice(&sample.balances)?;
+    rows.statuses.extend_from_slice(&sample.statuses)?;
+    rows.history.extend_from_slice(&sample.history)
 }
 
 /// All rows of a file with these tenants.
