@@ -68,7 +68,7 @@ const NO_TRANSFERS: &str = "POST /transfers []";
 
 const NONE_DONE: &str = r#"{"clock":"4","results":[]}"#;
 
-const CONNECTIONS: [Connection; 5] = [
+static CONNECTIONS: [Connection; 5] = [
     Connection {
         tenant: "0",
         messages: &[NO_TRANSFERS, "POST /x"],
@@ -182,6 +182,19 @@ fn output_of(alloc: Global, connection: &Connection) -> Result<Vec<u8>, AllocErr
     Ok(output)
 }
 
+/// Looks at how a connection ended, and at what was written into it.
+fn is_served(
+    rt: &impl Abort,
+    alloc: Global,
+    connection: &Connection,
+    (written, ended): (&[u8], Result<u64, ServeFault>),
+) -> Result<(), Fail> {
+    assert_eq!(rt; ended, connection.ended);
+    let output = output_of(alloc, connection)?;
+    assert_eq!(rt; written, output.as_slice());
+    Ok(())
+}
+
 /// Serves a connection, and looks at what is written.
 fn serves<L: Ledgers>(
     rt: &impl Abort,
@@ -193,12 +206,9 @@ fn serves<L: Ledgers>(
     ensures { L.means.is_usable ledgers.new }
 {
     let input = input_of(alloc, connection)?;
-    let output = output_of(alloc, connection)?;
     let limits = (connection.room, connection.most);
     let (written, ended) = served(alloc, ledgers, &input, limits);
-    assert_eq!(rt; ended, connection.ended);
-    assert_eq!(rt; written, output);
-    Ok(())
+    is_served(rt, alloc, connection, (&written, ended))
 }
 
 #[test]

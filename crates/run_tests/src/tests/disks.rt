@@ -82,13 +82,28 @@ pub fn after_a_crash(alloc: Global, store: Store<TestDisk>) -> Result<Store<Test
     opened(alloc, crashed(store.close()))
 }
 
+/// All rows.
+pub fn all_rows(store: &mut Store<TestDisk>) -> Result<AllRows, Unavailable>
+    requires { IsUsable store.old }
+    ensures { IsUsable store.new }
+{
+    store.all_rows()
+}
+
 /// All rows, once there is memory to read them.
 pub fn rows_in(store: &mut Store<TestDisk>) -> Result<AllRows, Fail>
     requires { IsUsable store.old }
     ensures { IsUsable store.new }
 {
-    match store.all_rows() {
-        Err(Unavailable::Memory) => Ok(store.all_rows()?),
+    match all_rows(store) {
+        Err(Unavailable::Memory) => Ok(all_rows(store)?),
         rows => Ok(rows?),
     }
+}
+
+/// Opens a store again.
+pub fn reopen(store: &mut Store<TestDisk>) -> Result<(), OpenFault>
+    ensures { IsUsable store.new }
+{
+    store.reopen(&FullAudit)
 }

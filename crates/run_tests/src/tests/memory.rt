@@ -3,15 +3,18 @@
 ghost use Rattle.std.specs.Prelude.{IfOk, IfSome};
 ghost use Rattle.store.specs.Stores.{IsUsable};
 
-use super::deeds::{CHAIN, Told};
-use super::disks::{NEVER, TestDisk, after_a_crash, crashed, empty, made, opened, rows_in};
+use super::deeds::{CHAIN, Spelled, Told};
+use super::disks::{
+    NEVER, TestDisk, after_a_crash, all_rows, crashed, empty, made, opened, reopen, rows_in,
+};
 use super::scripts::{answers, steps};
 use records::Unavailable;
 use rows::AllRows;
 use sqlite::Files;
 use std::alloc::Global;
+use std::process::Abort;
 use std::test::Fail;
-use store::{FullAudit, OpenFault, Store};
+use store::{OpenFault, Store};
 
 /// A tenant with its accounts.
 const ONE: &str = "tenant 0 = added
@@ -63,6 +66,21 @@ fn want_of_memory_in_create(rt: HostRuntime) -> Result<(), Fail> {
     Ok(())
 }
 
+/// Whether these are the rows of a tenant with its accounts.
+fn is_base(rows: &AllRows) -> bool {
+    matches!(rows.tenants.as_slice(), [tenant] if tenant.rows.accounts.len() == 4)
+}
+
+/// Adds a tenant with its accounts, if there is memory for that, and reads all rows.
+fn added(alloc: Global, store: &mut Store<TestDisk>) -> Option<AllRows>
+    requires { IsUsable store.old }
+    ensures { IsUsable store.new }
+{
+    let steps = steps(alloc, ONE).ok()?;
+    let _answers = answers(alloc, store, &steps).ok()?;
+    all_rows(store).ok()
+}
+
 /// A store with a tenant, and all rows, if there is memory for that.
 fn base(alloc: Global) -> Option<(Store<TestDisk>, AllRows)>
     ensures { IfSome result (λ base. IsUsable base.0) }
@@ -70,10 +88,8 @@ fn base(alloc: Global) -> Option<(Store<TestDisk>, AllRows)>
     let Ok(mut store) = made(alloc, empty(alloc, NEVER, NEVER)) else {
         return None;
     };
-    let steps = steps(alloc, ONE).ok()?;
-    let _answers = answers(alloc, &mut store, &steps).ok()?;
-    let rows = store.all_rows().ok()?;
-    if !matches!(rows.tenants.as_slice(), [tenant] if tenant.rows.accounts.len() == 4) {
+    let rows = added(alloc, &mut store)?;
+    if !is_base(&rows) {
         return None;
     }
     Some((store, rows))
@@ -93,10 +109,10 @@ fn whole_base(alloc: Global) -> Result<(Store<TestDisk>, AllRows), Fail>
 fn reopened(alloc: Global, mut store: Store<TestDisk>) -> Result<Store<TestDisk>, Fail>
     ensures { IfOk result IsUsable }
 {
-    match store.reopen(&FullAudit) {
+    match reopen(&mut store) {
         Ok(()) => Ok(store),
         Err(OpenFault::Unavailable(Unavailable::Memory)) => {
-            store.reopen(&FullAudit)?;
+            reopen(&mut store)?;
             Ok(store)
         }
         Err(OpenFault::Unavailable(Unavailable::Disk)) => after_a_crash(alloc, store),
@@ -123,28 +139,64 @@ fn served_again(alloc: Global, store: Store<TestDisk>) -> Result<Store<TestDisk>
     after_a_crash(alloc, store)
 }
 
-#[test]
-fn want_of_memory_in_run_all(rt: HostRuntime) -> Result<(), Fail> {
-    let chain = match CHAIN.spelled(rt.alloc()) {
-        Ok(chain) => chain,
-        Err(_) => CHAIN.spelled(rt.alloc())?,
-    };
-    let (mut store, before) = whole_base(rt.alloc())?;
-    let told = chain.told(rt.alloc(), &mut store);
+/// A chain as it is sent and answered, once there is memory for it.
+fn spelled_chain(alloc: Global) -> Result<Spelled, Fail> {
+    match CHAIN.spelled(alloc) {
+        Ok(chain) => Ok(chain),
+        Err(_) => Ok(CHAIN.spelled(alloc)?),
+    }
+}
+
+/// What is found behind a chain that was told to be unavailable.
+#[derive(Clone, Copy)]
+struct Found {
+    has_failed: bool,
+    is_as_before: bool,
+    again: Told,
+}
+
+/// Looks at a store behind a chain, and sends the chain again.
+fn found_after(
+    alloc: Global,
+    store: Store<TestDisk>,
+    chain: &Spelled,
+    before: &AllRows,
+) -> Result<Found, Fail>
+    requires { IsUsable store }
+{
+    let has_failed = !store.is_ready();
+    let mut store = served_again(alloc, store)?;
+    let is_as_before = rows_in(&mut store)? == *before;
+    let again = chain.told(alloc, &mut store);
+    Ok(Found {
+        has_failed,
+        is_as_before,
+        again,
+    })
+}
+
+/// Sends a chain. Where it is told to be unavailable, what is found behind it.
+fn sent(rt: &impl Abort, alloc: Global, chain: &Spelled) -> Result<Option<Found>, Fail> {
+    let (mut store, before) = whole_base(alloc)?;
+    let told = chain.told(alloc, &mut store);
     if told == Told::Done {
-        return Ok(());
+        return Ok(None);
     }
     assert_eq!(rt; told, Told::Unavailable);
-    let has_failed = !store.is_ready();
-    let mut store = served_again(rt.alloc(), store)?;
-    let is_as_before = rows_in(&mut store)? == before;
-    let again = chain.told(rt.alloc(), &mut store);
-    let want = if is_as_before {
-        Told::Done
-    } else {
-        Told::DoneBefore
-    };
-    assert!(rt; is_as_before || has_failed);
-    assert_eq!(rt; again, want);
+    Ok(Some(found_after(alloc, store, chain, &before)?))
+}
+
+#[test]
+fn want_of_memory_in_run_all(rt: HostRuntime) -> Result<(), Fail> {
+    let chain = spelled_chain(rt.alloc())?;
+    if let Some(found) = sent(&rt, rt.alloc(), &chain)? {
+        let want = if found.is_as_before {
+            Told::Done
+        } else {
+            Told::DoneBefore
+        };
+        assert!(rt; found.is_as_before || found.has_failed);
+        assert_eq!(rt; found.again, want);
+    }
     Ok(())
 }

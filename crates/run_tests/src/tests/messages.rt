@@ -42,57 +42,81 @@ const HEADER: &str = concat!(
     "debits_pending,debits_posted,credits_pending,credits_posted\n"
 );
 
-/// The names of the results that are met.
+/// The results that are met, each by its number and by its name.
+static RESULTS: [(&str, &str); 24] = [
+    ("0", "ok"),
+    ("1", "linked_event_chain_open"),
+    ("2", "linked_event_failed"),
+    ("4", "reserved_flag"),
+    ("7", "exists_with_different_flags"),
+    ("12", "exists_with_different_amount"),
+    ("18", "exists"),
+    ("19", "ledger_must_not_be_zero"),
+    ("24", "pending_transfer_not_found"),
+    ("26", "pending_transfer_has_different_debit_account_id"),
+    ("31", "pending_transfer_has_different_amount"),
+    ("32", "pending_transfer_already_posted"),
+    ("34", "pending_transfer_expired"),
+    ("44", "debit_account_not_found"),
+    ("45", "credit_account_not_found"),
+    ("48", "overflows_debits_pending"),
+    ("49", "overflows_credits_pending"),
+    ("50", "overflows_debits_posted"),
+    ("51", "overflows_credits_posted"),
+    ("52", "overflows_debits"),
+    ("53", "overflows_credits"),
+    ("55", "exceeds_credits"),
+    ("56", "exceeds_debits"),
+    ("60", "id_already_failed"),
+];
+
+/// The name of the result with this number.
 fn name_of(number: &str) -> &'static str {
-    match number {
-        "0" => "ok",
-        "1" => "linked_event_chain_open",
-        "2" => "linked_event_failed",
-        "4" => "reserved_flag",
-        "7" => "exists_with_different_flags",
-        "12" => "exists_with_different_amount",
-        "18" => "exists",
-        "19" => "ledger_must_not_be_zero",
-        "24" => "pending_transfer_not_found",
-        "26" => "pending_transfer_has_different_debit_account_id",
-        "31" => "pending_transfer_has_different_amount",
-        "32" => "pending_transfer_already_posted",
-        "34" => "pending_transfer_expired",
-        "44" => "debit_account_not_found",
-        "45" => "credit_account_not_found",
-        "48" => "overflows_debits_pending",
-        "49" => "overflows_credits_pending",
-        "50" => "overflows_debits_posted",
-        "51" => "overflows_credits_posted",
-        "52" => "overflows_debits",
-        "53" => "overflows_credits",
-        "55" => "exceeds_credits",
-        "56" => "exceeds_debits",
-        "60" => "id_already_failed",
-        _ => "no result of these tests",
+    for (other, name) in &RESULTS {
+        if *other == number {
+            return name;
+        }
+    }
+    "no result of these tests"
+}
+
+/// What stands before each of a transfer's columns.
+static FIELDS: [&str; 7] = [
+    r#"{"id":""#,
+    r#"","debit_account_id":""#,
+    r#"","credit_account_id":""#,
+    r#"","amount":""#,
+    r#"","flags":"#,
+    r#","pending_id":""#,
+    r#"","timeout":"#,
+];
+
+/// The value of a column. What is left out is 0, and `MAX` is the greatest amount.
+fn value_of(column: Option<&str>) -> &str {
+    match column.unwrap_or("0") {
+        "MAX" => "340282366920938463463374607431768211455",
+        value => value,
     }
 }
 
-/// A transfer: id, debit account, credit account, amount, flags, pending id, timeout. What is left
-/// out is 0, and `MAX` is the greatest amount.
+/// The ledger and the code of a transfer: none where it ends a pending one.
+fn ledger_of(pending: &str) -> &'static str {
+    match pending {
+        "0" => r#","ledger":7,"code":1}"#,
+        _ => r#","ledger":0}"#,
+    }
+}
+
+/// A transfer: id, debit account, credit account, amount, flags, pending id, timeout.
 fn transfer(alloc: Global, columns: &str) -> Result<String, AllocError> {
-    let mut words = columns.split_whitespace();
-    let id = words.next().unwrap_or("0");
-    let debit = words.next().unwrap_or("0");
-    let credit = words.next().unwrap_or("0");
-    let amount = match words.next() {
-        Some("MAX") => "340282366920938463463374607431768211455",
-        amount => amount.unwrap_or("0"),
-    };
-    let flags = words.next().unwrap_or("0");
-    let pending = words.next().unwrap_or("0");
-    let timeout = words.next().unwrap_or("0");
-    let kind = if pending == "0" { "7,\"code\":1" } else { "0" };
-    format!(in alloc;
-        "{{\"id\":\"{id}\",\"debit_account_id\":\"{debit}\",\"credit_account_id\":\"{credit}\",\
-         \"amount\":\"{amount}\",\"flags\":{flags},\"pending_id\":\"{pending}\",\
-         \"timeout\":{timeout},\"ledger\":{kind}}}"
-    )
+    let mut columns_left = columns.split_whitespace();
+    let mut transfer = String::new(alloc);
+    for field in &FIELDS {
+        transfer.push_str(field)?;
+        transfer.push_str(value_of(columns_left.next()))?;
+    }
+    transfer.push_str(ledger_of(value_of(columns.split_whitespace().nth(5))))?;
+    Ok(transfer)
 }
 
 /// A body of transfers, each behind a semicolon but the first.
@@ -107,27 +131,33 @@ fn transfers(alloc: Global, text: &str) -> Result<String, AllocError> {
     Ok(body)
 }
 
+/// A result, from its number and its timestamp.
+fn result(alloc: Global, text: &str) -> Result<String, AllocError> {
+    let (number, timestamp) = text.split_once('@').unwrap_or((text, ""));
+    let name = name_of(number);
+    format!(in alloc; "{{\"number\":{number},\"result\":\"{name}\",\"timestamp\":\"{timestamp}\"}}")
+}
+
 /// The body of a reply with these results, each a number and a timestamp, of which the last is the
 /// clock.
 fn results(alloc: Global, text: &str) -> Result<String, AllocError> {
     let (_, clock) = text.rsplit_once('@').unwrap_or((text, ""));
     let mut list = String::new(alloc);
     for word in text.split_whitespace() {
-        let (number, timestamp) = word.split_once('@').unwrap_or((word, ""));
         let comma = if list.is_empty() { "" } else { "," };
-        let name = name_of(number);
-        list.push_str(&format!(in alloc;
-            "{comma}{{\"number\":{number},\"result\":\"{name}\",\"timestamp\":\"{timestamp}\"}}"
-        )?)?;
+        let result = result(alloc, word)?;
+        list.push_str(&format!(in alloc; "{comma}{result}")?)?;
     }
     format!(in alloc; "{{\"clock\":\"{clock}\",\"results\":[{list}]}}")
 }
 
 /// The lines of a statement, each a word.
 fn statement(alloc: Global, text: &str) -> Result<String, AllocError> {
-    let mut body = format!(in alloc; "{HEADER}")?;
+    let mut body = String::new(alloc);
+    body.push_str(HEADER)?;
     for line in text.split_whitespace() {
-        body.push_str(&format!(in alloc; "{line}\n")?)?;
+        body.push_str(line)?;
+        body.push_str("\n")?;
     }
     Ok(body)
 }
@@ -140,23 +170,31 @@ fn reply(alloc: Global, status: &str, kind: &str, body: &str) -> Result<String, 
     )
 }
 
+/// A reply of status 200 with a JSON body.
+fn json(alloc: Global, body: &str) -> Result<String, AllocError> {
+    reply(alloc, "200 OK", "application/json", body)
+}
+
+/// A refusal, by its name and its status.
+fn refusal(alloc: Global, name: &str, status: &str) -> Result<String, AllocError> {
+    let body = format!(in alloc; "{{\"error\":\"{name}\"}}")?;
+    reply(alloc, status, "application/json", &body)
+}
+
 /// What a step is to be told. A text in braces is the body of a reply of status 200; others are
 /// results, a statement, the name of a refusal with its status, or a word for what is no message.
 pub fn wanted(alloc: Global, text: &str) -> Result<String, AllocError> {
     if text.starts_with('{') {
-        return reply(alloc, "200 OK", "application/json", text);
+        return json(alloc, text);
     }
     if text.find('@').is_some() {
-        return reply(alloc, "200 OK", "application/json", &results(alloc, text)?);
+        return json(alloc, &results(alloc, text)?);
     }
     if let Some(lines) = text.strip_prefix("csv") {
         return reply(alloc, "200 OK", "text/csv", &statement(alloc, lines)?);
     }
     match text.split_once(' ') {
-        Some((name, status)) => {
-            let body = format!(in alloc; "{{\"error\":\"{name}\"}}")?;
-            reply(alloc, status, "application/json", &body)
-        }
+        Some((name, status)) => refusal(alloc, name, status),
         None => format!(in alloc; "{text}"),
     }
 }
@@ -178,12 +216,7 @@ fn message(alloc: Global, line: &str, number: &str, body: &str) -> Result<String
 
 /// A message as it is written, with bars for the ends of lines.
 fn written(alloc: Global, text: &str) -> Result<String, AllocError> {
-    let mut message = String::new(alloc);
-    for (k, part) in text.split('|').enumerate() {
-        let end = if k == 0 { "" } else { "\r\n" };
-        message.push_str(&format!(in alloc; "{end}{part}")?)?;
-    }
-    Ok(message)
+    text.replace(alloc, "|", "\r\n")
 }
 
 /// 1,001 accounts.

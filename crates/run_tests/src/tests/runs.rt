@@ -3,11 +3,12 @@
 use super::disks::{NEVER, new_store};
 use super::examples::{EXAMPLES, TENANTS};
 use super::requests::{CLOCKS, READS, REFUSALS};
-use super::scripts::runs;
+use super::scripts::{answers, runs};
 use std::alloc::{AllocError, Global};
 use std::process::Abort;
 use std::test::Fail;
-use whole_runs::{NamedBook, Reopening, run_all};
+use whole_runs::{NamedBook, Reopening};
+use wire::NoMemory;
 
 /// A new tenant's first request, a name that is taken, a reopening, and an account that is missing.
 const BEGINS: &str = r#"tenant 0 = added
@@ -41,7 +42,7 @@ open = opened
 "#;
 
 /// Each of these runs is of ledgers of its own.
-const RUNS: [&str; 6] = [BEGINS, JOINS, SENT_AGAIN, CLOCKS, READS, REFUSALS];
+static RUNS: [&str; 6] = [BEGINS, JOINS, SENT_AGAIN, CLOCKS, READS, REFUSALS];
 
 /// The tenants that send the examples, each with the four accounts.
 fn tenants(alloc: Global) -> Result<String, AllocError> {
@@ -63,26 +64,35 @@ fn examples<L: Reopening>(rt: &impl Abort, alloc: Global, ledgers: &mut L) -> Re
     runs(rt, alloc, ledgers, "open = opened")
 }
 
+/// Runs a script over lists of its own.
+fn run_over_lists(rt: &impl Abort, alloc: Global, script: &str) -> Result<(), Fail> {
+    runs(rt, alloc, &mut NamedBook::new(alloc), script)
+}
+
+/// Runs a script over disks of its own.
+fn run_over_disks(rt: &impl Abort, alloc: Global, script: &str) -> Result<(), Fail> {
+    runs(rt, alloc, &mut new_store(alloc, NEVER, NEVER)?, script)
+}
+
+/// How many answers there are to no steps.
+fn count_of_none(alloc: Global) -> Result<usize, NoMemory> {
+    Ok(answers(alloc, &mut NamedBook::new(alloc), &[])?.len())
+}
+
 #[test]
 fn runs_over_lists(rt: HostRuntime) -> Result<(), Fail> {
-    for script in RUNS {
-        runs(&rt, rt.alloc(), &mut NamedBook::new(rt.alloc()), script)?;
+    for script in &RUNS {
+        run_over_lists(&rt, rt.alloc(), script)?;
     }
     examples(&rt, rt.alloc(), &mut NamedBook::new(rt.alloc()))?;
-    let no_steps = run_all(rt.alloc(), &mut NamedBook::new(rt.alloc()), &[])?;
-    assert!(rt; no_steps.is_empty());
+    assert_eq!(rt; count_of_none(rt.alloc())?, 0);
     Ok(())
 }
 
 #[test]
 fn runs_over_disks(rt: HostRuntime) -> Result<(), Fail> {
-    for script in RUNS {
-        runs(
-            &rt,
-            rt.alloc(),
-            &mut new_store(rt.alloc(), NEVER, NEVER)?,
-            script,
-        )?;
+    for script in &RUNS {
+        run_over_disks(&rt, rt.alloc(), script)?;
     }
     Ok(())
 }

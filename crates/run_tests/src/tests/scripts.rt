@@ -31,15 +31,7 @@ pub fn told(answer: &Answer) -> &[u8] {
 
 /// A script, with one line for each step.
 fn joined(alloc: Global, script: &str) -> Result<String, AllocError> {
-    let mut text = String::new(alloc);
-    for line in script.lines() {
-        let (end, more) = match line.strip_prefix("  ") {
-            Some(more) => ("", more),
-            None => ("\n", line),
-        };
-        text.push_str(&format!(in alloc; "{end}{more}")?)?;
-    }
-    Ok(text)
+    script.replace(alloc, "\n  ", "")
 }
 
 /// Runs steps, and forgets what a run promises.
@@ -65,14 +57,19 @@ pub fn steps(alloc: Global, text: &str) -> Result<Vec<Step>, Unmade> {
     Ok(steps)
 }
 
+/// Whether an answer is what is wanted.
+fn is_told(alloc: Global, want: &str, answer: Option<&Answer>) -> Result<bool, AllocError> {
+    let want = wanted(alloc, want)?;
+    let told = answer.map_or(b"nothing".as_slice(), told);
+    Ok(told == want.as_bytes())
+}
+
 /// Looks at what is told.
 fn are_told(rt: &impl Abort, alloc: Global, text: &str, answers: &[Answer]) -> Result<(), Fail> {
     let mut left = answers.iter();
     for line in text.lines() {
         if let Some((_, want)) = line.split_once(" = ") {
-            let want = wanted(alloc, want)?;
-            let told = left.next().map_or(b"nothing".as_slice(), told);
-            assert!(rt; told == want.as_bytes(), "{line}");
+            assert!(rt; is_told(alloc, want, left.next())?, "{line}");
         }
     }
     assert!(rt; left.next().is_none());
