@@ -1,7 +1,8 @@
 //! Connections over a store: several messages, ends, and writers that fail.
 ghost use Rattle.std.specs.Prelude.{◌≡◌};
+ghost use Rattle.store.specs.Stores.{IsUsable};
 
-use super::disks::{NEVER, new_store};
+use super::disks::{NEVER, TestDisk, new_store, shut};
 use super::messages::{asked, wanted};
 use super::scripts::runs;
 use chain::Ledgers;
@@ -11,6 +12,7 @@ use std::alloc::{AllocError, Global};
 use std::io::{self, ErrorKind, Write};
 use std::process::Abort;
 use std::test::Fail;
+use store::Store;
 
 /// Gives 0 and then every thousandth nanosecond.
 #[derive(Drop)]
@@ -211,12 +213,21 @@ fn serves<L: Ledgers>(
     is_served(rt, alloc, connection, (&written, ended))
 }
 
+/// Serves all connections, between the two scripts.
+fn serves_all(rt: &impl Abort, alloc: Global, store: &mut Store<TestDisk>) -> Result<(), Fail>
+    requires { IsUsable store.old }
+{
+    runs(rt, alloc, store, BASES)?;
+    for connection in &CONNECTIONS {
+        serves(rt, alloc, store, connection)?;
+    }
+    runs(rt, alloc, store, DONE_UNTOLD)
+}
+
 #[test]
 fn serves_connections(rt: HostRuntime) -> Result<(), Fail> {
     let mut store = new_store(rt.alloc(), NEVER, NEVER)?;
-    runs(&rt, rt.alloc(), &mut store, BASES)?;
-    for connection in &CONNECTIONS {
-        serves(&rt, rt.alloc(), &mut store, connection)?;
-    }
-    runs(&rt, rt.alloc(), &mut store, DONE_UNTOLD)
+    let ended = serves_all(&rt, rt.alloc(), &mut store);
+    shut(store);
+    ended
 }

@@ -82,6 +82,11 @@ pub fn after_a_crash(alloc: Global, store: Store<TestDisk>) -> Result<Store<Test
     opened(alloc, crashed(store.close()))
 }
 
+/// Closes a store, and forgets its files.
+pub fn shut(store: Store<TestDisk>) {
+    let _files = store.close();
+}
+
 /// All rows.
 pub fn all_rows(store: &mut Store<TestDisk>) -> Result<AllRows, Unavailable>
     requires { IsUsable store.old }

@@ -1,10 +1,9 @@
 //! Disks that fail while a tenant sends a chain, or while a tenant is added. What an opening finds
 //! then is all of that or nothing, and no other tenant's rows are touched.
-ghost use Rattle.std.specs.Prelude.{IfOk};
 ghost use Rattle.store.specs.Stores.{IsUsable};
 
 use super::deeds::{CHAIN, Deed, JOINING, Spelled, Told};
-use super::disks::{NEVER, TestDisk, after_a_crash, new_store, rows_in};
+use super::disks::{NEVER, TestDisk, after_a_crash, new_store, rows_in, shut};
 use super::scripts::runs;
 use rows::AllRows;
 use std::alloc::Global;
@@ -42,28 +41,29 @@ enum Outcome {
 /// be unavailable and found all the same.
 const OUTCOMES: [Outcome; 3] = [Outcome::Undone, Outcome::Undone, Outcome::Done];
 
-/// A store with two tenants, whose disks fail behind so many calls.
-fn two_tenants(
+/// Adds the two tenants to a store, and reads the rows before a deed and those after it.
+fn around(
     rt: &impl Abort,
     alloc: Global,
-    log: u64,
-    database: u64,
-) -> Result<Store<TestDisk>, Fail>
-    ensures { IfOk result IsUsable }
+    store: &mut Store<TestDisk>,
+    deed: &Spelled,
+) -> Result<(AllRows, AllRows), Fail>
+    requires { IsUsable store.old }
 {
-    let mut store = new_store(alloc, log, database)?;
-    runs(rt, alloc, &mut store, TWO)?;
-    Ok(store)
+    runs(rt, alloc, store, TWO)?;
+    let before = rows_in(store)?;
+    let told = deed.told(alloc, store);
+    let after = rows_in(store)?;
+    assert_eq!(rt; told, Told::Done);
+    Ok((before, after))
 }
 
 /// The rows before a deed, and those after it.
-fn around(rt: &impl Abort, alloc: Global, deed: &Spelled) -> Result<(AllRows, AllRows), Fail> {
-    let mut store = two_tenants(rt, alloc, NEVER, NEVER)?;
-    let before = rows_in(&mut store)?;
-    let told = deed.told(alloc, &mut store);
-    let after = rows_in(&mut store)?;
-    assert_eq!(rt; told, Told::Done);
-    Ok((before, after))
+fn both(rt: &impl Abort, alloc: Global, deed: &Spelled) -> Result<(AllRows, AllRows), Fail> {
+    let mut store = new_store(alloc, NEVER, NEVER)?;
+    let rows = around(rt, alloc, &mut store, deed);
+    shut(store);
+    rows
 }
 
 /// Looks whether a deed has changed rows, and none of the second tenant.
@@ -74,11 +74,26 @@ fn leaves_the_second(rt: &impl Abort, before: &AllRows, after: &AllRows) -> Resu
     Ok(())
 }
 
+/// Adds the two tenants to a store, and tells what a deed is told then.
+fn told_among_two(
+    rt: &impl Abort,
+    alloc: Global,
+    store: &mut Store<TestDisk>,
+    deed: &Spelled,
+) -> Result<Told, Fail>
+    requires { IsUsable store.old }
+{
+    runs(rt, alloc, store, TWO)?;
+    Ok(deed.told(alloc, store))
+}
+
 /// What is found in the files of a store after a crash, and what a deed is told then.
 fn found(alloc: Global, store: Store<TestDisk>, deed: &Spelled) -> Result<(AllRows, Told), Fail> {
     let mut store = after_a_crash(alloc, store)?;
-    let rows = rows_in(&mut store)?;
-    Ok((rows, deed.told(alloc, &mut store)))
+    let rows = rows_in(&mut store);
+    let told = deed.told(alloc, &mut store);
+    shut(store);
+    Ok((rows?, told))
 }
 
 /// What becomes of a deed where a file fails behind so many calls, as found after a crash. The same
@@ -94,8 +109,14 @@ fn became(
         Failing::Log => (calls, NEVER),
         Failing::Database => (NEVER, calls),
     };
-    let mut store = two_tenants(rt, alloc, log, database)?;
-    let told = deed.told(alloc, &mut store);
+    let mut store = new_store(alloc, log, database)?;
+    let told = match told_among_two(rt, alloc, &mut store, deed) {
+        Ok(told) => told,
+        Err(fail) => {
+            shut(store);
+            return Err(fail);
+        }
+    };
     let (rows, again) = found(alloc, store, deed)?;
     Ok(match (told, again) {
         (Told::Unavailable, Told::Done) if rows == *before => Some(Outcome::Undone),
@@ -114,7 +135,7 @@ fn has_each_outcome(
     calls: [u64; 3],
 ) -> Result<(), Fail> {
     let deed = deed.spelled(alloc)?;
-    let (before, after) = around(rt, alloc, &deed)?;
+    let (before, after) = both(rt, alloc, &deed)?;
     leaves_the_second(rt, &before, &after)?;
     for (calls, want) in calls.into_iter().zip(OUTCOMES) {
         let got = became(rt, alloc, (failing, calls), &deed, (&before, &after))?;

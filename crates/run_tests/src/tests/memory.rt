@@ -5,7 +5,7 @@ ghost use Rattle.store.specs.Stores.{IsUsable};
 
 use super::deeds::{CHAIN, Spelled, Told};
 use super::disks::{
-    NEVER, TestDisk, after_a_crash, all_rows, crashed, empty, made, opened, reopen, rows_in,
+    NEVER, TestDisk, after_a_crash, all_rows, crashed, empty, made, opened, reopen, rows_in, shut,
 };
 use super::scripts::{answers, steps};
 use records::Unavailable;
@@ -55,10 +55,18 @@ fn created_or_found(alloc: Global, files: Files<TestDisk>) -> Result<Store<TestD
     }
 }
 
+/// All rows of a store, which is closed.
+fn last_rows(mut store: Store<TestDisk>) -> Result<AllRows, Fail>
+    requires { IsUsable store }
+{
+    let rows = rows_in(&mut store);
+    shut(store);
+    rows
+}
+
 #[test]
 fn want_of_memory_in_create(rt: HostRuntime) -> Result<(), Fail> {
-    let mut store = created(rt.alloc())?;
-    let rows = rows_in(&mut store)?;
+    let rows = last_rows(created(rt.alloc())?)?;
     assert!(rt;
         rows.directory.is_empty() && rows.tenants.is_empty(),
         "{rows:?}"
@@ -71,28 +79,39 @@ fn is_base(rows: &AllRows) -> bool {
     matches!(rows.tenants.as_slice(), [tenant] if tenant.rows.accounts.len() == 4)
 }
 
-/// Adds a tenant with its accounts, if there is memory for that, and reads all rows.
+/// Adds a tenant with its accounts, if there is memory for that, and reads its rows.
 fn added(alloc: Global, store: &mut Store<TestDisk>) -> Option<AllRows>
     requires { IsUsable store.old }
     ensures { IsUsable store.new }
 {
     let steps = steps(alloc, ONE).ok()?;
     let _answers = answers(alloc, store, &steps).ok()?;
-    all_rows(store).ok()
+    let rows = all_rows(store).ok()?;
+    if is_base(&rows) { Some(rows) } else { None }
+}
+
+/// A store to which a tenant is added, and all rows, if there is memory for that.
+fn with_a_tenant(alloc: Global, mut store: Store<TestDisk>) -> Option<(Store<TestDisk>, AllRows)>
+    requires { IsUsable store }
+    ensures { IfSome result (λ base. IsUsable base.0) }
+{
+    match added(alloc, &mut store) {
+        Some(rows) => Some((store, rows)),
+        None => {
+            shut(store);
+            None
+        }
+    }
 }
 
 /// A store with a tenant, and all rows, if there is memory for that.
 fn base(alloc: Global) -> Option<(Store<TestDisk>, AllRows)>
     ensures { IfSome result (λ base. IsUsable base.0) }
 {
-    let Ok(mut store) = made(alloc, empty(alloc, NEVER, NEVER)) else {
-        return None;
-    };
-    let rows = added(alloc, &mut store)?;
-    if !is_base(&rows) {
-        return None;
+    match made(alloc, empty(alloc, NEVER, NEVER)) {
+        Ok(store) => with_a_tenant(alloc, store),
+        Err((_fault, _files)) => None,
     }
-    Some((store, rows))
 }
 
 /// The same, once there is memory for it.
@@ -105,26 +124,39 @@ fn whole_base(alloc: Global) -> Result<(Store<TestDisk>, AllRows), Fail>
     }
 }
 
+/// The store opened again, now that there is memory for it.
+fn reopened_at_last(mut store: Store<TestDisk>) -> Result<Store<TestDisk>, Fail>
+    ensures { IfOk result IsUsable }
+{
+    match reopen(&mut store) {
+        Ok(()) => Ok(store),
+        Err(fault) => {
+            shut(store);
+            Err(fault.into())
+        }
+    }
+}
+
 /// The store opened again, once there is memory for it.
 fn reopened(alloc: Global, mut store: Store<TestDisk>) -> Result<Store<TestDisk>, Fail>
     ensures { IfOk result IsUsable }
 {
     match reopen(&mut store) {
         Ok(()) => Ok(store),
-        Err(OpenFault::Unavailable(Unavailable::Memory)) => {
-            reopen(&mut store)?;
-            Ok(store)
-        }
+        Err(OpenFault::Unavailable(Unavailable::Memory)) => reopened_at_last(store),
         Err(OpenFault::Unavailable(Unavailable::Disk)) => after_a_crash(alloc, store),
-        Err(fault) => Err(fault.into()),
+        Err(fault) => {
+            shut(store);
+            Err(fault.into())
+        }
     }
 }
 
 #[test]
 fn want_of_memory_in_reopen(rt: HostRuntime) -> Result<(), Fail> {
     let (store, before) = whole_base(rt.alloc())?;
-    let mut store = reopened(rt.alloc(), store)?;
-    assert_eq!(rt; rows_in(&mut store)?, before);
+    let rows = last_rows(reopened(rt.alloc(), store)?)?;
+    assert_eq!(rt; rows, before);
     Ok(())
 }
 
@@ -166,11 +198,12 @@ fn found_after(
 {
     let has_failed = !store.is_ready();
     let mut store = served_again(alloc, store)?;
-    let is_as_before = rows_in(&mut store)? == *before;
+    let rows = rows_in(&mut store);
     let again = chain.told(alloc, &mut store);
+    shut(store);
     Ok(Found {
         has_failed,
-        is_as_before,
+        is_as_before: rows? == *before,
         again,
     })
 }
@@ -180,6 +213,7 @@ fn sent(rt: &impl Abort, alloc: Global, chain: &Spelled) -> Result<Option<Found>
     let (mut store, before) = whole_base(alloc)?;
     let told = chain.told(alloc, &mut store);
     if told == Told::Done {
+        shut(store);
         return Ok(None);
     }
     assert_eq!(rt; told, Told::Unavailable);

@@ -1,6 +1,6 @@
 //! Runs over lists, and over disks in memory.
 
-use super::disks::{NEVER, new_store};
+use super::disks::{NEVER, new_store, shut};
 use super::examples::{EXAMPLES, TENANTS};
 use super::requests::{CLOCKS, READS, REFUSALS};
 use super::scripts::{answers, runs};
@@ -71,7 +71,10 @@ fn run_over_lists(rt: &impl Abort, alloc: Global, script: &str) -> Result<(), Fa
 
 /// Runs a script over disks of its own.
 fn run_over_disks(rt: &impl Abort, alloc: Global, script: &str) -> Result<(), Fail> {
-    runs(rt, alloc, &mut new_store(alloc, NEVER, NEVER)?, script)
+    let mut store = new_store(alloc, NEVER, NEVER)?;
+    let ended = runs(rt, alloc, &mut store, script);
+    shut(store);
+    ended
 }
 
 /// How many answers there are to no steps.
@@ -99,5 +102,8 @@ fn runs_over_disks(rt: HostRuntime) -> Result<(), Fail> {
 
 #[test]
 fn examples_over_disks(rt: HostRuntime) -> Result<(), Fail> {
-    examples(&rt, rt.alloc(), &mut new_store(rt.alloc(), NEVER, NEVER)?)
+    let mut store = new_store(rt.alloc(), NEVER, NEVER)?;
+    let ended = examples(&rt, rt.alloc(), &mut store);
+    shut(store);
+    ended
 }
