@@ -2,8 +2,11 @@
 //! versions, and its file migrated. What is expected is of `docs/MODEL.md`.
 
 mod acts;
+mod at_path;
+mod database;
 mod files;
 mod fixture;
 mod newer;
 mod stops;
+mod stored;
 mod work;

@@ -1,23 +1,21 @@
 //! What a test does to a ledger in some files, as data.
 
-ghost use Rattle.std.specs.Prelude.{◌≤◌};
-
-use super::fixture::{DIGEST, connected, opened, usable};
-use super::work::goes_on;
+use super::database::{connected, execute, files_of, number};
+use super::fixture::DIGEST;
+use super::stored::{Migrated, Opened, brought, opened, usable, used};
 use audit::{Damage, DamageKind};
-use migrate::{MigrateFault, migrate};
-use sqlite::Files;
+use sqlite::{Alter, Connection, Error, Files};
 use sqlite_disk::Disk;
 use std::alloc::Global;
 use std::process::Abort;
 use std::test::Fail;
-use store::{OpenFault, Store};
+use store::OpenFault;
 
 pub enum Act {
     /// An ordinary opening finds an older version.
     IsOld,
     /// What a migration to a version answers, and the version after it.
-    Migrates(u32, Result<(), MigrateFault>, u32),
+    Migrates(u32, Migrated, u32),
     /// A statement of SQL is run.
     Runs(&'static str),
     /// Each text of SQL answers a number.
@@ -40,7 +38,7 @@ pub fn act_on<D: Disk + Drop>(
     match act {
         Act::IsOld => refused(rt, usable(alloc, files), OpenFault::OldSchema),
         Act::Migrates(to, answer, version) => {
-            migrated(rt, alloc, files, *to, &(*answer, *version))
+            migrates(rt, alloc, files, *to, &(*answer, *version))
         }
         Act::Runs(sql) => run(alloc, files, sql),
         Act::Counts(texts) => counted(rt, alloc, files, texts),
@@ -51,9 +49,14 @@ pub fn act_on<D: Disk + Drop>(
 }
 
 fn run<D: Disk + Drop>(alloc: Global, files: Files<D>, sql: &str) -> Result<Files<D>, Fail> {
-    let mut conn = connected(alloc, files)?;
-    conn.execute(sql, &[])?;
-    Ok(conn.into_store().close())
+    let conn = connected(alloc, files)?;
+    Ok(files_of(changed(conn, sql)?))
+}
+
+/// A connection, after a statement.
+fn changed<S: Alter + Drop>(mut conn: Connection<S>, sql: &str) -> Result<Connection<S>, Error> {
+    execute(&mut conn, sql)?;
+    Ok(conn)
 }
 
 fn counted<D: Disk + Drop>(
@@ -62,12 +65,21 @@ fn counted<D: Disk + Drop>(
     files: Files<D>,
     texts: &[(&str, i64)],
 ) -> Result<Files<D>, Fail> {
-    let mut conn = connected(alloc, files)?;
+    let conn = connected(alloc, files)?;
+    Ok(files_of(asked(rt, conn, texts)?))
+}
+
+/// A connection, after texts each of which answers its number.
+fn asked<S: Alter + Drop>(
+    rt: &impl Abort,
+    mut conn: Connection<S>,
+    texts: &[(&str, i64)],
+) -> Result<Connection<S>, Fail> {
     for (sql, want) in texts {
-        let told: i64 = conn.query_row(sql, &[])?.get(0)?;
+        let told = number(&mut conn, sql)?;
         assert_eq!(rt; told, *want, "{sql}");
     }
-    Ok(conn.into_store().close())
+    Ok(conn)
 }
 
 fn damaged(kind: DamageKind) -> OpenFault {
@@ -78,36 +90,39 @@ fn damaged(kind: DamageKind) -> OpenFault {
     })
 }
 
-fn refused<D: Disk + Drop>(
-    rt: &impl Abort,
-    opened: Result<Store<D>, (OpenFault, Files<D>)>,
-    want: OpenFault,
-) -> Result<Files<D>, Fail> {
+/// Why a ledger was not opened, and the files.
+fn refusal<D: Disk + Drop>(opened: Opened<D>) -> Result<(OpenFault, Files<D>), Fail> {
     match opened {
         Ok(_) => Err("opened".into()),
-        Err((fault, files)) => {
-            assert_eq!(rt; fault, want);
-            Ok(files)
-        }
+        Err(refused) => Ok(refused),
     }
 }
 
-fn migrated<D: Disk + Drop>(
+fn refused<D: Disk + Drop>(
+    rt: &impl Abort,
+    opened: Opened<D>,
+    want: OpenFault,
+) -> Result<Files<D>, Fail> {
+    let (fault, files) = refusal(opened)?;
+    assert_eq!(rt; fault, want);
+    Ok(files)
+}
+
+fn migrates<D: Disk + Drop>(
     rt: &impl Abort,
     alloc: Global,
     files: Files<D>,
     to: u32,
-    want: &(Result<(), MigrateFault>, u32),
+    want: &(Migrated, u32),
 ) -> Result<Files<D>, Fail> {
     if 3 < to {
         return Err("no such version".into());
     }
     match opened(alloc, files) {
-        Ok(mut store) => {
-            let answer = migrate(alloc, &mut store, to);
-            let told = (answer, store.schema());
-            assert_eq!(rt; told, *want);
-            Ok(store.close())
+        Ok(store) => {
+            let (answer, version, files) = brought(alloc, store, to);
+            assert_eq!(rt; (answer, version), *want);
+            Ok(files)
         }
         Err((fault, _)) => Err(fault.into()),
     }
@@ -119,10 +134,7 @@ fn went_on<D: Disk + Drop>(
     files: Files<D>,
 ) -> Result<Files<D>, Fail> {
     match usable(alloc, files) {
-        Ok(mut store) => {
-            goes_on(rt, alloc, &mut store)?;
-            Ok(store.close())
-        }
+        Ok(store) => used(rt, alloc, store),
         Err((fault, _)) => Err(fault.into()),
     }
 }

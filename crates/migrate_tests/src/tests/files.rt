@@ -1,20 +1,15 @@
 use super::acts::Act::*;
 use super::acts::{Act, act_on};
-use super::fixture::{SMALL, empty, in_memory, write};
-use super::work::goes_on;
+use super::fixture::{empty, in_memory};
+use super::stored::Migrated;
 use audit::DamageKind::{Balance, Clock, Entry, History, Shape, Status, Timestamp};
-use migrate::{MigrateFault, migrate};
-use sqlite::{Connection, Unknown};
-use std::fs;
+use migrate::MigrateFault;
+use std::alloc::Global;
+use std::process::Abort;
 use std::test::Fail;
-use store::OpenFault::{NewerSchema, NotALedger, OldSchema, Unreadable};
-use store::{FullAudit, Store};
+use store::OpenFault::{NewerSchema, NotALedger, Unreadable};
 
-const PATH: &str = "migrate_files_test.db";
-
-const LOG: &str = "migrate_files_test.db-wal";
-
-const NEWER: Result<(), MigrateFault> = Err(MigrateFault::NewerSchema);
+const NEWER: Migrated = Err(MigrateFault::NewerSchema);
 
 /// What a newer version has of the transfer that was posted too late: the clock stays, transfer 100
 /// has expired at its due time, no balance has it, and the history of both its accounts keeps it.
@@ -109,38 +104,21 @@ const LEDGERS: &[&[Act]] = &[
     ],
 ];
 
-#[test]
-fn a_ledger_in_memory_is_migrated_or_refused(rt: HostRuntime) -> Result<(), Fail> {
-    let alloc = rt.alloc();
-    for acts in LEDGERS {
-        let mut files = in_memory(alloc)?;
-        for step in *acts {
-            files = act_on(&rt, alloc, files, step)?;
-        }
+/// Begins with the ledger of version 1.
+fn play(rt: &impl Abort, alloc: Global, acts: &[Act]) -> Result<(), Fail> {
+    let mut files = in_memory(alloc)?;
+    for act in acts {
+        files = act_on(rt, alloc, files, act)?;
     }
-    act_on(&rt, alloc, empty(alloc), &IsRefused(NotALedger))?;
     Ok(())
 }
 
 #[test]
-fn a_file_of_the_host_is_migrated(rt: HostRuntime) -> Result<(), Fail> {
+fn a_ledger_in_memory_is_migrated_or_refused(rt: HostRuntime) -> Result<(), Fail> {
     let alloc = rt.alloc();
-    let _ = fs::remove_file(&rt, PATH);
-    let _ = fs::remove_file(&rt, LOG);
-    match Connection::open_from(&rt, PATH, false, Unknown) {
-        Ok(mut conn) => write(&mut conn)?,
-        Err((error, _)) => return Err(error.into()),
+    for acts in LEDGERS {
+        play(&rt, alloc, acts)?;
     }
-    let old = Store::open_at(&rt, PATH, Unknown, SMALL, &FullAudit);
-    assert_eq!(rt; old.err(), Some(OldSchema));
-    let mut store = Store::open_for_migration_at(&rt, PATH, Unknown, SMALL, &FullAudit)?;
-    let from = store.schema();
-    let answer = migrate(alloc, &mut store, 3);
-    assert_eq!(rt; (from, answer, store.schema()), (1, Ok(()), 3));
-    drop(store);
-    let mut store = Store::open_at(&rt, PATH, Unknown, SMALL, &FullAudit)?;
-    goes_on(&rt, alloc, &mut store)?;
-    fs::remove_file(&rt, PATH)?;
-    let _ = fs::remove_file(&rt, LOG);
+    act_on(&rt, alloc, empty(alloc), &IsRefused(NotALedger))?;
     Ok(())
 }

@@ -2,28 +2,15 @@
 //! a pending transfer of 100 at 5 with a timeout of a second, and the clock at which its post was
 //! refused as too late.
 
-ghost use Rattle.std.specs.Prelude.{IfOk};
-ghost use Rattle.store.specs.Migrating.{IsMigratable};
-ghost use Rattle.store.specs.Stores.{IsUsable};
-
-use records::Unavailable;
-use sqlite::{Connection, Error, ErrorCode, FileStore, Files, Options};
-use sqlite_disk::{Disk, Memory};
+use super::database::{connected, execute, files_of};
+use sqlite::{Alter, Connection, Error, Files};
+use sqlite_disk::Memory;
 use std::alloc::Global;
-use store::{FullAudit, OpenFault, Store};
 
 /// The digest of the one tenant.
 pub const DIGEST: [u8; 32] = [1; 32];
 
-/// Few pages, since each opening makes room for all of them.
-pub const SMALL: Options = Options {
-    cache_pages: 50,
-    spill_pages: 50,
-    checkpoint_frames: 100,
-    seed: 7,
-};
-
-const LEDGER: [&str; 14] = [
+static LEDGER: [&str; 14] = [
     "BEGIN",
     "CREATE TABLE schema (one INTEGER PRIMARY KEY NOT NULL CHECK (one = 1), version INTEGER NOT \
         NULL) STRICT",
@@ -63,64 +50,33 @@ const LEDGER: [&str; 14] = [
 ];
 
 /// Writes the ledger into an empty database.
-pub fn write<D: Disk + Drop>(conn: &mut Connection<FileStore<D>>) -> Result<(), Error> {
-    for sql in LEDGER {
-        conn.execute(sql, &[])?;
+fn write<S: Alter>(conn: &mut Connection<S>) -> Result<(), Error> {
+    for sql in &LEDGER {
+        execute(conn, sql)?;
     }
     Ok(())
 }
 
-/// A connection to the database in some files.
-pub fn connected<D: Disk + Drop>(
-    alloc: Global,
-    files: Files<D>,
-) -> Result<Connection<FileStore<D>>, Error> {
-    if !files.may_be_used() {
-        return Err(Error::SqliteFailure(ErrorCode::CannotOpen));
-    }
-    match Connection::open_files(alloc, files, SMALL) {
-        Ok(conn) => Ok(conn),
-        Err((error, _)) => Err(error),
-    }
+/// A connection to an empty database, with the ledger.
+pub fn written<S: Alter + Drop>(mut conn: Connection<S>) -> Result<Connection<S>, Error> {
+    write(&mut conn)?;
+    Ok(conn)
 }
 
 /// The ledger in memory.
 pub fn in_memory(alloc: Global) -> Result<Files<Memory>, Error> {
-    let mut conn = connected(alloc, empty(alloc))?;
-    write(&mut conn)?;
-    Ok(conn.into_store().close())
+    let conn = connected(alloc, empty(alloc))?;
+    Ok(files_of(written(conn)?))
 }
 
 /// Empty files in memory.
 pub fn empty(alloc: Global) -> Files<Memory> {
     Files {
-        log: Memory::new(alloc),
-        db: Memory::new(alloc),
+        log: disk(alloc),
+        db: disk(alloc),
     }
 }
 
-/// The ledger in some files, to be migrated, or why it is not opened for that, with the files.
-pub fn opened<D: Disk + Drop>(
-    alloc: Global,
-    files: Files<D>,
-) -> Result<Store<D>, (OpenFault, Files<D>)>
-    ensures { IfOk result IsMigratable }
-{
-    if !files.may_be_used() {
-        return Err((OpenFault::Unavailable(Unavailable::Disk), files));
-    }
-    Store::open_for_migration(alloc, files, SMALL, &FullAudit)
-}
-
-/// The ledger in some files, to be used, or why it is not opened for that, with the files.
-pub fn usable<D: Disk + Drop>(
-    alloc: Global,
-    files: Files<D>,
-) -> Result<Store<D>, (OpenFault, Files<D>)>
-    ensures { IfOk result IsUsable }
-{
-    if !files.may_be_used() {
-        return Err((OpenFault::Unavailable(Unavailable::Disk), files));
-    }
-    Store::open(alloc, files, SMALL, &FullAudit)
+fn disk(alloc: Global) -> Memory {
+    Memory::new(alloc)
 }

@@ -29,6 +29,10 @@ fn account(id: u8, flags: i64) -> AccountCells {
     }
 }
 
+fn accounts(alloc: Global) -> Result<Vec<AccountCells>, AllocError> {
+    Ok(vec![in alloc; account(1, 0), account(2, 0), account(3, 10), account(4, 0)]?)
+}
+
 fn pending() -> TransferCells {
     TransferCells {
         id: column(100),
@@ -58,8 +62,8 @@ fn no_balance(id: u8) -> BalanceCells {
     }
 }
 
-fn balances() -> [BalanceCells; 4] {
-    [no_balance(1), no_balance(2), no_balance(3), no_balance(4)]
+fn balances(alloc: Global) -> Result<Vec<BalanceCells>, AllocError> {
+    Ok(vec![in alloc; no_balance(1), no_balance(2), no_balance(3), no_balance(4)]?)
 }
 
 fn status() -> StatusCells {
@@ -71,7 +75,7 @@ fn status() -> StatusCells {
 }
 
 // The balances of accounts 1 and 2 after transfer 100.
-fn history() -> [HistoryCells; 2] {
+fn history(alloc: Global) -> Result<Vec<HistoryCells>, AllocError> {
     let debit = HistoryCells {
         account: column(1),
         timestamp: 5,
@@ -86,14 +90,14 @@ fn history() -> [HistoryCells; 2] {
         cp: column(100),
         ..debit
     };
-    [debit, credit]
+    Ok(vec![in alloc; debit, credit]?)
 }
 
 // Posted too late: the post was refused at the clock, so that no more than the clock tells of it.
 fn list_rows(alloc: Global) -> Result<TenantRows, AllocError> {
     Ok(TenantRows {
         clocks: vec![in alloc; CLOCK]?,
-        accounts: vec![in alloc; account(1, 0), account(2, 0), account(3, 10), account(4, 0)]?,
+        accounts: accounts(alloc)?,
         transfers: vec![in alloc; pending()]?,
         balances: Vec::new(alloc),
         statuses: Vec::new(alloc),
@@ -103,12 +107,10 @@ fn list_rows(alloc: Global) -> Result<TenantRows, AllocError> {
 }
 
 fn balance_rows(alloc: Global) -> Result<TenantRows, AllocError> {
-    let [debit, credit] = history();
-    let [first, second, third, fourth] = balances();
     Ok(TenantRows {
-        balances: vec![in alloc; first, second, third, fourth]?,
+        balances: balances(alloc)?,
         statuses: vec![in alloc; status()]?,
-        history: vec![in alloc; debit, credit]?,
+        history: history(alloc)?,
         ..list_rows(alloc)?
     })
 }
@@ -117,15 +119,15 @@ fn balance_rows(alloc: Global) -> Result<TenantRows, AllocError> {
 fn file(alloc: Global, version: u32) -> Result<AllRows, AllocError> {
     Ok(AllRows {
         version,
-        directory: vec![in alloc; named(alloc, 1)?, named(alloc, 2)?]?,
+        directory: vec![in alloc; named(alloc, 1, "tenant-1")?, named(alloc, 2, "tenant-2")?]?,
         tenants: vec![in alloc; tenant(alloc, version, 1)?, tenant(alloc, version, 2)?]?,
     })
 }
 
-fn named(alloc: Global, number: u8) -> Result<DirectoryRow, AllocError> {
+fn named(alloc: Global, number: u8, name: &str) -> Result<DirectoryRow, AllocError> {
     Ok(DirectoryRow {
         number: i64::from(number),
-        name: format!(in alloc; "tenant-{number}")?,
+        name: String::from_str(alloc, name)?,
         digest: [number; 32],
     })
 }

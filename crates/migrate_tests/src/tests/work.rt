@@ -4,7 +4,7 @@ ghost use Rattle.store.specs.Stores.{IsUsable};
 
 use super::fixture::DIGEST;
 use amount::Amount;
-use chain::{BatchReply, Tables, Work, run_transfers};
+use chain::{BatchFault, BatchReply, Tables, Work, run_transfers};
 use records::{Balances, PendingState, TransferEvent, TransferFlags, TransferResult, Unavailable};
 use sqlite_disk::Disk;
 use std::alloc::Global;
@@ -13,33 +13,40 @@ use std::test::Fail;
 use store::Store;
 
 /// A transfer of 10 from account 1 to account 2.
+fn event() -> TransferEvent {
+    TransferEvent {
+        id: 102,
+        debit_account_id: 1,
+        credit_account_id: 2,
+        amount: Amount::new(10),
+        pending_id: 0,
+        user_data_128: 0,
+        user_data_64: 0,
+        user_data_32: 0,
+        timeout: 0,
+        ledger: 7,
+        code: 1,
+        flags: TransferFlags(0),
+        timestamp: 0,
+    }
+}
+
+/// What is answered of the transfer.
+type Sent = BatchReply<TransferResult>;
+
+/// Sends the transfer.
 #[derive(Drop)]
 struct Sending {
     alloc: Global,
 }
 
 impl Work for Sending {
-    type Output = BatchReply<TransferResult>;
+    type Output = Sent;
 
     ghost gives = { λ _ _ _ _. Unit {0} };
 
-    fn run<T: Tables>(self, tables: &mut T) -> Result<BatchReply<TransferResult>, Unavailable> {
-        let event = TransferEvent {
-            id: 102,
-            debit_account_id: 1,
-            credit_account_id: 2,
-            amount: Amount::new(10),
-            pending_id: 0,
-            user_data_128: 0,
-            user_data_64: 0,
-            user_data_32: 0,
-            timeout: 0,
-            ledger: 7,
-            code: 1,
-            flags: TransferFlags(0),
-            timestamp: 0,
-        };
-        run_transfers(self.alloc, tables, &[event], 0)
+    fn run<T: Tables>(self, tables: &mut T) -> Result<Sent, Unavailable> {
+        run_transfers(self.alloc, tables, &[event()], 0)
     }
 }
 
@@ -63,6 +70,19 @@ impl Work for Looking {
     }
 }
 
+fn look<D: Disk + Drop>(store: &mut Store<D>) -> Result<Seen, BatchFault>
+    requires { IsUsable store.old }
+    ensures { IsUsable store.new }
+{
+    store.in_batch(&DIGEST, Looking)
+}
+
+fn send<D: Disk + Drop>(alloc: Global, store: &mut Store<D>) -> Result<Sent, BatchFault>
+    requires { IsUsable store.old }
+{
+    store.in_batch(&DIGEST, Sending { alloc })
+}
+
 /// The transfer has expired, and the ledger goes on behind its clock.
 pub fn goes_on<D: Disk + Drop>(
     rt: &impl Abort,
@@ -71,8 +91,8 @@ pub fn goes_on<D: Disk + Drop>(
 ) -> Result<(), Fail>
     requires { IsUsable store.old }
 {
-    let seen = store.in_batch(&DIGEST, Looking)?;
-    let sent = store.in_batch(&DIGEST, Sending { alloc })?;
+    let seen = look(store)?;
+    let sent = send(alloc, store)?;
     assert!(rt; is_expired(&seen) && went_on(&sent));
     Ok(())
 }
@@ -86,7 +106,7 @@ fn is_expired(seen: &Seen) -> bool {
         )
 }
 
-fn went_on(sent: &BatchReply<TransferResult>) -> bool {
+fn went_on(sent: &Sent) -> bool {
     let BatchReply::Done { clock, results } = sent else {
         return false;
     };
