@@ -1,10 +1,10 @@
 //! What a test does to a ledger in some files, as data.
 
-use super::database::{connected, execute, files_of, number};
+use super::database::{changed, connected, number};
 use super::fixture::DIGEST;
-use super::stored::{Migrated, Opened, brought, opened, usable, used};
+use super::stored::{Migrated, Opened, brought, opened, refusal, usable, used};
 use audit::{Damage, DamageKind};
-use sqlite::{Alter, Connection, Error, Files};
+use sqlite::{Alter, Connection, Files};
 use sqlite_disk::Disk;
 use std::alloc::Global;
 use std::process::Abort;
@@ -49,14 +49,7 @@ pub fn act_on<D: Disk + Drop>(
 }
 
 fn run<D: Disk + Drop>(alloc: Global, files: Files<D>, sql: &str) -> Result<Files<D>, Fail> {
-    let conn = connected(alloc, files)?;
-    Ok(files_of(changed(conn, sql)?))
-}
-
-/// A connection, after a statement.
-fn changed<S: Alter + Drop>(mut conn: Connection<S>, sql: &str) -> Result<Connection<S>, Error> {
-    execute(&mut conn, sql)?;
-    Ok(conn)
+    Ok(changed(alloc, files, &[sql])?)
 }
 
 fn counted<D: Disk + Drop>(
@@ -66,20 +59,20 @@ fn counted<D: Disk + Drop>(
     texts: &[(&str, i64)],
 ) -> Result<Files<D>, Fail> {
     let conn = connected(alloc, files)?;
-    Ok(files_of(asked(rt, conn, texts)?))
+    Ok(asked(rt, conn, texts)?.close())
 }
 
-/// A connection, after texts each of which answers its number.
+/// Each text answers its number; ends the connection.
 fn asked<S: Alter + Drop>(
     rt: &impl Abort,
     mut conn: Connection<S>,
     texts: &[(&str, i64)],
-) -> Result<Connection<S>, Fail> {
+) -> Result<S, Fail> {
     for (sql, want) in texts {
         let told = number(&mut conn, sql)?;
         assert_eq!(rt; told, *want, "{sql}");
     }
-    Ok(conn)
+    Ok(conn.into_store())
 }
 
 fn damaged(kind: DamageKind) -> OpenFault {
@@ -90,20 +83,14 @@ fn damaged(kind: DamageKind) -> OpenFault {
     })
 }
 
-/// Why a ledger was not opened, and the files.
-fn refusal<D: Disk + Drop>(opened: Opened<D>) -> Result<(OpenFault, Files<D>), Fail> {
-    match opened {
-        Ok(_) => Err("opened".into()),
-        Err(refused) => Ok(refused),
-    }
-}
-
 fn refused<D: Disk + Drop>(
     rt: &impl Abort,
     opened: Opened<D>,
     want: OpenFault,
 ) -> Result<Files<D>, Fail> {
-    let (fault, files) = refusal(opened)?;
+    let Some((fault, files)) = refusal(opened) else {
+        return Err("opened".into());
+    };
     assert_eq!(rt; fault, want);
     Ok(files)
 }

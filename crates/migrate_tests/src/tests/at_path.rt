@@ -4,11 +4,10 @@ ghost use Rattle.std.specs.Prelude.{IfOk};
 ghost use Rattle.store.specs.Migrating.{IsMigratable};
 ghost use Rattle.store.specs.Stores.{IsUsable};
 
-use super::database::{SMALL, files_of};
-use super::fixture::written;
-use super::stored::{Migrated, brought, used};
+use super::database::{SMALL, executed};
+use super::fixture::LEDGER;
+use super::stored::{Migrated, brought, refusal, used};
 use sqlite::{Connection, Error, File, FileStore, Unknown};
-use sqlite_disk::Disk;
 use std::fs;
 use std::test::Fail;
 use store::OpenFault::OldSchema;
@@ -38,7 +37,7 @@ fn usable(rt: &HostRuntime) -> Result<Store<File>, OpenFault>
 }
 
 fn write_file(rt: &HostRuntime) -> Result<(), Error> {
-    files_of(written(connected(rt)?)?);
+    let _files = executed(connected(rt)?, &LEDGER)?.close();
     Ok(())
 }
 
@@ -48,10 +47,6 @@ fn migrate_file(rt: &HostRuntime) -> Result<(u32, Migrated, u32), OpenFault> {
     let from = store.schema();
     let (answer, to, _files) = brought(rt.alloc(), store, 3);
     Ok((from, answer, to))
-}
-
-fn refusal<D: Disk + Drop>(opened: Result<Store<D>, OpenFault>) -> Option<OpenFault> {
-    opened.err()
 }
 
 #[test]

@@ -26,13 +26,26 @@ pub fn connected<D: Disk + Drop>(
     }
 }
 
-/// Ends a connection, and gives its files back.
-pub fn files_of<D: Disk + Drop>(conn: Connection<FileStore<D>>) -> Files<D> {
-    conn.into_store().close()
+/// The files, after statements on their database.
+pub fn changed<D: Disk + Drop>(
+    alloc: Global,
+    files: Files<D>,
+    statements: &[&str],
+) -> Result<Files<D>, Error> {
+    let conn = connected(alloc, files)?;
+    Ok(executed(conn, statements)?.close())
+}
+
+/// Runs statements, and ends the connection.
+pub fn executed<S: Alter + Drop>(mut conn: Connection<S>, statements: &[&str]) -> Result<S, Error> {
+    for sql in statements {
+        execute(&mut conn, sql)?;
+    }
+    Ok(conn.into_store())
 }
 
 /// Runs a statement, and tells how many rows it has changed.
-pub fn execute<S: Alter>(conn: &mut Connection<S>, sql: &str) -> Result<usize, Error> {
+fn execute<S: Alter>(conn: &mut Connection<S>, sql: &str) -> Result<usize, Error> {
     conn.execute(sql, &[])
 }
 

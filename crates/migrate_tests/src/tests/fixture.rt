@@ -2,15 +2,16 @@
 //! a pending transfer of 100 at 5 with a timeout of a second, and the clock at which its post was
 //! refused as too late.
 
-use super::database::{connected, execute, files_of};
-use sqlite::{Alter, Connection, Error, Files};
+use super::database::changed;
+use sqlite::{Error, Files};
 use sqlite_disk::Memory;
 use std::alloc::Global;
 
 /// The digest of the one tenant.
 pub const DIGEST: [u8; 32] = [1; 32];
 
-static LEDGER: [&str; 14] = [
+/// What writes it into an empty database.
+pub static LEDGER: [&str; 14] = [
     "BEGIN",
     "CREATE TABLE schema (one INTEGER PRIMARY KEY NOT NULL CHECK (one = 1), version INTEGER NOT \
         NULL) STRICT",
@@ -49,24 +50,9 @@ static LEDGER: [&str; 14] = [
     "COMMIT",
 ];
 
-/// Writes the ledger into an empty database.
-fn write<S: Alter>(conn: &mut Connection<S>) -> Result<(), Error> {
-    for sql in &LEDGER {
-        execute(conn, sql)?;
-    }
-    Ok(())
-}
-
-/// A connection to an empty database, with the ledger.
-pub fn written<S: Alter + Drop>(mut conn: Connection<S>) -> Result<Connection<S>, Error> {
-    write(&mut conn)?;
-    Ok(conn)
-}
-
 /// The ledger in memory.
 pub fn in_memory(alloc: Global) -> Result<Files<Memory>, Error> {
-    let conn = connected(alloc, empty(alloc))?;
-    Ok(files_of(written(conn)?))
+    changed(alloc, empty(alloc), &LEDGER)
 }
 
 /// Empty files in memory.

@@ -47,8 +47,14 @@ fn reopened<D: Crash + Drop>(alloc: Global, mut files: Files<D>) -> Opened<D> {
 // What a migration answers, and the version that is there after a crash.
 fn stopped<D: Crash + Drop>(alloc: Global, files: Files<D>) -> Result<(Migrated, u32), Fail> {
     let (answer, files) = attempted(alloc, files);
-    match reopened(alloc, files) {
-        Ok(store) => Ok((answer, store.schema())),
+    let (version, _files) = version_of(reopened(alloc, files))?;
+    Ok((answer, version))
+}
+
+// The version of an opened ledger, and its files.
+fn version_of<D: Disk + Drop>(opened: Opened<D>) -> Result<(u32, Files<D>), Fail> {
+    match opened {
+        Ok(store) => Ok((store.schema(), files_of(store))),
         Err((fault, _)) => Err(fault.into()),
     }
 }
@@ -105,21 +111,13 @@ fn reopened_again<D: Crash + Drop>(alloc: Global, files: Files<D>) -> Opened<D> 
     }
 }
 
-// The version of the ledger in some files.
-fn version_of<D: Crash + Drop>(alloc: Global, files: Files<D>) -> Result<(u32, Files<D>), Fail> {
-    match reopened_again(alloc, files) {
-        Ok(store) => Ok((store.schema(), files_of(store))),
-        Err((fault, _)) => Err(fault.into()),
-    }
-}
-
 // What a migration answers, the version that is there after a crash, and the files.
 fn tried<D: Crash + Drop>(
     alloc: Global,
     files: Files<D>,
 ) -> Result<(Migrated, u32, Files<D>), Fail> {
     let (answer, files) = attempted(alloc, files);
-    let (version, files) = version_of(alloc, files)?;
+    let (version, files) = version_of(reopened_again(alloc, files))?;
     Ok((answer, version, files))
 }
 

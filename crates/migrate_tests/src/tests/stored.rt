@@ -71,8 +71,21 @@ pub fn used<D: Disk + Drop>(
 ) -> Result<Files<D>, Fail>
     requires { IsUsable store }
 {
-    goes_on(rt, alloc, &mut store)?;
-    Ok(files_of(store))
+    let went = goes_on(rt, alloc, &mut store);
+    let files = files_of(store);
+    went?;
+    Ok(files)
+}
+
+/// Why a ledger was not opened, unless it was.
+pub fn refusal<D: Disk + Drop, E>(opened: Result<Store<D>, E>) -> Option<E> {
+    match opened {
+        Ok(store) => {
+            let _files = files_of(store);
+            None
+        }
+        Err(told) => Some(told),
+    }
 }
 
 /// Ends a store, and gives its files back.
