@@ -101,6 +101,12 @@ pub fn shown<T: Debug>(alloc: Global, value: &T) -> Text {
     format!(in alloc; "{value:?}")
 }
 
+/// Puts a word behind a text.
+pub fn put_word(text: &mut String, word: String) -> Result<(), AllocError> {
+    text.push(' ')?;
+    text.push_str(word.as_str())
+}
+
 /// What a store answers.
 pub fn answer<D: Disk + Drop>(store: &mut Driven<D>, command: &Command<'_>) -> Text {
     match command.verb {
@@ -233,11 +239,11 @@ fn told<R: Numbered>(alloc: Global, reply: Result<BatchReply<R>, BatchFault>) ->
 fn results_told<R: Numbered>(alloc: Global, clock: u64, results: &[EventResult<R>]) -> Text {
     let mut text = format!(in alloc; "clock {clock}:")?;
     for each in results {
-        text.push_str(result_told(alloc, each)?.as_str())?;
+        put_word(&mut text, result_told(alloc, each)?)?;
     }
     Ok(text)
 }
 
 fn result_told<R: Numbered>(alloc: Global, each: &EventResult<R>) -> Text {
-    format!(in alloc; " {}@{}", each.result.its_number(), each.timestamp)
+    format!(in alloc; "{}@{}", each.result.its_number(), each.timestamp)
 }

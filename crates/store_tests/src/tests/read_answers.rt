@@ -1,6 +1,6 @@
 //! What each read answers. A filter is an account, flags, a limit and two times.
 
-use super::commands::Text;
+use super::commands::{Text, put_word, shown};
 use super::playing::play_from_base;
 use std::alloc::Global;
 
@@ -101,7 +101,7 @@ fn page(alloc: Global, first: u64, newest_first: bool) -> Text {
     let mut text = format!(in alloc; "clock 1005:")?;
     for place in 0..1000u64 {
         let further = if newest_first { 999 - place } else { place };
-        text.push_str(format!(in alloc; " {}", first.saturating_add(further))?.as_str())?;
+        put_word(&mut text, shown(alloc, &first.saturating_add(further))?)?;
     }
     Ok(text)
 }

@@ -1,6 +1,6 @@
 //! What a store answers to reads, in words: the clock, and the entries.
 
-use super::commands::{Command, Text, shown};
+use super::commands::{Command, Text, put_word, shown};
 use super::driven::Driven;
 use super::works::sums;
 use chain::{Listed, ReadFault};
@@ -65,7 +65,7 @@ fn listed<T: Entry + Drop>(alloc: Global, found: Result<Listed<T>, ReadFault>) -
 fn entries_told<T: Entry>(alloc: Global, found: &Listed<T>) -> Text {
     let mut text = format!(in alloc; "clock {}:", found.clock)?;
     for entry in found.entries.iter() {
-        text.push_str(format!(in alloc; " {}", entry.entry(alloc)?)?.as_str())?;
+        put_word(&mut text, entry.entry(alloc)?)?;
     }
     Ok(text)
 }
@@ -81,7 +81,7 @@ fn ids_listed(alloc: Global, found: Result<Listed<Transfer>, ReadFault>) -> Text
 fn ids_told(alloc: Global, found: &Listed<Transfer>) -> Text {
     let mut text = format!(in alloc; "clock {}:", found.clock)?;
     for entry in found.entries.iter() {
-        text.push_str(format!(in alloc; " {}", entry.id)?.as_str())?;
+        put_word(&mut text, shown(alloc, &entry.id)?)?;
     }
     Ok(text)
 }
@@ -95,7 +95,7 @@ fn line(alloc: Global, row: &StatementRow) -> Text {
     };
     let [dp, dd, cp, cc] = sums(&row.balances);
     format!(in alloc;
-        " {},{},{side},{:?},{},{dp},{dd},{cp},{cc}",
+        "{},{},{side},{:?},{},{dp},{dd},{cp},{cc}",
         row.timestamp,
         row.transfer_id,
         row.kind,
@@ -107,7 +107,7 @@ fn line(alloc: Global, row: &StatementRow) -> Text {
 fn stated(alloc: Global, rows: &[StatementRow], ended: &Result<(), ReadFault>) -> Text {
     let mut text = shown(alloc, ended)?;
     for row in rows {
-        text.push_str(line(alloc, row)?.as_str())?;
+        put_word(&mut text, line(alloc, row)?)?;
     }
     Ok(text)
 }

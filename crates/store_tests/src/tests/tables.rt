@@ -1,12 +1,16 @@
 //! The rows of a store's tables, in words.
 
-use super::commands::{Text, said, shown};
+use super::commands::{Text, put_word, said, shown};
 use records::Unavailable;
 use rows::{
     AccountCells, AllRows, BalanceCells, DirectoryRow, HistoryCells, StatusCells, TenantOfDigest,
     TenantRows, TransferCells,
 };
 use std::alloc::Global;
+
+fn number_of(blob: [u8; 16]) -> u128 {
+    u128::from_be_bytes(blob)
+}
 
 /// A row's cells as numbers. Blobs are numbers too, the greatest byte first.
 trait Cells {
@@ -15,7 +19,7 @@ trait Cells {
 
 impl Cells for AccountCells {
     fn row(&self, alloc: Global) -> Text {
-        let id = u128::from_be_bytes(self.id);
+        let id = number_of(self.id);
         shown(
             alloc,
             &(id, self.ledger, self.code, self.flags, self.timestamp),
@@ -35,7 +39,7 @@ impl Cells for TransferCells {
         shown(
             alloc,
             &(
-                ids.map(u128::from_be_bytes),
+                ids.map(number_of),
                 self.flags,
                 self.timestamp,
                 self.at_clock,
@@ -47,29 +51,26 @@ impl Cells for TransferCells {
 impl Cells for BalanceCells {
     fn row(&self, alloc: Global) -> Text {
         let cells = [self.account, self.dp, self.dd, self.cp, self.cc];
-        shown(alloc, &cells.map(u128::from_be_bytes))
+        shown(alloc, &cells.map(number_of))
     }
 }
 
 impl Cells for StatusCells {
     fn row(&self, alloc: Global) -> Text {
-        shown(
-            alloc,
-            &(u128::from_be_bytes(self.transfer), self.state, self.due),
-        )
+        shown(alloc, &(number_of(self.transfer), self.state, self.due))
     }
 }
 
 impl Cells for HistoryCells {
     fn row(&self, alloc: Global) -> Text {
         let cells = [self.account, self.dp, self.dd, self.cp, self.cc];
-        shown(alloc, &(self.timestamp, cells.map(u128::from_be_bytes)))
+        shown(alloc, &(self.timestamp, cells.map(number_of)))
     }
 }
 
 impl Cells for [u8; 16] {
     fn row(&self, alloc: Global) -> Text {
-        shown(alloc, &u128::from_be_bytes(*self))
+        shown(alloc, &number_of(*self))
     }
 }
 
@@ -82,7 +83,7 @@ impl Cells for i64 {
 fn rows_told<C: Cells>(alloc: Global, rows: &[C]) -> Text {
     let mut text = format!(in alloc; "{} rows:", rows.len())?;
     for row in rows {
-        text.push_str(format!(in alloc; " {}", row.row(alloc)?)?.as_str())?;
+        put_word(&mut text, row.row(alloc)?)?;
     }
     Ok(text)
 }
@@ -121,7 +122,7 @@ pub fn directory(alloc: Global, told: Result<AllRows, Unavailable>) -> Text {
 fn tenants_told(alloc: Global, all: &AllRows) -> Text {
     let mut text = format!(in alloc; "version {}:", all.version)?;
     for (row, tenant) in all.directory.iter().zip(all.tenants.iter()) {
-        text.push_str(tenant_told(alloc, row, tenant)?.as_str())?;
+        put_word(&mut text, tenant_told(alloc, row, tenant)?)?;
     }
     Ok(text)
 }
@@ -129,5 +130,5 @@ fn tenants_told(alloc: Global, all: &AllRows) -> Text {
 fn tenant_told(alloc: Global, row: &DirectoryRow, tenant: &TenantOfDigest) -> Text {
     let its = [row.digest[0], tenant.digest[0]];
     let transfers = tenant.rows.transfers.len();
-    format!(in alloc; " {} {} {its:?} {transfers};", row.number, row.name)
+    format!(in alloc; "{} {} {its:?} {transfers};", row.number, row.name)
 }
