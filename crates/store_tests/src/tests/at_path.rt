@@ -4,7 +4,7 @@ use super::bench::fault_shown;
 use super::disks::WIDE;
 use super::driven::Driven;
 use super::playing::play_on;
-use sqlite_disk::{Disk, Unknown};
+use sqlite_disk::{Disk, Start, Unknown};
 use std::alloc::Global;
 use std::fs;
 use std::process::Abort;
@@ -32,17 +32,28 @@ fn remove(rt: &HostRuntime) {
     let _ = fs::remove_file(rt, LOG);
 }
 
-/// Why nothing is opened at a path.
-fn refusal(rt: &HostRuntime, path: &str) -> Option<String> {
-    match Driven::open_at(rt, path, Unknown, WIDE) {
-        Ok(_) => None,
-        Err(fault) => fault_shown(rt.alloc(), fault).ok(),
+/// Why nothing was opened.
+fn why_not<D: Disk + Drop>(alloc: Global, opened: Result<Driven<D>, OpenFault>) -> Option<String> {
+    match opened {
+        Ok(store) => {
+            store.end();
+            None
+        }
+        Err(fault) => fault_shown(alloc, fault).ok(),
     }
+}
+
+/// Why nothing is opened at a path.
+fn refusal<St: Start>(rt: &HostRuntime, path: &str, start: St) -> Option<String> {
+    why_not(rt.alloc(), Driven::open_at(rt, path, start, WIDE))
 }
 
 /// Whether nothing is opened at a path, for this reason.
 fn is_refused(rt: &HostRuntime, path: &str, why: &str) -> bool {
-    refusal(rt, path).is_some_and(|told| told.as_str() == why)
+    match refusal(rt, path, Unknown) {
+        Some(told) => told.as_str() == why,
+        None => false,
+    }
 }
 
 /// Calls a ledger that was made or opened.
@@ -53,7 +64,10 @@ fn plays<D: Disk + Drop>(
     script: &str,
 ) {
     match store {
-        Ok(mut store) => play_on(rt, alloc, &mut store, script),
+        Ok(mut store) => {
+            play_on(rt, alloc, &mut store, script);
+            store.end();
+        }
         Err(fault) => panic!(rt; "no ledger: {fault:?}"),
     }
 }

@@ -1,37 +1,48 @@
 //! A ledger in two files, and what is done to both in words.
 
 use super::commands::{Command, NoMemory, Text, answer, said, shown};
-use super::disks::{Calls, InMemory, disk};
+use super::disks::{Calls, Faulty};
 use super::driven::Driven;
 use super::on_files::{changed, noise};
 use sqlite::{Files, Options};
-use sqlite_disk::Crash;
+use sqlite_disk::Disk;
 use std::alloc::Global;
 use std::mem;
 use store::{Audit, FullAudit, OpenFault};
 
 /// Where the two files of a ledger are.
 #[derive(Drop)]
-enum Ledger {
-    Opened(Driven<InMemory>),
-    Closed(Files<InMemory>),
+enum Ledger<D: Disk + Drop> {
+    Opened(Driven<D>),
+    Closed(Files<D>),
     Lost,
+}
+
+impl<D: Disk + Drop> Ledger<D> {
+    /// Lets the ledger go.
+    fn end(self) {
+        match self {
+            Ledger::Opened(store) => store.end(),
+            Ledger::Closed(_files) => {}
+            Ledger::Lost => {}
+        }
+    }
 }
 
 /// A ledger, and what is done to it in words.
 #[derive(Drop)]
-pub struct Bench {
+pub struct Bench<D: Disk + Drop> {
     alloc: Global,
     options: Options,
-    ledger: Ledger,
+    ledger: Ledger<D>,
 }
 
-impl Bench {
+impl<D: Faulty> Bench<D> {
     /// New files, of which so many calls come through to each.
-    pub fn new(alloc: Global, options: Options, log: Calls, db: Calls) -> Bench {
+    pub fn new(alloc: Global, options: Options, log: Calls, db: Calls) -> Bench<D> {
         let files = Files {
-            log: disk(alloc, log),
-            db: disk(alloc, db),
+            log: D::made(alloc, log),
+            db: D::made(alloc, db),
         };
         Bench {
             alloc,
@@ -58,53 +69,69 @@ impl Bench {
     }
 
     /// Lets the ledger go.
-    pub fn end(self) {}
+    pub fn end(self) {
+        self.ledger.end();
+    }
 
     /// What is answered to a command about the files.
     fn on_files(&mut self, verb: &str, rest: &str) -> Text {
-        let files = match mem::replace(&mut self.ledger, Ledger::Lost) {
-            Ledger::Opened(store) => store.close(),
-            Ledger::Closed(files) => files,
-            Ledger::Lost => return said(self.alloc, "no files"),
-        };
-        let (ledger, text) = match verb {
+        match closed(mem::replace(&mut self.ledger, Ledger::Lost)) {
+            Some(files) => {
+                let (ledger, text) = self.done(files, verb, rest);
+                mem::replace(&mut self.ledger, ledger).end();
+                text
+            }
+            None => said(self.alloc, "no files"),
+        }
+    }
+
+    /// What a command makes of the files, and its answer.
+    fn done(&self, files: Files<D>, verb: &str, rest: &str) -> (Ledger<D>, Text) {
+        match verb {
             "create" => made(self.alloc, files, self.options),
             "open" => opened(self.alloc, files, self.options, &FullAudit),
             "audit-without-memory" => opened(self.alloc, files, self.options, &NoMemory),
             "sql" => changed_by(self.alloc, files, rest),
             _ => shut(self.alloc, files, verb),
-        };
-        self.ledger = ledger;
-        text
+        }
     }
 }
 
-fn made(alloc: Global, files: Files<InMemory>, options: Options) -> (Ledger, Text) {
+/// The files of a ledger.
+fn closed<D: Disk + Drop>(ledger: Ledger<D>) -> Option<Files<D>> {
+    match ledger {
+        Ledger::Opened(store) => Some(store.close()),
+        Ledger::Closed(files) => Some(files),
+        Ledger::Lost => None,
+    }
+}
+
+fn made<D: Disk + Drop>(alloc: Global, files: Files<D>, options: Options) -> (Ledger<D>, Text) {
     match Driven::make(alloc, files, options) {
         Ok(store) => (Ledger::Opened(store), said(alloc, "made")),
         Err((fault, files)) => (Ledger::Closed(files), fault_shown(alloc, fault)),
     }
 }
 
-fn opened<A: Audit>(
+fn opened<D: Disk + Drop, A: Audit>(
     alloc: Global,
-    files: Files<InMemory>,
+    files: Files<D>,
     options: Options,
     audit: &A,
-) -> (Ledger, Text) {
+) -> (Ledger<D>, Text) {
     match Driven::open(alloc, files, options, audit) {
         Ok(store) => (Ledger::Opened(store), said(alloc, "opened")),
         Err((fault, files)) => (Ledger::Closed(files), fault_shown(alloc, fault)),
     }
 }
 
-fn changed_by(alloc: Global, files: Files<InMemory>, sql: &str) -> (Ledger, Text) {
+fn changed_by<D: Disk + Drop>(alloc: Global, files: Files<D>, sql: &str) -> (Ledger<D>, Text) {
     let (files, told) = changed(alloc, files, sql);
     (Ledger::Closed(files), shown(alloc, &told))
 }
 
 /// Files that are closed: as they were, after a crash, or those of a stranger.
-fn shut(alloc: Global, files: Files<InMemory>, verb: &str) -> (Ledger, Text) {
+fn shut<D: Faulty>(alloc: Global, files: Files<D>, verb: &str) -> (Ledger<D>, Text) {
     let mut files = files;
     match verb {
         "crash" => {

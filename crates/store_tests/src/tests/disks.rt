@@ -1,7 +1,7 @@
 //! The disks of tests: in memory, and they may stop, or fail once.
 
 use sqlite::Options;
-use sqlite_disk::{Fuse, Memory};
+use sqlite_disk::{Crash, Fuse, Memory};
 use std::alloc::Global;
 use store::OnceFailing;
 
@@ -15,20 +15,27 @@ pub enum Calls {
     AllButOne(u64),
 }
 
+/// A disk that may crash, and whose calls may fail.
+pub trait Faulty: Crash + Drop {
+    /// A new disk, of which these calls come through.
+    fn made(alloc: Global, calls: Calls) -> Self;
+}
+
 /// A disk in memory.
 pub type InMemory = OnceFailing<Fuse<Memory>>;
 
 /// No count of a test's calls comes so far.
 const NEVER: u64 = 1_000_000;
 
-/// A new disk.
-pub fn disk(alloc: Global, calls: Calls) -> InMemory {
-    let (all, before) = match calls {
-        Calls::All => (NEVER, NEVER),
-        Calls::First(all) => (all, NEVER),
-        Calls::AllButOne(before) => (NEVER, before),
-    };
-    OnceFailing::new(Fuse::new(Memory::new(alloc), all), before)
+impl Faulty for InMemory {
+    fn made(alloc: Global, calls: Calls) -> InMemory {
+        let (all, before) = match calls {
+            Calls::All => (NEVER, NEVER),
+            Calls::First(all) => (all, NEVER),
+            Calls::AllButOne(before) => (NEVER, before),
+        };
+        OnceFailing::new(Fuse::new(Memory::new(alloc), all), before)
+    }
 }
 
 /// So few pages that a batch is spilled, and so short a log that commits copy it.

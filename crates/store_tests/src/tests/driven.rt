@@ -60,6 +60,9 @@ impl<D: Disk + Drop> Driven<D> {
         }
     }
 
+    /// Lets the store go.
+    pub fn end(self) {}
+
     pub fn close(self) -> Files<D> {
         self.store.close()
     }

@@ -1,7 +1,7 @@
 //! Disks that fail while a ledger is made, gets a tenant, and runs batches.
 
 use super::bench::Bench;
-use super::disks::{Calls, WIDE};
+use super::disks::{Calls, Faulty, InMemory, WIDE};
 use super::playing::{BASE, other_answer, play};
 use std::alloc::Global;
 use std::process::Abort;
@@ -30,15 +30,15 @@ North balances 3 3 1 => Unavailable(Disk)
 North statement 3 3 1 => Err(Unavailable(Disk))";
 
 /// Whether a disk fails in these steps; from then on nothing is answered.
-fn fails(rt: &impl Abort, alloc: Global, calls: Calls) -> bool {
-    let mut bench = Bench::new(alloc, WIDE, calls, Calls::All);
+fn fails<D: Faulty, R: Abort>(rt: &R, alloc: Global, calls: Calls) -> bool {
+    let mut bench: Bench<D> = Bench::new(alloc, WIDE, calls, Calls::All);
     let has_failed = has_failed(rt, &mut bench, calls);
     bench.end();
     has_failed
 }
 
 /// The same, of a bench whose log has such calls.
-fn has_failed(rt: &impl Abort, bench: &mut Bench, calls: Calls) -> bool {
+fn has_failed<D: Faulty>(rt: &impl Abort, bench: &mut Bench<D>, calls: Calls) -> bool {
     let Some(told) = other_answer(rt, bench, STEPS) else {
         return false;
     };
@@ -55,17 +55,17 @@ fn has_failed(rt: &impl Abort, bench: &mut Bench, calls: Calls) -> bool {
 fn a_disk_that_fails(rt: HostRuntime) {
     for calls in 0..30u64 {
         assert!(rt;
-            fails(&rt, rt.alloc(), Calls::First(calls)),
+            fails::<InMemory, _>(&rt, rt.alloc(), Calls::First(calls)),
             "after {calls}"
         );
     }
     for calls in 0..16u64 {
         assert!(rt;
-            fails(&rt, rt.alloc(), Calls::AllButOne(calls)),
+            fails::<InMemory, _>(&rt, rt.alloc(), Calls::AllButOne(calls)),
             "at {calls}"
         );
     }
-    assert!(rt; !fails(&rt, rt.alloc(), Calls::All));
+    assert!(rt; !fails::<InMemory, _>(&rt, rt.alloc(), Calls::All));
 }
 
 /// A reopening that is refused, and the next one.
@@ -77,7 +77,7 @@ North reopen => Ok(())
 North ready => (true, 3)";
 
 /// What is answered to a command.
-fn told(rt: &impl Abort, bench: &mut Bench, command: &str) -> String {
+fn told<D: Faulty>(rt: &impl Abort, bench: &mut Bench<D>, command: &str) -> String {
     bench.answer(command).expect(rt, "no memory")
 }
 
@@ -88,7 +88,12 @@ fn is_run(answer: &str) -> bool {
 
 /// Sends one transfer, and where the disk fails, once more after a reopening: it is kept once.
 /// Tells whether it did.
-fn sends_or_mends(rt: &impl Abort, alloc: Global, bench: &mut Bench, id: u64) -> bool {
+fn sends_or_mends<D: Faulty>(
+    rt: &impl Abort,
+    alloc: Global,
+    bench: &mut Bench<D>,
+    id: u64,
+) -> bool {
     let command = format!(in alloc; "North transfers {id}: 1>2 1").expect(rt, "no memory");
     let first = told(rt, bench, &command);
     let has_failed = !first.contains(": 0@");
@@ -100,22 +105,22 @@ fn sends_or_mends(rt: &impl Abort, alloc: Global, bench: &mut Bench, id: u64) ->
 }
 
 /// Reopens the ledger, which answers nothing before, and sends the command again.
-fn mends(rt: &impl Abort, bench: &mut Bench, command: &str) {
+fn mends<D: Faulty>(rt: &impl Abort, bench: &mut Bench<D>, command: &str) {
     play(rt, bench, NOTHING);
     play(rt, bench, MENDED);
     assert!(rt; is_run(&told(rt, bench, command)));
 }
 
 /// Whether ten transfers of 1 were kept, and none with the id 900.
-fn has_ten(rt: &impl Abort, bench: &mut Bench) -> bool {
+fn has_ten<D: Faulty>(rt: &impl Abort, bench: &mut Bench<D>) -> bool {
     told(rt, bench, "North transfer 900").ends_with(":")
         && told(rt, bench, "North see 1").contains("Some([0, 10, 0, 0])")
 }
 
 /// Ten transfers, one of which meets the fault of the disk; what was sent between that and the
 /// reopening never shows. Tells whether the fault was met.
-fn is_mended(rt: &impl Abort, alloc: Global, before: u64) -> bool {
-    let mut bench = Bench::new(alloc, WIDE, Calls::AllButOne(before), Calls::All);
+fn is_mended<D: Faulty, R: Abort>(rt: &R, alloc: Global, before: u64) -> bool {
+    let mut bench: Bench<D> = Bench::new(alloc, WIDE, Calls::AllButOne(before), Calls::All);
     let has_base = other_answer(rt, &mut bench, BASE).is_none();
     let is_met = has_base && sends_ten(rt, alloc, &mut bench);
     assert!(rt; !has_base || has_ten(rt, &mut bench), "at {before}");
@@ -124,7 +129,7 @@ fn is_mended(rt: &impl Abort, alloc: Global, before: u64) -> bool {
 }
 
 /// Sends the ten. Tells whether the fault was met.
-fn sends_ten(rt: &impl Abort, alloc: Global, bench: &mut Bench) -> bool {
+fn sends_ten<D: Faulty>(rt: &impl Abort, alloc: Global, bench: &mut Bench<D>) -> bool {
     let mut is_met = false;
     for id in 100..110u64 {
         is_met |= sends_or_mends(rt, alloc, bench, id);
@@ -136,7 +141,7 @@ fn sends_ten(rt: &impl Abort, alloc: Global, bench: &mut Bench) -> bool {
 fn a_fault_is_mended_by_a_reopening(rt: HostRuntime) {
     let mut met: u64 = 0;
     for place in 4..14u64 {
-        if is_mended(&rt, rt.alloc(), place * 5) {
+        if is_mended::<InMemory, _>(&rt, rt.alloc(), place * 5) {
             met = met.saturating_add(1);
         }
     }

@@ -3,7 +3,7 @@
 //! files are opened again, and hold the whole request or nothing of it.
 
 use super::commands::Numbered;
-use super::disks::{Calls, InMemory, WIDE, disk};
+use super::disks::{Calls, Faulty, InMemory, WIDE};
 use super::driven::Driven;
 use super::events::{accounts, ones, transfer};
 use super::works::{Looking, Opening, Sending};
@@ -12,13 +12,11 @@ use records::{
     AccountEvent, AccountFilter, FilterFlags, Order, SinkFault, TransferEvent, Unavailable,
 };
 use sqlite::Files;
-use sqlite_disk::Crash;
+use sqlite_disk::{Crash, Disk};
 use std::alloc::Global;
 use std::process::Abort;
 use store::{AddTenant, FullAudit, OpenFault};
 use tenants::TenantName;
-
-type InMemoryStore = Driven<InMemory>;
 
 const NORTH: [u8; 32] = [1; 32];
 
@@ -26,12 +24,12 @@ const NORTH: [u8; 32] = [1; 32];
 const ENTRIES: usize = 40;
 
 /// The store as it is, or where its disk failed, on what its files hold after a crash.
-fn mended(
+fn mended<D: Crash + Drop>(
     rt: &impl Abort,
     alloc: Global,
-    mut store: InMemoryStore,
+    mut store: Driven<D>,
     fault: Unavailable,
-) -> InMemoryStore {
+) -> Driven<D> {
     let has_failed = fault == Unavailable::Disk;
     assert!(rt; has_failed || fault == Unavailable::Memory, "{fault:?}");
     assert_eq!(rt; store.is_ready(), (!has_failed, 3));
@@ -43,14 +41,14 @@ fn mended(
 }
 
 /// Files after a crash.
-fn crashed(mut files: Files<InMemory>) -> Files<InMemory> {
+fn crashed<D: Crash>(mut files: Files<D>) -> Files<D> {
     files.log.crash();
     files.db.crash();
     files
 }
 
 /// A ledger that is there.
-fn reopened(rt: &impl Abort, alloc: Global, files: Files<InMemory>) -> InMemoryStore {
+fn reopened<D: Disk + Drop>(rt: &impl Abort, alloc: Global, files: Files<D>) -> Driven<D> {
     match Driven::open(alloc, files, WIDE, &FullAudit) {
         Ok(store) => store,
         Err((fault, _)) => panic!(rt; "not opened: {fault:?}"),
@@ -58,10 +56,10 @@ fn reopened(rt: &impl Abort, alloc: Global, files: Files<InMemory>) -> InMemoryS
 }
 
 /// A new ledger, once there is memory for it. A making that failed may have left the whole of it.
-fn made(rt: &impl Abort, alloc: Global) -> InMemoryStore {
+fn made<D: Faulty>(rt: &impl Abort, alloc: Global) -> Driven<D> {
     let files = Files {
-        log: disk(alloc, Calls::All),
-        db: disk(alloc, Calls::All),
+        log: D::made(alloc, Calls::All),
+        db: D::made(alloc, Calls::All),
     };
     match Driven::make(alloc, files, WIDE) {
         Ok(store) => store,
@@ -70,12 +68,12 @@ fn made(rt: &impl Abort, alloc: Global) -> InMemoryStore {
 }
 
 /// The same, after a fault.
-fn made_again(
+fn made_again<D: Crash + Drop>(
     rt: &impl Abort,
     alloc: Global,
     fault: OpenFault,
-    files: Files<InMemory>,
-) -> InMemoryStore {
+    files: Files<D>,
+) -> Driven<D> {
     let has_failed = fault == OpenFault::Unavailable(Unavailable::Disk);
     assert!(rt;
         has_failed || fault == OpenFault::Unavailable(Unavailable::Memory),
@@ -92,7 +90,7 @@ fn made_again(
 
 /// Adds a tenant once there is memory for it: it is not known before, or after a fault of the disk
 /// it may be, and then its name is taken.
-fn adds(rt: &impl Abort, alloc: Global, mut store: InMemoryStore) -> InMemoryStore {
+fn adds<D: Crash + Drop>(rt: &impl Abort, alloc: Global, mut store: Driven<D>) -> Driven<D> {
     let north = TenantName::read("North").expect(rt, "no name");
     match store.add(&north, &NORTH) {
         Ok(()) => store,
@@ -106,7 +104,12 @@ fn adds(rt: &impl Abort, alloc: Global, mut store: InMemoryStore) -> InMemorySto
 }
 
 /// The same, after a fault.
-fn adds_again(rt: &impl Abort, store: &mut InMemoryStore, north: &TenantName, fault: Unavailable) {
+fn adds_again<D: Disk + Drop>(
+    rt: &impl Abort,
+    store: &mut Driven<D>,
+    north: &TenantName,
+    fault: Unavailable,
+) {
     let is_kept = store.knows(&NORTH) == Ok(true);
     assert!(rt; fault == Unavailable::Disk || !is_kept);
     let want = if is_kept {
@@ -193,7 +196,7 @@ fn cause(rt: &impl Abort, fault: BatchFault) -> Unavailable {
 }
 
 /// The clock, once there is memory to tell it.
-fn seen(rt: &impl Abort, alloc: Global, mut store: InMemoryStore) -> (InMemoryStore, u64) {
+fn seen<D: Crash + Drop>(rt: &impl Abort, alloc: Global, mut store: Driven<D>) -> (Driven<D>, u64) {
     let looking = Looking { account: 1 };
     let mut told = store.run(&NORTH, looking);
     if let Err(fault) = told {
@@ -205,12 +208,12 @@ fn seen(rt: &impl Abort, alloc: Global, mut store: InMemoryStore) -> (InMemorySt
 
 /// Sends a batch once there is memory for it. It is not kept before, or after a fault of the disk
 /// the whole of it may be, and then the same batch is a retry. Tells the clock behind it.
-fn sends(
+fn sends<D: Crash + Drop>(
     rt: &impl Abort,
     alloc: Global,
-    (mut store, before): (InMemoryStore, u64),
+    (mut store, before): (Driven<D>, u64),
     request: Request<'_>,
-) -> (InMemoryStore, u64) {
+) -> (Driven<D>, u64) {
     let mut batch = Comparing {
         alloc,
         events: request.events,
@@ -242,7 +245,7 @@ fn behind(before: u64, request: Request<'_>) -> u64 {
 }
 
 /// Opens the accounts of the base, if there is memory for the events. It gives the clock too.
-fn opens(rt: &impl Abort, alloc: Global) -> Option<(InMemoryStore, u64)> {
+fn opens<D: Faulty, R: Abort>(rt: &R, alloc: Global) -> Option<(Driven<D>, u64)> {
     let accounts = accounts(alloc, "1; 2; 3 flags=10; 4").ok()?;
     let store = adds(rt, alloc, made(rt, alloc));
     let opening = Request {
@@ -251,28 +254,6 @@ fn opens(rt: &impl Abort, alloc: Global) -> Option<(InMemoryStore, u64)> {
         again: &[13; 4],
     };
     Some(sends(rt, alloc, (store, 0), opening))
-}
-
-/// A chain that falls, whose id that fails is told from then on, and not before.
-#[test]
-fn want_of_memory_in_batches(rt: HostRuntime) {
-    let alloc = rt.alloc();
-    let chain = [transfer("103: 1>2 1 linked"), transfer("104: 3>2 1")];
-    let falling = Request {
-        events: Events::Transfers(&chain),
-        first: &[2, 55],
-        again: &[2, 60],
-    };
-    let single = [transfer("104: 1>2 1")];
-    let refused = Request {
-        events: Events::Transfers(&single),
-        first: &[60],
-        again: &[60],
-    };
-    if let Some(opened) = opens(&rt, alloc) {
-        let fallen = sends(&rt, alloc, opened, falling);
-        let _told = sends(&rt, alloc, fallen, refused);
-    }
 }
 
 /// How many entries were listed.
@@ -284,7 +265,11 @@ fn count<T: Drop>(told: Result<Listed<T>, ReadFault>) -> Result<usize, ReadFault
 }
 
 /// How many entries a read of some kind lists; of a statement the rows that came, if it is whole.
-fn listed(alloc: Global, store: &mut InMemoryStore, kind: u8) -> Result<usize, ReadFault> {
+fn listed<D: Disk + Drop>(
+    alloc: Global,
+    store: &mut Driven<D>,
+    kind: u8,
+) -> Result<usize, ReadFault> {
     let asked = AccountFilter {
         account_id: 3,
         timestamp_min: 0,
@@ -315,7 +300,7 @@ fn want(rt: &impl Abort, fault: ReadFault) -> Unavailable {
 }
 
 /// Each kind of read, which lists what is there once there is memory.
-fn reads(rt: &impl Abort, alloc: Global, mut store: InMemoryStore) {
+fn reads<D: Crash + Drop>(rt: &impl Abort, alloc: Global, mut store: Driven<D>) {
     for (kind, entries) in [(0, 2), (1, 2), (2, ENTRIES), (3, ENTRIES), (4, ENTRIES)] {
         let mut told = listed(alloc, &mut store, kind);
         if let Err(fault) = told {
@@ -324,6 +309,66 @@ fn reads(rt: &impl Abort, alloc: Global, mut store: InMemoryStore) {
         }
         assert_eq!(rt; told, Ok(entries));
     }
+    store.end();
+}
+
+/// What follows a batch.
+#[derive(Clone, Copy)]
+enum Next<'a> {
+    Batch(Request<'a>),
+    /// Each kind of read.
+    Reads,
+}
+
+/// Sends a batch to a new ledger, and what follows.
+fn sends_to_new<D: Faulty, R: Abort>(rt: &R, alloc: Global, first: Request<'_>, next: Next<'_>) {
+    if let Some(opened) = opens::<D, _>(rt, alloc) {
+        let sent = sends(rt, alloc, opened, first);
+        goes_on(rt, alloc, sent, next);
+    }
+}
+
+/// Sends the next batch to a store, or reads.
+fn goes_on<D: Crash + Drop>(
+    rt: &impl Abort,
+    alloc: Global,
+    sent: (Driven<D>, u64),
+    next: Next<'_>,
+) {
+    match next {
+        Next::Batch(request) => {
+            let (store, _) = sends(rt, alloc, sent, request);
+            store.end();
+        }
+        Next::Reads => {
+            let (store, _) = sent;
+            reads(rt, alloc, store);
+        }
+    }
+}
+
+/// The same, of a ledger on disks in memory.
+fn sends_in_memory(rt: &impl Abort, alloc: Global, first: Request<'_>, next: Next<'_>) {
+    sends_to_new::<InMemory, _>(rt, alloc, first, next);
+}
+
+/// A chain that falls, whose id that fails is told from then on, and not before.
+#[test]
+fn want_of_memory_in_batches(rt: HostRuntime) {
+    let alloc = rt.alloc();
+    let chain = [transfer("103: 1>2 1 linked"), transfer("104: 3>2 1")];
+    let falling = Request {
+        events: Events::Transfers(&chain),
+        first: &[2, 55],
+        again: &[2, 60],
+    };
+    let single = [transfer("104: 1>2 1")];
+    let refused = Request {
+        events: Events::Transfers(&single),
+        first: &[60],
+        again: &[60],
+    };
+    sends_in_memory(&rt, alloc, falling, Next::Batch(refused));
 }
 
 #[test]
@@ -337,8 +382,5 @@ fn want_of_memory_in_reads(rt: HostRuntime) {
         first: &[0; ENTRIES],
         again: &[18; ENTRIES],
     };
-    if let Some(opened) = opens(&rt, alloc) {
-        let (store, _) = sends(&rt, alloc, opened, filling);
-        reads(&rt, alloc, store);
-    }
+    sends_in_memory(&rt, alloc, filling, Next::Reads);
 }

@@ -1,18 +1,18 @@
 //! What tests do to files that no store has.
 
-use super::disks::{Calls, InMemory, WIDE, disk};
+use super::disks::{Calls, Faulty, WIDE};
 use sqlite::{Connection, Error, ErrorCode, FileStore, Files};
 use sqlite_disk::Disk;
 use std::alloc::Global;
 
 /// A file of bytes that are none of a database, and an empty log.
-pub fn noise(alloc: Global) -> Files<InMemory> {
-    let mut db = disk(alloc, Calls::All);
+pub fn noise<D: Faulty>(alloc: Global) -> Files<D> {
+    let mut db = D::made(alloc, Calls::All);
     if db.may_be_used() {
         let _ = db.write_at(0, &[255; 100]);
     }
     Files {
-        log: disk(alloc, Calls::All),
+        log: D::made(alloc, Calls::All),
         db,
     }
 }

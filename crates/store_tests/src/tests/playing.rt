@@ -2,7 +2,7 @@
 
 use super::bench::Bench;
 use super::commands::{Command, Text, answer};
-use super::disks::{Calls, WIDE};
+use super::disks::{Calls, Faulty, InMemory, WIDE};
 use super::driven::Driven;
 use sqlite_disk::Disk;
 use std::alloc::Global;
@@ -29,7 +29,7 @@ fn compare(rt: &impl Abort, line: &str, told: Text) {
 }
 
 /// Gives each command of a script, and compares the answers.
-pub fn play(rt: &impl Abort, bench: &mut Bench, script: &str) {
+pub fn play<D: Faulty>(rt: &impl Abort, bench: &mut Bench<D>, script: &str) {
     for line in script.split('\n') {
         compare(rt, line, bench.answer(parts(line).0));
     }
@@ -49,7 +49,11 @@ pub fn play_on<D: Disk + Drop>(
 }
 
 /// Gives each command of a script until one is not answered so, and tells what it answers.
-pub fn other_answer(rt: &impl Abort, bench: &mut Bench, script: &str) -> Option<String> {
+pub fn other_answer<D: Faulty>(
+    rt: &impl Abort,
+    bench: &mut Bench<D>,
+    script: &str,
+) -> Option<String> {
     for line in script.split('\n') {
         let (command, want) = parts(line);
         let told = bench.answer(command).expect(rt, line);
@@ -62,7 +66,12 @@ pub fn other_answer(rt: &impl Abort, bench: &mut Bench, script: &str) -> Option<
 
 /// Plays scripts, one behind the other, on new files in memory, on which nothing fails.
 pub fn play_from_nothing(rt: &impl Abort, alloc: Global, scripts: &[&str]) {
-    let mut bench = Bench::new(alloc, WIDE, Calls::All, Calls::All);
+    play_all::<InMemory, _>(rt, alloc, scripts);
+}
+
+/// The same, on new files of some kind.
+fn play_all<D: Faulty, R: Abort>(rt: &R, alloc: Global, scripts: &[&str]) {
+    let mut bench: Bench<D> = Bench::new(alloc, WIDE, Calls::All, Calls::All);
     for script in scripts {
         play(rt, &mut bench, script);
     }

@@ -2,7 +2,7 @@
 //! the request, or those after it.
 
 use super::bench::Bench;
-use super::disks::{Calls, SMALL};
+use super::disks::{Calls, Faulty, InMemory, SMALL};
 use super::faults::NOTHING;
 use super::playing::{BASE, other_answer, play};
 use std::alloc::Global;
@@ -89,7 +89,7 @@ File crash => closed
 File open => opened";
 
 /// New files, of which one is on a disk that stops after so many calls.
-fn bench(alloc: Global, (stopping, calls): (Stopping, u64)) -> Bench {
+fn bench<D: Faulty>(alloc: Global, (stopping, calls): (Stopping, u64)) -> Bench<D> {
     let (log, database) = match stopping {
         Stopping::Log => (Calls::First(calls), Calls::All),
         Stopping::Database => (Calls::All, Calls::First(calls)),
@@ -98,7 +98,7 @@ fn bench(alloc: Global, (stopping, calls): (Stopping, u64)) -> Bench {
 }
 
 /// What is answered to a command on new files, if the base was made.
-fn told(rt: &impl Abort, bench: &mut Bench, command: &str) -> Option<String> {
+fn told<D: Faulty>(rt: &impl Abort, bench: &mut Bench<D>, command: &str) -> Option<String> {
     if other_answer(rt, bench, BASE).is_some() {
         return None;
     }
@@ -106,13 +106,13 @@ fn told(rt: &impl Abort, bench: &mut Bench, command: &str) -> Option<String> {
 }
 
 /// The same, where a disk stops.
-fn told_there(
-    rt: &impl Abort,
+fn told_there<D: Faulty, R: Abort>(
+    rt: &R,
     alloc: Global,
     stopping: (Stopping, u64),
     command: &str,
 ) -> Option<String> {
-    let mut bench = bench(alloc, stopping);
+    let mut bench: Bench<D> = bench(alloc, stopping);
     let told = told(rt, &mut bench, command);
     bench.end();
     told
@@ -125,7 +125,12 @@ fn is_refused(answer: &str) -> bool {
 
 /// Whether the disk failed in the request, as is then told to every later one. Else its answer is
 /// the right one.
-fn was_refused(rt: &impl Abort, bench: &mut Bench, answer: &str, request: &Request) -> bool {
+fn was_refused<D: Faulty>(
+    rt: &impl Abort,
+    bench: &mut Bench<D>,
+    answer: &str,
+    request: &Request,
+) -> bool {
     if is_refused(answer) {
         play(rt, bench, NOTHING);
         return true;
@@ -135,7 +140,7 @@ fn was_refused(rt: &impl Abort, bench: &mut Bench, answer: &str, request: &Reque
 }
 
 /// Whether an opening after the crash finds the rows after the request; else those before it.
-fn was_kept(rt: &impl Abort, bench: &mut Bench, request: &Request) -> bool {
+fn was_kept<D: Faulty>(rt: &impl Abort, bench: &mut Bench<D>, request: &Request) -> bool {
     play(rt, bench, REOPENED);
     play(rt, bench, OTHERS);
     if other_answer(rt, bench, request.after).is_none() {
@@ -146,24 +151,45 @@ fn was_kept(rt: &impl Abort, bench: &mut Bench, request: &Request) -> bool {
 }
 
 /// Whether the disk failed in the request, and whether it was kept.
-fn sent(rt: &impl Abort, bench: &mut Bench, request: &Request) -> (bool, bool) {
+fn sent<D: Faulty>(rt: &impl Abort, bench: &mut Bench<D>, request: &Request) -> (bool, bool) {
     let answer = told(rt, bench, request.command).expect(rt, "no base");
     let was_refused = was_refused(rt, bench, &answer, request);
     (was_refused, was_kept(rt, bench, request))
 }
 
+/// The same, where a disk stops.
+fn sent_there<D: Faulty, R: Abort>(
+    rt: &R,
+    alloc: Global,
+    stopping: (Stopping, u64),
+    request: &Request,
+) -> (bool, bool) {
+    let mut bench: Bench<D> = bench(alloc, stopping);
+    let sent = sent(rt, &mut bench, request);
+    bench.end();
+    sent
+}
+
 /// Whether a batch that wants memory in the end meets the stop.
-fn is_early(rt: &impl Abort, alloc: Global, stopping: (Stopping, u64), request: &Request) -> bool {
-    let failing = told_there(rt, alloc, stopping, request.failing);
+fn is_early<D: Faulty, R: Abort>(
+    rt: &R,
+    alloc: Global,
+    stopping: (Stopping, u64),
+    request: &Request,
+) -> bool {
+    let failing = told_there::<D, _>(rt, alloc, stopping, request.failing);
     failing.is_some_and(|told| told.as_str() == REFUSED_EARLIER)
 }
 
 /// Where the stop after so many calls falls.
-fn stopped(rt: &impl Abort, alloc: Global, stopping: (Stopping, u64), request: &Request) -> Stop {
-    let mut bench = bench(alloc, stopping);
-    let (was_refused, is_kept) = sent(rt, &mut bench, request);
-    bench.end();
-    let is_early = is_early(rt, alloc, stopping, request);
+fn stopped<D: Faulty, R: Abort>(
+    rt: &R,
+    alloc: Global,
+    stopping: (Stopping, u64),
+    request: &Request,
+) -> Stop {
+    let (was_refused, is_kept) = sent_there::<D, _>(rt, alloc, stopping, request);
+    let is_early = is_early::<D, _>(rt, alloc, stopping, request);
     match (was_refused, is_early, is_kept) {
         (true, true, false) => Stop::Before,
         (true, false, _) => Stop::Inside,
@@ -173,8 +199,13 @@ fn stopped(rt: &impl Abort, alloc: Global, stopping: (Stopping, u64), request: &
 }
 
 /// Whether so many calls are too few to make the base and answer a command.
-fn are_too_few(rt: &impl Abort, alloc: Global, stopping: (Stopping, u64), command: &str) -> bool {
-    match told_there(rt, alloc, stopping, command) {
+fn are_too_few<D: Faulty, R: Abort>(
+    rt: &R,
+    alloc: Global,
+    stopping: (Stopping, u64),
+    command: &str,
+) -> bool {
+    match told_there::<D, _>(rt, alloc, stopping, command) {
         Some(answer) => is_refused(&answer),
         None => true,
     }
@@ -182,11 +213,11 @@ fn are_too_few(rt: &impl Abort, alloc: Global, stopping: (Stopping, u64), comman
 
 /// The least number of calls with which the base is made and a command is answered, if it is below
 /// 2048.
-fn least(rt: &impl Abort, alloc: Global, stopping: Stopping, command: &str) -> u64 {
+fn least<D: Faulty, R: Abort>(rt: &R, alloc: Global, stopping: Stopping, command: &str) -> u64 {
     let mut least: u64 = 0;
     for more in [1024, 512, 256, 128, 64, 32, 16, 8, 4, 2, 1u64] {
         let calls = least.saturating_add(more.saturating_sub(1));
-        if are_too_few(rt, alloc, (stopping, calls), command) {
+        if are_too_few::<D, _>(rt, alloc, (stopping, calls), command) {
             least = least.saturating_add(more);
         }
     }
@@ -213,21 +244,26 @@ fn may_fall(stopping: Stopping, place: Place, stop: Stop) -> bool {
 }
 
 /// Stops a disk at the request's first call, at its last one, and behind it.
-fn stop_thrice(rt: &impl Abort, alloc: Global, stopping: Stopping, request: &Request) {
-    let first = least(rt, alloc, stopping, "North ready");
-    let kept = least(rt, alloc, stopping, request.command);
+fn stop_a_disk<D: Faulty, R: Abort>(rt: &R, alloc: Global, stopping: Stopping, request: &Request) {
+    let first = least::<D, _>(rt, alloc, stopping, "North ready");
+    let kept = least::<D, _>(rt, alloc, stopping, request.command);
     let last = kept.saturating_sub(1);
     for (calls, place) in [
         (first, Place::AtFirst),
         (last, Place::AtLast),
         (kept, Place::BehindAll),
     ] {
-        let found = stopped(rt, alloc, (stopping, calls), request);
+        let found = stopped::<D, _>(rt, alloc, (stopping, calls), request);
         assert!(rt;
             may_fall(stopping, place, found),
             "{stopping:?} after {calls}, {place:?}: {found:?}"
         );
     }
+}
+
+/// The same, of disks in memory.
+fn stop_thrice(rt: &impl Abort, alloc: Global, stopping: Stopping, request: &Request) {
+    stop_a_disk::<InMemory, _>(rt, alloc, stopping, request);
 }
 
 #[test]
