@@ -1,5 +1,5 @@
-//! Amounts, who a tenant is, records, the decision on one event, rows of a file and their replay. What is
-//! expected is of `docs/MODEL.md` and of the standards that a test names.
+//! Amounts, who a tenant is, records, the decision on one event, rows of a file and their replay.
+//! What is expected is of `docs/MODEL.md` and of the standards that a test names.
 
 mod amounts;
 mod asserting;
