@@ -13,7 +13,7 @@ use Rattle.wire.specs.declared.request.Request.{Request}
 use Rattle.wire.specs.declared.request.Request.TheVariants as asks
 use Rattle.wire.specs.Meaning.{meaning_of}
 use Rattle.service.specs.Served.{left_by, served_by, served_to}
-use Rattle.whole_runs.specs.Events.{Asked, Joined}
+use Rattle.whole_runs.specs.Events.{Deed, Asked, Joined, after_deed}
 use Rattle.whole_runs.specs.OwnDeeds.{Own, Told, Untold, after_own, after_all}
 use Rattle.whole_runs.specs.Retries.{IsAsked, HasAsked}
 use Rattle.whole_runs.proofs.OwnDeedLemmas.{after_more, serves_each_alone}
@@ -82,15 +82,13 @@ asked_then :
     after_all began owns ≡ after_all (Some (left_by m moment request)) asked.since
 asked_then began owns request moment m asked =
     ap (after_all began) asked.is
-    ∙ (after_more began asked.before (Told (Asked asked.question moment) ∷ asked.since)
-    ∙ (ap
-    (λ (tenant : Option Machine). after_all tenant
-    (Told (Asked asked.question moment) ∷ asked.since))
-    asked.held
+    ∙ (after_more began asked.before (asked.own ∷ asked.since)
+    ∙ (ap (λ (tenant : Option Machine). after_all tenant (asked.own ∷ asked.since)) asked.held
+    ∙ (ap (λ (deed : Deed). after_all (after_deed deed (Some m)) asked.since) asked.asks
     ∙ ap
     (λ (meaning : Result Request Refusal). after_all (served_to (Some m) meaning moment).left
     asked.since)
-    asked.means))
+    asked.means)))
 
 -- a tenant's machine is later than the one that a request of its own has left
 pub asked_later :

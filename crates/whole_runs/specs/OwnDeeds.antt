@@ -51,10 +51,13 @@ own_reply digest (Reopened found) = []
 abbrev pub own_replies : List ℕ → List Event → List (List ℕ)
 own_replies digest events = flat_map (own_reply digest) events
 
+abbrev pub deed_of : Own → Deed
+deed_of (Told deed) = deed
+deed_of (Untold deed) = deed
+
 -- the machine after all of it
 abbrev pub after_own : Own → Option Machine → Option Machine
-after_own (Told deed) tenant = after_deed deed tenant
-after_own (Untold deed) tenant = after_deed deed tenant
+after_own own tenant = after_deed (deed_of own) tenant
 
 abbrev pub after_all : Option Machine → List Own → Option Machine
 after_all tenant [] = tenant

@@ -17,19 +17,22 @@ use Rattle.whole_runs.specs.declared.steps.Step.{Step}
 use Rattle.whole_runs.specs.declared.steps.Answer.{Answer}
 use Rattle.whole_runs.specs.Events.{Event, Asked}
 use Rattle.whole_runs.specs.Courses.{Course}
-use Rattle.whole_runs.specs.OwnDeeds.{Own, Told, own_deeds, after_all}
+use Rattle.whole_runs.specs.OwnDeeds.{Own, deed_of, own_deeds, after_all}
 
--- among what a tenant went through is a request that was answered, and this is its machine then
+-- among what a tenant went through is a request that was answered, or answered `unavailable` and
+-- found done, and this is its machine then
 pub record IsAsked (began : Option Machine) (owns : List Own) (request : Request) (moment : ℕ)
     (m : Machine) : Type 0 where
   pub before : List Own
-  pub question : Question
+  pub own : Own
   pub since : List Own
-  pub is : owns ≡ before ++ Told (Asked question moment) ∷ since
+  pub is : owns ≡ before ++ own ∷ since
+  pub question : Question
+  pub asks : deed_of own ≡ Asked question moment
   pub means : meaning_of question.route question.account question.body ≡ Ok request
   pub held : after_all began before ≡ Some m
 
--- in the course of a run a tenant was answered this request at this machine, and has this one now
+-- in the course of a run this request of a tenant was done at this machine, and it has this one now
 pub record HasAsked (digest : List ℕ) (request : Request) (moment : ℕ) (m now : Machine) :
     Type 0 where
   pub first : Tenants
@@ -42,7 +45,7 @@ pub record HasAsked (digest : List ℕ) (request : Request) (moment : ℕ) (m no
   pub asked : IsAsked (began digest) (own_deeds digest events) request moment m
   pub held : last digest ≡ Some now
 
--- a batch whose every event was accepted adds nothing when it is sent again
+-- a batch that was done, and whose every event was accepted, adds nothing when it is sent again
 abbrev pub RetriesAddNothing : {E R : Type 0} → Rules E R → R → (List E → Request) → Type 0
 RetriesAddNothing {E} rules exists asks =
     (digest : List ℕ) (batch : List E) (moment : ℕ) (m now : Machine)

@@ -19,7 +19,7 @@ pub fn runs_serve_each_alone()
 
 /// A batch whose every event was accepted in the course of a run adds nothing when it is sent
 /// again, however often, whenever, and whatever any tenant did between, stops and reopenings
-/// included.
+/// included. So it is whether the batch was answered, or answered `unavailable` and found done.
 pub fn retries_add_nothing()
     ensures accounts { RetriesAddNothing account_rules for_account.Exists Accounts }
     ensures transfers { RetriesAddNothing transfer_rules for_transfer.Exists Transfers }
