@@ -12,7 +12,8 @@ use records::{
 };
 use std::alloc::Global;
 
-/// Why a batch was not run. Nothing has changed.
+/// Why a batch was not run. Nothing has changed; only where a disk failed may the next opening find
+/// the whole batch.
 #[derive(Clone, Copy, Debug, PartialEq, Eq)]
 pub enum BatchFault {
     /// No tenant has this digest.
@@ -119,8 +120,8 @@ pub trait Ledgers {
         ensures finds { Finds means (IsTold result) KeepsAll self.old self.new }
         ensures reads { Reads means self.old self.new };
 
-    /// Hands the account's statement to a sink, row by row, in this order. After a fault the sink
-    /// has got a beginning of it.
+    /// Hands the account's statement to a sink, row by row, in this order. After `Unavailable` the
+    /// sink has got a beginning of it; one that refuses a row may be left in any state.
     fn each_statement_row<S: RowSink>(
         &mut self,
         alloc: Global,

@@ -37,7 +37,8 @@ pub enum Refusal {
     NoHistory,
     /// The clock after the batch would pass 2^62.
     ClockExhausted,
-    /// Memory ran out, or the store was not to be reached. Nothing has changed.
+    /// Memory ran out, or the store was not to be reached. Nothing has changed; only where its disk
+    /// failed may the next opening find the whole batch.
     Unavailable,
 }
 

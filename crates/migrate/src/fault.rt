@@ -5,7 +5,8 @@ use std::error::Error;
 use std::fmt;
 use store::OpenFault;
 
-/// Why a ledger was not migrated. Nothing has changed.
+/// Why a ledger was not migrated. Nothing has changed; only where its disk failed may the next
+/// opening find the whole of the newer ledger.
 #[derive(Clone, Copy, Debug, PartialEq, Eq)]
 pub enum MigrateFault {
     /// The ledger has a newer version of the schema than the one that is asked for.

@@ -14,8 +14,8 @@ use store::{FullAudit, Store};
 
 /// Brings a ledger to this version of the schema, in one transaction: each tenant's machine stays,
 /// and its rows are those that it prescribes there, with no id failed. The version that the ledger
-/// has is no change. After a fault the ledger is as it was, and after a crash at any moment it or
-/// the new one is there, whole.
+/// has is no change. After a fault the ledger is as it was; after a fault of the disk, or a crash at
+/// any moment, it or the new one is there, whole.
 pub fn migrate<D: Disk + Drop>(
     alloc: Global,
     store: &mut Store<D>,

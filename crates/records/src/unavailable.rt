@@ -5,7 +5,8 @@ use std::alloc::{AllocError, AllocFailed};
 use std::error::Error;
 use std::fmt;
 
-/// Why a ledger could not be reached. Nothing has changed.
+/// Why a ledger could not be reached. Nothing has changed; only where its disk failed while changes
+/// were being kept may the next opening find all of them.
 #[derive(Clone, Copy, Debug, PartialEq, Eq)]
 pub enum Unavailable {
     /// Memory ran out.
