@@ -17,6 +17,7 @@ use Rattle.whole_runs.specs.Events.{Happens, IsStill, IsUntold, Last, Before, Fo
 use Rattle.whole_runs.specs.Courses.{IsOf, Begin, Anew, Then, Leads, MayFind}
 use Rattle.whole_runs.specs.Reopenings.{RunMeaning, IsSettled, FoundAfter, As_now, As_before}
 use Rattle.whole_runs.specs.Reopenings.{As_done, Moves, IsOpened, StepMakes, HasRun, IsAnswerTo}
+use Rattle.whole_runs.specs.Reopenings.{RunsThrough, Goes_on}
 
 still_happens :
     (event : Event) (tenants : Tenants) → IsStill event → Happens tenants event tenants
@@ -253,6 +254,17 @@ pub run_on :
 run_on t old mid new steps answers more i step answer below is grown run makes =
     rw (take_step steps i step below is, grown)
     (step_more t old mid new (take i steps) answers step answer run makes)
+
+pub through_on :
+    {S : Type 0} (t : RunMeaning S) (old mid new : S) (steps : List Step)
+    (answers more : List Answer) (i : ℕ) (step : Step) (answer : Answer) → i < length steps →
+    step ≡ get_or steps i step → more ≡ answers ++ answer ∷ [] →
+    RunsThrough t old (take i steps) answers mid → HasRun t old (take i steps) answers mid →
+    StepMakes t mid step answer new → RunsThrough t old (take (i + 1) steps) more new
+through_on t old mid new steps answers more i step answer below is grown through run makes =
+    rw (take_step steps i step below is, grown)
+    (Goes_on (take i steps) answers mid step answer new through makes
+    (step_more t old mid new (take i steps) answers step answer run makes))
 
 pub answered_on :
     (steps : List Step) (answers more : List Answer) (i : ℕ) (step : Step) (answer : Answer) →

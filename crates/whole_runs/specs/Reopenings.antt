@@ -1,5 +1,5 @@
 -- What each step of a run promises of ledgers that can be opened again, and what a run does.
-use Rattle.std.specs.Prelude.{ℕ, List, Result, Ok, Err}
+use Rattle.std.specs.Prelude.{ℕ, List, [], ◌∷◌, ◌++◌, Result, Ok, Err}
 use Rattle.chain.specs.Ledgers.{LedgersMeaning, Tenants, KeepsAll}
 use Rattle.ledger_http.specs.declared.reply.Reply.{Reply}
 use Rattle.service.specs.OwnRequests as message
@@ -85,6 +85,18 @@ pub record HasRun {S : Type 0} (t : RunMeaning S) (old : S) (steps : List Step)
   pub here : t.is_live new → ∥ Leads (t.tenants old) steps answers (t.tenants new) ∥₁
   pub found : (found : Tenants) → t.may_find new found
       → ∥ MayFind (t.tenants old) steps answers found ∥₁
+
+-- a run step by step: each step makes its ledgers of those before it, and the steps up to there
+-- have run
+pub data RunsThrough {S : Type 0} (t : RunMeaning S) (old : S) : List Step → List Answer → S
+    → Type 0 where
+  Begins : RunsThrough t old [] [] old
+  Goes_on :
+      (steps : List Step) (answers : List Answer) (mid : S) (step : Step) (answer : Answer)
+      (new : S) →
+      RunsThrough t old steps answers mid → StepMakes t mid step answer new →
+      HasRun t old (steps ++ step ∷ []) (answers ++ answer ∷ []) new →
+      RunsThrough t old (steps ++ step ∷ []) (answers ++ answer ∷ []) new
 
 -- an answer is one to its step
 abbrev pub IsAnswerTo : Step → Answer → Type 0

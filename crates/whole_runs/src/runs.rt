@@ -1,7 +1,7 @@
 //! Runs a list of steps.
 ghost use Rattle.std.specs.Prelude.{◌≡◌, ◌<◌, ◌++◌, ◌∷◌, [], IfOk, OnErr, vec_len, vec_capacity};
 ghost use Rattle.std.specs.List.{AllZip};
-ghost use Rattle.whole_runs.specs.Reopenings.{StepMakes, HasRun, IsAnswerTo};
+ghost use Rattle.whole_runs.specs.Reopenings.{StepMakes, HasRun, RunsThrough, IsAnswerTo};
 
 use crate::reopening::Reopening;
 use crate::steps::{Answer, Step};
@@ -29,8 +29,9 @@ fn run_step<L: Reopening>(alloc: Global, ledgers: &mut L, step: &Step) -> Answer
 ///
 /// As long as the disk is honest, each tenant's replies other than `unavailable` and its machine
 /// are those of its own requests alone: of those that were answered, and of those that were not and
-/// that the next opening finds done. Room for all answers is made first: where memory lacks for it,
-/// no step is run.
+/// that the next opening finds done. What is told of the end of the run begins at the last
+/// reopening that was refused; the same is told of each moment of the run and the steps up to
+/// there. Room for all answers is made first: where memory lacks for it, no step is run.
 pub fn run_all<L: Reopening>(
     alloc: Global,
     ledgers: &mut L,
@@ -39,6 +40,8 @@ pub fn run_all<L: Reopening>(
     requires { L.means.is_usable ledgers.old }
     ensures run { L.means.is_live ledgers.old → IfOk result (λ answers.
         HasRun L.means ledgers.old steps.now answers.items ledgers.new) }
+    ensures through { L.means.is_live ledgers.old → IfOk result (λ answers.
+        RunsThrough L.means ledgers.old steps.now answers.items ledgers.new) }
     ensures answered { IfOk result (λ answers. AllZip IsAnswerTo steps.now answers.items) }
     ensures unrun { OnErr result (ledgers.new ≡ ledgers.old) }
     ensures usable { L.means.is_usable ledgers.new }

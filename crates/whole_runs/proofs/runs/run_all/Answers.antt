@@ -1,5 +1,6 @@
 use Rattle.std.proofs.Common.{ℕ, ◌+◌, ap, ◌∙◌, arith}
-use Rattle.whole_runs.proofs.CourseLemmas.{none_yet, run_on, answered_on}
+use Rattle.whole_runs.specs.Reopenings.{Begins}
+use Rattle.whole_runs.proofs.CourseLemmas.{none_yet, run_on, through_on, answered_on}
 use Rattle.whole_runs.proofs.runs.run_all.Goals as goal
 
 pub loop-step-init : goal.loop-step-init
@@ -7,6 +8,7 @@ loop-step-init g c = record {
   run = λ live.
       rw c.in_ok-answers.ensures.items
       (none_yet g.L.Reopening.means c.args.ledgers.now live c.is_settled.ensures);
+  through = λ live. rw c.in_ok-answers.ensures.items Begins;
   answered = rw c.in_ok-answers.ensures.items tt;
   count = c.in_ok-answers.ensures.len;
   room = c.in_ok-answers.ensures.exact;
@@ -18,6 +20,10 @@ loop-step-preserved g c = record {
   run = λ live.
       run_on g.L.Reopening.means _ _ _ _ _ _ _ _ _ (omega arith) c.step-item.is
       c.push_reserved.ensures.items (c.loop-step.invariant.run live) c.run_step.ensures.makes;
+  through = λ live.
+      through_on g.L.Reopening.means _ _ _ _ _ _ _ _ _ (omega arith) c.step-item.is
+      c.push_reserved.ensures.items (c.loop-step.invariant.through live)
+      (c.loop-step.invariant.run live) c.run_step.ensures.makes;
   answered =
       answered_on _ _ _ _ _ _ (omega arith) c.step-item.is c.push_reserved.ensures.items
       c.loop-step.invariant.answered c.run_step.ensures.answer;

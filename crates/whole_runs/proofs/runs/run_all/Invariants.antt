@@ -1,6 +1,6 @@
 use Rattle.std.proofs.Common.{◌≡◌, take, length, vec_len, vec_capacity}
 use Rattle.std.specs.List.{AllZip}
-use Rattle.whole_runs.specs.Reopenings.{HasRun, IsAnswerTo}
+use Rattle.whole_runs.specs.Reopenings.{HasRun, RunsThrough, IsAnswerTo}
 use Rattle.whole_runs.proofs.runs.run_all.Given as goal
 
 -- The steps so far have run, and there is room for the answers to all.
@@ -9,6 +9,10 @@ invariant-loop-step g l = record {
   run :
       g.L.Reopening.means.is_live l.fn.ledgers
       → HasRun g.L.Reopening.means l.fn.ledgers (take l.step-index l.steps) l.answers.items
+      l.ledgers;
+  through :
+      g.L.Reopening.means.is_live l.fn.ledgers
+      → RunsThrough g.L.Reopening.means l.fn.ledgers (take l.step-index l.steps) l.answers.items
       l.ledgers;
   answered : AllZip IsAnswerTo (take l.step-index l.steps) l.answers.items;
   count : vec_len l.answers ≡ l.step-index;
