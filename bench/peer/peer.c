@@ -381,7 +381,7 @@ static void writes(uint64_t accounts, int stored) {
 }
 
 static void dues(uint64_t accounts, int open) {
-    deadlines = malloc(sizeof *deadlines * open);
+    deadlines = malloc(sizeof *deadlines * DUE_SOON);
     send(accounts, DUE_SOON, DUE_SOON, 1);
     for (int i = 0; i < DUE_SOON; i++)
         deadlines[deadline_count++] = (deadline){now + i + 1 + SECOND, FIRST_ID + i};
