@@ -11,17 +11,17 @@ use Rattle.sqlite.proofs.StateLemmas.{survives_then}
 use Rattle.chain.specs.Ledgers.{IsDone}
 use Rattle.sqlite_value.specs.declared.value.Value.TheVariants.{Int}
 use Rattle.ledger_sql.specs.Effects.{Picks}
-use Rattle.ledger_sql.specs.TableRows.{numbers_with_digest}
+use Rattle.ledger_sql.specs.TableRows.{directory_rows, numbers_with_digest}
 use Rattle.stored_tables.specs.InBatch.{IsBatchOf}
 use Rattle.stored_tables.specs.MachineOf.{machine_of}
-use Rattle.stored_ledgers.specs.Directory.{IsTenant, number_of, tenants_in}
+use Rattle.stored_ledgers.specs.Directory.{IsTenant, number_of, tenants_in, KeepsDirectory}
 use Rattle.stored_ledgers.specs.DueSets.{DueSet, DueSets, CoversMachine, AreCovered}
 use Rattle.stored_ledgers.specs.Ledger.{HoldsLedgers}
 use Rattle.stored_ledgers.specs.Outcomes.{HasWorked, HasRun, IsAfterBatch, IsAfterBatchOf, IsDoneFor}
 use Rattle.stored_ledgers.specs.RestingLaws.{still_quiet}
 use Rattle.stored_ledgers.specs.Resting.{IsIdle, IsResting, IsSame}
 use Rattle.stored_ledgers.specs.DirectoryLaws.{found_number}
-use Rattle.stored_ledgers.proofs.LedgerLemmas.{machine_kept, same_of, ledgers_after, others_after}
+use Rattle.stored_ledgers.proofs.LedgerLemmas.{machine_kept, same_directory, same_of, ledgers_after, others_after}
 use Rattle.stored_ledgers.specs.DueSetLaws.{same_number, other_key}
 
 -- a connection that serves is idle for each tenant
@@ -70,12 +70,22 @@ done_by_run (Ok output) gives number old new ledgers ran =
     done_for gives number old.now new.now ledgers ran.batch output ran.given
 done_by_run (Err why) gives number old new ledgers ran = tt
 
+-- and the directory is as before, whatever was answered
+pub kept_by_run : {O : Type 0} (r : Result O Unavailable) (gives : Machine → O → Machine → Type 0)
+    (number : ℤ) (old new : State) → IfOk r (HasRun gives number old new) → OnErr r (IsSame old new)
+    → KeepsDirectory old.now.trees new.now.trees
+kept_by_run (Ok output) gives number old new ran same =
+    same_directory old.now.trees new.now.trees ran.batch.others.directory
+kept_by_run (Err why) gives number old new ran same =
+    ap (λ (db : Database). directory_rows db.trees) same.now
+
 -- what was worked is what a batch leaves
 pub after_work : {O : Type 0} (gives : Machine → O → Machine → Type 0) (number : ℤ) (old : Database)
     → HoldsLedgers old → (trees : _) → HasWorked gives number old trees
     → IsAfterBatchOf gives number old trees
 after_work gives number old ledgers trees worked digest found = record {
   ledgers = ledgers_after digest number old _ found ledgers worked.batch;
+  directory = same_directory old.trees trees worked.batch.others.directory;
   output = worked.output;
   done = done_for gives number old _ ledgers worked.batch worked.output worked.given digest found;
 }

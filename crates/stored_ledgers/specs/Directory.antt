@@ -22,6 +22,10 @@ with_name name trees = rows_with_name name (directory_rows trees)
 abbrev pub with_digest : List ℕ → Trees → List Row
 with_digest digest trees = filter (λ row. is_blob digest (column row 2)) (directory_rows trees)
 
+-- the numbers, names and digests of all tenants are as before
+abbrev pub KeepsDirectory : Trees → Trees → Type 0
+KeepsDirectory old new = directory_rows new ≡ directory_rows old
+
 -- no two tenants have one number, one name or one digest
 pub record AreDistinct (trees : Trees) : Type 0 where
   pub numbers : (number : ℤ) → length (with_number number trees) ≤ 1

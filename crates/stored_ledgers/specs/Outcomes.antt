@@ -10,7 +10,7 @@ use Rattle.sqlite.specs.State.{State}
 use Rattle.sqlite_trees.specs.Tree.{Trees}
 use Rattle.stored_tables.specs.InBatch.{IsBatchOf}
 use Rattle.stored_tables.specs.MachineOf.{machine_of}
-use Rattle.stored_ledgers.specs.Directory.{number_of, tenants_in}
+use Rattle.stored_ledgers.specs.Directory.{number_of, tenants_in, KeepsDirectory}
 use Rattle.stored_ledgers.specs.Ledger.{HoldsLedgers}
 
 -- what a batch answers, where no output is that there is no such tenant
@@ -35,11 +35,12 @@ pub record HasRun {O : Type 0} (gives : Machine → O → Machine → Type 0) (t
   pub committed : new.now ≡ new.committed
   pub unmarked : new.marks ≡ []
 
--- the database after the whole of a tenant's batch: it holds ledgers, and each other machine is as
--- before
+-- the database after the whole of a tenant's batch: it holds ledgers, and the directory and each
+-- other machine are as before
 pub record IsAfterBatch {O : Type 0} (gives : Machine → O → Machine → Type 0) (digest : List ℕ)
     (old : Database) (trees : Trees) : Type 0 where
   pub ledgers : HoldsLedgers (record { schema = old.schema; trees = trees })
+  pub directory : KeepsDirectory old.trees trees
   pub output : O
   pub done : IsDone gives digest (tenants_in old.trees) (tenants_in trees) output
 

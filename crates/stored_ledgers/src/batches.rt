@@ -9,7 +9,7 @@ ghost use Rattle.chain.specs.Ledgers.{IsRun};
 ghost use Rattle.ledger_sql.specs.Frames.{Live, IsUnmarked, Follows};
 ghost use Rattle.stored_tables.specs.InBatch.{IsUsable};
 ghost use Rattle.stored_tables.specs.MachineOf.{machine_of};
-ghost use Rattle.stored_ledgers.specs.Directory.{IsTenant, tenants_in};
+ghost use Rattle.stored_ledgers.specs.Directory.{IsTenant, tenants_in, KeepsDirectory};
 ghost use Rattle.stored_ledgers.specs.DueSets.{due_cmp, CoversMachine};
 ghost use Rattle.stored_ledgers.specs.Outcomes.{batch_answer, IsAfterBatch, IsAfterBatchOf, IsDoneFor, HasWorked, HasRun};
 ghost use Rattle.stored_ledgers.specs.Resting.{IsResting, Serves, IsIdle, IsSame};
@@ -38,6 +38,8 @@ pub fn in_batch<S: Alter, W: Work + Drop>(
     ensures run { Live (state S.Store conn.new) → IsRun (W.gives work) digest.now
         (tenants_in (state S.Store conn.old).now.trees)
         (tenants_in (state S.Store conn.new).now.trees) (batch_answer result) }
+    ensures directory { Live (state S.Store conn.new) → KeepsDirectory
+        (state S.Store conn.old).now.trees (state S.Store conn.new).now.trees }
     ensures resting { Live (state S.Store conn.new)
         → IsResting due.new (state S.Store conn.new) }
     ensures open { HasCleanDisk (state S.Store conn.new) → result ≢ Err Disk
@@ -60,6 +62,8 @@ fn try_batch<S: Alter, W: Work + Drop>(
     ensures run { Live (state S.Store conn.new) → IsRun (W.gives work) digest.now
         (tenants_in (state S.Store conn.old).now.trees)
         (tenants_in (state S.Store conn.new).now.trees) (batch_answer result) }
+    ensures directory { Live (state S.Store conn.new) → KeepsDirectory
+        (state S.Store conn.old).now.trees (state S.Store conn.new).now.trees }
     ensures resting { Live (state S.Store conn.new)
         → IsResting due.new (state S.Store conn.new) }
     ensures same { Live (state S.Store conn.new) → OnErr result
@@ -100,6 +104,8 @@ fn in_batch_of<S: Alter, W: Work + Drop>(
     ensures done { Live (state S.Store conn.new) → IfOk result
         (IsDoneFor (W.gives work) tenant.0 (state S.Store conn.old).now
         (state S.Store conn.new).now) }
+    ensures directory { Live (state S.Store conn.new) → KeepsDirectory
+        (state S.Store conn.old).now.trees (state S.Store conn.new).now.trees }
     ensures resting { Live (state S.Store conn.new)
         → IsResting due.new (state S.Store conn.new) }
     ensures same { Live (state S.Store conn.new) → OnErr result

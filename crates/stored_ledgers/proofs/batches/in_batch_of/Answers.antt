@@ -5,7 +5,7 @@ use Rattle.std.specs.Ordering.{int_cmp}
 use Rattle.sqlite.specs.Held.{state}
 use Rattle.sqlite.specs.State.{HasCleanDisk}
 use Rattle.sqlite.proofs.StateLemmas.{survives_weaker}
-use Rattle.stored_ledgers.proofs.OutcomeLemmas.{idle_for, covered_for, done_by_run, after_work, resting_after}
+use Rattle.stored_ledgers.proofs.OutcomeLemmas.{idle_for, covered_for, done_by_run, kept_by_run, after_work, resting_after}
 use Rattle.stored_ledgers.proofs.batches.in_batch_of.Goals as goal
 
 pub run_batch-requires-clause-idle : goal.run_batch-requires-clause-idle
@@ -26,6 +26,11 @@ returns-clause-done g c live =
     let clean : HasCleanDisk (state g.S.Store c.args.conn.now) = search rules in
     done_by_run c.run_batch.result (g.W.Work.gives c.args.work) c.args.tenant.0 _ _
     (c.requires.serves clean).1.ledgers (c.run_batch.ensures.ran live)
+
+pub returns-clause-directory : goal.returns-clause-directory
+returns-clause-directory g c live =
+    kept_by_run c.run_batch.result (g.W.Work.gives c.args.work) c.args.tenant.0 _ _
+    (c.run_batch.ensures.ran live) (c.run_batch.ensures.same live)
 
 pub returns-clause-resting : goal.returns-clause-resting
 returns-clause-resting g c live =
