@@ -6,10 +6,10 @@ ghost use Rattle.commands.specs.Openings.{IsOpeningFault};
 
 use crate::SystemMoments;
 use crate::closed::Closed;
-use crate::opening::open_served;
+use crate::opening::{open_fault, open_served};
 use crate::serving::{listen, serve_connection};
-use command_texts::Fault;
-use records::Unavailable;
+use command_texts::{Fault, tell_fault};
+use records::{Streamed, Unavailable};
 use service::Moments;
 use sqlite_disk::Disk;
 use sqlite_std_file::File;
@@ -23,6 +23,10 @@ pub trait Home<D: Disk + Drop> {
     fn open_store(&self) -> Result<Store<D>, Fault>
         ensures usable { IfOk result IsUsable }
         ensures fault { IfErr result IsOpeningFault };
+
+    /// Is told why a store could not be opened again.
+    fn tell(&self, fault: Fault)
+        requires { IsOpeningFault fault };
 }
 
 /// A file of this machine.
@@ -35,6 +39,11 @@ struct HostFile<'a> {
 impl Home<File> for HostFile<'_> {
     fn open_store(&self) -> Result<Store<File>, Fault> {
         open_served(self.rt, self.path)
+    }
+
+    // The service goes on where nobody reads standard error.
+    fn tell(&self, fault: Fault) {
+        let _ = tell_fault(&mut Streamed::new(self.rt.stderr()), fault);
     }
 }
 
@@ -57,9 +66,10 @@ pub fn serve_file(rt: &HostRuntime, db: &str, port: u16, most: u64) -> Result<()
 /// waiting for as long as it likes, unless a proxy in front of the service ends it. `Socket` where
 /// a connection cannot be accepted.
 ///
-/// Where the store's disk has failed, the store is opened again before the next connection is
-/// taken, over the same files or else anew; where that is refused, that connection is answered that
-/// the service is unavailable.
+/// Where the store's disk has failed, the store is opened again, over the same files or else anew:
+/// before the next connection is waited for, and where that is refused, once more when it is there,
+/// since the disk may be well by then. Where that is refused too, the connection is answered that
+/// the service is unavailable. `home` is told why, each time.
 pub fn serve_store<D: Disk + Drop, H: Home<D>, C: Moments>(
     alloc: Global,
     listener: &TcpListener,
@@ -78,10 +88,11 @@ pub fn serve_store<D: Disk + Drop, H: Home<D>, C: Moments>(
         if left == 0 {
             return Ok(());
         }
-        kept = renewed(home, kept);
+        let waiting = renewed(home, kept);
         let Ok((stream, _)) = listener.accept() else {
             return Err(Fault::Socket);
         };
+        kept = renewed(home, waiting);
         left -= serve_kept(alloc, &stream, &mut kept, moments, left);
     }
     Err(Fault::Socket)
@@ -125,26 +136,33 @@ fn renewed<D: Disk + Drop, H: Home<D>>(home: &H, kept: Option<Store<D>>) -> Opti
 }
 
 // The store opened again over its files. Where their disk fails that too, it lets go of them, and
-// the store is opened anew; any other refusal leaves it to be tried again.
+// the store is opened anew; any other refusal is told, and leaves it to be tried again.
 fn reopened<D: Disk + Drop, H: Home<D>>(home: &H, mut store: Store<D>) -> Option<Store<D>>
     requires { IsUsable store }
     ensures { IfSome result IsUsable }
 {
     match store.reopen(&FullAudit) {
+        Ok(()) => Some(store),
         Err(OpenFault::Unavailable(Unavailable::Disk)) => {
             drop(store);
             opened(home)
         }
-        _ => Some(store),
+        Err(fault) => {
+            home.tell(open_fault(fault));
+            Some(store)
+        }
     }
 }
 
-// The store opened anew, if it can be.
+// The store opened anew, if it can be; else the home is told why not.
 fn opened<D: Disk + Drop, H: Home<D>>(home: &H) -> Option<Store<D>>
     ensures { IfSome result IsUsable }
 {
     match home.open_store() {
         Ok(store) => Some(store),
-        Err(_) => None,
+        Err(fault) => {
+            home.tell(fault);
+            None
+        }
     }
 }

@@ -157,8 +157,8 @@ fn options(rt: &HostRuntime, pages: usize) -> Result<Options, OpenFault> {
     }
 }
 
-// What the program tells where a file is not opened.
-fn open_fault(fault: OpenFault) -> Fault
+/// What the program tells where a file is not opened.
+pub(crate) fn open_fault(fault: OpenFault) -> Fault
     ensures told { result ≡ open_fault fault }
     ensures named { IsOpeningFault result }
 {

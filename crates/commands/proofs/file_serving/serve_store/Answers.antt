@@ -15,7 +15,9 @@ loop-preserved g c = record {
   number = c.loop.invariant.number + c.serve_kept-left.result;
   served =
       Another c.loop.invariant.number _ c.serve_kept-left.result _ _ _ _
-      (Again c.loop.invariant.number _ _ _ c.loop.invariant.served c.renewed-kept.ensures.same)
+      (Again c.loop.invariant.number _ _ _
+      (Again c.loop.invariant.number _ _ _ c.loop.invariant.served c.renewed-waiting.ensures.same)
+      c.renewed-kept.ensures.same)
       c.serve_kept-left.ensures.served;
   left = omega arith;
   usable = c.serve_kept-left.ensures.usable;
