@@ -15,6 +15,7 @@ import tempfile
 import time
 import traceback
 
+import broken
 import chosen
 import commands
 import damaged
@@ -22,6 +23,7 @@ import refused
 import refusing
 import runs
 import stream
+import use
 import worked
 
 TRIALS = {
@@ -30,6 +32,9 @@ TRIALS = {
     "chosen": chosen.chosen,
     "killed": runs.killed,
     "full": runs.full,
+    "broken": broken.broken,
+    "in_use": use.in_use,
+    "reader": use.gone_reader,
     "refused": refused.refused_bytes,
     "stream": stream.stream,
     "memory": refusing.refused_memory,

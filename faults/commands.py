@@ -6,9 +6,8 @@ from control import DISK, MEMORY, Control, places
 from copies import copy, remove
 from migrations import refused_migrations
 from runs import House
-from service import UNAVAILABLE, UNREADABLE, check, run, want
+from service import NAME_TAKEN, UNAVAILABLE, UNREADABLE, check, run, want
 
-NAME_TAKEN = (1, "", "ledgerd: name_taken\n")
 KEY = "5" * 64
 
 

@@ -113,9 +113,18 @@ def refused_bytes(trial):
             refuse(house, desk, sent, piece, (f"{name}, in pieces of {piece}", refusal))
             tried += 1
             trial.progress(f"{tried} messages")
+    refuse_large(house, desk)
     house.compare()
     house.stop()
-    return f"{tried} messages, each refused by its name, and nothing changed"
+    return f"{tried + 1} messages, each refused by its name, and nothing changed"
+
+
+def refuse_large(house, desk):
+    """A body of 3 megabytes, sent whole: the client can send all of it, and read all of its
+    reply."""
+    desk.leave()
+    body = b"[" + b" " * 3_000_000 + b"]"
+    refuse(house, desk, post("/transfers", body, desk.key), None, ("3 MB", "body_too_large"))
 
 
 def refuse(house, desk, sent, piece, expected):

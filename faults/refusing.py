@@ -1,10 +1,11 @@
 """Memory and calls of the disk, refused one by one to the running service."""
 
+import time
+
 from control import ALL, DISK, MEMORY, Control, places
 from drawn import LEDGER, account, transfer
 from runs import House
-from service import Lost, body_of, message, want
-
+from service import PATIENCE, Lost, body_of, message, want
 
 
 class Cases:
@@ -153,10 +154,25 @@ def failing_disk(trial):
     return f"{refused} batches with a failing call, {found} of them found done by the next opening"
 
 
+def refuse_opening(house, begun):
+    """The next connection is not served, and behind so many lines standard error tells why the file
+    could not be opened again: before that connection, when it is there, and behind it."""
+    told = house.take_turn(1).ask("POST", "/accounts/lookup", b"[]")
+    want(told is None, f"served by a disk that fails: {told}")
+    house.desks[1].leave()
+    end = time.monotonic() + PATIENCE
+    while len(house.service.told()) < begun + 3:
+        want(time.monotonic() < end, f"standard error tells {house.service.told()[begun:]}")
+        time.sleep(0.005)
+    lines = house.service.told()[begun:]
+    faults = {"ledgerd: unavailable", "ledgerd: unreadable"}
+    want(len(lines) == 3 and faults.issuperset(lines), f"standard error tells {lines}")
+
+
 def fail_disk(house, control, failing, batch):
     """Whether a call failed, and whether the batch that was refused for it was found done."""
     ready(house, 1)
-    desk = ready(house)
+    desk, begun = ready(house), len(house.service.told())
     control.refuse(DISK, *failing)
     if desk.batch(*batch):
         return bool(control.end(DISK)), 0
@@ -168,8 +184,8 @@ def fail_disk(house, control, failing, batch):
         told = desk.connection.reply()[2]
         want(told == b'{"error":"unavailable"}', f"behind a failed call at {failing}: {told!r}")
     if failing[1] == ALL:
-        told = house.take_turn(1).ask("POST", "/accounts/lookup", b"[]")
-        want(told is None, f"served by a disk that fails: {told}")
+        refuse_opening(house, begun)
+    # Also where the last opening was refused, the next connection is served.
     want(control.end(DISK), "unavailable, and no call has failed")
     found = ready(house).settle(*batch)
     house.compare()

@@ -10,6 +10,7 @@ import resource
 import signal
 import socket
 import subprocess
+import tempfile
 import time
 
 from model import ACCOUNT_FIELDS, BALANCES, HISTORY, TRANSFER_FIELDS, Ledger
@@ -22,6 +23,7 @@ STRINGS = {"id", "debit_account_id", "credit_account_id", "amount", "pending_id"
 # told as the second.
 UNAVAILABLE = (3, "", "ledgerd: unavailable\n")
 UNREADABLE = (4, "", "ledgerd: unreadable\n")
+NAME_TAKEN = (1, "", "ledgerd: name_taken\n")
 
 
 class Surprise(Exception):
@@ -73,10 +75,10 @@ class Service:
     """A running service over a file."""
 
     def __init__(self, program, db, env=None):
-        self.port = free_port()
+        self.port, self.errors = free_port(), tempfile.TemporaryFile()
         self.served = subprocess.Popen(
             [program, "serve", "--db", db, "--port", str(self.port), "--requests", str(2**64 - 1)],
-            env=env, stderr=subprocess.PIPE,
+            env=env, stderr=self.errors,
             preexec_fn=lambda: signal.signal(signal.SIGXFSZ, signal.SIG_IGN))
         atexit.register(self.served.kill)
         end = time.monotonic() + PATIENCE
@@ -93,6 +95,11 @@ class Service:
         """No file grows beyond so many bytes from now on."""
         resource.prlimit(self.served.pid, resource.RLIMIT_FSIZE, (most, resource.RLIM_INFINITY))
 
+    def told(self):
+        """The lines of its standard error so far. They are read by place, since it writes to the
+        same file."""
+        return os.pread(self.errors.fileno(), 1 << 20, 0).decode().splitlines()
+
     def memory(self):
         """The bytes that the process has in memory."""
         pages = int(pathlib.Path(f"/proc/{self.served.pid}/statm").read_text().split()[1])
@@ -107,7 +114,7 @@ class Service:
         """It is not there any more."""
         self.served.kill()
         self.served.wait()
-        self.served.stderr.close()
+        self.errors.close()
         atexit.unregister(self.served.kill)
 
 

@@ -1,0 +1,68 @@
+"""A file that is damaged while it is served, and put back."""
+
+import os
+import sqlite3
+
+from copies import copy, files
+from drawn import LEDGER, transfer
+from runs import House
+from service import check, run, want
+
+
+def broken(trial):
+    """Other bytes written over the file, and its disk failing: the service tells that the file is
+    damaged, and goes on once it is put back."""
+    times = 20 if trial.is_long else 3
+    house = House(trial.fresh())
+    house.begin()
+    kept, scratch = (os.path.join(trial.folder, name) for name in ("kept.db", "scratch.db"))
+    for turn in range(times):
+        for place, events in (house.draw() for _ in range(4)):
+            want(house.take_turn(place).batch(events), "unavailable, with all at hand")
+        copy(house.db, kept)
+        copy(house.db, scratch)
+        damage(house.program, scratch)
+        break_once(house, turn, kept, scratch)
+    house.stop()
+    check(house.program, house.db)
+    return f"{times} times damaged while it was served: told, and served again once it was put back"
+
+
+def damage(program, db):
+    connection = sqlite3.connect(db)
+    connection.execute("DELETE FROM balance WHERE rowid = (SELECT max(rowid) FROM balance)")
+    connection.commit()
+    connection.close()
+    told = run(program, "check", "--db", db)
+    want(told[0] == 4 and told[1].startswith("damaged "), f"a file with a balance removed: {told}")
+
+
+def break_once(house, turn, kept, damaged):
+    """A batch that cannot be written, so that the file is opened again, damaged and then whole."""
+    batch = [transfer(10**9 + turn, debit_account_id=1, credit_account_id=2, amount=5,
+                      ledger=LEDGER, code=1)]
+    desk, begun = house.take_turn(0), len(house.service.told())
+    house.service.limit_files(0)
+    want(not desk.batch(batch), "answered, with nothing written")
+    put(damaged, house.db)
+    house.service.limit_files(2**62)
+    told = house.take_turn(1).ask("POST", "/accounts/lookup", b"[]")
+    want(told is None, f"served, and damaged: {told}")
+    lines = house.service.told()[begun:]
+    want(lines == ["ledgerd: damaged"] * 2, f"standard error tells {lines}")
+    put(kept, house.db)
+    want(not house.take_turn(0).settle(batch), "kept by a file that was put back")
+    house.compare()
+    want(house.take_turn(0).batch(batch), "unavailable, and the file is put back")
+
+
+def put(db, to):
+    """Writes a ledger's files over those of another, which a service may have open."""
+    for source, path in zip(files(db), files(to)):
+        if os.path.exists(path):
+            text = b""
+            if os.path.exists(source):
+                with open(source, "rb") as file:
+                    text = file.read()
+            with open(path, "wb") as file:
+                file.write(text)
