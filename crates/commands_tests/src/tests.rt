@@ -1,5 +1,6 @@
 //! Commands over files and a listener of this machine.
 
+mod broken;
 mod command_lines;
 mod files;
 mod firms;

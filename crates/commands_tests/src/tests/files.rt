@@ -1,6 +1,7 @@
 //! Steps on files of this machine: what is done to a file, and what the program tells of it.
 ghost use Rattle.std.specs.Prelude.{◌≡◌, false};
 
+use super::broken::breaks;
 use super::firms::{ADDING, post_in_part};
 use command_texts::Fault;
 use commands::{program, serve_file};
@@ -27,6 +28,9 @@ pub enum Step {
     Posts,
     /// A port on which the file is served, for no replies, and the fault with which that ends.
     Serves(u16, Option<Fault>),
+    /// These bytes are written over the file while it is served, and this fault is told at each
+    /// attempt to open it again.
+    Breaks(&'static [u8], Fault),
     /// A statement of SQL is run.
     Changes(&'static str),
     /// These bytes are written to the file in place of what it held.
@@ -55,6 +59,7 @@ fn take_step(rt: &HostRuntime, db: &str, step: Step) -> Result<(), Fail> {
             post(rt, db)
         }
         Step::Serves(port, fault) => serves(rt, db, port, fault),
+        Step::Breaks(bytes, fault) => breaks(rt, db, bytes, fault),
         Step::Changes(sql) => change(rt, db, sql),
         Step::Writes(bytes) => Ok(fs::write(rt, db, bytes)?),
     }

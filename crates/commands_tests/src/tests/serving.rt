@@ -11,6 +11,7 @@ use service::Moments;
 use sqlite::{Files, Options};
 use sqlite_disk::{Disk, Fuse, Memory};
 use std::alloc::Global;
+use std::cell::{Cell, RefCell};
 use std::io::{Read, Write};
 use std::net::{Ipv4Addr, Shutdown, SocketAddr, TcpListener, TcpStream};
 use std::test::Fail;
@@ -29,7 +30,8 @@ macro_rules! replies {
     };
 }
 
-const UNAVAILABLE: &str = concat!(
+/// What a client is told where no call is answered.
+pub const UNAVAILABLE: &str = concat!(
     "|HTTP/1.1 503 Service Unavailable\r\ncontent-length: 23\r\n",
     "content-type: application/json\r\n\r\n{\"error\":\"unavailable\"}"
 );
@@ -92,40 +94,78 @@ fn firm_store<D: Faulty>(alloc: Global, calls: u64) -> Option<Store<D>>
     }
 }
 
-// Opens no store.
+/// The faults that a home is told.
 #[derive(Drop)]
-struct Nowhere;
+pub struct Told(RefCell<Vec<Fault>>);
 
-impl<D: Disk + Drop> Home<D> for Nowhere {
-    fn open_store(&self) -> Result<Store<D>, Fault> {
-        Err(Fault::Unreadable)
+impl Told {
+    pub fn new(alloc: Global) -> Told {
+        Told(RefCell::new(Vec::new(alloc)))
     }
-}
 
-// Opens another new store.
-#[derive(Drop)]
-struct Spare(Global);
+    pub fn add(&self, fault: Fault) {
+        if let Ok(mut faults) = self.0.try_borrow_mut() {
+            let _ = faults.push(fault);
+        }
+    }
 
-impl<D: Faulty> Home<D> for Spare {
-    fn open_store(&self) -> Result<Store<D>, Fault> {
-        match firm_store(self.0, NEVER) {
-            Some(store) => Ok(store),
-            None => Err(Fault::Unreadable),
+    /// Whether it was told these, in this order.
+    pub fn are(&self, want: &[Fault]) -> bool {
+        match self.0.try_borrow() {
+            Ok(faults) => faults.as_slice() == want,
+            Err(_) => false,
         }
     }
 }
 
-// Serves the firm, at the moments 1,000, 2,000 and so on.
-fn serve<D: Faulty, H: Home<D>>(
+/// Opens no store.
+#[derive(Drop)]
+pub struct Nowhere(pub Told);
+
+impl<D: Disk + Drop> Home<D> for Nowhere {
+    fn open_store(&self) -> Result<Store<D>, Fault> {
+        Err(Fault::NotALedger)
+    }
+
+    fn tell(&self, fault: Fault) {
+        self.0.add(fault);
+    }
+}
+
+// Refuses so many openings. Then it opens another new store.
+#[derive(Drop)]
+struct Refusing {
     alloc: Global,
-    listener: &TcpListener,
-    home: &H,
-    calls: u64,
-    most: u64,
-) -> Option<Result<(), Fault>> {
-    let store = firm_store::<D>(alloc, calls)?;
-    let mut moments = Thousands(1000);
-    Some(serve_store(alloc, listener, home, store, &mut moments, most))
+    left: Cell<u64>,
+    told: Told,
+}
+
+impl Refusing {
+    fn new(alloc: Global, refusals: u64) -> Refusing {
+        Refusing {
+            alloc,
+            left: Cell::new(refusals),
+            told: Told::new(alloc),
+        }
+    }
+}
+
+impl<D: Faulty> Home<D> for Refusing {
+    fn open_store(&self) -> Result<Store<D>, Fault> {
+        let left = self.left.get();
+        if left != 0 {
+            self.left.set(left - 1);
+            return Err(Fault::Damaged);
+        }
+        match firm_store(self.alloc, NEVER) {
+            Some(store) => Ok(store),
+            None => Err(Fault::Unreadable),
+        }
+    }
+
+    fn tell(&self, fault: Fault) {
+        self.told.add(fault);
+    }
 }
 
 fn listen(rt: &HostRuntime) -> Result<TcpListener, Fail> {
@@ -144,8 +184,8 @@ fn client(rt: &HostRuntime, listener: &TcpListener, messages: u64) -> Result<Tcp
     Ok(client)
 }
 
-// What two clients that sent so many messages are told, until so many replies are written; nothing
-// where the service does not end well.
+// What two clients that sent so many messages are told by the service of a firm, whose log fails
+// behind so many calls.
 fn exchange<D: Faulty, H: Home<D>>(
     rt: &HostRuntime,
     home: &H,
@@ -153,18 +193,48 @@ fn exchange<D: Faulty, H: Home<D>>(
     messages: (u64, u64),
     most: u64,
 ) -> Result<Vec<u8>, Fail> {
+    match firm_store::<D>(rt.alloc(), calls) {
+        Some(store) => exchange_over(rt, home, store, messages, most),
+        None => Ok(Vec::new(rt.alloc())),
+    }
+}
+
+/// What two clients that sent so many messages are told over a store, at the moments 1,000, 2,000
+/// and so on, until so many replies are written; nothing where the service does not end well.
+pub fn exchange_over<D: Disk + Drop, H: Home<D>>(
+    rt: &HostRuntime,
+    home: &H,
+    store: Store<D>,
+    messages: (u64, u64),
+    most: u64,
+) -> Result<Vec<u8>, Fail>
+    requires { IsUsable store }
+{
     let listener = listen(rt)?;
     let first = client(rt, &listener, messages.0)?;
     let second = client(rt, &listener, messages.1)?;
     let mut told = Vec::new(rt.alloc());
-    if let Some(Ok(())) = serve::<D, H>(rt.alloc(), &listener, home, calls, most) {
+    if serve(rt.alloc(), &listener, home, store, most).is_ok() {
         hear(&mut told, first)?;
         hear(&mut told, second)?;
     }
     Ok(told)
 }
 
-// All that a client is still told.
+fn serve<D: Disk + Drop, H: Home<D>>(
+    alloc: Global,
+    listener: &TcpListener,
+    home: &H,
+    store: Store<D>,
+    most: u64,
+) -> Result<(), Fault>
+    requires { IsUsable store }
+{
+    let mut moments = Thousands(1000);
+    serve_store(alloc, listener, home, store, &mut moments, most)
+}
+
+// All that a client is still told, behind a bar.
 fn hear(told: &mut Vec<u8>, mut client: TcpStream) -> Result<(), Fail> {
     told.push(b'|')?;
     client.read_to_end(told)?;
@@ -180,7 +250,8 @@ const EXCHANGES: [((u64, u64), u64, &str); 2] = [
 #[test]
 fn serves_one_connection_after_the_other(rt: HostRuntime) -> Result<(), Fail> {
     for (messages, most, want) in EXCHANGES {
-        let told = exchange::<Fuse<Memory>, _>(&rt, &Nowhere, NEVER, messages, most)?;
+        let home = Nowhere(Told::new(rt.alloc()));
+        let told = exchange::<Fuse<Memory>, _>(&rt, &home, NEVER, messages, most)?;
         assert_eq!(rt; told.as_slice(), want.as_bytes());
     }
     Ok(())
@@ -190,7 +261,11 @@ fn serves_one_connection_after_the_other(rt: HostRuntime) -> Result<(), Fail> {
 fn ended<D: Faulty>(rt: &HostRuntime, most: u64) -> Result<Option<Result<(), Fault>>, Fail> {
     let listener = listen(rt)?;
     listener.set_nonblocking(true)?;
-    Ok(serve::<D, _>(rt.alloc(), &listener, &Nowhere, NEVER, most))
+    let home = Nowhere(Told::new(rt.alloc()));
+    Ok(match firm_store::<D>(rt.alloc(), NEVER) {
+        Some(store) => Some(serve(rt.alloc(), &listener, &home, store, most)),
+        None => None,
+    })
 }
 
 #[test]
@@ -215,13 +290,19 @@ fn takes_no_port_in_use(rt: HostRuntime) -> Result<(), Fail> {
 }
 
 // Whether the first of two clients is told at some call that fails that the service is unavailable,
-// and the second one is told this each time.
-fn tells_next<D: Faulty, H: Home<D>>(rt: &HostRuntime, home: &H, want: &str) -> Result<bool, Fail> {
+// and each time the second one is told this, and a home that refuses so many openings these faults.
+fn tells_next<D: Faulty>(
+    rt: &HostRuntime,
+    refusals: u64,
+    want: &str,
+    faults: &[Fault],
+) -> Result<bool, Fail> {
     let mut has_failed = false;
     for calls in 0..48 {
-        let told = exchange::<D, H>(rt, home, calls, (1, 1), 2)?;
+        let home = Refusing::new(rt.alloc(), refusals);
+        let told = exchange::<D, _>(rt, &home, calls, (1, 1), 2)?;
         if let Some(next) = told.as_slice().strip_prefix(UNAVAILABLE.as_bytes()) {
-            if next != want.as_bytes() {
+            if next != want.as_bytes() || !home.told.are(faults) {
                 return Ok(false);
             }
             has_failed = true;
@@ -233,19 +314,28 @@ fn tells_next<D: Faulty, H: Home<D>>(rt: &HostRuntime, home: &H, want: &str) -> 
 #[test]
 fn opens_a_store_again_over_its_files(rt: HostRuntime) -> Result<(), Fail> {
     let want = replies!("|" "2000");
-    assert!(rt; tells_next::<OnceFailing<Memory>, _>(&rt, &Nowhere, want)?);
+    assert!(rt; tells_next::<OnceFailing<Memory>>(&rt, 2, want, &[])?);
     Ok(())
 }
 
 #[test]
 fn opens_a_store_anew(rt: HostRuntime) -> Result<(), Fail> {
-    let spare = Spare(rt.alloc());
-    assert!(rt; tells_next::<Fuse<Memory>, _>(&rt, &spare, replies!("|" "2000"))?);
+    let want = replies!("|" "2000");
+    assert!(rt; tells_next::<Fuse<Memory>>(&rt, 0, want, &[])?);
+    Ok(())
+}
+
+// The disk is well again before the second client comes.
+#[test]
+fn opens_a_store_once_a_client_is_there(rt: HostRuntime) -> Result<(), Fail> {
+    let want = replies!("|" "2000");
+    assert!(rt; tells_next::<Fuse<Memory>>(&rt, 1, want, &[Fault::Damaged])?);
     Ok(())
 }
 
 #[test]
 fn answers_that_it_is_unavailable(rt: HostRuntime) -> Result<(), Fail> {
-    assert!(rt; tells_next::<Fuse<Memory>, _>(&rt, &Nowhere, UNAVAILABLE)?);
+    let faults = [Fault::Damaged; 2];
+    assert!(rt; tells_next::<Fuse<Memory>>(&rt, 2, UNAVAILABLE, &faults)?);
     Ok(())
 }
