@@ -7,7 +7,7 @@ ghost use Rattle.ledger_sql.specs.Frames.{Live, Follows};
 ghost use Rattle.stored_ledgers.specs.Resting.{IsQuiet, IsSame, HoldsHere};
 ghost use Rattle.records.specs.declared.unavailable.Unavailable.TheVariants.{Disk};
 ghost use Rattle.openings.specs.Whole.{CanBeRead, AreRowsOf, AreAllRows, lists_in, lists_for};
-ghost use Rattle.whole_tables.specs.Reading.{HasTables};
+ghost use Rattle.whole_tables.specs.Reading.{HasTables, AreInOrder};
 
 use ledger_sql::TableFault;
 use ledger_sql::finding::find_tenant;
@@ -148,7 +148,7 @@ fn by_tenant(
     tables: &WholeTables,
     directory: &[DirectoryRow],
 ) -> Result<Vec<TenantOfDigest>, Unavailable>
-    ensures { IfOk result (λ tenants.
+    ensures { AreInOrder tables.now → IfOk result (λ tenants.
         map lists_in tenants.items ≡ map (lists_for tables.now) directory.now) }
 {
     let mut tenants = Vec::new(alloc);

@@ -1,3 +1,4 @@
 pub mod Reading
+pub mod ReadingLaws
 pub mod Filling
 pub mod FillingLaws

@@ -1,5 +1,6 @@
 -- The tables that tenants share, read whole.
-use Rattle.std.specs.Prelude.{◌≡◌, ℕ, ◌<◌, ◌≤◌, ℤ, List, []}
+use Rattle.std.specs.Prelude.{◌≡◌, ℕ, ◌<◌, ◌≤◌, ℤ, List, [], IsSortedByKey}
+use Rattle.std.specs.Ordering.{int_cmp}
 use Rattle.rows.specs.TypedRows.{FileRows}
 use Rattle.sqlite_schema.specs.declared.schema.Schema.{Schema}
 use Rattle.sqlite_trees.specs.Tree.{Trees}
@@ -67,6 +68,20 @@ pub record ReadsWhole (version : ℕ) (trees : Trees) (read : WholeTables) : Typ
   pub entries : ReadsEntries trees read.entries
   pub derived : ReadsDerivedSince version trees read.derived
   pub failed : ReadsFailedSince version trees read.failed.items
+
+-- the rows of a table ascend in tenant
+abbrev pub IsInOrder : {R : Type 0} → List (Owned R) → Type 0
+IsInOrder = IsSortedByKey (λ owned. owned.tenant) int_cmp
+
+-- those of each table do
+pub record AreInOrder (tables : WholeTables) : Type 0 where
+  pub clocks : IsInOrder tables.entries.clocks.items
+  pub accounts : IsInOrder tables.entries.accounts.items
+  pub transfers : IsInOrder tables.entries.transfers.items
+  pub balances : IsInOrder tables.derived.balances.items
+  pub statuses : IsInOrder tables.derived.statuses.items
+  pub history : IsInOrder tables.derived.history.items
+  pub failed : IsInOrder tables.failed.items
 
 -- a tenant's rows of each table, in the order of the table
 abbrev pub own_lists : WholeTables → ℤ → FileRows

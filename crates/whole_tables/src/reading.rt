@@ -1,6 +1,7 @@
 //! The tables that tenants share, read whole.
 
-ghost use Rattle.std.specs.Prelude.{◌≡◌, ◌≤◌, IfOk, OnOk, IsTrue};
+ghost use Rattle.std.specs.Prelude.{◌≡◌, ◌≤◌, map, filter, IfOk, OnOk, IsTrue};
+ghost use Rattle.std.specs.Ordering.{int_eq};
 ghost use Rattle.sqlite.specs.State.{HasCleanDisk, IsUnchanged};
 ghost use Rattle.sqlite.specs.Held.{state};
 ghost use Rattle.ledger_sql.specs.Effects.{StartsAs};
@@ -9,7 +10,7 @@ ghost use Rattle.ledger_sql.specs.Reading.{own_rows};
 ghost use Rattle.ledger_sql.specs.Schema.{list_schema, balance_schema, ledger_schema};
 ghost use Rattle.rows.specs.TypedRows.{lists_of};
 ghost use Rattle.stored_ledgers.specs.Resting.{IsQuiet, IsSame};
-ghost use Rattle.whole_tables.specs.Reading.{HasTables, ReadsEntries, ReadsDerived, ReadsDerivedSince, ReadsFailedSince, ReadsWhole, own_lists};
+ghost use Rattle.whole_tables.specs.Reading.{HasTables, ReadsEntries, ReadsDerived, ReadsDerivedSince, ReadsFailedSince, ReadsWhole, IsInOrder, AreInOrder, own_lists};
 
 use ledger_sql::listing::{
     list_accounts, list_balances, list_clocks, list_failed, list_history, list_statuses,
@@ -163,13 +164,14 @@ fn read_failed_since<S: Alter>(
     list_failed(alloc, conn)
 }
 
-/// One tenant's rows of all tables.
+/// One tenant's rows of all tables, at the cost of these rows and not of the tables.
 pub fn own_tables(
     alloc: Global,
     tables: &WholeTables,
     tenant: i64,
 ) -> Result<TenantRows, AllocError>
-    ensures { IfOk result (λ rows. lists_of rows ≡ own_lists tables.now tenant) }
+    ensures { AreInOrder tables.now
+        → IfOk result (λ rows. lists_of rows ≡ own_lists tables.now tenant) }
 {
     Ok(TenantRows {
         clocks: own_rows(alloc, &tables.entries.clocks, tenant)?,
@@ -183,11 +185,25 @@ pub fn own_tables(
 }
 
 fn own_rows<R: Copy>(alloc: Global, table: &[Owned<R>], tenant: i64) -> Result<Vec<R>, AllocError>
-    ensures { IfOk result (λ rows. rows.items ≡ own_rows tenant table.now) }
+    ensures { IsInOrder table.now → IfOk result (λ rows. rows.items ≡ own_rows tenant table.now) }
 {
-    table
-        .iter()
-        .filter(|owned| owned.tenant == tenant)
-        .map(|owned| owned.row)
-        .collect(alloc)
+    rows_of(alloc, own_part(table, tenant))
+}
+
+/// The part of a table that is this tenant's. In order of tenant its rows stand together, so two
+/// searches find where they begin and end.
+fn own_part<R>(table: &[Owned<R>], tenant: i64) -> &[Owned<R>]
+    ensures { IsInOrder table.now
+        → result.now ≡ filter (λ owned. int_eq owned.tenant tenant) table.now }
+{
+    let start = table.partition_point(|owned| owned.tenant < tenant);
+    let rest = &table[start..];
+    let len = rest.partition_point(|owned| owned.tenant == tenant);
+    &rest[..len]
+}
+
+fn rows_of<R: Copy>(alloc: Global, part: &[Owned<R>]) -> Result<Vec<R>, AllocError>
+    ensures { IfOk result (λ rows. rows.items ≡ map (λ owned. owned.row) part.now) }
+{
+    part.iter().map(|owned| owned.row).collect(alloc)
 }

@@ -3,7 +3,9 @@ use Rattle.sqlite.specs.Effect.{Database}
 use Rattle.sqlite.specs.Held.{state}
 use Rattle.sqlite.specs.State.{HasCleanDisk}
 use Rattle.whole_tables.specs.Reading.{HasTables, ReadsWhole}
+use Rattle.whole_tables.specs.ReadingLaws.{whole_in_order}
 use Rattle.openings.proofs.Passed.{passed}
+use Rattle.stored_tables.specs.BatchLaws.{follows_then}
 use Rattle.stored_ledgers.specs.DirectoryLaws.{found_number}
 use Rattle.openings.proofs.WholeLemmas.{has_tables}
 use Rattle.openings.proofs.whole_rows.try_rows_of.Goals as goal
@@ -23,16 +25,22 @@ returns-clause-whole g c clean =
     let before : HasCleanDisk (state g.S.Store c.args.conn.now) =
     omega (arith, c.in_ok-number.ensures.follows.survives.clean, first) in
     let ledgers = (c.requires before).2 in
-    let kept = c.in_ok-number.ensures.same first in (
+    let kept = c.in_ok-number.ensures.same first in
+    let whole = subst (λ (db : Database). ReadsWhole c.args.version db.trees c.in_ok-tables.tables) kept.0.now_is
+    (c.in_ok-tables.ensures.whole clean
+    (subst (λ (db : Database). HasTables c.args.version db.schema) (sym kept.0.now_is)
+    (has_tables c.args.version _ ledgers.schema))) in
+    let in_order = whole_in_order c.args.version _ c.in_ok-tables.tables whole in (
       c.in-Some.number,
       found_number c.args.digest.now _ c.in_ok-number.field-0 (ledgers.distinct.digests c.args.digest.now)
           (c.in_ok-number.ensures.ok first) ∙ c.in-Some.is,
       record {
         tables = c.in_ok-tables.tables;
-        whole = subst (λ (db : Database). ReadsWhole c.args.version db.trees c.in_ok-tables.tables) kept.0.now_is
-            (c.in_ok-tables.ensures.whole clean
-            (subst (λ (db : Database). HasTables c.args.version db.schema) (sym kept.0.now_is)
-            (has_tables c.args.version _ ledgers.schema)));
-        own = rw (passed c.in-Some.number (search rules)) at c.in_ok-own_tables.ensures;
+        whole = whole;
+        own = rw (passed c.in-Some.number (search rules)) at (c.in_ok-own_tables.ensures in_order);
       },
     )
+
+pub returns-clause-follows : goal.returns-clause-follows
+returns-clause-follows g c =
+    follows_then _ _ _ c.in_ok-number.ensures.follows c.in_ok-tables.ensures.follows
