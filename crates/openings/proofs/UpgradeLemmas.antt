@@ -6,7 +6,6 @@ use Rattle.records.specs.Machine.{Machine}
 use Rattle.records.specs.Valid.{IsValid}
 use Rattle.rows.specs.Prescribed.{rows_for}
 use Rattle.rows.specs.Widths.{AreStorable}
-use Rattle.audit.specs.Newer.{none_failed}
 use Rattle.sqlite_value.specs.Order.{Row, column}
 use Rattle.sqlite_keyed.specs.Lists.{sort_by}
 use Rattle.sqlite_schema.specs.declared.schema.Schema.{Schema}
