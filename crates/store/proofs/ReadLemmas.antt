@@ -13,7 +13,7 @@ use Rattle.ledger_sql.specs.Frames.{Live, Follows}
 use Rattle.stored_ledgers.specs.Directory.{tenants_in}
 use Rattle.stored_ledgers.specs.DueSets.{DueSets}
 use Rattle.stored_ledgers.specs.Resting.{IsSame, Serves, HoldsHere}
-use Rattle.store.specs.Stores.{IsUsable, IsUsableAt, IsLiveAt, IsHonestAt, tenants_at, may_find_at, Reads}
+use Rattle.store.specs.Stores.{IsUsable, IsUsableAt, IsLiveAt, IsHonestAt, OfDatabaseAt, tenants_at, may_find_at, Reads}
 use Rattle.store.specs.declared.place.Place.{Place}
 use Rattle.store.specs.declared.place.Place.TheVariants as at
 use Rattle.store.specs.declared.store.Store.{Store}
@@ -79,7 +79,12 @@ module _ {D : Type 0} (g : disk.Ghosts D) where
         open_yet = λ honest no_fault. subst IsLiveAt (sym new_is)
             (let clean = subst IsHonestAt new_is honest in (clean, is_open clean no_fault));
         unready = λ failed. now_ready ∙ ap not (told.1 failed);
+        refuses = λ shut. absurd (both_ways _ shut was_ready);
       };
+      unchanged = λ live.
+          subst (λ place. OfDatabaseAt (λ before. OfDatabaseAt (λ after. after ≡ before) new.place) place)
+          (sym old_is) (subst (OfDatabaseAt (λ after. after ≡ (file_state conn).now)) (sym new_is)
+          (same (subst IsLiveAt new_is live)).now);
       same = λ live digest.
           ap (λ place. tenants_at place digest) new_is
           ∙ ap (λ (db : Database). tenants_in db.trees digest) (same (subst IsLiveAt new_is live)).now

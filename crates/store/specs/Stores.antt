@@ -139,6 +139,10 @@ module _ {D : Type 0} {g : disk.Ghosts D} where
   abbrev pub version_of : Store D g → ℕ
   version_of store = store.version
 
+  -- a store that answers no calls tells this fault, and is as before
+  abbrev pub RefusesUnready : {T E : Type 0} → E → Store D g → Store D g → Result T E → Type 0
+  RefusesUnready fault old new result = old.ready ≡ false → (result ≡ Err fault) × (new ≡ old)
+
   -- where a call is answered that the disk failed, no call is answered from then on; otherwise the
   -- store is open, if the disk was honest
   pub record Answers {T : Type 0} (old new : Store D g) (result : Result T Unavailable)
@@ -147,10 +151,13 @@ module _ {D : Type 0} {g : disk.Ghosts D} where
     pub follows : Follows old new
     pub open_yet : IsHonest new → result ≢ Err DiskFailed → IsLive new
     pub unready : result ≡ Err DiskFailed → new.ready ≡ false
+    pub refuses : RefusesUnready DiskFailed old new result
 
-  -- a call that only reads keeps every machine, and what may be found
+  -- a call that only reads changes nothing in the database, so it keeps every machine, and what may
+  -- be found
   pub record Reads {T : Type 0} (old new : Store D g) (result : Result T Unavailable) : Type 0 where
     pub answers : Answers old new result
+    pub unchanged : IsLive new → OfDatabases (λ before after. after ≡ before) old new
     pub same : IsLive new → KeepsAll (tenants_of old) (tenants_of new)
     pub finds : Goes old new (λ db. ⊥)
 

@@ -8,7 +8,7 @@ ghost use Rattle.sqlite_wal.specs.Reads.{AreClean};
 ghost use Rattle.openings.specs.Damage.{Hold, IfDamaged, IsDamaged};
 ghost use Rattle.store.specs.Migrating.{IsMigratable, HasRisen};
 ghost use Rattle.openings.specs.Opened.{LeavesRefused};
-ghost use Rattle.store.specs.Stores.{IsHonest, IsLive, IsOpenedOn, IsReady, IsUsable, Goes, OfDatabase, OfDatabases, version_of};
+ghost use Rattle.store.specs.Stores.{IsHonest, IsLive, IsOpenedOn, IsReady, IsUsable, Goes, OfDatabase, OfDatabases, RefusesUnready, version_of};
 ghost use Rattle.openings.specs.Upgrading.{KeepsMachines, Raised};
 ghost use Rattle.openings.specs.Whole.{AreAllRows};
 
@@ -75,6 +75,7 @@ impl<D: Disk + Drop> Store<D> {
         ensures open { IsHonest self.new → result ≢ Err DiskFailed → IsLive self.new }
         ensures finds { Goes self.old self.new (λ db. ⊥) }
         ensures disk { result ≡ Err DiskFailed → self.new.ready ≡ false }
+        ensures refuses { RefusesUnready DiskFailed self.old self.new result }
     {
         if !self.ready {
             return Err(Unavailable::Disk);
@@ -110,6 +111,7 @@ impl<D: Disk + Drop> Store<D> {
         ensures finds { Goes self.old self.new (λ db. OfDatabase
             (λ old. Raised rows.now.version old db) self.old) }
         ensures disk { result ≡ Err (OpenFault.Unavailable DiskFailed) → self.new.ready ≡ false }
+        ensures refuses { RefusesUnready (OpenFault.Unavailable DiskFailed) self.old self.new result }
     {
         if !self.ready {
             return Err(OpenFault::Unavailable(Unavailable::Disk));

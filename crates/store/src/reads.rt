@@ -81,6 +81,7 @@ impl<D: Disk + Drop> Store<D> {
             (seen_in (λ m. statement_answer m account order) (tenants_of self.old digest.now))
             sink.old sink.new result }
         ensures refused { K.refused sink.new ≡ is_refused result }
+        ensures untouched { self.old.ready ≡ false → sink.new ≡ sink.old }
         ensures reads { Reads self.old self.new (reach_of result) }
     {
         if !self.ready {

@@ -9,11 +9,11 @@ ghost use Rattle.stored_ledgers.specs.Outcomes.{IsAfterBatch};
 ghost use Rattle.sqlite_wal.specs.Reads.{AreClean};
 ghost use Rattle.ledger_sql.specs.Creating.{IsEmptyLedger};
 ghost use Rattle.openings.specs.Damage.{Hold, IfDamaged, IsDamagedIn};
-ghost use Rattle.stored_ledgers.specs.Directory.{digest_in};
+ghost use Rattle.stored_ledgers.specs.Directory.{digest_in, KeepsDirectory};
 ghost use Rattle.openings.specs.Found.{FindsOurs, LeavesNew};
 ghost use Rattle.stored_ledgers.specs.Joining.{HasJoined, Joined};
 ghost use Rattle.openings.specs.Opened.{LeavesRefused};
-ghost use Rattle.store.specs.Stores.{IsLive, IsHonest, IsOpenedOn, IsReady, tenants_of, version_of, GivesBack, IsUsable, Follows, Goes, OfDatabase, OfDatabases, IsSettledStore, Reads};
+ghost use Rattle.store.specs.Stores.{IsLive, IsHonest, IsOpenedOn, IsReady, tenants_of, version_of, GivesBack, IsUsable, Follows, Goes, OfDatabase, OfDatabases, IsSettledStore, Reads, RefusesUnready};
 ghost use Rattle.openings.specs.Whole.{AreAllRows, AreRowsOf};
 ghost use Rattle.openings.specs.declared.opening.OpenFault.TheVariants.{NotALedger};
 
@@ -243,6 +243,7 @@ impl<D: Disk + Drop> Store<D> {
             (λ old. Joined name.now digest.now old db) self.old) }
         ensures disk { result ≡ Err (AddTenant.Unavailable DiskFailed)
             → self.new.ready ≡ false }
+        ensures refuses { RefusesUnready (AddTenant.Unavailable DiskFailed) self.old self.new result }
         ensures unready { self.old.ready ≡ false → self.new ≡ self.old }
     {
         if !self.ready {
@@ -266,6 +267,8 @@ impl<D: Disk + Drop> Store<D> {
         requires { IsUsable self.old }
         ensures run { IsLive self.new → IsRun (W.gives work) digest.now (tenants_of self.old)
             (tenants_of self.new) result }
+        ensures directory { IsLive self.new → OfDatabases
+            (λ old new. KeepsDirectory old.trees new.trees) self.old self.new }
         ensures usable { IsUsable self.new }
         ensures follows { Follows self.old self.new }
         ensures open { IsHonest self.new → result ≢ Err (AreUnavailable DiskFailed)
@@ -273,7 +276,7 @@ impl<D: Disk + Drop> Store<D> {
         ensures finds { Goes self.old self.new (λ db. OfDatabase
             (λ old. IsAfterBatch (W.gives work) digest.now old db) self.old) }
         ensures disk { result ≡ Err (AreUnavailable DiskFailed) → self.new.ready ≡ false }
-        ensures unready { self.old.ready ≡ false → self.new ≡ self.old }
+        ensures refuses { RefusesUnready (AreUnavailable DiskFailed) self.old self.new result }
     {
         if !self.ready {
             return Err(BatchFault::Unavailable(Unavailable::Disk));

@@ -5,4 +5,4 @@ pub returns-clause-finds : goal.returns-clause-finds
 returns-clause-finds g c =
     finds_batch (g.W.Work.gives c.args.work) c.args.digest.now c.args.self.now c.in_batch.new.self
     c.requires c.in_batch.ensures.follows c.in_batch.ensures.finds c.in_batch.result
-    c.in_batch.ensures.unready c.in_batch.ensures.open
+    (λ shut. (c.in_batch.ensures.refuses shut).1) c.in_batch.ensures.open

@@ -19,4 +19,4 @@ returns-clause-finds g c =
     c.in_batch.result c.read_answer.result c.read_answer.ensures
     (finds_batch (LooksUp found_transfers c.args.ids.now) c.args.digest.now c.args.self.now
     c.in_batch.new.self c.requires c.in_batch.ensures.follows c.in_batch.ensures.finds
-    c.in_batch.result c.in_batch.ensures.unready c.in_batch.ensures.open)
+    c.in_batch.result (λ shut. (c.in_batch.ensures.refuses shut).1) c.in_batch.ensures.open)
