@@ -90,7 +90,8 @@ impl<D: Disk + Drop> Store<D> {
 
     /// Brings a ledger to the version of these rows, which are all tenants' in that version: of
     /// them it writes what the older version lacks. All of it is looked at as at an opening before
-    /// it is committed; after a fault nothing has changed.
+    /// it is committed; after a fault nothing has changed, but where the disk failed the next opening
+    /// may find all of it.
     pub fn upgrade<A: Audit>(&mut self, rows: &AllRows, audit: &A) -> Result<(), OpenFault>
         requires newer { self.old.version < rows.now.version }
         requires known { rows.now.version ≤ CURRENT_VERSION }

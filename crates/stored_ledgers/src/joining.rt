@@ -25,7 +25,8 @@ use std::alloc::Global;
 use std::collections::BTreeSet;
 use tenants::TenantName;
 
-/// Why a tenant was not added, in the order in which it is tested. Nothing has changed.
+/// Why a tenant was not added, in the order in which it is tested. Nothing has changed; only where
+/// the disk failed may the next opening find the tenant.
 #[derive(Clone, Copy, Debug, PartialEq, Eq)]
 pub enum AddTenant {
     /// Another tenant has this name.
@@ -152,7 +153,8 @@ fn has_number(rows: &[DirectoryRow], number: u32) -> bool
     rows.iter().any(|row| row.number == i64::from(number))
 }
 
-/// Writes the rows of a new tenant and commits them. After a failure nothing has changed.
+/// Writes the rows of a new tenant and commits them. After a failure nothing has changed; only where
+/// the disk failed may the next opening find them.
 fn join_as<S: Alter>(
     conn: &mut Connection<S>,
     number: u32,
