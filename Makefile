@@ -1,24 +1,47 @@
-# `make run` builds ledgerd and plays the worked session on a new file; `make test` is the gate;
-# `make session` plays the session and compares it with the expected one; `make faults` tries what
-# may go wrong, and `make faults-long` all of it; `make bench` measures; `make alloc` runs the tests
-# on want of memory with each allocation refused in turn.
-# `rt` is the command of the Rattle toolchain that the README names.
-.PHONY: run ledgerd session test faults faults-long bench alloc
+# `make try` looks at ledgerd in minutes, with checks in place of proofs; `make run` proves and builds
+# it and plays the worked session on a new file; `make test` is the gate. `make session` plays the
+# session and compares it with the expected one; `make faults` tries what may go wrong, and
+# `make faults-long` all of it; `make bench` measures; `make alloc` runs the tests on want of memory
+# with each allocation refused in turn.
+# `make try` and `make run` take a free port, or PORT=8080; `make try STAY=1` leaves it served.
+.PHONY: run try ledgerd session test faults faults-long bench alloc
 
 LEDGERD = crates/ledgerd/out/ledgerd
+PLAY = examples/session/play.sh $(LEDGERD) out/session $(PORT)
+export STAY
+
+# What a target calls. One that is lacking is told at once, before anything is built.
+try-calls = rt python3 curl
+run-calls = rt python3 curl sqlite3
+session-calls = $(run-calls)
+ledgerd-calls = rt python3
+faults-calls = rt python3 cc
+faults-long-calls = $(faults-calls)
+test-calls = rt
+lacks = $(if $(shell command -v $(1) 2>/dev/null),,$(1))
+taken = $(PORT:%=$(shell python3 examples/session/port.py % >/dev/null 2>&1 || echo %))
+$(foreach goal,$(or $(MAKECMDGOALS),run),\
+    $(foreach it,$($(goal)-calls),\
+        $(if $(call lacks,$(it)),$(error make $(goal) needs $(it), see README.md, "What it needs")))\
+    $(if $(filter try run session,$(goal)),\
+        $(if $(taken),$(error port $(PORT) cannot be served, and with no PORT= a free one is taken))))
 
 run: ledgerd
-	examples/session/play.sh $(LEDGERD) out/session
+	$(PLAY)
 
-# `rt run` builds the program, proving first all that it stands on, and answers a body.
+try:
+	examples/session/try.sh out/try $(PORT)
+
+# Crates are proved side by side, as many as `-jN` says, else one for each processor.
 ledgerd:
-	cd crates/ledgerd && rt run < ../../examples/first-path/transfers.json
+	+@python3 build/prove.py
 
 session: ledgerd
 	mkdir -p out
-	examples/session/play.sh $(LEDGERD) out/session > out/session.txt
+	$(PLAY) > out/session.txt
 	python3 examples/session/compare.py out/session.txt
-	python3 examples/session/compare.py README.md
+	python3 examples/session/compare.py examples/session/README.md
+	python3 examples/session/compare.py --blocks README.md
 
 test:
 	rt ci

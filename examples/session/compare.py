@@ -1,10 +1,13 @@
 """Compares a played session with the expected one, and ends with 1 where they differ.
 
-    python3 examples/session/compare.py PLAYED [EXPECTED]
+    python3 examples/session/compare.py [--requests] PLAYED
+    python3 examples/session/compare.py --blocks PAGE
 
-PLAYED is what `play.sh` has printed, or a Markdown file with it in a block ```session. Since clocks
-are those of the day, the clock that the k-th batch was told becomes `Ck`, and a timestamp n
-nanoseconds before it `Ck-n`; all else stays as it is."""
+PLAYED is what `play.sh` has printed, or a Markdown page with it in a block ```session; with
+`--requests` it is what `try.sh` has, the requests alone. The expected session is `expected.txt`.
+Since clocks are those of the day, the clock that the k-th batch was told becomes `Ck`, and a
+timestamp n nanoseconds before it `Ck-n`; all else stays as it is. With `--blocks` each paragraph of
+the session in PAGE has to stand in the session of README.md beside this file."""
 
 import bisect
 import difflib
@@ -19,12 +22,24 @@ MOST_EVENTS = 1000
 def session_of(path):
     """The lines of a session, without what stands behind its last reply."""
     text = pathlib.Path(path).read_text()
-    if path.endswith(".md"):
+    if str(path).endswith(".md"):
         found = re.search(r"^```session\n(.*?)^```$", text, re.M | re.S)
         if not found:
             sys.exit(f"{path}: no block ```session")
         text = "\n" + found.group(1)
     return text.partition("\nThe file stays: ")[0].splitlines()
+
+
+def paragraphs_of(lines):
+    """What stands between empty lines."""
+    return [it for it in "\n".join(lines).strip("\n").split("\n\n") if it]
+
+
+def requests_of(lines):
+    """The lines from the first request over a connection to the last."""
+    paragraphs = paragraphs_of(lines)
+    served = [it for it in paragraphs if not re.search(r"^> ledgerd ", it, re.M)]
+    return ["", *"\n\n".join(served).splitlines()]
 
 
 def clocks_of(lines):
@@ -55,18 +70,36 @@ def marked(line, clocks):
     return re.sub(r"\b\d{19}\b", mark, line)
 
 
-def main():
-    played = session_of(sys.argv[1])
-    wanted = pathlib.Path(sys.argv[2] if len(sys.argv) > 2 else HERE / "expected.txt")
+def compare_blocks(page):
+    """Each paragraph of the page's session stands in the whole session."""
+    whole = paragraphs_of(session_of(HERE / "README.md"))
+    blocks = paragraphs_of(session_of(page))
+    for block in blocks:
+        if block not in whole:
+            sys.exit(f"{page}: examples/session/README.md has no\n\n{block}")
+    print(f"{page}: {len(blocks)} parts of the session are as the whole has them")
+
+
+def compare(path, expected):
+    """A played session is the expected one."""
+    played = session_of(path)
     clocks = clocks_of(played)
     told = [marked(line, clocks) for line in played]
-    expected = wanted.read_text().splitlines()
     if told == expected:
-        print(f"{sys.argv[1]}: {len(clocks)} batches and their replies are the expected ones")
+        print(f"{path}: {len(clocks)} batches and their replies are the expected ones")
         return
-    for line in difflib.unified_diff(expected, told, str(wanted), sys.argv[1], lineterm=""):
+    for line in difflib.unified_diff(expected, told, "expected.txt", path, lineterm=""):
         print(line)
     sys.exit(1)
+
+
+def main():
+    *flags, path = sys.argv[1:]
+    expected = (HERE / "expected.txt").read_text().splitlines()
+    if flags == ["--blocks"]:
+        compare_blocks(path)
+    else:
+        compare(path, requests_of(expected) if flags == ["--requests"] else expected)
 
 
 main()

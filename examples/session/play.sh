@@ -1,63 +1,27 @@
 #!/bin/sh
-# Plays a worked session with curl against a service of its own, on a new file and a free port.
+# Plays the worked session with curl against a service of its own, on a new file.
 # It shows each request (>) and its reply (<), ends by itself, and leaves the file.
 #
-#     examples/session/play.sh LEDGERD FOLDER
+#     examples/session/play.sh LEDGERD FOLDER [PORT]
 #
-# LEDGERD is the program; FOLDER/ledger.db is made anew.
+# LEDGERD is the program; FOLDER/ledger.db is made anew. With no PORT it takes a free one.
 set -eu
 
-for tool in curl python3 sqlite3; do
-    command -v "$tool" >/dev/null || { echo "the session needs $tool" >&2; exit 2; }
-done
+here=$(dirname "$0")
+. "$here/requests.sh"
 ledgerd=$1
 folder=$2
+port=$(python3 "$here/port.py" ${3:+"$3"})
 db=$folder/ledger.db
 mkdir -p "$folder"
 rm -f "$db" "$db-wal" "$db-shm"
 scratch=$(mktemp -d)
 server=
 trap '[ -z "$server" ] || kill "$server" 2>/dev/null || true; rm -rf "$scratch"' EXIT
+trap 'exit 130' INT TERM
 
-# How many replies `serve` is asked for: one for each `north` and `south` below.
-requests=19
 north_key=$(od -An -v -tx1 -N32 /dev/urandom | tr -d ' \n')
 south_key=$(od -An -v -tx1 -N32 /dev/urandom | tr -d ' \n')
-
-# Says what comes next.
-title() {
-    printf '\n# %s\n' "$1"
-}
-
-# Shows a reply, an element of a list a line.
-show() {
-    awk '{ gsub(/[}],[{]/, "},\n<     {"); print "< " $0 }' "$1"
-}
-
-# Sends a request and shows it with its reply: ask TENANT KEY METHOD PATH [BODY].
-ask() {
-    echo "> $1 $3 $4"
-    url=http://127.0.0.1:$port$4
-    if [ $# -eq 5 ]; then
-        printf '%s\n' "$5" | sed 's/^/> /'
-        printf '%s' "$5" >"$scratch/body"
-        set -- "$1" "$2" "$3" "$4" --data-binary "@$scratch/body"
-    fi
-    key=$2
-    method=$3
-    shift 4
-    curl -sS --max-time 30 -X "$method" -H "x-ledger-key: $key" -w '< %{http_code}\n' \
-        -o "$scratch/reply" "$@" "$url"
-    show "$scratch/reply"
-}
-
-north() {
-    ask north-desk "$north_key" "$@"
-}
-
-south() {
-    ask south-hall "$south_key" "$@"
-}
 
 # Runs a command of the program on the file, and shows it with what it prints.
 run() {
@@ -68,22 +32,14 @@ run() {
     sed 's/^/< /' "$scratch/printed"
 }
 
-# Serves on a free port, and waits until a connection is accepted.
+# Serves the file, and waits until a connection is accepted.
 serve() {
-    port=$(python3 -c 'import socket
-with socket.socket() as probe:
-    probe.bind(("127.0.0.1", 0))
-    print(probe.getsockname()[1])')
     "$ledgerd" serve --db "$db" --port "$port" --requests "$requests" &
     server=$!
-    python3 -c 'import socket, sys, time
-for _ in range(100):
-    try:
-        socket.create_connection(("127.0.0.1", int(sys.argv[1]))).close()
-        sys.exit(0)
-    except ConnectionRefusedError:
-        time.sleep(0.1)
-sys.exit("nothing listens")' "$port"
+    until listens; do
+        kill -0 "$server" 2>/dev/null || { echo 'the service has ended' >&2; exit 1; }
+        sleep 0.1
+    done
 }
 
 title 'A new file with two tenants, served on 127.0.0.1'
@@ -92,60 +48,7 @@ run tenant-add --name south-hall --key "$south_key"
 serve
 echo "> ledgerd serve --db ledger.db --port PORT --requests $requests"
 
-title 'Accounts: a bank, a merchant, and a wallet that cannot be overdrawn and keeps a history'
-north POST /accounts '[{"id":"1","ledger":978,"code":1},
- {"id":"2","ledger":978,"code":2},
- {"id":"3","ledger":978,"code":3,"flags":10}]'
-
-title 'The other tenant has an account 1 as well'
-south POST /accounts '[{"id":"1","ledger":840,"code":1}]'
-
-title 'A transfer: 50.00 are paid into the wallet'
-paid_in='[{"id":"100","debit_account_id":"1","credit_account_id":"3","amount":"5000","ledger":978,"code":1}]'
-north POST /transfers "$paid_in"
-
-title 'Its retry: it is there, and nothing is added'
-north POST /transfers "$paid_in"
-
-title 'A hold of 20.00 from the wallet to the merchant'
-north POST /transfers '[{"id":"101","debit_account_id":"3","credit_account_id":"2","amount":"2000","ledger":978,"code":2,"flags":2}]'
-
-title 'Of which 15.00 are posted; the rest is released'
-north POST /transfers '[{"id":"102","pending_id":"101","amount":"1500","flags":4}]'
-
-title 'A hold of 10.00 for one second'
-north POST /transfers '[{"id":"103","debit_account_id":"3","credit_account_id":"2","amount":"1000","ledger":978,"code":2,"flags":2,"timeout":1}]'
-north POST /accounts/lookup '["3"]'
-
-title 'A second and a half later it has expired: a batch of none moves the clock'
-sleep 1.5
-north POST /transfers '[]'
-north POST /accounts/lookup '["3"]'
-
-title 'And it can no longer be posted'
-north POST /transfers '[{"id":"104","pending_id":"103","amount":"1000","flags":4}]'
-
-title 'An overdraft is refused: the wallet has 35.00'
-overdraft='[{"id":"105","debit_account_id":"3","credit_account_id":"2","amount":"9000","ledger":978,"code":2}]'
-north POST /transfers "$overdraft"
-
-title 'More is paid in; but a retry of what failed does not come through later'
-north POST /transfers '[{"id":"106","debit_account_id":"1","credit_account_id":"3","amount":"9000","ledger":978,"code":1}]'
-north POST /transfers "$overdraft"
-
-title 'A chain of two stands or falls whole: there is no account 9'
-north POST /transfers '[{"id":"107","debit_account_id":"3","credit_account_id":"2","amount":"100","ledger":978,"code":2,"flags":1},
- {"id":"108","debit_account_id":"3","credit_account_id":"9","amount":"100","ledger":978,"code":2}]'
-
-title 'A lookup: the merchant and the wallet'
-north POST /accounts/lookup '["2","3"]'
-
-title 'The statement of the wallet'
-north GET /statement/3
-
-title 'The same numbers asked with the other tenant'\''s key'
-south POST /accounts/lookup '["1","3"]'
-south GET /statement/3
+send_requests
 
 title 'The service has ended. The file is audited, and read by a stock sqlite3'
 wait "$server"
