@@ -16,6 +16,7 @@ import os
 import pathlib
 import queue
 import re
+import signal
 import subprocess
 import sys
 import threading
@@ -114,16 +115,19 @@ def lines_of(command, folder, given):
         lines.put(StopIteration)
 
     threading.Thread(target=read, daemon=True).start()
-    while True:
-        try:
-            line = lines.get(timeout=0.5)
-        except queue.Empty:
-            line = None
-        if line is StopIteration:
-            break
-        yield line
-    if ran.wait():
-        raise subprocess.CalledProcessError(ran.returncode, command)
+    try:
+        while True:
+            try:
+                line = lines.get(timeout=0.5)
+            except queue.Empty:
+                line = None
+            if line is StopIteration:
+                break
+            yield line
+        if ran.wait():
+            raise subprocess.CalledProcessError(ran.returncode, command)
+    finally:
+        ran.terminate()
 
 
 def prove(progress, folder, log):
@@ -160,6 +164,7 @@ def build(folder, log):
 
 
 def main():
+    signal.signal(signal.SIGTERM, signal.default_int_handler)
     top = sys.argv[1] if len(sys.argv) > 1 else "ledgerd"
     crates, folder = crates_for(top), TOP / "crates" / top
     program, begun = folder / "out" / top, time.time()

@@ -18,7 +18,7 @@ rm -f "$db" "$db-wal" "$db-shm"
 scratch=$(mktemp -d)
 server=
 trap '[ -z "$server" ] || kill "$server" 2>/dev/null || true; rm -rf "$scratch"' EXIT
-trap 'exit 130' INT TERM
+trap 'exit 130' INT TERM HUP
 
 north_key=$(od -An -v -tx1 -N32 /dev/urandom | tr -d ' \n')
 south_key=$(od -An -v -tx1 -N32 /dev/urandom | tr -d ' \n')

@@ -30,7 +30,7 @@ end() {
     rm -rf "$scratch"
 }
 trap end EXIT
-trap 'exit 130' INT TERM
+trap 'exit 130' INT TERM HUP
 
 # Says where rt has told why, and ends.
 fail() {
@@ -45,9 +45,10 @@ text, for a look: it stops where an index, a sum or a memory access would go wro
 it is proved here. It serves a copy of examples/ledger/ledger.db, of which nothing is kept.
 TEXT
 
-# Serves the ledger, and waits until a connection is accepted.
+# Serves the ledger, in a session of its own so that ctrl-C ends it once, through this script; and
+# waits until a connection is accepted.
 begun=$(date +%s)
-(cd "$here/../../crates/ledgerd" && exec rt try --seconds "$seconds" \
+(cd "$here/../../crates/ledgerd" && exec setsid rt try --seconds "$seconds" \
     --data "ledger.db=$here/../ledger/ledger.db" \
     -- serve --db ledger.db --port "$port" --requests "$requests") \
     </dev/null >"$folder/rt.log" 2>&1 &
