@@ -2,13 +2,15 @@
 
     python3 build/prove.py [CRATE]
 
-CRATE is `ledgerd` if left out. `crates.txt` tells which crates it needs; `rt all check`, in the
-crate's folder, proves just these, each one once those below it are proved. As many are at work as
-`make -jN` asks for, else as there are processors, but one for each 3 GB of free memory at most.
+CRATE is `ledgerd` if left out. Two runs of `rt lib` that share a crate below wait for one another,
+and `rt all` gives each crate one job. So this calls the toolchain's own library, `rtlib.py` beside
+`rt`, which is what both do their work with: a crate is built once those below it are. There are as
+many jobs as `make -jN` says, else as there are processors, but one for each 3 GB of free memory at
+most; a crate that has few beside it gets up to four of them.
 
-What was proved before stays, so a run that was broken off goes on where it was, and a change
-proves anew what stands on it. The tool's own lines go to out/prove/log. At the end stands how long
-the longest chain of crates took, which more processors do not shorten."""
+What was proved before stays, so a run that was broken off goes on where it was, and a change proves
+anew what stands on it. What the tool says of a crate goes to out/prove/CRATE.log. At the end stands
+how long the longest chain of crates took."""
 
 import hashlib
 import json
@@ -16,6 +18,7 @@ import os
 import pathlib
 import queue
 import re
+import shutil
 import signal
 import subprocess
 import sys
@@ -24,29 +27,25 @@ import time
 
 TOP = pathlib.Path(__file__).resolve().parent.parent
 KEPT = TOP / "out/prove"
-LOG, SECONDS, SUM = KEPT / "log", KEPT / "seconds.json", KEPT / "sum"
+SECONDS, SUM = KEPT / "seconds.json", KEPT / "sum"
 BODY = TOP / "examples/first-path/transfers.json"
 BYTES_EACH = 3_000_000_000
+MOST_JOBS = 4
 
 
-def crates_for(top):
-    """For each crate that `top` needs, and for itself, the crates that it names, lowest first."""
-    rows = re.findall(r"^(\w+)[^:\n#]*:([^#\n]*)", (TOP / "crates.txt").read_text(), re.M)
-    listed = {name: below.split() for name, below in rows}
-    found = {}
+def toolchain():
+    """The library of the toolchain whose `rt` is on the path."""
+    sys.dont_write_bytecode = True
+    sys.path.insert(0, os.path.dirname(os.path.realpath(shutil.which("rt"))))
+    import rtlib
 
-    def add(name):
-        if name in listed and name not in found:
-            for it in listed[name]:
-                add(it)
-            found[name] = [it for it in listed[name] if it in listed]
-
-    add(top)
-    return found or sys.exit(f"crates.txt names no crate {top}")
+    # Its first call sets a handler, which only the main thread may.
+    rtlib.guarded()
+    return rtlib
 
 
-def at_a_time():
-    """How many crates may be at work."""
+def all_jobs():
+    """How many jobs there may be."""
     asked = re.search(r"(?:^| )-j(\d+)", os.environ.get("MAKEFLAGS", ""))
     wanted = int(asked[1]) if asked else len(os.sched_getaffinity(0))
     free = re.search(r"MemAvailable: +(\d+)", pathlib.Path("/proc/meminfo").read_text())
@@ -56,9 +55,9 @@ def at_a_time():
 def sum_of(crates, program):
     """A sum of the toolchain's name, of all sources and of the program."""
     files = [TOP / "crates.txt", program]
-    for name in crates:
+    for it in crates:
         for part in ("src", "specs", "proofs"):
-            files += sorted((TOP / "crates" / name / part).rglob("*"))
+            files += sorted((pathlib.Path(it.folder) / part).rglob("*"))
     whole = hashlib.sha256(subprocess.check_output(["rt", "version"]))
     for it in files:
         if it.is_file():
@@ -67,127 +66,129 @@ def sum_of(crates, program):
     return whole.hexdigest()
 
 
+def log_of(name):
+    return KEPT / f"{name}.log"
+
+
 class Progress:
-    """What is told of the crates, one line each."""
+    """What is told of the crates, a line each, and how long each of them took."""
 
     def __init__(self, crates):
-        self.crates, self.told, self.started = crates, set(), {}
-        self.start = self.last = time.time()
+        self.crates, self.told = crates, 0
         self.seconds = json.loads(SECONDS.read_text()) if SECONDS.exists() else {}
 
-    def look(self):
-        """Notes which libraries have been begun: their folder is made anew then."""
-        for name in self.crates:
-            made = TOP / "crates" / name / "out/rlib"
-            if name not in self.started and made.is_dir():
-                when = made.stat().st_mtime
-                if when > self.start:
-                    self.started[name] = when
-
-    def proved(self, name, took=None):
-        """Tells that a crate is proved."""
-        self.told.add(name)
+    def tell(self, name, how, took):
+        self.told += 1
         if took is not None:
-            self.seconds[name] = took
+            self.seconds[name] = round(took)
             SECONDS.write_text(json.dumps(self.seconds, indent=1) + "\n")
-        how = "was proved before" if took is None else f"proved, {took:.0f} s"
-        print(f"[{len(self.told)}/{len(self.crates)}] {name} {how}", flush=True)
-        self.last = time.time()
+            how += f", {took:.0f} s"
+        print(f"[{self.told}/{len(self.crates)}] {name} {how}", flush=True)
 
-    def chain(self, top):
-        """The crates of the chain that takes longest, and its seconds."""
+    def tell_chain(self):
+        """Tells the chain of crates that takes longest."""
         longest = {}
-        for name, below in self.crates.items():
-            under = max((longest[it] for it in below), key=lambda it: it[1], default=([], 0))
-            longest[name] = ([*under[0], name], under[1] + self.seconds.get(name, 0))
-        return longest[top]
+        for it in self.crates:
+            under = max((longest[dep.name] for dep in it.deps), key=lambda had: had[1],
+                        default=([], 0))
+            longest[it.name] = ([*under[0], it.name], under[1] + self.seconds.get(it.name, 0))
+        names, whole = longest[self.crates[-1].name]
+        each = ", ".join(f"{it} {self.seconds.get(it, 0)}" for it in names)
+        print(f"The longest chain of crates took {whole} s: {each}")
 
 
-def lines_of(command, folder, given):
-    """The lines that a command prints, and None now and then while it prints nothing."""
-    how = {"stdout": subprocess.PIPE, "stderr": subprocess.STDOUT, "text": True}
-    ran = subprocess.Popen(command, cwd=folder, stdin=given, errors="replace", **how)
-    lines = queue.Queue()
-
-    def read():
-        for line in ran.stdout:
-            lines.put(line)
-        lines.put(StopIteration)
-
-    threading.Thread(target=read, daemon=True).start()
+def build_library(crate, jobs, results):
+    """Builds a crate's library, in a thread of its own, and puts what came of it to the results."""
+    begun, status, is_new = time.time(), 1, True
     try:
-        while True:
-            try:
-                line = lines.get(timeout=0.5)
-            except queue.Empty:
-                line = None
-            if line is StopIteration:
+        with open(log_of(crate.name), "w") as crate.out:
+            is_new = not crate.is_built()
+            status = crate.build_rlib(["--jobs", str(jobs)], anew=False) if is_new else 0
+    except (SystemExit, OSError) as error:
+        print(f"{crate.name}: {error}", file=sys.stderr)
+    results.put((crate, status, time.time() - begun if is_new else None))
+
+
+def heights(crates):
+    """How many crates stand on each one, one above the other."""
+    above = {it: 0 for it in crates}
+    for it in reversed(crates):
+        for dep in it.deps:
+            above[dep] = max(above.get(dep, 0), above[it] + 1)
+    return above
+
+
+def prove(crates, progress):
+    """Builds the libraries, each once those below it are, and says which one failed first."""
+    above, jobs, results = heights(crates), all_jobs(), queue.Queue()
+    left, done, running, failed = [*crates], set(), {}, None
+    while left or running:
+        ready = [it for it in left if all(dep in done for dep in it.deps)]
+        ready.sort(key=lambda it: -above[it])
+        for place, it in enumerate(ready):
+            idle = jobs - sum(running.values())
+            if idle < 1:
                 break
-            yield line
-        if ran.wait():
-            raise subprocess.CalledProcessError(ran.returncode, command)
-    finally:
-        ran.terminate()
-
-
-def prove(progress, folder, log):
-    """Proves the crates, and tells each one as soon as it is."""
-    at_once = str(at_a_time())
-    block, is_empty = None, True
-    for line in lines_of(["rt", "all", "check", "--jobs", at_once], folder, subprocess.DEVNULL):
-        progress.look()
-        if line is None:
+            running[it] = max(1, min(MOST_JOBS, idle // (len(ready) - place)))
+            left.remove(it)
+            given = (it, running[it], results)
+            threading.Thread(target=build_library, args=given, daemon=True).start()
+        crate, status, took = results.get()
+        del running[crate]
+        if status:
+            # What is being proved beside it goes on to its end, and nothing new begins.
+            failed = failed or crate.name
+            left = []
             continue
-        log.write(line)
-        log.flush()
-        if line.startswith("rt: waiting"):
-            print(line, end="", flush=True)
-        head = re.fullmatch(r"== (\w+)\n", line)
-        if head:
-            # A crate of which nothing is said had not changed.
-            if is_empty and block in progress.crates:
-                progress.proved(block)
-            block, is_empty = head[1], True
-        elif line.startswith("logic=proved "):
-            took = time.time() - progress.started.get(block, progress.last)
-            progress.proved(block, took)
-            is_empty = False
-        else:
-            is_empty = False
+        done.add(crate)
+        progress.tell(crate.name, "was proved before" if took is None else "proved", took)
+    return failed
 
 
-def build(folder, log):
-    """Builds the program, over what is proved, and lets it answer a body."""
-    with open(BODY, "rb") as body:
-        for line in lines_of(["rt", "run"], folder, body):
-            log.write(line or "")
+def run_program(top, progress):
+    """Proves and builds the program over its libraries, and lets it answer a body."""
+    begun = time.time()
+    with open(log_of(top.name), "w") as log, open(BODY, "rb") as body:
+        ran = subprocess.run(["rt", "run"], cwd=top.folder, stdin=body, stdout=log, stderr=log)
+    if ran.returncode:
+        return top.name
+    progress.tell(top.name, "proved and built", time.time() - begun)
+    return None
+
+
+def build(rtlib, top, crates):
+    """Does all of it, and says which crate failed."""
+    progress = Progress(crates)
+    held = rtlib.lock(crates)
+    failed = prove([it for it in crates if not it.is_program], progress)
+    for it in held:
+        os.close(it)
+    if not failed and top.is_program:
+        failed = run_program(top, progress)
+    if not failed:
+        progress.tell_chain()
+    return failed
 
 
 def main():
     signal.signal(signal.SIGTERM, signal.default_int_handler)
-    top = sys.argv[1] if len(sys.argv) > 1 else "ledgerd"
-    crates, folder = crates_for(top), TOP / "crates" / top
-    program, begun = folder / "out" / top, time.time()
+    name = sys.argv[1] if len(sys.argv) > 1 else "ledgerd"
     KEPT.mkdir(parents=True, exist_ok=True)
+    rtlib = toolchain()
+    top = rtlib.Crate(str(TOP / "crates" / name), str(TOP), {})
+    crates = [*top.below(), top]
+    program = pathlib.Path(top.folder) / "out" / name
     if program.exists() and SUM.exists() and SUM.read_text() == sum_of(crates, program):
-        return print(f"{top} is proved and built; nothing has changed since")
-    progress = Progress(crates)
+        return print(f"{name} is proved and built, and nothing has changed since")
     try:
-        with open(LOG, "w") as log:
-            prove(progress, folder, log)
-            if (folder / "src/main.rt").exists():
-                since = time.time()
-                build(folder, log)
-                print(f"{top} built, {time.time() - since:.0f} s", flush=True)
-                SUM.write_text(sum_of(crates, program))
-    except subprocess.CalledProcessError:
-        failed = re.findall(r"^(\w+): failed", LOG.read_text(), re.M) or [top]
-        sys.exit(f"not proved: {', '.join(failed)}; {LOG.relative_to(TOP)} has what rt said")
+        failed = build(rtlib, top, crates)
     except KeyboardInterrupt:
         sys.exit("broken off; the next run goes on with what is proved")
-    names, whole = progress.chain(top)
-    print(f"{len(crates)} crates in {time.time() - begun:.0f} s; the longest chain of them takes"
-          f" {whole:.0f} s: " + ", ".join(f"{it} {progress.seconds.get(it, 0):.0f}" for it in names))
+    if failed:
+        log = log_of(failed).relative_to(TOP)
+        sys.exit(f"{failed} is not proved: {log} has what the toolchain said")
+    if top.is_program:
+        SUM.write_text(sum_of(crates, program))
 
 
 main()

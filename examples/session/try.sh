@@ -10,8 +10,8 @@ set -eu
 here=$(cd "$(dirname "$0")" && pwd)
 . "$here/requests.sh"
 . "$here/../ledger/keys.sh"
-mkdir -p "$1"
-folder=$(cd "$1" && pwd)
+folder=$1
+mkdir -p "$folder"
 port=$(python3 "$here/port.py" ${2:+"$2"})
 stay=${STAY:-}
 if [ -n "$stay" ]; then
@@ -69,7 +69,7 @@ python3 "$here/compare.py" --requests "$folder/session.txt"
 if [ -n "$stay" ]; then
     cat <<TEXT
 
-It stays on 127.0.0.1:$port until you press ctrl-C; nothing is left of this ledger then. A reply
+It stays on 127.0.0.1:$port until you press ctrl-C, for a day at most; nothing is left of it then. A reply
 takes as long as the checks do, which is many times what the proved program takes.
 north-desk's key is $north_key
 south-hall's key is $south_key
