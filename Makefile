@@ -1,6 +1,6 @@
-# `make try` looks at ledgerd in minutes, with checks in place of proofs; `make run` proves and builds
-# it and plays the worked session on a new file; `make test` is the gate. `make session` plays the
-# session and compares it with the expected one; `make faults` tries what may go wrong, and
+# `make try` looks at ledgerd in minutes, with checks in place of proofs; `make run` proves and
+# builds it and plays the worked session on a new file; `make test` is the gate. `make session` plays
+# the session and compares it with the expected one; `make faults` tries what may go wrong, and
 # `make faults-long` all of it; `make bench` measures; `make alloc` runs the tests on want of memory
 # with each allocation refused in turn.
 # `make try` and `make run` take a free port, or PORT=8080; `make try STAY=1` leaves it served.
@@ -19,12 +19,12 @@ faults-calls = rt python3 cc
 faults-long-calls = $(faults-calls)
 test-calls = rt
 lacks = $(if $(shell command -v $(1) 2>/dev/null),,$(1))
-taken = $(PORT:%=$(shell python3 examples/session/port.py % >/dev/null 2>&1 || echo %))
-$(foreach goal,$(or $(MAKECMDGOALS),run),\
-    $(foreach it,$($(goal)-calls),\
-        $(if $(call lacks,$(it)),$(error make $(goal) needs $(it), see README.md, "What it needs")))\
-    $(if $(filter try run session,$(goal)),\
-        $(if $(taken),$(error port $(PORT) cannot be served, and with no PORT= a free one is taken))))
+refused = $(shell python3 examples/session/port.py '$(PORT)' >/dev/null 2>&1 || echo $(PORT))
+goals = $(or $(MAKECMDGOALS),run)
+$(foreach goal,$(goals),$(foreach it,$($(goal)-calls),$(if $(call lacks,$(it)),\
+    $(error make $(goal) needs $(it): see "What it needs" in README.md))))
+$(if $(PORT),$(if $(filter try run session,$(goals)),$(if $(refused),\
+    $(error port $(PORT) cannot be served: with no PORT= a free one is taken))))
 
 run: ledgerd
 	$(PLAY)
@@ -32,7 +32,7 @@ run: ledgerd
 try:
 	examples/session/try.sh out/try $(PORT)
 
-# Crates are proved side by side, as many as `-jN` says, else one for each processor.
+# Crates are proved side by side, with as many jobs as `-jN` says, else as there are processors.
 ledgerd:
 	+@python3 build/prove.py
 

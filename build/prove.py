@@ -1,4 +1,4 @@
-"""Proves and builds a program and all that it stands on, several crates at a time, with a line a crate.
+"""Proves and builds a program and all that it stands on, with a line a crate.
 
     python3 build/prove.py [CRATE]
 

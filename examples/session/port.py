@@ -24,7 +24,7 @@ def main():
     if len(sys.argv) > 1:
         asked = sys.argv[1]
         if not (asked.isdigit() and 0 < int(asked) < 65536 and is_free(int(asked))):
-            sys.exit(f"port {asked} of 127.0.0.1 cannot be served: with no PORT= a free one is taken")
+            sys.exit(f"port {asked} cannot be served: with no PORT= a free one is taken")
         return print(asked)
     for port in random.sample(range(20000, 32768), 1000):
         if is_free(port):

@@ -69,8 +69,8 @@ python3 "$here/compare.py" --requests "$folder/session.txt"
 if [ -n "$stay" ]; then
     cat <<TEXT
 
-It stays on 127.0.0.1:$port until you press ctrl-C, for a day at most; nothing is left of it then. A reply
-takes as long as the checks do, which is many times what the proved program takes.
+It stays on 127.0.0.1:$port until you press ctrl-C, for a day at most; nothing is left of it then.
+A reply takes as long as the checks do, which is many times what the proved program takes.
 north-desk's key is $north_key
 south-hall's key is $south_key
 
