@@ -1,6 +1,6 @@
 # `make try` looks at ledgerd in minutes, with checks in place of proofs; `make run` proves and
-# builds it and plays the worked session on a new file; `make test` is the gate. `make session` plays
-# the session and compares it with the expected one; `make faults` tries what may go wrong, and
+# builds it and plays the worked session on a new file; `make test` is the gate. `make session`
+# plays it and compares it with the expected one; `make faults` tries what may go wrong, and
 # `make faults-long` all of it; `make bench` measures; `make alloc` runs the tests on want of memory
 # with each allocation refused in turn.
 # `make try` and `make run` take a free port, or PORT=8080; `make try STAY=1` leaves it served.
