@@ -1,0 +1,178 @@
+"""Tries ordinary clients against a service of its own, on free ports, and shows what each is
+answered. A client whose tool is not there is left out. Ends with 1 where one is answered otherwise
+than it should be.
+
+    python3 examples/clients/try_clients.py LEDGERD [WORD]
+
+With WORD only the lines that have it are tried. Debian has the tools: apache2-utils (ab), curl,
+haproxy, nginx-light, nodejs, openjdk-17-jdk-headless (java), python3-requests, wrk."""
+
+import collections
+import importlib.util
+import os
+import pathlib
+import re
+import shutil
+import socket
+import subprocess
+import sys
+import tempfile
+import time
+
+import ways
+from ways import BAD_HEAD, GOOD, HERE, KEY, TOO_LARGE, Place, curl, java, node
+
+PROXY = HERE.parent / "operating/haproxy.cfg"
+Case = collections.namedtuple("Case", "name tool way expected")
+CHUNKS = ("-X", "POST", "-T", "-")
+ALONE = [
+    Case("curl -d", "curl", curl("-d", "[]"), GOOD),
+    Case("curl, 1.5 MB and -H 'Expect:'", "curl", ways.curl_large, GOOD),
+    Case("curl -0", "curl", curl("-0", "-d", "[]"), BAD_HEAD),
+    Case("curl -T -", "curl", curl(*CHUNKS, fed="[]"), BAD_HEAD),
+    Case("http.client in turn", "python3", ways.in_turn, GOOD),
+    Case("http.client, an iterator", "python3", ways.in_pieces, BAD_HEAD),
+    Case("requests, a pool of 10", "requests", ways.pool, GOOD),
+    Case("node, fetch in turn", "node", node("turn", 10), GOOD),
+    Case("node, fetch at once", "node", node("once", 10), GOOD),
+    Case("node, fetch of a stream", "node", node("stream", 1), BAD_HEAD),
+    Case("node, http.request, end(body)", "node", node("end", 3), GOOD),
+    Case("node, http.request, write(body)", "node", node("write", 1), BAD_HEAD),
+    Case("java, ofByteArray", "java", java("bytes", 10), GOOD),
+    Case("java, ofInputStream", "java", java("stream", 1), BAD_HEAD),
+    Case("wrk", "wrk", ways.wrk, GOOD),
+    Case("ab", "ab", ways.ab, BAD_HEAD),
+]
+BEHIND_NGINX = [
+    Case("requests, a pool of 10", "requests", ways.pool, GOOD),
+    Case("node, fetch at once", "node", node("once", 10), GOOD),
+    Case("curl, 1.5 MB and -H 'Expect:'", "curl", ways.curl_large, GOOD),
+    Case("curl -0", "curl", curl("-0", "-d", "[]"), GOOD),
+    Case("curl -T -", "curl", curl(*CHUNKS, fed="[]"), GOOD),
+    Case("wrk", "wrk", ways.wrk, GOOD),
+    Case("ab", "ab", ways.ab, GOOD),
+]
+BEHIND_BARE_NGINX = [
+    Case("curl -d", "curl", curl("-d", "[]"), BAD_HEAD),
+    Case("curl, 1.5 MB and -H 'Expect:'", "curl", ways.curl_large, TOO_LARGE),
+]
+BEHIND_HAPROXY = [
+    Case("requests, a pool of 10", "requests", ways.pool, GOOD),
+    Case("node, fetch at once", "node", node("once", 10), GOOD),
+    Case("curl, 1.5 MB and -H 'Expect:'", "curl", ways.curl_large, GOOD),
+    Case("curl -0", "curl", curl("-0", "-d", "[]"), BAD_HEAD),
+    Case("curl -T -", "curl", curl(*CHUNKS, fed="[]"), BAD_HEAD),
+    Case("wrk", "wrk", ways.wrk, GOOD),
+    Case("ab", "ab", ways.ab, BAD_HEAD),
+]
+
+
+def free_port():
+    with socket.socket() as probe:
+        probe.bind(("127.0.0.1", 0))
+        return probe.getsockname()[1]
+
+
+def wait_for(port):
+    """Waits until something listens."""
+    for _ in range(600):
+        try:
+            socket.create_connection(("127.0.0.1", port)).close()
+            return
+        except ConnectionRefusedError:
+            time.sleep(0.1)
+    sys.exit(f"nothing listens on {port}")
+
+
+def serve(ledgerd, folder, port):
+    db = os.path.join(folder, "ledger.db")
+    subprocess.run([ledgerd, "tenant-add", "--db", db, "--name", "first", "--key", KEY], check=True,
+                   stdout=subprocess.DEVNULL)
+    return subprocess.Popen([ledgerd, "serve", "--db", db, "--port", str(port), "--requests",
+                             str(2**64 - 1)])
+
+
+def nginx(folder, port, front, is_bare):
+    """nginx by the configuration of this folder, or without the two lines that it needs."""
+    text = (HERE / "nginx.conf").read_text().replace("FRONT", str(front)).replace("BACK", str(port))
+    if is_bare:
+        text = re.sub(r"client_max_body_size .*|proxy_http_version .*", "", text)
+    path = pathlib.Path(folder, f"nginx-{front}.conf")
+    path.write_text(text)
+    return subprocess.Popen(["nginx", "-p", folder, "-c", str(path), "-g",
+                             "daemon off; master_process off;"])
+
+
+def haproxy(folder, port, front):
+    """haproxy by the configuration for operators, with the one instance that there is."""
+    text = re.sub(r"bind 127\.0\.0\.1:\d+", f"bind 127.0.0.1:{front}", PROXY.read_text())
+    text = re.sub(r"server north .*", f"server north 127.0.0.1:{port} maxconn 1", text)
+    path = pathlib.Path(folder, "haproxy.cfg")
+    path.write_text(re.sub(r"server south .*", "", text))
+    return subprocess.Popen(["haproxy", "-db", "-f", str(path)])
+
+
+def has(tool):
+    return bool(shutil.which(tool) or importlib.util.find_spec(tool))
+
+
+def try_all(title, place, cases, word):
+    """How many of the cases are answered otherwise than they should be."""
+    wrong = 0
+    for case in cases:
+        name = f"{title}: {case.name}"
+        if word not in name:
+            continue
+        if not has(case.tool):
+            print(f"{name}: no {case.tool} here", flush=True)
+            continue
+        start = time.perf_counter()
+        found = collections.Counter(case.way(place))
+        seconds = time.perf_counter() - start
+        is_good = set(found) == {case.expected}
+        wrong += not is_good
+        answers = ", ".join(f"{count} times {status}" for status, count in found.items())
+        print(f"{name}: {answers or 'no answer'}, {seconds:.1f} s{'' if is_good else ', WRONG'}",
+              flush=True)
+    return wrong
+
+
+def behind(proxy, title, front, cases, word):
+    """The cases through a proxy, which is ended behind them."""
+    try:
+        wait_for(front)
+        return try_all(title, Place(front), cases, word)
+    finally:
+        proxy.terminate()
+        proxy.wait()
+
+
+def try_proxies(folder, port, word):
+    wrong = 0
+    if has("nginx"):
+        front, bare = free_port(), free_port()
+        wrong += behind(nginx(folder, port, front, False), "nginx", front, BEHIND_NGINX, word)
+        wrong += behind(nginx(folder, port, bare, True), "nginx without its two lines", bare,
+                        BEHIND_BARE_NGINX, word)
+    if has("haproxy"):
+        front = free_port()
+        wrong += behind(haproxy(folder, port, front), "haproxy", front, BEHIND_HAPROXY, word)
+    return wrong
+
+
+def main():
+    ledgerd, word = os.path.abspath(sys.argv[1]), (sys.argv[2:] or [""])[0]
+    port = free_port()
+    with tempfile.TemporaryDirectory() as folder:
+        service = serve(ledgerd, folder, port)
+        try:
+            wait_for(port)
+            wrong = try_all("alone", Place(port), ALONE, word)
+            wrong += try_proxies(folder, port, word)
+        finally:
+            service.kill()
+            service.wait()
+    sys.exit(1 if wrong else 0)
+
+
+main()

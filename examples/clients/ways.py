@@ -1,0 +1,107 @@
+"""How each client sends a batch of none, `[]`, to a place: the statuses that it is answered."""
+
+import concurrent.futures
+import http.client
+import os
+import pathlib
+import re
+import secrets
+import subprocess
+import tempfile
+
+HERE = pathlib.Path(__file__).resolve().parent
+KEY = secrets.token_hex(32)
+NONE = b"[]"
+# More than curl sends without asking first, and more than nginx takes unless it is told so.
+LARGE = b"[" + b" " * 1_500_000 + b"]"
+PATIENCE = 120
+GOOD, BAD_HEAD, TOO_LARGE = "200", "400", "413"
+
+
+class Place:
+    """Where a client sends to."""
+
+    def __init__(self, port):
+        self.port, self.url = port, f"http://127.0.0.1:{port}/transfers"
+
+
+def told(*words, fed=""):
+    """What a command prints."""
+    return subprocess.run(words, input=fed, capture_output=True, text=True, timeout=PATIENCE,
+                          env={**os.environ, "LEDGER_KEY": KEY}).stdout
+
+
+def curl(*options, fed=""):
+    words = ("curl", "-s", "-o", "/dev/null", "-w", "%{http_code}\n", "-H", f"x-ledger-key: {KEY}")
+    return lambda place: told(*words, *options, place.url, fed=fed).split()
+
+
+def curl_large(place):
+    with tempfile.NamedTemporaryFile() as body:
+        body.write(LARGE)
+        body.flush()
+        return curl("-H", "Expect:", "--data-binary", f"@{body.name}")(place)
+
+
+def post(connection, body):
+    connection.request("POST", "/transfers", body, {"x-ledger-key": KEY})
+    reply = connection.getresponse()
+    reply.read()
+    return str(reply.status)
+
+
+def in_turn(place):
+    """Python's http.client, which keeps its connection."""
+    connection = http.client.HTTPConnection("127.0.0.1", place.port, timeout=PATIENCE)
+    return [post(connection, NONE) for _ in range(20)]
+
+
+def in_pieces(place):
+    """The same with an iterator as the body."""
+    connection = http.client.HTTPConnection("127.0.0.1", place.port, timeout=PATIENCE)
+    return [post(connection, iter([NONE]))]
+
+
+def pool(place):
+    """Ten threads that share the ten connections of a session."""
+    import requests
+    session = requests.Session()
+
+    def send(_):
+        reply = session.post(place.url, NONE, headers={"x-ledger-key": KEY}, timeout=PATIENCE)
+        return str(reply.status_code)
+
+    with concurrent.futures.ThreadPoolExecutor(10) as threads:
+        return list(threads.map(send, range(100)))
+
+
+def node(way, count):
+    script = str(HERE / "fetch.mjs")
+    return lambda place: told("node", script, place.url, KEY, way, str(count)).split()
+
+
+def java(way, count):
+    script = str(HERE / "Post.java")
+    return lambda place: told("java", script, place.url, KEY, way, str(count)).split()
+
+
+def ab(place):
+    with tempfile.NamedTemporaryFile() as body:
+        body.write(NONE)
+        body.flush()
+        text = told("ab", "-n", "20", "-c", "2", "-p", body.name, "-T", "application/json",
+                    "-H", f"x-ledger-key: {KEY}", place.url)
+    done = int(re.search(r"Complete requests:\s+(\d+)", text).group(1))
+    return statuses(done, re.search(r"Non-2xx responses:\s+(\d+)", text))
+
+
+def wrk(place):
+    text = told("wrk", "-t1", "-c4", "-d3", "-s", str(HERE / "post.lua"), place.url)
+    done = int(re.search(r"(\d+) requests in", text).group(1))
+    return statuses(done, re.search(r"Non-2xx or 3xx responses: (\d+)", text))
+
+
+def statuses(done, found):
+    """Of so many replies those that a tool counts as bad, and the others."""
+    bad = int(found.group(1)) if found else 0
+    return [GOOD] * (done - bad) + [BAD_HEAD] * bad
