@@ -1,52 +1,58 @@
 // Sends batches of none by node's fetch or http.request, and prints the status of each reply.
 //
-//     node fetch.mjs URL KEY WAY COUNT      WAY: turn, once, stream, end, write
+//     node fetch.mjs URL KEY WAY COUNT      WAY: turn, once, stream, end, write, length
 import http from "node:http";
 
 const [url, key, way, count] = process.argv.slice(2);
 const headers = { "x-ledger-key": key };
-
 const none = "[]";
 
-// A text as the body: fetch states its length.
-async function text() {
-  const reply = await fetch(url, { method: "POST", headers, body: none });
+// Of a text or a Buffer fetch states the length; a stream it sends in chunks.
+async function byFetch(body) {
+  const reply = await fetch(url, { method: "POST", headers, body, duplex: "half" });
   await reply.text();
   return reply.status;
 }
 
-// A stream as the body: fetch sends chunks.
-async function stream() {
-  const pieces = new ReadableStream({
+function pieces() {
+  return new ReadableStream({
     start(to) {
-      to.enqueue(new TextEncoder().encode(none));
+      to.enqueue(Buffer.from(none));
       to.close();
     },
   });
-  const reply = await fetch(url, { method: "POST", headers, body: pieces, duplex: "half" });
-  await reply.text();
-  return reply.status;
 }
 
-// The body in the call of `end`: node states its length. By `write` it sends chunks.
-function request(isWritten) {
+// Of a body in the call of `end` node states the length; what is written it sends in chunks, unless
+// a header has its length.
+function byRequest(send, more = {}) {
   return new Promise((done, failed) => {
-    const sent = http.request(url, { method: "POST", headers }, (reply) => {
+    const options = { method: "POST", headers: { ...headers, ...more } };
+    const sent = http.request(url, options, (reply) => {
       reply.resume();
       reply.on("end", () => done(reply.statusCode));
     });
     sent.on("error", failed);
-    if (isWritten) sent.write(none);
-    sent.end(isWritten ? undefined : none);
+    send(sent);
   });
 }
 
+function write(sent) {
+  sent.write(none);
+  sent.end();
+}
+
 const ways = {
-  turn: text, once: text, stream, end: () => request(false), write: () => request(true),
+  turn: () => byFetch(none),
+  once: () => byFetch(Buffer.from(none)),
+  stream: () => byFetch(pieces()),
+  end: () => byRequest((sent) => sent.end(none)),
+  write: () => byRequest(write),
+  length: () => byRequest(write, { "content-length": none.length }),
 };
 const places = Array.from({ length: Number(count) });
 if (way === "once") {
-  for (const status of await Promise.all(places.map(text))) console.log(status);
+  for (const status of await Promise.all(places.map(ways.once))) console.log(status);
 } else {
   for (const _ of places) console.log(await ways[way]());
 }

@@ -62,6 +62,13 @@ def in_pieces(place):
     return [post(connection, iter([NONE]))]
 
 
+def generated(place):
+    """The same of requests."""
+    import requests
+    reply = requests.post(place.url, iter([NONE]), headers={"x-ledger-key": KEY}, timeout=PATIENCE)
+    return [str(reply.status_code)]
+
+
 def pool(place):
     """Ten threads that share the ten connections of a session."""
     import requests
