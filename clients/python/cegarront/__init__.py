@@ -1,0 +1,59 @@
+"""A client for `ledgerd`, the double-entry ledger service of the project Cegarront.
+
+    from cegarront import Ledger, Transfer, new_id
+
+    ledger = Ledger("http://127.0.0.1:8080", key)
+    results = ledger.create_transfers([Transfer(id=new_id(), ...)])
+    results.raise_for_refused()
+
+It needs the standard library alone, and Python 3.9 or later. Numbers are `int`: amounts are whole
+numbers in a currency's smallest unit, timestamps are nanoseconds since 1970, ids have 128 bits.
+"""
+
+from .errors import BadReply, EventsRefused, LedgerError, Refused, Unanswered
+from .ids import new_id
+from .ledger import Ledger
+from .records import (
+    MAX_128,
+    MAX_EVENTS,
+    Account,
+    AccountFilter,
+    AccountFlag,
+    Balance,
+    Entry,
+    EntryKind,
+    FilterFlag,
+    Page,
+    Side,
+    Transfer,
+    TransferFlag,
+)
+from .results import AccountResult, Outcome, Result, Results, TransferResult
+
+__all__ = [
+    "MAX_128",
+    "MAX_EVENTS",
+    "Account",
+    "AccountFilter",
+    "AccountFlag",
+    "AccountResult",
+    "BadReply",
+    "Balance",
+    "Entry",
+    "EntryKind",
+    "EventsRefused",
+    "FilterFlag",
+    "Ledger",
+    "LedgerError",
+    "Outcome",
+    "Page",
+    "Refused",
+    "Result",
+    "Results",
+    "Side",
+    "Transfer",
+    "TransferFlag",
+    "TransferResult",
+    "Unanswered",
+    "new_id",
+]

@@ -1,0 +1,57 @@
+"""What a call raises, beside `TypeError` and `ValueError` for what cannot be sent."""
+
+from __future__ import annotations
+
+from typing import TYPE_CHECKING, Tuple
+
+if TYPE_CHECKING:
+    from .results import Result
+
+
+class LedgerError(Exception):
+    """What went wrong with a call.
+
+    `may_be_booked` is true where a sending of the call's batch was left without an answer, so that
+    the batch may stand in the ledger all the same. Then send the same events with the same ids
+    again: only an answer tells. A look-up that finds nothing does not, since the batch may still be
+    on its way.
+    """
+
+    may_be_booked: bool
+
+    def __init__(self, text: str, may_be_booked: bool = False) -> None:
+        super().__init__(text)
+        self.may_be_booked = may_be_booked
+
+
+class Refused(LedgerError):
+    """The service has refused the request, by a name of docs/MESSAGES.md such as `no_account`.
+
+    `name` is that name and `status` the HTTP status beside it.
+    """
+
+    def __init__(self, status: int, name: str, may_be_booked: bool = False) -> None:
+        super().__init__(f"{name} ({status})", may_be_booked)
+        self.status = status
+        self.name = name
+
+
+class Unanswered(LedgerError):
+    """No answer came before the deadline; the last failure is the error's `__cause__`."""
+
+
+class BadReply(LedgerError):
+    """A reply that no ledger gives: another service answers at this address, or a proxy."""
+
+
+class EventsRefused(LedgerError):
+    """Events of a batch were refused: `refused` has the place and the result of each.
+
+    The batch was answered, so its other events stand where their results say so.
+    """
+
+    def __init__(self, refused: Tuple[Tuple[int, Result], ...]) -> None:
+        told = ", ".join(f"event {place}: {result.name}" for place, result in refused[:5])
+        more = f", and {len(refused) - 5} more" if len(refused) > 5 else ""
+        super().__init__(told + more)
+        self.refused = refused

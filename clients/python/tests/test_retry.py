@@ -1,0 +1,205 @@
+"""When a message is sent again, and when not."""
+
+import threading
+import time
+import unittest
+from unittest import mock
+
+from cegarront import (
+    Account,
+    AccountResult,
+    BadReply,
+    Ledger,
+    Outcome,
+    Refused,
+    Transfer,
+    Unanswered,
+    transport,
+)
+
+from . import pages
+from .fake import KEY, Fake, cut, free_port, ok, refusal, reply_bytes, results, say, silence
+
+PAID = Transfer(id=100, debit_account_id=1, credit_account_id=2, amount=10, ledger=7, code=1)
+EXISTS, FAILED = 18, 60
+# The shortest pauses, where a test is not about them.
+QUICK = mock.patch.object(transport, "FIRST_PAUSE", 0.001)
+
+
+def lookup_reply():
+    return ok({"accounts": [], "clock": "5"})
+
+
+class SentAgain(unittest.TestCase):
+    def setUp(self):
+        QUICK.start()
+        self.addCleanup(QUICK.stop)
+
+    def outcome(self, script, **options):
+        """The outcome of a transfer, whose every sending was the same bytes."""
+        with Fake(script) as fake:
+            (result,) = fake.ledger(**options).create_transfers([PAID])
+            self.assertEqual(fake.script, [])
+            self.assertEqual(len(set(fake.messages)), 1)
+        return result.outcome
+
+    def test_accepted_at_once_or_later(self):
+        self.assertIs(self.outcome([say(results(0))]), Outcome.ACCEPTED)
+        self.assertIs(self.outcome([cut(), say(results(0))]), Outcome.ACCEPTED)
+
+    def test_exists_is_told_apart(self):
+        self.assertIs(self.outcome([say(results(EXISTS))]), Outcome.EXISTED)
+        self.assertIs(self.outcome([cut(), say(results(EXISTS))]), Outcome.FOUND)
+
+    def test_a_connection_that_is_cut_at_each_byte_of_a_reply(self):
+        whole = results(EXISTS)
+        for count in range(len(whole)):
+            script = [cut(whole[:count]), say(whole)]
+            with self.subTest(whole[:count][-20:]):
+                self.assertIs(self.outcome(script), Outcome.FOUND)
+
+    def test_a_refusal_that_is_cut_is_none(self):
+        whole = refusal(503, "clock_exhausted")
+        for count in range(len(whole)):
+            with self.subTest(whole[:count][-20:]):
+                self.assertIs(self.outcome([cut(whole[:count]), say(results(0))]), Outcome.ACCEPTED)
+
+    def test_no_byte_in_time(self):
+        script = [silence(0.5), say(results(EXISTS))]
+        self.assertIs(self.outcome(script, timeout=0.1), Outcome.FOUND)
+
+    def test_a_reply_that_stops_in_the_middle(self):
+        script = [silence(0.5, results(0)[:40]), say(results(EXISTS))]
+        self.assertIs(self.outcome(script, timeout=0.1), Outcome.FOUND)
+
+    def test_unavailable(self):
+        unavailable = say(refusal(503, "unavailable"))
+        script = [unavailable, unavailable, say(results(EXISTS))]
+        self.assertIs(self.outcome(script), Outcome.FOUND)
+
+    def test_a_proxy_without_an_answer(self):
+        for status in (408, 502, 503, 504):
+            for body in (b"<html>", b"", b"{}", b"[1]", b'{"error":1}'):
+                with self.subTest(status=status, body=body):
+                    script = [say(reply_bytes(status, body, "text/html")), say(results(EXISTS))]
+                    self.assertIs(self.outcome(script), Outcome.FOUND)
+
+    def test_what_failed_for_good_behind_a_lost_reply(self):
+        self.assertIs(self.outcome([cut(), say(results(FAILED))]), Outcome.REFUSED)
+
+    def test_accounts(self):
+        exists = say(results(int(AccountResult.EXISTS)))
+        for script, outcome in (([exists], Outcome.EXISTED), ([cut(), exists], Outcome.FOUND)):
+            with Fake(list(script)) as fake:
+                (result,) = fake.ledger().create_accounts([Account(1, 7, 10)])
+            self.assertIs(result.outcome, outcome)
+
+    def test_reads(self):
+        with Fake([cut(), say(refusal(503, "unavailable")), say(lookup_reply())]) as fake:
+            self.assertEqual(fake.ledger().lookup_accounts([1]).clock, 5)
+            self.assertEqual(len(set(fake.messages)), 1)
+
+    def test_a_service_that_comes_later(self):
+        """What could not be sent does not make `exists` another's."""
+        port, fakes = free_port(), []
+        script = [say(results(EXISTS))]
+        timer = threading.Timer(0.3, lambda: fakes.append(Fake(script, port)))
+        timer.start()
+        with Ledger(f"http://127.0.0.1:{port}", KEY, deadline=10) as ledger:
+            (result,) = ledger.create_transfers([PAID])
+        timer.join()
+        with fakes[0]:
+            self.assertIs(result.outcome, Outcome.EXISTED)
+
+
+class NotSentAgain(unittest.TestCase):
+    def test_clock_exhausted(self):
+        for script, may_be in (([], False), ([cut()], True)):
+            with Fake(script + [say(refusal(503, "clock_exhausted"))]) as fake:
+                with self.assertRaises(Refused) as raised:
+                    fake.ledger().create_transfers([PAID])
+                self.assertEqual(len(fake.messages), len(script) + 1)
+            self.assertEqual(raised.exception.name, "clock_exhausted")
+            self.assertIs(raised.exception.may_be_booked, may_be)
+
+    def test_each_other_refusal_behind_a_cut(self):
+        for status, name in pages.refusals():
+            if name == "unavailable":
+                continue
+            with self.subTest(name), Fake([cut(), say(refusal(status, name))]) as fake:
+                with self.assertRaises(Refused) as raised:
+                    fake.ledger().create_transfers([PAID])
+                self.assertEqual(len(fake.messages), 2)
+                self.assertTrue(raised.exception.may_be_booked)
+
+    def test_a_read_books_nothing(self):
+        with Fake([cut(), say(refusal(401, "unknown_key"))]) as fake:
+            with self.assertRaises(Refused) as raised:
+                fake.ledger().lookup_transfers([1])
+        self.assertFalse(raised.exception.may_be_booked)
+
+    def test_another_server(self):
+        for status in (200, 301, 403, 404, 500):
+            with self.subTest(status), Fake([say(reply_bytes(status, b"<html>"))]) as fake:
+                with self.assertRaises(BadReply):
+                    fake.ledger().create_transfers([PAID])
+                self.assertEqual(len(fake.messages), 1)
+
+
+class Deadlines(unittest.TestCase):
+    def unanswered(self, script, call, **options):
+        with Fake(script) as fake:
+            begin = time.monotonic()
+            with self.assertRaises(Unanswered) as raised:
+                call(fake.ledger(deadline=0.6, **options))
+            self.assertLess(time.monotonic() - begin, 1.5)
+            self.assertIsNotNone(raised.exception.__cause__)
+            return raised.exception, fake
+
+    def test_a_service_that_is_silent(self):
+        error, fake = self.unanswered([silence(5)], lambda each: each.create_transfers([PAID]))
+        self.assertTrue(error.may_be_booked)
+        self.assertEqual(len(fake.messages), 1)
+
+    def test_a_service_that_cuts(self):
+        error, fake = self.unanswered([], lambda each: each.create_transfers([PAID]))
+        self.assertTrue(error.may_be_booked)
+        self.assertGreater(len(fake.messages), 2)
+        self.assertEqual(len(set(fake.messages)), 1)
+
+    def test_a_service_that_stays_unavailable(self):
+        script = [say(refusal(503, "unavailable"))] * 100
+        error, fake = self.unanswered(script, lambda each: each.create_transfers([PAID]))
+        self.assertTrue(error.may_be_booked)
+        self.assertIn("unavailable", str(error))
+        self.assertGreater(len(fake.messages), 2)
+
+    def test_a_read(self):
+        error, _ = self.unanswered([], lambda each: each.lookup_accounts([1]))
+        self.assertFalse(error.may_be_booked)
+
+    def test_no_service(self):
+        with self.assertRaises(Unanswered) as raised:
+            Ledger(f"http://127.0.0.1:{free_port()}", KEY, deadline=0.3).create_transfers([PAID])
+        self.assertFalse(raised.exception.may_be_booked)
+        self.assertIn("ConnectionRefusedError", str(raised.exception))
+
+
+class Pauses(unittest.TestCase):
+    def test_they_grow_up_to_a_bound(self):
+        for sending, longest in ((1, 0.05), (2, 0.1), (3, 0.2), (6, 1.6), (7, 2.0), (10**6, 2.0)):
+            drawn = [transport.pause_before(sending) for _ in range(200)]
+            self.assertLessEqual(max(drawn), longest)
+            self.assertGreaterEqual(min(drawn), longest / 2)
+            self.assertGreater(len(set(drawn)), 100)
+
+    def test_they_are_kept(self):
+        with Fake([cut(), cut(), cut(), say(results(0))]) as fake:
+            fake.ledger().create_transfers([PAID])
+        waits = [later - earlier for earlier, later in zip(fake.times, fake.times[1:])]
+        for wait, least in zip(waits, (0.025, 0.05, 0.1)):
+            self.assertGreaterEqual(wait, least)
+
+
+if __name__ == "__main__":
+    unittest.main()
