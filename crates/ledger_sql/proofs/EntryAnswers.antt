@@ -1,4 +1,4 @@
--- An account's entries as they are read, whole or one after the other.
+-- An account's entries as they are read, one after the other.
 use Rattle.std.proofs.Common.{◌≡◌, ◌⊎◌, ℕ, ◌≤◌, ℤ, pos, List, [], ◌∷◌, ◌++◌, length, map, take, drop, Bool, true, false, Option, Some, None, Ok, Err, Result, IfOk, OnOk, OnErr, inl, inr, refl, sym, ap, subst, ◌∙◌, arith, append_assoc}
 use Rattle.std.specs.Prelude.{IsErr}
 use Rattle.std.specs.declared.cmp.Ordering.{Ordering}
@@ -67,11 +67,6 @@ module _ (sql : List ℕ) (op : CompareOp) (descending : Bool) (limit : Term) (t
   some_first text read begun =
       entries_begun sql old.now.schema op descending limit text old new refl tenant account time more in_time tests cmp same (map entry_values read) (subst (λ k. Begins sql k old (map entry_values read)) is begun)
 
-  read_first : {Y : Type 0} (items_of : Y → List EntryCells) → IsText → (read : Result Y TableFault) → IfOk read (λ y. Shown sql key old new (map entry_values (items_of y)))
-      → (got : Result Y Unavailable) → IfOk got (λ y. read ≡ Ok y) → IfOk got (λ y. AreFirst much entries cmp (map entry_values (items_of y)))
-  read_first items_of text read ok (Err e) known = tt
-  read_first items_of text read ok (Ok y) known = all_first text (items_of y) (subst (λ r. IfOk r (λ y. Shown sql key old new (map entry_values (items_of y)))) known ok)
-
   module _ {K : Type 0} (takes : K → EntryCells → K → Type 0) (is_full : K → Bool) (text : HasCleanDisk new → IsText) (before after : K)
       (r : Result (Unit {0}) TableFault) (h : HandsRows takes is_full sql key old new before after r) (got : Result (Unit {0}) Unavailable) where
     still : (got : Result (Unit {0}) Unavailable) (r : Result (Unit {0}) TableFault) → OnErr got (IsErr r) → OnErr r (is_full after ≡ false) → OnErr got (is_full after ≡ false)
@@ -112,12 +107,6 @@ module _ (sql : List ℕ) (op : CompareOp) (descending : Bool) (tenant : ℤ) (a
 
   whole : (read : List EntryCells) → AreFirst None all_entries cmp (map entry_values read) → ReadsEntries all_entries (IsSorted cmp) read
   whole read it = record { all = subst (IsPermutation all_entries) (sym it.rows_are) it.all; order = subst (IsSorted cmp) (sym it.rows_are) it.order }
-
-  pub entries_read : {Y : Type 0} (items_of : Y → List EntryCells) → IsEntryText sql old.now.schema op descending unlimited → (read : Result Y TableFault)
-      → IfOk read (λ y. Shown sql key old new (map entry_values (items_of y))) → (got : Result Y Unavailable) → IfOk got (λ y. read ≡ Ok y)
-      → IfOk got (λ y. ReadsEntries all_entries (IsSorted cmp) (items_of y))
-  entries_read items_of text read ok (Err e) known = tt
-  entries_read items_of text read ok (Ok y) known = whole (items_of y) (read_first sql op descending unlimited tenant account time [] in_time tests cmp same old new key is items_of text read ok (Ok y) known)
 
   pub entries_handed : {K : Type 0} (takes : K → EntryCells → K → Type 0) (is_full : K → Bool) → (HasCleanDisk new → IsEntryText sql old.now.schema op descending unlimited) → (before after : K)
       → (r : Result (Unit {0}) TableFault) → HandsRows takes is_full sql key old new before after r → (got : Result (Unit {0}) Unavailable) → IfOk got (λ u. r ≡ Ok u) → OnErr got (IsErr r)

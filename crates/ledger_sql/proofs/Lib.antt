@@ -26,8 +26,6 @@ pub mod HandLemmas
 pub mod EntryLemmas
 pub mod EntryAnswers
 pub mod VersionText
-pub mod MissingLemmas
-pub mod MissingTexts
 pub mod StreamLemmas
 pub mod FillLemmas
 pub mod FillTexts

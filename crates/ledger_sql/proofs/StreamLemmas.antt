@@ -12,9 +12,9 @@ use Rattle.sqlite.specs.Held.{Held, state}
 use Rattle.sqlite.specs.State.{State, HasCleanDisk, IsStatement, IsUnchanged, Survives, Shown, ShowsRows, Begins}
 use Rattle.sqlite.proofs.Callers.{given_begin, unchanged_then}
 use Rattle.sqlite.proofs.StateLemmas.{survives_then}
-use Rattle.ledger_sql.specs.Queries.{IsReading, NamesNoTable}
+use Rattle.ledger_sql.specs.Queries.{IsReading}
 use Rattle.ledger_sql.proofs.ReadingTexts.{IsCalm, calm_text}
-use Rattle.ledger_sql.proofs.QueryLemmas.{never_returns, begun_lacking}
+use Rattle.ledger_sql.proofs.QueryLemmas.{never_returns}
 
 -- ---- what was read of one state was read of another with the same rows
 
@@ -63,13 +63,6 @@ module _ {S : Type 0} (g : store.Ghosts S) (sql : List ℕ) (params : Row) (firs
 
   pub way_begins : (now : Held S) (rows : List Row) → IsUnderWay g sql params first now rows → HasCleanDisk (state g now) → Begins sql params (state g first) rows
   way_begins now rows it clean = begins_at _ _ (it.same clean).0.now_is sql params rows (given_begin g sql params now rows (it.given clean))
-
-  -- its text names a table that is there, now and at first
-  pub now_names : IsReading sql → (now : Held S) (rows : List Row) → IsUnderWay g sql params first now rows → HasCleanDisk (state g now) → ¬ NamesNoTable now.schema sql
-  now_names reading now rows it clean = begun_lacking sql params (state g now) (state g now) reading rows (given_begin g sql params now rows (it.given clean))
-
-  pub way_names : IsReading sql → (now : Held S) (rows : List Row) → IsUnderWay g sql params first now rows → HasCleanDisk (state g now) → ¬ NamesNoTable first.schema sql
-  way_names reading now rows it clean = begun_lacking sql params (state g first) (state g first) reading rows (way_begins now rows it clean)
 
   module _ (prev after : Held S) (rows : List Row) (it : IsUnderWay g sql params first prev rows) (moved : Survives (state g prev) (state g after) (λ _. ⊥)) where
     pub earlier : HasCleanDisk (state g after) → HasCleanDisk (state g prev)

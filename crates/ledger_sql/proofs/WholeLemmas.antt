@@ -16,15 +16,12 @@ use Rattle.sqlite_trees.specs.Tree.{Trees}
 use Rattle.sqlite_trees.proofs.ListLemmas.{map-map, filter-map, IsPermutation-filter}
 use Rattle.sqlite_sql.specs.Term.{Term, col, eval_all, holds}
 use Rattle.sqlite_schema.specs.declared.schema.Schema.{Schema}
-use Rattle.sqlite.specs.Listing.{understood}
 use Rattle.sqlite.specs.State.{State, Shown}
-use Rattle.sqlite.proofs.Callers.{IsPlain}
 use Rattle.ledger_sql.specs.declared.owned.Owned.{Owned}
 use Rattle.ledger_sql.specs.declared.table_fault.TableFault.{TableFault}
 use Rattle.ledger_sql.specs.Schema.{schema_tree}
 use Rattle.ledger_sql.specs.TableRows.{is_int, cells_from, whole_table, version_rows}
 use Rattle.ledger_sql.specs.Values.{version_values}
-use Rattle.ledger_sql.specs.Queries.{NamesNoTable}
 use Rattle.ledger_sql.specs.Reading.{id_cmp, by_tenant, owned_values, own_rows, ReadsTable, ReadsRows}
 use Rattle.ledger_sql.proofs.AnswerLemmas.{IsPlainText, IsOrderedBy, all_shown, all_ordered}
 use Rattle.ledger_sql.proofs.KeyLemmas.{columns_from, columns_shown, map_same}
@@ -110,7 +107,3 @@ versions_read schema text old new has items_of (Err e) ok = tt
 versions_read schema text old new has items_of (Ok y) ok =
     subst (λ rows. IsPermutation rows (map version_values (items_of y))) (version_view old.now.trees)
     (all_shown version_text schema 0 [] (columns_from 2 1) [] text [] old new has (map version_values (items_of y)) ok)
-
--- a text that is understood names no table that is missing
-pub never_missing : (sql : List ℕ) (schema : Schema) → IsPlain (understood schema sql) → ¬ NamesNoTable schema sql
-never_missing sql schema plain missing = subst IsPlain missing plain

@@ -3,15 +3,11 @@ use Rattle.std.specs.Prelude.{◌≡◌, ℕ, List, [], Option, Some, None, Resu
 use Rattle.sqlite_ast.specs.declared.Statement.{Statement}
 use Rattle.sqlite_ast.specs.declared.Statement.TheVariants as written
 use Rattle.sqlite_syntax.specs.declared.statement.Parsed.{Parsed}
-use Rattle.sqlite_schema.specs.declared.schema.Schema.{Schema}
-use Rattle.sqlite_schema.specs.Names.{table_named, view_named}
 use Rattle.sqlite_resolve.specs.declared.error.CompileError.{CompileError}
-use Rattle.sqlite_resolve.specs.declared.error.CompileError.TheVariants.{NoSuchTable}
 use Rattle.sqlite_resolve.specs.Compile.{first}
 use Rattle.sqlite_value.specs.Order.{Row}
 use Rattle.sqlite.specs.declared.error.Error.{Error}
 use Rattle.sqlite.specs.declared.error.Error.TheVariants.{QueryReturnedNoRows}
-use Rattle.sqlite.specs.Listing.{understood}
 use Rattle.sqlite.specs.State.{State, Shown, QueriesRow}
 use Rattle.ledger_sql.specs.declared.table_fault.TableFault.{TableFault}
 use Rattle.ledger_sql.specs.Causes.{table_fault_in}
@@ -29,14 +25,6 @@ IsTimelessSelect (Err e) = ⊥
 -- the text is a SELECT that does not ask for the time: it writes nothing, whatever the tables are
 unfoldable pub IsReading : List ℕ → Type 0
 IsReading text = IsTimelessSelect (first text)
-
--- the text names a table that the schema lacks
-abbrev pub NamesNoTable : Schema → List ℕ → Type 0
-NamesNoTable schema text = understood schema text ≡ Err NoSuchTable
-
--- the schema has neither a table nor a view of this name
-abbrev pub LacksTable : List ℕ → Schema → Type 0
-LacksTable name schema = (table_named schema name ≡ None) × (view_named schema name ≡ None)
 
 -- no row is an answer too
 abbrev pub found_of : Result Row Error → Result (Option Row) TableFault

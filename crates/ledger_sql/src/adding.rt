@@ -1,13 +1,11 @@
 //! New rows, written inside a transaction.
 
-ghost use Rattle.std.specs.Prelude.{◌≡◌, ◌<◌, ◌^◌, pos, [], ◌∷◌, OnOk, OnErr};
+ghost use Rattle.std.specs.Prelude.{◌<◌, ◌^◌, pos, [], ◌∷◌};
 ghost use Rattle.std.specs.Option.{ForSome};
-ghost use Rattle.sqlite.specs.State.{HasCleanDisk};
-ghost use Rattle.sqlite.specs.Held.{state};
 ghost use Rattle.amount.specs.Column.{column_of};
 ghost use Rattle.rows.specs.Cells.{account_cells, transfer_cells, balance_cells, status_cells, history_cells};
+ghost use Rattle.ledger_sql.specs.Calls.{IfClean, Writes};
 ghost use Rattle.ledger_sql.specs.Effects.{IsInside, AddsRows, AddsFileRow};
-ghost use Rattle.ledger_sql.specs.Frames.{IsKeptOrUndone, Follows};
 ghost use Rattle.ledger_sql.specs.Schema.{schema_tree, tenant_tree, clock_tree, account_tree, transfer_tree, balance_tree, status_tree, history_tree, failed_tree, current_version};
 ghost use Rattle.ledger_sql.specs.TableRows.{version_rows, directory_rows, clock_rows, account_rows, transfer_rows, balance_rows, status_rows, history_rows, failed_rows};
 ghost use Rattle.ledger_sql.specs.Values.{version_values, directory_values, clock_values, account_values, transfer_values, balance_values, status_values, history_values, id_values};
@@ -22,13 +20,9 @@ use sqlite::{Alter, Connection, params};
 
 /// Adds the current version of the schema to a file that has none.
 pub fn add_version<S: Alter>(conn: &mut Connection<S>) -> Result<(), Unavailable>
-    requires { HasCleanDisk (state S.Store conn.old) → IsInside (state S.Store conn.old) }
-    ensures ok { HasCleanDisk (state S.Store conn.new) → OnOk result
-        (AddsFileRow version_rows schema_tree (version_values current_version)
-        (state S.Store conn.old) (state S.Store conn.new)) }
-    ensures err { HasCleanDisk (state S.Store conn.new) → OnErr result
-        (IsKeptOrUndone (state S.Store conn.old) (state S.Store conn.new)) }
-    ensures follows { Follows (state S.Store conn.old) (state S.Store conn.new) }
+    requires { IfClean IsInside S.Store conn.old }
+    ensures { Writes (AddsFileRow version_rows schema_tree (version_values current_version))
+        S.Store conn.old conn.new result }
 {
     done(conn.execute("INSERT INTO schema (version) VALUES (3)", &[]))
 }
@@ -40,13 +34,9 @@ pub fn add_tenant<S: Alter>(
     name: &str,
     digest: &[u8; 32],
 ) -> Result<(), Unavailable>
-    requires { HasCleanDisk (state S.Store conn.old) → IsInside (state S.Store conn.old) }
-    ensures ok { HasCleanDisk (state S.Store conn.new) → OnOk result
-        (AddsFileRow directory_rows tenant_tree (directory_values number name.now digest.now)
-        (state S.Store conn.old) (state S.Store conn.new)) }
-    ensures err { HasCleanDisk (state S.Store conn.new) → OnErr result
-        (IsKeptOrUndone (state S.Store conn.old) (state S.Store conn.new)) }
-    ensures follows { Follows (state S.Store conn.old) (state S.Store conn.new) }
+    requires { IfClean IsInside S.Store conn.old }
+    ensures { Writes (AddsFileRow directory_rows tenant_tree
+        (directory_values number name.now digest.now)) S.Store conn.old conn.new result }
 {
     done(conn.execute(
         "INSERT INTO tenant (no, name, digest) VALUES (?1, ?2, ?3)",
@@ -60,14 +50,10 @@ pub fn add_clock<S: Alter>(
     tenant: i64,
     clock: u64,
 ) -> Result<(), Unavailable>
-    requires inside { HasCleanDisk (state S.Store conn.old) → IsInside (state S.Store conn.old) }
+    requires inside { IfClean IsInside S.Store conn.old }
     requires fits { clock < 2 ^ 63 }
-    ensures ok { HasCleanDisk (state S.Store conn.new) → OnOk result
-        (AddsRows clock_rows clock_tree tenant (clock_values (pos clock) ∷ [])
-        (state S.Store conn.old) (state S.Store conn.new)) }
-    ensures err { HasCleanDisk (state S.Store conn.new) → OnErr result
-        (IsKeptOrUndone (state S.Store conn.old) (state S.Store conn.new)) }
-    ensures follows { Follows (state S.Store conn.old) (state S.Store conn.new) }
+    ensures { Writes (AddsRows clock_rows clock_tree tenant (clock_values (pos clock) ∷ []))
+        S.Store conn.old conn.new result }
 {
     done(conn.execute(
         "INSERT INTO clock (tenant, clock) VALUES (?1, ?2)",
@@ -81,15 +67,10 @@ pub fn add_account<S: Alter>(
     tenant: i64,
     account: &Account,
 ) -> Result<(), Unavailable>
-    requires inside { HasCleanDisk (state S.Store conn.old) → IsInside (state S.Store conn.old) }
+    requires inside { IfClean IsInside S.Store conn.old }
     requires fits { account.now.timestamp < 2 ^ 63 }
-    ensures ok { HasCleanDisk (state S.Store conn.new) → OnOk result
-        (AddsRows account_rows account_tree tenant
-        (account_values (account_cells account.now) ∷ []) (state S.Store conn.old)
-        (state S.Store conn.new)) }
-    ensures err { HasCleanDisk (state S.Store conn.new) → OnErr result
-        (IsKeptOrUndone (state S.Store conn.old) (state S.Store conn.new)) }
-    ensures follows { Follows (state S.Store conn.old) (state S.Store conn.new) }
+    ensures { Writes (AddsRows account_rows account_tree tenant
+        (account_values (account_cells account.now) ∷ [])) S.Store conn.old conn.new result }
 {
     let cells = AccountCells::from_account(account);
     done(conn.execute(
@@ -115,16 +96,11 @@ pub fn add_transfer<S: Alter>(
     tenant: i64,
     transfer: &Transfer,
 ) -> Result<(), Unavailable>
-    requires inside { HasCleanDisk (state S.Store conn.old) → IsInside (state S.Store conn.old) }
+    requires inside { IfClean IsInside S.Store conn.old }
     requires timestamp { transfer.now.timestamp < 2 ^ 63 }
     requires at { transfer.now.at < 2 ^ 63 }
-    ensures ok { HasCleanDisk (state S.Store conn.new) → OnOk result
-        (AddsRows transfer_rows transfer_tree tenant
-        (transfer_values (transfer_cells transfer.now) ∷ []) (state S.Store conn.old)
-        (state S.Store conn.new)) }
-    ensures err { HasCleanDisk (state S.Store conn.new) → OnErr result
-        (IsKeptOrUndone (state S.Store conn.old) (state S.Store conn.new)) }
-    ensures follows { Follows (state S.Store conn.old) (state S.Store conn.new) }
+    ensures { Writes (AddsRows transfer_rows transfer_tree tenant
+        (transfer_values (transfer_cells transfer.now) ∷ [])) S.Store conn.old conn.new result }
 {
     let cells = TransferCells::from_transfer(transfer);
     done(conn.execute(
@@ -157,13 +133,9 @@ pub fn add_balance<S: Alter>(
     tenant: i64,
     row: &BalanceRow,
 ) -> Result<(), Unavailable>
-    requires { HasCleanDisk (state S.Store conn.old) → IsInside (state S.Store conn.old) }
-    ensures ok { HasCleanDisk (state S.Store conn.new) → OnOk result
-        (AddsRows balance_rows balance_tree tenant (balance_values (balance_cells row.now) ∷ [])
-        (state S.Store conn.old) (state S.Store conn.new)) }
-    ensures err { HasCleanDisk (state S.Store conn.new) → OnErr result
-        (IsKeptOrUndone (state S.Store conn.old) (state S.Store conn.new)) }
-    ensures follows { Follows (state S.Store conn.old) (state S.Store conn.new) }
+    requires { IfClean IsInside S.Store conn.old }
+    ensures { Writes (AddsRows balance_rows balance_tree tenant
+        (balance_values (balance_cells row.now) ∷ [])) S.Store conn.old conn.new result }
 {
     let cells = BalanceCells::from_row(row);
     done(conn.execute(
@@ -185,14 +157,10 @@ pub fn add_status<S: Alter>(
     tenant: i64,
     row: &StatusRow,
 ) -> Result<(), Unavailable>
-    requires inside { HasCleanDisk (state S.Store conn.old) → IsInside (state S.Store conn.old) }
+    requires inside { IfClean IsInside S.Store conn.old }
     requires due { ForSome row.now.due (λ due. due < 2 ^ 63) }
-    ensures ok { HasCleanDisk (state S.Store conn.new) → OnOk result
-        (AddsRows status_rows status_tree tenant (status_values (status_cells row.now) ∷ [])
-        (state S.Store conn.old) (state S.Store conn.new)) }
-    ensures err { HasCleanDisk (state S.Store conn.new) → OnErr result
-        (IsKeptOrUndone (state S.Store conn.old) (state S.Store conn.new)) }
-    ensures follows { Follows (state S.Store conn.old) (state S.Store conn.new) }
+    ensures { Writes (AddsRows status_rows status_tree tenant
+        (status_values (status_cells row.now) ∷ [])) S.Store conn.old conn.new result }
 {
     let cells = StatusCells::from_row(row);
     done(conn.execute(
@@ -208,17 +176,12 @@ pub fn add_history<S: Alter>(
     debit: &HistoryRow,
     credit: &HistoryRow,
 ) -> Result<(), Unavailable>
-    requires inside { HasCleanDisk (state S.Store conn.old) → IsInside (state S.Store conn.old) }
+    requires inside { IfClean IsInside S.Store conn.old }
     requires debit { debit.now.timestamp < 2 ^ 63 }
     requires credit { credit.now.timestamp < 2 ^ 63 }
-    ensures ok { HasCleanDisk (state S.Store conn.new) → OnOk result
-        (AddsRows history_rows history_tree tenant
-        (history_values (history_cells debit.now) ∷ history_values (history_cells credit.now)
-        ∷ [])
-        (state S.Store conn.old) (state S.Store conn.new)) }
-    ensures err { HasCleanDisk (state S.Store conn.new) → OnErr result
-        (IsKeptOrUndone (state S.Store conn.old) (state S.Store conn.new)) }
-    ensures follows { Follows (state S.Store conn.old) (state S.Store conn.new) }
+    ensures { Writes (AddsRows history_rows history_tree tenant
+        (history_values (history_cells debit.now) ∷ history_values (history_cells credit.now) ∷ []))
+        S.Store conn.old conn.new result }
 {
     let of_debit = HistoryCells::from_row(debit);
     let of_credit = HistoryCells::from_row(credit);
@@ -249,13 +212,9 @@ pub fn add_failed<S: Alter>(
     tenant: i64,
     id: u128,
 ) -> Result<(), Unavailable>
-    requires { HasCleanDisk (state S.Store conn.old) → IsInside (state S.Store conn.old) }
-    ensures ok { HasCleanDisk (state S.Store conn.new) → OnOk result
-        (AddsRows failed_rows failed_tree tenant (id_values (column_of id) ∷ [])
-        (state S.Store conn.old) (state S.Store conn.new)) }
-    ensures err { HasCleanDisk (state S.Store conn.new) → OnErr result
-        (IsKeptOrUndone (state S.Store conn.old) (state S.Store conn.new)) }
-    ensures follows { Follows (state S.Store conn.old) (state S.Store conn.new) }
+    requires { IfClean IsInside S.Store conn.old }
+    ensures { Writes (AddsRows failed_rows failed_tree tenant (id_values (column_of id) ∷ []))
+        S.Store conn.old conn.new result }
 {
     let column = id.to_be_bytes();
     done(conn.execute(

@@ -1,10 +1,8 @@
 //! The tables of a new file, made in this order inside a transaction.
 
-ghost use Rattle.std.specs.Prelude.{drop, OnOk, OnErr};
-ghost use Rattle.sqlite.specs.State.{HasCleanDisk};
-ghost use Rattle.sqlite.specs.Held.{state};
+ghost use Rattle.std.specs.Prelude.{drop};
+ghost use Rattle.ledger_sql.specs.Calls.{Changes, IfClean, Writes};
 ghost use Rattle.ledger_sql.specs.Creating.{IsMaking, Makes, MakesTables, MakesLedger};
-ghost use Rattle.ledger_sql.specs.Frames.{IsKeptOrUndone, Follows};
 ghost use Rattle.ledger_sql.specs.Schema.{no_schema, after_schema, after_tenant, after_clock, after_account, list_schema, after_balance, after_status, balance_schema, schema_table, tenant_table, clock_table, account_table, transfer_table, balance_table, status_table, history_table, failed_table};
 
 use crate::adding::add_version;
@@ -14,13 +12,8 @@ use sqlite::{Alter, Connection};
 
 /// Makes the table of the version.
 pub fn make_schema<S: Alter>(conn: &mut Connection<S>) -> Result<(), Unavailable>
-    requires { HasCleanDisk (state S.Store conn.old) → IsMaking no_schema
-        (state S.Store conn.old) }
-    ensures ok { HasCleanDisk (state S.Store conn.new) → OnOk result
-        (Makes no_schema schema_table (state S.Store conn.old) (state S.Store conn.new)) }
-    ensures err { HasCleanDisk (state S.Store conn.new) → OnErr result
-        (IsKeptOrUndone (state S.Store conn.old) (state S.Store conn.new)) }
-    ensures follows { Follows (state S.Store conn.old) (state S.Store conn.new) }
+    requires { IfClean (IsMaking no_schema) S.Store conn.old }
+    ensures { Writes (Makes no_schema schema_table) S.Store conn.old conn.new result }
 {
     done(conn.execute(
         "CREATE TABLE schema (one INTEGER PRIMARY KEY NOT NULL CHECK (one = 1), version INTEGER \
@@ -31,13 +24,8 @@ pub fn make_schema<S: Alter>(conn: &mut Connection<S>) -> Result<(), Unavailable
 
 /// Makes the table of the directory.
 pub fn make_tenant<S: Alter>(conn: &mut Connection<S>) -> Result<(), Unavailable>
-    requires { HasCleanDisk (state S.Store conn.old) → IsMaking after_schema
-        (state S.Store conn.old) }
-    ensures ok { HasCleanDisk (state S.Store conn.new) → OnOk result
-        (Makes after_schema tenant_table (state S.Store conn.old) (state S.Store conn.new)) }
-    ensures err { HasCleanDisk (state S.Store conn.new) → OnErr result
-        (IsKeptOrUndone (state S.Store conn.old) (state S.Store conn.new)) }
-    ensures follows { Follows (state S.Store conn.old) (state S.Store conn.new) }
+    requires { IfClean (IsMaking after_schema) S.Store conn.old }
+    ensures { Writes (Makes after_schema tenant_table) S.Store conn.old conn.new result }
 {
     done(conn.execute(
         "CREATE TABLE tenant (no INTEGER PRIMARY KEY NOT NULL, name TEXT NOT NULL UNIQUE, digest \
@@ -48,13 +36,8 @@ pub fn make_tenant<S: Alter>(conn: &mut Connection<S>) -> Result<(), Unavailable
 
 /// Makes the table of the clocks.
 pub fn make_clock<S: Alter>(conn: &mut Connection<S>) -> Result<(), Unavailable>
-    requires { HasCleanDisk (state S.Store conn.old) → IsMaking after_tenant
-        (state S.Store conn.old) }
-    ensures ok { HasCleanDisk (state S.Store conn.new) → OnOk result
-        (Makes after_tenant clock_table (state S.Store conn.old) (state S.Store conn.new)) }
-    ensures err { HasCleanDisk (state S.Store conn.new) → OnErr result
-        (IsKeptOrUndone (state S.Store conn.old) (state S.Store conn.new)) }
-    ensures follows { Follows (state S.Store conn.old) (state S.Store conn.new) }
+    requires { IfClean (IsMaking after_tenant) S.Store conn.old }
+    ensures { Writes (Makes after_tenant clock_table) S.Store conn.old conn.new result }
 {
     done(conn.execute(
         "CREATE TABLE clock (tenant INTEGER PRIMARY KEY NOT NULL REFERENCES tenant (no), clock \
@@ -65,13 +48,8 @@ pub fn make_clock<S: Alter>(conn: &mut Connection<S>) -> Result<(), Unavailable>
 
 /// Makes the table of accounts.
 pub fn make_account<S: Alter>(conn: &mut Connection<S>) -> Result<(), Unavailable>
-    requires { HasCleanDisk (state S.Store conn.old) → IsMaking after_clock
-        (state S.Store conn.old) }
-    ensures ok { HasCleanDisk (state S.Store conn.new) → OnOk result
-        (Makes after_clock account_table (state S.Store conn.old) (state S.Store conn.new)) }
-    ensures err { HasCleanDisk (state S.Store conn.new) → OnErr result
-        (IsKeptOrUndone (state S.Store conn.old) (state S.Store conn.new)) }
-    ensures follows { Follows (state S.Store conn.old) (state S.Store conn.new) }
+    requires { IfClean (IsMaking after_clock) S.Store conn.old }
+    ensures { Writes (Makes after_clock account_table) S.Store conn.old conn.new result }
 {
     done(conn.execute(
         "CREATE TABLE account (tenant INTEGER NOT NULL REFERENCES tenant (no), id BLOB NOT NULL \
@@ -86,13 +64,8 @@ pub fn make_account<S: Alter>(conn: &mut Connection<S>) -> Result<(), Unavailabl
 
 /// Makes the table of transfers.
 pub fn make_transfer<S: Alter>(conn: &mut Connection<S>) -> Result<(), Unavailable>
-    requires { HasCleanDisk (state S.Store conn.old) → IsMaking after_account
-        (state S.Store conn.old) }
-    ensures ok { HasCleanDisk (state S.Store conn.new) → OnOk result
-        (Makes after_account transfer_table (state S.Store conn.old) (state S.Store conn.new)) }
-    ensures err { HasCleanDisk (state S.Store conn.new) → OnErr result
-        (IsKeptOrUndone (state S.Store conn.old) (state S.Store conn.new)) }
-    ensures follows { Follows (state S.Store conn.old) (state S.Store conn.new) }
+    requires { IfClean (IsMaking after_account) S.Store conn.old }
+    ensures { Writes (Makes after_account transfer_table) S.Store conn.old conn.new result }
 {
     done(conn.execute(
         "CREATE TABLE transfer (tenant INTEGER NOT NULL REFERENCES tenant (no), id BLOB NOT NULL \
@@ -110,13 +83,8 @@ pub fn make_transfer<S: Alter>(conn: &mut Connection<S>) -> Result<(), Unavailab
 
 /// Makes the table of balances.
 pub fn make_balance<S: Alter>(conn: &mut Connection<S>) -> Result<(), Unavailable>
-    requires { HasCleanDisk (state S.Store conn.old) → IsMaking list_schema
-        (state S.Store conn.old) }
-    ensures ok { HasCleanDisk (state S.Store conn.new) → OnOk result
-        (Makes list_schema balance_table (state S.Store conn.old) (state S.Store conn.new)) }
-    ensures err { HasCleanDisk (state S.Store conn.new) → OnErr result
-        (IsKeptOrUndone (state S.Store conn.old) (state S.Store conn.new)) }
-    ensures follows { Follows (state S.Store conn.old) (state S.Store conn.new) }
+    requires { IfClean (IsMaking list_schema) S.Store conn.old }
+    ensures { Writes (Makes list_schema balance_table) S.Store conn.old conn.new result }
 {
     done(conn.execute(
         "CREATE TABLE balance (tenant INTEGER NOT NULL REFERENCES tenant (no), account BLOB NOT \
@@ -129,13 +97,8 @@ pub fn make_balance<S: Alter>(conn: &mut Connection<S>) -> Result<(), Unavailabl
 
 /// Makes the table of the states of pending transfers.
 pub fn make_status<S: Alter>(conn: &mut Connection<S>) -> Result<(), Unavailable>
-    requires { HasCleanDisk (state S.Store conn.old) → IsMaking after_balance
-        (state S.Store conn.old) }
-    ensures ok { HasCleanDisk (state S.Store conn.new) → OnOk result
-        (Makes after_balance status_table (state S.Store conn.old) (state S.Store conn.new)) }
-    ensures err { HasCleanDisk (state S.Store conn.new) → OnErr result
-        (IsKeptOrUndone (state S.Store conn.old) (state S.Store conn.new)) }
-    ensures follows { Follows (state S.Store conn.old) (state S.Store conn.new) }
+    requires { IfClean (IsMaking after_balance) S.Store conn.old }
+    ensures { Writes (Makes after_balance status_table) S.Store conn.old conn.new result }
 {
     done(conn.execute(
         "CREATE TABLE status (tenant INTEGER NOT NULL REFERENCES tenant (no), transfer BLOB NOT \
@@ -147,13 +110,8 @@ pub fn make_status<S: Alter>(conn: &mut Connection<S>) -> Result<(), Unavailable
 
 /// Makes the table of the balances after each transfer.
 pub fn make_history<S: Alter>(conn: &mut Connection<S>) -> Result<(), Unavailable>
-    requires { HasCleanDisk (state S.Store conn.old) → IsMaking after_status
-        (state S.Store conn.old) }
-    ensures ok { HasCleanDisk (state S.Store conn.new) → OnOk result
-        (Makes after_status history_table (state S.Store conn.old) (state S.Store conn.new)) }
-    ensures err { HasCleanDisk (state S.Store conn.new) → OnErr result
-        (IsKeptOrUndone (state S.Store conn.old) (state S.Store conn.new)) }
-    ensures follows { Follows (state S.Store conn.old) (state S.Store conn.new) }
+    requires { IfClean (IsMaking after_status) S.Store conn.old }
+    ensures { Writes (Makes after_status history_table) S.Store conn.old conn.new result }
 {
     done(conn.execute(
         "CREATE TABLE history (tenant INTEGER NOT NULL REFERENCES tenant (no), account BLOB NOT \
@@ -167,13 +125,8 @@ pub fn make_history<S: Alter>(conn: &mut Connection<S>) -> Result<(), Unavailabl
 
 /// Makes the table of the ids of failed transfers.
 pub fn make_failed<S: Alter>(conn: &mut Connection<S>) -> Result<(), Unavailable>
-    requires { HasCleanDisk (state S.Store conn.old) → IsMaking balance_schema
-        (state S.Store conn.old) }
-    ensures ok { HasCleanDisk (state S.Store conn.new) → OnOk result
-        (Makes balance_schema failed_table (state S.Store conn.old) (state S.Store conn.new)) }
-    ensures err { HasCleanDisk (state S.Store conn.new) → OnErr result
-        (IsKeptOrUndone (state S.Store conn.old) (state S.Store conn.new)) }
-    ensures follows { Follows (state S.Store conn.old) (state S.Store conn.new) }
+    requires { IfClean (IsMaking balance_schema) S.Store conn.old }
+    ensures { Writes (Makes balance_schema failed_table) S.Store conn.old conn.new result }
 {
     done(conn.execute(
         "CREATE TABLE failed (tenant INTEGER NOT NULL REFERENCES tenant (no), id BLOB NOT NULL \
@@ -184,12 +137,9 @@ pub fn make_failed<S: Alter>(conn: &mut Connection<S>) -> Result<(), Unavailable
 
 /// Makes the tables of the list schema.
 fn make_list_tables<S: Alter>(conn: &mut Connection<S>) -> Result<(), Unavailable>
-    requires { HasCleanDisk (state S.Store conn.old) → IsMaking no_schema
-        (state S.Store conn.old) }
-    ensures ok { HasCleanDisk (state S.Store conn.new) → OnOk result
-        (MakesTables no_schema list_schema list_schema.tables (state S.Store conn.old)
-        (state S.Store conn.new)) }
-    ensures follows { Follows (state S.Store conn.old) (state S.Store conn.new) }
+    requires { IfClean (IsMaking no_schema) S.Store conn.old }
+    ensures { Changes (MakesTables no_schema list_schema list_schema.tables)
+        S.Store conn.old conn.new result }
 {
     make_schema(conn)?;
     make_tenant(conn)?;
@@ -200,12 +150,9 @@ fn make_list_tables<S: Alter>(conn: &mut Connection<S>) -> Result<(), Unavailabl
 
 /// Makes the tables that the balance schema has more than the list schema.
 pub fn make_balance_tables<S: Alter>(conn: &mut Connection<S>) -> Result<(), Unavailable>
-    requires { HasCleanDisk (state S.Store conn.old) → IsMaking list_schema
-        (state S.Store conn.old) }
-    ensures ok { HasCleanDisk (state S.Store conn.new) → OnOk result
-        (MakesTables list_schema balance_schema (drop 5 balance_schema.tables)
-        (state S.Store conn.old) (state S.Store conn.new)) }
-    ensures follows { Follows (state S.Store conn.old) (state S.Store conn.new) }
+    requires { IfClean (IsMaking list_schema) S.Store conn.old }
+    ensures { Changes (MakesTables list_schema balance_schema (drop 5 balance_schema.tables))
+        S.Store conn.old conn.new result }
 {
     make_balance(conn)?;
     make_status(conn)?;
@@ -215,11 +162,8 @@ pub fn make_balance_tables<S: Alter>(conn: &mut Connection<S>) -> Result<(), Una
 /// Makes all tables of the current schema and writes its version: the whole empty ledger, to be
 /// committed. Where it is refused, what was made so far stands in the transaction, to be undone.
 pub fn make_tables<S: Alter>(conn: &mut Connection<S>) -> Result<(), Unavailable>
-    requires { HasCleanDisk (state S.Store conn.old) → IsMaking no_schema
-        (state S.Store conn.old) }
-    ensures ok { HasCleanDisk (state S.Store conn.new) → OnOk result
-        (MakesLedger (state S.Store conn.old) (state S.Store conn.new)) }
-    ensures follows { Follows (state S.Store conn.old) (state S.Store conn.new) }
+    requires { IfClean (IsMaking no_schema) S.Store conn.old }
+    ensures { Changes MakesLedger S.Store conn.old conn.new result }
 {
     make_list_tables(conn)?;
     make_balance_tables(conn)?;

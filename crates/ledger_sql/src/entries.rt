@@ -1,27 +1,24 @@
-//! An account's entries from a time on, oldest first, and up to a time, newest first: whole, or one
+//! An account's entries from a time on, oldest first, and up to a time, newest first: handed out one
 //! after the other.
 
-ghost use Rattle.std.specs.Prelude.{◌≡◌, false, IfOk, OnOk};
+ghost use Rattle.std.specs.Prelude.{◌≡◌, false};
 ghost use Rattle.sqlite.specs.Values.{bound};
-ghost use Rattle.sqlite.specs.State.{HasCleanDisk, IsUnchanged};
+ghost use Rattle.sqlite.specs.State.{HasCleanDisk};
 ghost use Rattle.sqlite.specs.Held.{state};
 ghost use Rattle.amount.specs.Column.{column_of};
+ghost use Rattle.ledger_sql.specs.Calls.{IfClean, Reads};
 ghost use Rattle.ledger_sql.specs.Effects.{IsLedger};
-ghost use Rattle.ledger_sql.specs.Entries.{entries_when, AreOldestFirst, AreNewestFirst, ReadsEntries, HandsEntries, HandsUpTo};
-ghost use Rattle.ledger_sql.specs.Frames.{IsKeptOrUndone, Follows};
+ghost use Rattle.ledger_sql.specs.Entries.{entries_when, AreOldestFirst, AreNewestFirst, HandsEntries, HandsUpTo};
 ghost use Rattle.ledger_sql.specs.Handing.{HandsRows};
 ghost use Rattle.ledger_sql.specs.Queries.{IsReading};
 ghost use Rattle.ledger_sql.specs.TableRows.{is_from, is_until};
 
-use crate::entry_cells::EntryCells;
 use crate::entry_sink::EntrySink;
-use crate::query::all_rows;
 use crate::read::read_row;
 use crate::table_fault::{TableFault, known};
 use records::Unavailable;
 use sqlite::types::ValueRef;
 use sqlite::{Alter, Connection, params};
-use std::alloc::Global;
 
 /// The history of an account from a time on, with the transfers of these times, oldest first.
 const FROM: &str =
@@ -63,29 +60,6 @@ const FIRST_UNTIL: &str =
         history.timestamp WHERE history.tenant = ?1 AND history.account = ?2 AND \
         history.timestamp <= ?3 ORDER BY history.timestamp DESC LIMIT ?4";
 
-/// The entries of a tenant's account from a time on, in nanoseconds, oldest first.
-pub fn entries_from<S: Alter>(
-    alloc: Global,
-    conn: &mut Connection<S>,
-    tenant: i64,
-    account: u128,
-    time: i64,
-) -> Result<Vec<EntryCells>, Unavailable>
-    requires { HasCleanDisk (state S.Store conn.old) → IsLedger
-        (state S.Store conn.old).now.schema }
-    ensures ok { HasCleanDisk (state S.Store conn.new) → IfOk result (λ read. ReadsEntries
-        (entries_when tenant (column_of account) (is_from time) (state S.Store conn.old).now.trees)
-        AreOldestFirst read.items) }
-    ensures same { HasCleanDisk (state S.Store conn.new) → OnOk result
-        (IsUnchanged (state S.Store conn.old) (state S.Store conn.new)) }
-    ensures kept { HasCleanDisk (state S.Store conn.new) → IsKeptOrUndone
-        (state S.Store conn.old) (state S.Store conn.new) }
-    ensures follows { Follows (state S.Store conn.old) (state S.Store conn.new) }
-{
-    let key = account.to_be_bytes();
-    known(all_rows(alloc, conn, FROM, params![tenant, key.as_slice(), time]))
-}
-
 /// Hands the entries of a tenant's account from a time on, in nanoseconds, oldest first, to a sink
 /// until it is full. After an `Err` it has taken the first of them.
 pub fn each_entry_from<S: Alter, K: EntrySink>(
@@ -95,43 +69,15 @@ pub fn each_entry_from<S: Alter, K: EntrySink>(
     time: i64,
     sink: &mut K,
 ) -> Result<(), Unavailable>
-    requires ledger { HasCleanDisk (state S.Store conn.old) → IsLedger
-        (state S.Store conn.old).now.schema }
+    requires ledger { IfClean (λ s. IsLedger s.now.schema) S.Store conn.old }
     requires open { K.is_full sink.old ≡ false }
     ensures handed { HandsEntries K.takes K.is_full (HasCleanDisk (state S.Store conn.new))
         (entries_when tenant (column_of account) (is_from time) (state S.Store conn.old).now.trees)
         AreOldestFirst sink.old sink.new result }
-    ensures same { HasCleanDisk (state S.Store conn.new) → OnOk result
-        (IsUnchanged (state S.Store conn.old) (state S.Store conn.new)) }
-    ensures kept { HasCleanDisk (state S.Store conn.new) → IsKeptOrUndone
-        (state S.Store conn.old) (state S.Store conn.new) }
-    ensures follows { Follows (state S.Store conn.old) (state S.Store conn.new) }
+    ensures reads { Reads S.Store conn.old conn.new result }
 {
     let key = account.to_be_bytes();
     known(hand_out(conn, FROM, params![tenant, key.as_slice(), time], sink))
-}
-
-/// The entries of a tenant's account up to a time, in nanoseconds, newest first.
-pub fn entries_until<S: Alter>(
-    alloc: Global,
-    conn: &mut Connection<S>,
-    tenant: i64,
-    account: u128,
-    time: i64,
-) -> Result<Vec<EntryCells>, Unavailable>
-    requires { HasCleanDisk (state S.Store conn.old) → IsLedger
-        (state S.Store conn.old).now.schema }
-    ensures ok { HasCleanDisk (state S.Store conn.new) → IfOk result (λ read. ReadsEntries
-        (entries_when tenant (column_of account) (is_until time) (state S.Store conn.old).now.trees)
-        AreNewestFirst read.items) }
-    ensures same { HasCleanDisk (state S.Store conn.new) → OnOk result
-        (IsUnchanged (state S.Store conn.old) (state S.Store conn.new)) }
-    ensures kept { HasCleanDisk (state S.Store conn.new) → IsKeptOrUndone
-        (state S.Store conn.old) (state S.Store conn.new) }
-    ensures follows { Follows (state S.Store conn.old) (state S.Store conn.new) }
-{
-    let key = account.to_be_bytes();
-    known(all_rows(alloc, conn, UNTIL, params![tenant, key.as_slice(), time]))
 }
 
 /// Hands the entries of a tenant's account up to a time, in nanoseconds, newest first, to a sink
@@ -143,17 +89,12 @@ pub fn each_entry_until<S: Alter, K: EntrySink>(
     time: i64,
     sink: &mut K,
 ) -> Result<(), Unavailable>
-    requires ledger { HasCleanDisk (state S.Store conn.old) → IsLedger
-        (state S.Store conn.old).now.schema }
+    requires ledger { IfClean (λ s. IsLedger s.now.schema) S.Store conn.old }
     requires open { K.is_full sink.old ≡ false }
     ensures handed { HandsEntries K.takes K.is_full (HasCleanDisk (state S.Store conn.new))
         (entries_when tenant (column_of account) (is_until time) (state S.Store conn.old).now.trees)
         AreNewestFirst sink.old sink.new result }
-    ensures same { HasCleanDisk (state S.Store conn.new) → OnOk result
-        (IsUnchanged (state S.Store conn.old) (state S.Store conn.new)) }
-    ensures kept { HasCleanDisk (state S.Store conn.new) → IsKeptOrUndone
-        (state S.Store conn.old) (state S.Store conn.new) }
-    ensures follows { Follows (state S.Store conn.old) (state S.Store conn.new) }
+    ensures reads { Reads S.Store conn.old conn.new result }
 {
     let key = account.to_be_bytes();
     known(hand_out(conn, UNTIL, params![tenant, key.as_slice(), time], sink))
@@ -169,17 +110,12 @@ pub fn first_entries_from<S: Alter, K: EntrySink>(
     count: u32,
     sink: &mut K,
 ) -> Result<(), Unavailable>
-    requires ledger { HasCleanDisk (state S.Store conn.old) → IsLedger
-        (state S.Store conn.old).now.schema }
+    requires ledger { IfClean (λ s. IsLedger s.now.schema) S.Store conn.old }
     requires open { K.is_full sink.old ≡ false }
     ensures handed { HandsUpTo K.takes K.is_full (HasCleanDisk (state S.Store conn.new)) count
         (entries_when tenant (column_of account) (is_from time) (state S.Store conn.old).now.trees)
         AreOldestFirst sink.old sink.new result }
-    ensures same { HasCleanDisk (state S.Store conn.new) → OnOk result
-        (IsUnchanged (state S.Store conn.old) (state S.Store conn.new)) }
-    ensures kept { HasCleanDisk (state S.Store conn.new) → IsKeptOrUndone
-        (state S.Store conn.old) (state S.Store conn.new) }
-    ensures follows { Follows (state S.Store conn.old) (state S.Store conn.new) }
+    ensures reads { Reads S.Store conn.old conn.new result }
 {
     let key = account.to_be_bytes();
     known(hand_out(
@@ -200,17 +136,12 @@ pub fn first_entries_until<S: Alter, K: EntrySink>(
     count: u32,
     sink: &mut K,
 ) -> Result<(), Unavailable>
-    requires ledger { HasCleanDisk (state S.Store conn.old) → IsLedger
-        (state S.Store conn.old).now.schema }
+    requires ledger { IfClean (λ s. IsLedger s.now.schema) S.Store conn.old }
     requires open { K.is_full sink.old ≡ false }
     ensures handed { HandsUpTo K.takes K.is_full (HasCleanDisk (state S.Store conn.new)) count
         (entries_when tenant (column_of account) (is_until time) (state S.Store conn.old).now.trees)
         AreNewestFirst sink.old sink.new result }
-    ensures same { HasCleanDisk (state S.Store conn.new) → OnOk result
-        (IsUnchanged (state S.Store conn.old) (state S.Store conn.new)) }
-    ensures kept { HasCleanDisk (state S.Store conn.new) → IsKeptOrUndone
-        (state S.Store conn.old) (state S.Store conn.new) }
-    ensures follows { Follows (state S.Store conn.old) (state S.Store conn.new) }
+    ensures reads { Reads S.Store conn.old conn.new result }
 {
     let key = account.to_be_bytes();
     known(hand_out(
@@ -232,11 +163,7 @@ fn hand_out<S: Alter, K: EntrySink>(
     requires open { K.is_full sink.old ≡ false }
     ensures handed { HandsRows K.takes K.is_full text.now (bound params.now)
         (state S.Store conn.old) (state S.Store conn.new) sink.old sink.new result }
-    ensures same { HasCleanDisk (state S.Store conn.new) → OnOk result
-        (IsUnchanged (state S.Store conn.old) (state S.Store conn.new)) }
-    ensures kept { HasCleanDisk (state S.Store conn.new) → IsKeptOrUndone
-        (state S.Store conn.old) (state S.Store conn.new) }
-    ensures follows { Follows (state S.Store conn.old) (state S.Store conn.new) }
+    ensures reads { Reads S.Store conn.old conn.new result }
 {
     let mut rows = conn.query(text, params)?;
     'rows: for _ in 0..u64::MAX {

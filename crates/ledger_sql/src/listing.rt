@@ -1,12 +1,7 @@
-//! Tables read whole, in order of tenant and key, whatever version the file has. A table that the
-//! file lacks is told as missing, unless the store fails.
+//! Tables read whole, in order of tenant and key, whatever version the file has.
 
-ghost use Rattle.std.specs.Prelude.{◌≡◌, ◌≢◌, ◌⊎◌, Err, map, codes, string_bytes, IfOk, OnOk, IsPermutation};
-ghost use Rattle.sqlite.specs.State.{HasCleanDisk, IsUnchanged, IsRolledBack};
-ghost use Rattle.sqlite.specs.Held.{state};
-ghost use Rattle.ledger_sql.specs.Effects.{StartsAs};
-ghost use Rattle.ledger_sql.specs.Frames.{IsKeptOrUndone, Follows};
-ghost use Rattle.ledger_sql.specs.Queries.{LacksTable};
+ghost use Rattle.std.specs.Prelude.{map, string_bytes, IsPermutation};
+ghost use Rattle.ledger_sql.specs.Calls.{Lists};
 ghost use Rattle.ledger_sql.specs.Reading.{clock_cmp, account_cmp, transfer_cmp, balance_cmp, status_cmp, history_cmp, id_cmp, directory_cmp, ReadsTable, ReadsRows};
 ghost use Rattle.ledger_sql.specs.Schema.{after_schema, after_tenant, list_schema, balance_schema, ledger_schema, clock_tree, account_tree, transfer_tree, balance_tree, status_tree, history_tree, failed_tree};
 ghost use Rattle.ledger_sql.specs.TableRows.{version_rows, whole_table, directory_rows, clock_rows, account_rows, transfer_rows, balance_rows, status_rows, history_rows, failed_rows};
@@ -24,22 +19,8 @@ pub fn list_versions<S: Alter>(
     alloc: Global,
     conn: &mut Connection<S>,
 ) -> Result<Vec<i64>, TableFault>
-    ensures whole { HasCleanDisk (state S.Store conn.new) →
-        StartsAs after_schema.tables (state S.Store conn.old).now.schema → IfOk result (λ read.
-        IsPermutation (version_rows (state S.Store conn.old).now.trees)
-        (map version_values read.items)) }
-    ensures found { HasCleanDisk (state S.Store conn.new) →
-        StartsAs after_schema.tables (state S.Store conn.old).now.schema →
-        result ≢ Err TableFault.Missing }
-    ensures lacking { HasCleanDisk (state S.Store conn.new) →
-        LacksTable (codes "schema") (state S.Store conn.old).now.schema →
-        (result ≡ Err TableFault.Missing) ⊎
-        IsRolledBack (state S.Store conn.old) (state S.Store conn.new) }
-    ensures same { HasCleanDisk (state S.Store conn.new) → OnOk result
-        (IsUnchanged (state S.Store conn.old) (state S.Store conn.new)) }
-    ensures kept { HasCleanDisk (state S.Store conn.new) → IsKeptOrUndone
-        (state S.Store conn.old) (state S.Store conn.new) }
-    ensures follows { Follows (state S.Store conn.old) (state S.Store conn.new) }
+    ensures { Lists after_schema (λ trees read. IsPermutation (version_rows trees)
+        (map version_values read.items)) S.Store conn.old conn.new result }
 {
     all_rows(alloc, conn, "SELECT version FROM schema", &[])
 }
@@ -49,22 +30,9 @@ pub fn directory<S: Alter>(
     alloc: Global,
     conn: &mut Connection<S>,
 ) -> Result<Vec<DirectoryRow>, TableFault>
-    ensures whole { HasCleanDisk (state S.Store conn.new) →
-        StartsAs after_tenant.tables (state S.Store conn.old).now.schema → IfOk result (λ read.
-        ReadsRows (λ row. directory_values row.number (string_bytes row.name) row.digest)
-        directory_cmp (directory_rows (state S.Store conn.old).now.trees) read.items) }
-    ensures found { HasCleanDisk (state S.Store conn.new) →
-        StartsAs after_tenant.tables (state S.Store conn.old).now.schema →
-        result ≢ Err TableFault.Missing }
-    ensures lacking { HasCleanDisk (state S.Store conn.new) →
-        LacksTable (codes "tenant") (state S.Store conn.old).now.schema →
-        (result ≡ Err TableFault.Missing) ⊎
-        IsRolledBack (state S.Store conn.old) (state S.Store conn.new) }
-    ensures same { HasCleanDisk (state S.Store conn.new) → OnOk result
-        (IsUnchanged (state S.Store conn.old) (state S.Store conn.new)) }
-    ensures kept { HasCleanDisk (state S.Store conn.new) → IsKeptOrUndone
-        (state S.Store conn.old) (state S.Store conn.new) }
-    ensures follows { Follows (state S.Store conn.old) (state S.Store conn.new) }
+    ensures { Lists after_tenant (λ trees read. ReadsRows
+        (λ row. directory_values row.number (string_bytes row.name) row.digest) directory_cmp
+        (directory_rows trees) read.items) S.Store conn.old conn.new result }
 {
     all_rows(
         alloc,
@@ -79,23 +47,9 @@ pub fn list_clocks<S: Alter>(
     alloc: Global,
     conn: &mut Connection<S>,
 ) -> Result<Vec<Owned<i64>>, TableFault>
-    ensures whole { HasCleanDisk (state S.Store conn.new) →
-        StartsAs list_schema.tables (state S.Store conn.old).now.schema → IfOk result (λ read.
-        ReadsTable clock_values clock_cmp
-        (whole_table clock_tree 0 1 (state S.Store conn.old).now.trees)
-        (λ tenant. clock_rows tenant (state S.Store conn.old).now.trees) read.items) }
-    ensures found { HasCleanDisk (state S.Store conn.new) →
-        StartsAs list_schema.tables (state S.Store conn.old).now.schema →
-        result ≢ Err TableFault.Missing }
-    ensures lacking { HasCleanDisk (state S.Store conn.new) →
-        LacksTable (codes "clock") (state S.Store conn.old).now.schema →
-        (result ≡ Err TableFault.Missing) ⊎
-        IsRolledBack (state S.Store conn.old) (state S.Store conn.new) }
-    ensures same { HasCleanDisk (state S.Store conn.new) → OnOk result
-        (IsUnchanged (state S.Store conn.old) (state S.Store conn.new)) }
-    ensures kept { HasCleanDisk (state S.Store conn.new) → IsKeptOrUndone
-        (state S.Store conn.old) (state S.Store conn.new) }
-    ensures follows { Follows (state S.Store conn.old) (state S.Store conn.new) }
+    ensures { Lists list_schema (λ trees read. ReadsTable clock_values clock_cmp
+        (whole_table clock_tree 0 1 trees) (λ tenant. clock_rows tenant trees) read.items)
+        S.Store conn.old conn.new result }
 {
     all_rows(
         alloc,
@@ -110,23 +64,9 @@ pub fn list_accounts<S: Alter>(
     alloc: Global,
     conn: &mut Connection<S>,
 ) -> Result<Vec<Owned<AccountCells>>, TableFault>
-    ensures whole { HasCleanDisk (state S.Store conn.new) →
-        StartsAs list_schema.tables (state S.Store conn.old).now.schema → IfOk result (λ read.
-        ReadsTable account_values account_cmp
-        (whole_table account_tree 1 8 (state S.Store conn.old).now.trees)
-        (λ tenant. account_rows tenant (state S.Store conn.old).now.trees) read.items) }
-    ensures found { HasCleanDisk (state S.Store conn.new) →
-        StartsAs list_schema.tables (state S.Store conn.old).now.schema →
-        result ≢ Err TableFault.Missing }
-    ensures lacking { HasCleanDisk (state S.Store conn.new) →
-        LacksTable (codes "account") (state S.Store conn.old).now.schema →
-        (result ≡ Err TableFault.Missing) ⊎
-        IsRolledBack (state S.Store conn.old) (state S.Store conn.new) }
-    ensures same { HasCleanDisk (state S.Store conn.new) → OnOk result
-        (IsUnchanged (state S.Store conn.old) (state S.Store conn.new)) }
-    ensures kept { HasCleanDisk (state S.Store conn.new) → IsKeptOrUndone
-        (state S.Store conn.old) (state S.Store conn.new) }
-    ensures follows { Follows (state S.Store conn.old) (state S.Store conn.new) }
+    ensures { Lists list_schema (λ trees read. ReadsTable account_values account_cmp
+        (whole_table account_tree 1 8 trees) (λ tenant. account_rows tenant trees) read.items)
+        S.Store conn.old conn.new result }
 {
     all_rows(
         alloc,
@@ -142,23 +82,9 @@ pub fn list_transfers<S: Alter>(
     alloc: Global,
     conn: &mut Connection<S>,
 ) -> Result<Vec<Owned<TransferCells>>, TableFault>
-    ensures whole { HasCleanDisk (state S.Store conn.new) →
-        StartsAs list_schema.tables (state S.Store conn.old).now.schema → IfOk result (λ read.
-        ReadsTable transfer_values transfer_cmp
-        (whole_table transfer_tree 1 14 (state S.Store conn.old).now.trees)
-        (λ tenant. transfer_rows tenant (state S.Store conn.old).now.trees) read.items) }
-    ensures found { HasCleanDisk (state S.Store conn.new) →
-        StartsAs list_schema.tables (state S.Store conn.old).now.schema →
-        result ≢ Err TableFault.Missing }
-    ensures lacking { HasCleanDisk (state S.Store conn.new) →
-        LacksTable (codes "transfer") (state S.Store conn.old).now.schema →
-        (result ≡ Err TableFault.Missing) ⊎
-        IsRolledBack (state S.Store conn.old) (state S.Store conn.new) }
-    ensures same { HasCleanDisk (state S.Store conn.new) → OnOk result
-        (IsUnchanged (state S.Store conn.old) (state S.Store conn.new)) }
-    ensures kept { HasCleanDisk (state S.Store conn.new) → IsKeptOrUndone
-        (state S.Store conn.old) (state S.Store conn.new) }
-    ensures follows { Follows (state S.Store conn.old) (state S.Store conn.new) }
+    ensures { Lists list_schema (λ trees read. ReadsTable transfer_values transfer_cmp
+        (whole_table transfer_tree 1 14 trees) (λ tenant. transfer_rows tenant trees) read.items)
+        S.Store conn.old conn.new result }
 {
     all_rows(
         alloc,
@@ -175,23 +101,9 @@ pub fn list_balances<S: Alter>(
     alloc: Global,
     conn: &mut Connection<S>,
 ) -> Result<Vec<Owned<BalanceCells>>, TableFault>
-    ensures whole { HasCleanDisk (state S.Store conn.new) →
-        StartsAs balance_schema.tables (state S.Store conn.old).now.schema → IfOk result (λ read.
-        ReadsTable balance_values balance_cmp
-        (whole_table balance_tree 1 5 (state S.Store conn.old).now.trees)
-        (λ tenant. balance_rows tenant (state S.Store conn.old).now.trees) read.items) }
-    ensures found { HasCleanDisk (state S.Store conn.new) →
-        StartsAs balance_schema.tables (state S.Store conn.old).now.schema →
-        result ≢ Err TableFault.Missing }
-    ensures lacking { HasCleanDisk (state S.Store conn.new) →
-        LacksTable (codes "balance") (state S.Store conn.old).now.schema →
-        (result ≡ Err TableFault.Missing) ⊎
-        IsRolledBack (state S.Store conn.old) (state S.Store conn.new) }
-    ensures same { HasCleanDisk (state S.Store conn.new) → OnOk result
-        (IsUnchanged (state S.Store conn.old) (state S.Store conn.new)) }
-    ensures kept { HasCleanDisk (state S.Store conn.new) → IsKeptOrUndone
-        (state S.Store conn.old) (state S.Store conn.new) }
-    ensures follows { Follows (state S.Store conn.old) (state S.Store conn.new) }
+    ensures { Lists balance_schema (λ trees read. ReadsTable balance_values balance_cmp
+        (whole_table balance_tree 1 5 trees) (λ tenant. balance_rows tenant trees) read.items)
+        S.Store conn.old conn.new result }
 {
     all_rows(
         alloc,
@@ -206,23 +118,9 @@ pub fn list_statuses<S: Alter>(
     alloc: Global,
     conn: &mut Connection<S>,
 ) -> Result<Vec<Owned<StatusCells>>, TableFault>
-    ensures whole { HasCleanDisk (state S.Store conn.new) →
-        StartsAs balance_schema.tables (state S.Store conn.old).now.schema → IfOk result (λ read.
-        ReadsTable status_values status_cmp
-        (whole_table status_tree 1 3 (state S.Store conn.old).now.trees)
-        (λ tenant. status_rows tenant (state S.Store conn.old).now.trees) read.items) }
-    ensures found { HasCleanDisk (state S.Store conn.new) →
-        StartsAs balance_schema.tables (state S.Store conn.old).now.schema →
-        result ≢ Err TableFault.Missing }
-    ensures lacking { HasCleanDisk (state S.Store conn.new) →
-        LacksTable (codes "status") (state S.Store conn.old).now.schema →
-        (result ≡ Err TableFault.Missing) ⊎
-        IsRolledBack (state S.Store conn.old) (state S.Store conn.new) }
-    ensures same { HasCleanDisk (state S.Store conn.new) → OnOk result
-        (IsUnchanged (state S.Store conn.old) (state S.Store conn.new)) }
-    ensures kept { HasCleanDisk (state S.Store conn.new) → IsKeptOrUndone
-        (state S.Store conn.old) (state S.Store conn.new) }
-    ensures follows { Follows (state S.Store conn.old) (state S.Store conn.new) }
+    ensures { Lists balance_schema (λ trees read. ReadsTable status_values status_cmp
+        (whole_table status_tree 1 3 trees) (λ tenant. status_rows tenant trees) read.items)
+        S.Store conn.old conn.new result }
 {
     all_rows(
         alloc,
@@ -237,23 +135,9 @@ pub fn list_history<S: Alter>(
     alloc: Global,
     conn: &mut Connection<S>,
 ) -> Result<Vec<Owned<HistoryCells>>, TableFault>
-    ensures whole { HasCleanDisk (state S.Store conn.new) →
-        StartsAs balance_schema.tables (state S.Store conn.old).now.schema → IfOk result (λ read.
-        ReadsTable history_values history_cmp
-        (whole_table history_tree 1 6 (state S.Store conn.old).now.trees)
-        (λ tenant. history_rows tenant (state S.Store conn.old).now.trees) read.items) }
-    ensures found { HasCleanDisk (state S.Store conn.new) →
-        StartsAs balance_schema.tables (state S.Store conn.old).now.schema →
-        result ≢ Err TableFault.Missing }
-    ensures lacking { HasCleanDisk (state S.Store conn.new) →
-        LacksTable (codes "history") (state S.Store conn.old).now.schema →
-        (result ≡ Err TableFault.Missing) ⊎
-        IsRolledBack (state S.Store conn.old) (state S.Store conn.new) }
-    ensures same { HasCleanDisk (state S.Store conn.new) → OnOk result
-        (IsUnchanged (state S.Store conn.old) (state S.Store conn.new)) }
-    ensures kept { HasCleanDisk (state S.Store conn.new) → IsKeptOrUndone
-        (state S.Store conn.old) (state S.Store conn.new) }
-    ensures follows { Follows (state S.Store conn.old) (state S.Store conn.new) }
+    ensures { Lists balance_schema (λ trees read. ReadsTable history_values history_cmp
+        (whole_table history_tree 1 6 trees) (λ tenant. history_rows tenant trees) read.items)
+        S.Store conn.old conn.new result }
 {
     all_rows(
         alloc,
@@ -269,23 +153,9 @@ pub fn list_failed<S: Alter>(
     alloc: Global,
     conn: &mut Connection<S>,
 ) -> Result<Vec<Owned<[u8; 16]>>, TableFault>
-    ensures whole { HasCleanDisk (state S.Store conn.new) →
-        StartsAs ledger_schema.tables (state S.Store conn.old).now.schema → IfOk result (λ read.
-        ReadsTable id_values id_cmp
-        (whole_table failed_tree 1 1 (state S.Store conn.old).now.trees)
-        (λ tenant. failed_rows tenant (state S.Store conn.old).now.trees) read.items) }
-    ensures found { HasCleanDisk (state S.Store conn.new) →
-        StartsAs ledger_schema.tables (state S.Store conn.old).now.schema →
-        result ≢ Err TableFault.Missing }
-    ensures lacking { HasCleanDisk (state S.Store conn.new) →
-        LacksTable (codes "failed") (state S.Store conn.old).now.schema →
-        (result ≡ Err TableFault.Missing) ⊎
-        IsRolledBack (state S.Store conn.old) (state S.Store conn.new) }
-    ensures same { HasCleanDisk (state S.Store conn.new) → OnOk result
-        (IsUnchanged (state S.Store conn.old) (state S.Store conn.new)) }
-    ensures kept { HasCleanDisk (state S.Store conn.new) → IsKeptOrUndone
-        (state S.Store conn.old) (state S.Store conn.new) }
-    ensures follows { Follows (state S.Store conn.old) (state S.Store conn.new) }
+    ensures { Lists ledger_schema (λ trees read. ReadsTable id_values id_cmp
+        (whole_table failed_tree 1 1 trees) (λ tenant. failed_rows tenant trees) read.items)
+        S.Store conn.old conn.new result }
 {
     all_rows(
         alloc,

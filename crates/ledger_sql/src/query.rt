@@ -1,11 +1,11 @@
 //! Queries, whatever their text is.
 
-ghost use Rattle.std.specs.Prelude.{◌≡◌, ◌⊎◌, Err, map, IfOk, OnOk};
+ghost use Rattle.std.specs.Prelude.{◌≡◌, Err, map, IfOk};
 ghost use Rattle.sqlite.specs.Values.{bound};
-ghost use Rattle.sqlite.specs.State.{HasCleanDisk, IsUnchanged, IsRolledBack, Shown};
+ghost use Rattle.sqlite.specs.State.{HasCleanDisk, Shown};
 ghost use Rattle.sqlite.specs.Held.{state};
-ghost use Rattle.ledger_sql.specs.Frames.{IsKeptOrUndone, Follows};
-ghost use Rattle.ledger_sql.specs.Queries.{IsReading, NamesNoTable, found_of, Finds};
+ghost use Rattle.ledger_sql.specs.Calls.{Reads};
+ghost use Rattle.ledger_sql.specs.Queries.{IsReading, found_of, Finds};
 
 use crate::cause::table_fault;
 use crate::read::{ReadRow, read_row};
@@ -24,17 +24,7 @@ pub(crate) fn first_row<S: Alter>(
     requires { IsReading text.now }
     ensures ok { HasCleanDisk (state S.Store conn.new) → IfOk result
         (Finds text.now (bound params.now) (state S.Store conn.old) (state S.Store conn.new)) }
-    ensures missing { HasCleanDisk (state S.Store conn.new) → result ≡ Err TableFault.Missing →
-        NamesNoTable (state S.Store conn.old).now.schema text.now }
-    ensures lacking { HasCleanDisk (state S.Store conn.new) →
-        NamesNoTable (state S.Store conn.old).now.schema text.now →
-        (result ≡ Err TableFault.Missing) ⊎
-        IsRolledBack (state S.Store conn.old) (state S.Store conn.new) }
-    ensures same { HasCleanDisk (state S.Store conn.new) → OnOk result
-        (IsUnchanged (state S.Store conn.old) (state S.Store conn.new)) }
-    ensures kept { HasCleanDisk (state S.Store conn.new) → IsKeptOrUndone
-        (state S.Store conn.old) (state S.Store conn.new) }
-    ensures follows { Follows (state S.Store conn.old) (state S.Store conn.new) }
+    ensures reads { Reads S.Store conn.old conn.new result }
 {
     found(conn.query_row(text, params))
 }
@@ -48,19 +38,9 @@ pub(crate) fn all_rows<S: Alter, T: ReadRow>(
 ) -> Result<Vec<T>, TableFault>
     requires { IsReading text.now }
     ensures ok { HasCleanDisk (state S.Store conn.new) → IfOk result
-        (λ read. Shown text.now (bound params.now) (state S.Store conn.old)
-        (state S.Store conn.new) (map T.values read.items)) }
-    ensures missing { HasCleanDisk (state S.Store conn.new) → result ≡ Err TableFault.Missing →
-        NamesNoTable (state S.Store conn.old).now.schema text.now }
-    ensures lacking { HasCleanDisk (state S.Store conn.new) →
-        NamesNoTable (state S.Store conn.old).now.schema text.now →
-        (result ≡ Err TableFault.Missing) ⊎
-        IsRolledBack (state S.Store conn.old) (state S.Store conn.new) }
-    ensures same { HasCleanDisk (state S.Store conn.new) → OnOk result
-        (IsUnchanged (state S.Store conn.old) (state S.Store conn.new)) }
-    ensures kept { HasCleanDisk (state S.Store conn.new) → IsKeptOrUndone
-        (state S.Store conn.old) (state S.Store conn.new) }
-    ensures follows { Follows (state S.Store conn.old) (state S.Store conn.new) }
+        (λ read. Shown text.now (bound params.now) (state S.Store conn.old) (state S.Store conn.new)
+        (map T.values read.items)) }
+    ensures reads { Reads S.Store conn.old conn.new result }
 {
     let mut read = Vec::new(alloc);
     let mut rows = conn.query(text, params)?;

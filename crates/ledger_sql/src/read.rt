@@ -61,20 +61,6 @@ pub(crate) fn read_found<T: ReadRow>(
     }
 }
 
-/// The same where the table may be missing.
-pub(crate) fn read_first<T: ReadRow>(
-    found: Result<Option<Row>, TableFault>,
-) -> Result<Option<T>, TableFault>
-    ensures values { IfOk result (λ read. found ≡ Ok (option_map T.values read)) }
-    ensures missing { result ≡ Err TableFault.Missing → found ≡ Err TableFault.Missing }
-    ensures told { found ≡ Err TableFault.Missing → result ≡ Err TableFault.Missing }
-{
-    match found? {
-        Some(row) => Ok(Some(read_row(&row)?)),
-        None => Ok(None),
-    }
-}
-
 /// Whether a row was found.
 pub(crate) fn was_found(found: Result<Option<Row>, TableFault>) -> Result<bool, Unavailable>
     ensures { IfOk result

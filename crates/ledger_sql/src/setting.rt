@@ -1,13 +1,11 @@
 //! Rows that are replaced, inside a transaction. Each text sets the whole row.
 
-ghost use Rattle.std.specs.Prelude.{◌<◌, ◌^◌, pos, true, OnOk, OnErr};
+ghost use Rattle.std.specs.Prelude.{◌<◌, ◌^◌, pos, true};
 ghost use Rattle.std.specs.Option.{ForSome};
-ghost use Rattle.sqlite.specs.State.{HasCleanDisk};
-ghost use Rattle.sqlite.specs.Held.{state};
 ghost use Rattle.amount.specs.Column.{column_of};
 ghost use Rattle.rows.specs.Cells.{balance_cells, status_cells};
+ghost use Rattle.ledger_sql.specs.Calls.{IfClean, Writes};
 ghost use Rattle.ledger_sql.specs.Effects.{IsInside, SetsOne, SetsVersion};
-ghost use Rattle.ledger_sql.specs.Frames.{IsKeptOrUndone, Follows};
 ghost use Rattle.ledger_sql.specs.Schema.{clock_tree, balance_tree, status_tree, current_version};
 ghost use Rattle.ledger_sql.specs.TableRows.{clock_rows, balance_rows, status_rows, has_id};
 ghost use Rattle.ledger_sql.specs.Values.{clock_values, balance_values, status_values};
@@ -23,14 +21,9 @@ pub fn set_balance<S: Alter>(
     tenant: i64,
     row: &BalanceRow,
 ) -> Result<(), Unavailable>
-    requires { HasCleanDisk (state S.Store conn.old) → IsInside (state S.Store conn.old) }
-    ensures ok { HasCleanDisk (state S.Store conn.new) → OnOk result
-        (SetsOne balance_rows balance_tree tenant (has_id (column_of row.now.account))
-        (balance_values (balance_cells row.now)) (state S.Store conn.old)
-        (state S.Store conn.new)) }
-    ensures err { HasCleanDisk (state S.Store conn.new) → OnErr result
-        (IsKeptOrUndone (state S.Store conn.old) (state S.Store conn.new)) }
-    ensures follows { Follows (state S.Store conn.old) (state S.Store conn.new) }
+    requires { IfClean IsInside S.Store conn.old }
+    ensures { Writes (SetsOne balance_rows balance_tree tenant (has_id (column_of row.now.account))
+        (balance_values (balance_cells row.now))) S.Store conn.old conn.new result }
 {
     let cells = BalanceCells::from_row(row);
     done(conn.execute(
@@ -53,15 +46,10 @@ pub fn set_status<S: Alter>(
     tenant: i64,
     row: &StatusRow,
 ) -> Result<(), Unavailable>
-    requires inside { HasCleanDisk (state S.Store conn.old) → IsInside (state S.Store conn.old) }
+    requires inside { IfClean IsInside S.Store conn.old }
     requires due { ForSome row.now.due (λ due. due < 2 ^ 63) }
-    ensures ok { HasCleanDisk (state S.Store conn.new) → OnOk result
-        (SetsOne status_rows status_tree tenant (has_id (column_of row.now.transfer))
-        (status_values (status_cells row.now)) (state S.Store conn.old)
-        (state S.Store conn.new)) }
-    ensures err { HasCleanDisk (state S.Store conn.new) → OnErr result
-        (IsKeptOrUndone (state S.Store conn.old) (state S.Store conn.new)) }
-    ensures follows { Follows (state S.Store conn.old) (state S.Store conn.new) }
+    ensures { Writes (SetsOne status_rows status_tree tenant (has_id (column_of row.now.transfer))
+        (status_values (status_cells row.now))) S.Store conn.old conn.new result }
 {
     let cells = StatusCells::from_row(row);
     done(conn.execute(
@@ -77,14 +65,10 @@ pub fn set_clock<S: Alter>(
     tenant: i64,
     clock: u64,
 ) -> Result<(), Unavailable>
-    requires inside { HasCleanDisk (state S.Store conn.old) → IsInside (state S.Store conn.old) }
+    requires inside { IfClean IsInside S.Store conn.old }
     requires fits { clock < 2 ^ 63 }
-    ensures ok { HasCleanDisk (state S.Store conn.new) → OnOk result
-        (SetsOne clock_rows clock_tree tenant (λ _. true) (clock_values (pos clock))
-        (state S.Store conn.old) (state S.Store conn.new)) }
-    ensures err { HasCleanDisk (state S.Store conn.new) → OnErr result
-        (IsKeptOrUndone (state S.Store conn.old) (state S.Store conn.new)) }
-    ensures follows { Follows (state S.Store conn.old) (state S.Store conn.new) }
+    ensures { Writes (SetsOne clock_rows clock_tree tenant (λ _. true) (clock_values (pos clock)))
+        S.Store conn.old conn.new result }
 {
     done(conn.execute(
         "UPDATE clock SET clock = ?2 WHERE tenant = ?1",
@@ -94,12 +78,8 @@ pub fn set_clock<S: Alter>(
 
 /// Sets the version of the file to that of the current schema.
 pub fn set_version<S: Alter>(conn: &mut Connection<S>) -> Result<(), Unavailable>
-    requires { HasCleanDisk (state S.Store conn.old) → IsInside (state S.Store conn.old) }
-    ensures ok { HasCleanDisk (state S.Store conn.new) → OnOk result
-        (SetsVersion current_version (state S.Store conn.old) (state S.Store conn.new)) }
-    ensures err { HasCleanDisk (state S.Store conn.new) → OnErr result
-        (IsKeptOrUndone (state S.Store conn.old) (state S.Store conn.new)) }
-    ensures follows { Follows (state S.Store conn.old) (state S.Store conn.new) }
+    requires { IfClean IsInside S.Store conn.old }
+    ensures { Writes (SetsVersion current_version) S.Store conn.old conn.new result }
 {
     done(conn.execute("UPDATE schema SET version = 3", &[]))
 }

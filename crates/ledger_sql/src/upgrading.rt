@@ -1,12 +1,10 @@
 //! The rows that an upgrade computes, written into the tables of the balance schema inside the
 //! transaction that made these, and that schema's version.
 
-ghost use Rattle.std.specs.Prelude.{pos, [], ◌∷◌, OnOk, OnErr};
-ghost use Rattle.sqlite.specs.State.{HasCleanDisk};
-ghost use Rattle.sqlite.specs.Held.{state};
+ghost use Rattle.std.specs.Prelude.{pos, [], ◌∷◌};
+ghost use Rattle.ledger_sql.specs.Calls.{IfClean, Writes};
 ghost use Rattle.ledger_sql.specs.Creating.{IsMaking};
 ghost use Rattle.ledger_sql.specs.Effects.{AddsRows, SetsVersion};
-ghost use Rattle.ledger_sql.specs.Frames.{IsKeptOrUndone, Follows};
 ghost use Rattle.ledger_sql.specs.Schema.{balance_schema, balance_tree, status_tree, history_tree};
 ghost use Rattle.ledger_sql.specs.TableRows.{balance_rows, status_rows, history_rows};
 ghost use Rattle.ledger_sql.specs.Values.{balance_values, status_values, history_values};
@@ -22,14 +20,9 @@ pub fn fill_balance<S: Alter>(
     tenant: i64,
     cells: &BalanceCells,
 ) -> Result<(), Unavailable>
-    requires { HasCleanDisk (state S.Store conn.old) → IsMaking balance_schema
-        (state S.Store conn.old) }
-    ensures ok { HasCleanDisk (state S.Store conn.new) → OnOk result
-        (AddsRows balance_rows balance_tree tenant (balance_values cells.now ∷ [])
-        (state S.Store conn.old) (state S.Store conn.new)) }
-    ensures err { HasCleanDisk (state S.Store conn.new) → OnErr result
-        (IsKeptOrUndone (state S.Store conn.old) (state S.Store conn.new)) }
-    ensures follows { Follows (state S.Store conn.old) (state S.Store conn.new) }
+    requires { IfClean (IsMaking balance_schema) S.Store conn.old }
+    ensures { Writes (AddsRows balance_rows balance_tree tenant (balance_values cells.now ∷ []))
+        S.Store conn.old conn.new result }
 {
     done(conn.execute(
         "INSERT INTO balance (tenant, account, dp, dd, cp, cc) VALUES (?1, ?2, ?3, ?4, ?5, ?6)",
@@ -50,14 +43,9 @@ pub fn fill_status<S: Alter>(
     tenant: i64,
     cells: &StatusCells,
 ) -> Result<(), Unavailable>
-    requires { HasCleanDisk (state S.Store conn.old) → IsMaking balance_schema
-        (state S.Store conn.old) }
-    ensures ok { HasCleanDisk (state S.Store conn.new) → OnOk result
-        (AddsRows status_rows status_tree tenant (status_values cells.now ∷ [])
-        (state S.Store conn.old) (state S.Store conn.new)) }
-    ensures err { HasCleanDisk (state S.Store conn.new) → OnErr result
-        (IsKeptOrUndone (state S.Store conn.old) (state S.Store conn.new)) }
-    ensures follows { Follows (state S.Store conn.old) (state S.Store conn.new) }
+    requires { IfClean (IsMaking balance_schema) S.Store conn.old }
+    ensures { Writes (AddsRows status_rows status_tree tenant (status_values cells.now ∷ []))
+        S.Store conn.old conn.new result }
 {
     done(conn.execute(
         "INSERT INTO status (tenant, transfer, state, due) VALUES (?1, ?2, ?3, ?4)",
@@ -71,14 +59,9 @@ pub fn fill_history<S: Alter>(
     tenant: i64,
     cells: &HistoryCells,
 ) -> Result<(), Unavailable>
-    requires { HasCleanDisk (state S.Store conn.old) → IsMaking balance_schema
-        (state S.Store conn.old) }
-    ensures ok { HasCleanDisk (state S.Store conn.new) → OnOk result
-        (AddsRows history_rows history_tree tenant (history_values cells.now ∷ [])
-        (state S.Store conn.old) (state S.Store conn.new)) }
-    ensures err { HasCleanDisk (state S.Store conn.new) → OnErr result
-        (IsKeptOrUndone (state S.Store conn.old) (state S.Store conn.new)) }
-    ensures follows { Follows (state S.Store conn.old) (state S.Store conn.new) }
+    requires { IfClean (IsMaking balance_schema) S.Store conn.old }
+    ensures { Writes (AddsRows history_rows history_tree tenant (history_values cells.now ∷ []))
+        S.Store conn.old conn.new result }
 {
     done(conn.execute(
         "INSERT INTO history (tenant, account, timestamp, dp, dd, cp, cc) VALUES (?1, ?2, ?3, \
@@ -97,13 +80,8 @@ pub fn fill_history<S: Alter>(
 
 /// Sets the version of the file to that of the balance schema.
 pub fn set_balance_version<S: Alter>(conn: &mut Connection<S>) -> Result<(), Unavailable>
-    requires { HasCleanDisk (state S.Store conn.old) → IsMaking balance_schema
-        (state S.Store conn.old) }
-    ensures ok { HasCleanDisk (state S.Store conn.new) → OnOk result
-        (SetsVersion (pos 2) (state S.Store conn.old) (state S.Store conn.new)) }
-    ensures err { HasCleanDisk (state S.Store conn.new) → OnErr result
-        (IsKeptOrUndone (state S.Store conn.old) (state S.Store conn.new)) }
-    ensures follows { Follows (state S.Store conn.old) (state S.Store conn.new) }
+    requires { IfClean (IsMaking balance_schema) S.Store conn.old }
+    ensures { Writes (SetsVersion (pos 2)) S.Store conn.old conn.new result }
 {
     done(conn.execute("UPDATE schema SET version = 2", &[]))
 }

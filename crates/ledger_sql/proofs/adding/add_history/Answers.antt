@@ -4,11 +4,12 @@ use Rattle.ledger_sql.proofs.InsertTexts.{add_history_text, add_history_ok, add_
 use Rattle.ledger_sql.proofs.RunLemmas.{done_err}
 use Rattle.ledger_sql.proofs.adding.add_history.Goals as goal
 
-pub returns-clause-ok : goal.returns-clause-ok
-returns-clause-ok g c clean = rw c.done.ensures (add_history_ok c.args.tenant (history_cells c.args.debit.now) (history_cells c.args.credit.now) _ (search rules) _ _ c.requires.inside c.execute.ensures.survives c.execute.result clean (c.execute.ensures.runs clean))
-
-pub returns-clause-err : goal.returns-clause-err
-returns-clause-err g c clean = rw c.done.ensures (done_err add_history_text _ _ _ c.execute.result (c.execute.ensures.runs clean))
-
-pub returns-clause-follows : goal.returns-clause-follows
-returns-clause-follows g c = add_history_follows c.args.tenant (history_cells c.args.debit.now) (history_cells c.args.credit.now) _ (search rules) _ _ c.requires.inside c.execute.ensures.survives c.execute.result c.execute.ensures.runs
+pub returns : goal.returns
+returns g c = record {
+  ok = λ clean.
+      rw c.done.ensures (add_history_ok c.args.tenant (history_cells c.args.debit.now) (history_cells c.args.credit.now) _ (search rules) _ _ c.requires.inside c.execute.ensures.survives c.execute.result clean (c.execute.ensures.runs clean));
+  err = λ clean.
+      rw c.done.ensures (done_err add_history_text _ _ _ c.execute.result (c.execute.ensures.runs clean));
+  follows =
+      add_history_follows c.args.tenant (history_cells c.args.debit.now) (history_cells c.args.credit.now) _ (search rules) _ _ c.requires.inside c.execute.ensures.survives c.execute.result c.execute.ensures.runs;
+}

@@ -4,11 +4,12 @@ use Rattle.ledger_sql.proofs.InsertTexts.{add_transfer_text, add_transfer_ok, ad
 use Rattle.ledger_sql.proofs.RunLemmas.{done_err}
 use Rattle.ledger_sql.proofs.adding.add_transfer.Goals as goal
 
-pub returns-clause-ok : goal.returns-clause-ok
-returns-clause-ok g c clean = rw c.done.ensures (add_transfer_ok c.args.tenant (transfer_cells c.args.transfer.now) _ (search rules) _ _ c.requires.inside c.execute.ensures.survives c.execute.result clean (c.execute.ensures.runs clean))
-
-pub returns-clause-err : goal.returns-clause-err
-returns-clause-err g c clean = rw c.done.ensures (done_err add_transfer_text _ _ _ c.execute.result (c.execute.ensures.runs clean))
-
-pub returns-clause-follows : goal.returns-clause-follows
-returns-clause-follows g c = add_transfer_follows c.args.tenant (transfer_cells c.args.transfer.now) _ (search rules) _ _ c.requires.inside c.execute.ensures.survives c.execute.result c.execute.ensures.runs
+pub returns : goal.returns
+returns g c = record {
+  ok = λ clean.
+      rw c.done.ensures (add_transfer_ok c.args.tenant (transfer_cells c.args.transfer.now) _ (search rules) _ _ c.requires.inside c.execute.ensures.survives c.execute.result clean (c.execute.ensures.runs clean));
+  err = λ clean.
+      rw c.done.ensures (done_err add_transfer_text _ _ _ c.execute.result (c.execute.ensures.runs clean));
+  follows =
+      add_transfer_follows c.args.tenant (transfer_cells c.args.transfer.now) _ (search rules) _ _ c.requires.inside c.execute.ensures.survives c.execute.result c.execute.ensures.runs;
+}

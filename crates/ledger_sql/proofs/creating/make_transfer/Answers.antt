@@ -4,12 +4,12 @@ use Rattle.ledger_sql.proofs.CreateTexts.{make_transfer_text, make_transfer_is, 
 use Rattle.ledger_sql.proofs.RunLemmas.{done_err}
 use Rattle.ledger_sql.proofs.creating.make_transfer.Goals as goal
 
-pub returns-clause-ok : goal.returns-clause-ok
-returns-clause-ok g c clean =
-    rw c.done.ensures (create_ok make_transfer_text after_account transfer_table make_transfer_is _ _ c.requires c.execute.ensures.survives c.execute.result clean (c.execute.ensures.runs clean))
-
-pub returns-clause-err : goal.returns-clause-err
-returns-clause-err g c clean = rw c.done.ensures (done_err make_transfer_text [] _ _ c.execute.result (c.execute.ensures.runs clean))
-
-pub returns-clause-follows : goal.returns-clause-follows
-returns-clause-follows g c = create_follows make_transfer_text after_account transfer_table make_transfer_is _ _ c.requires c.execute.ensures.survives c.execute.result c.execute.ensures.runs
+pub returns : goal.returns
+returns g c = record {
+  ok = λ clean.
+      rw c.done.ensures (create_ok make_transfer_text after_account transfer_table make_transfer_is _ _ c.requires c.execute.ensures.survives c.execute.result clean (c.execute.ensures.runs clean));
+  err = λ clean.
+      rw c.done.ensures (done_err make_transfer_text [] _ _ c.execute.result (c.execute.ensures.runs clean));
+  follows =
+      create_follows make_transfer_text after_account transfer_table make_transfer_is _ _ c.requires c.execute.ensures.survives c.execute.result c.execute.ensures.runs;
+}

@@ -15,4 +15,4 @@ pub returns-clause-handed : goal.returns-clause-handed
 unfolding column_of
 returns-clause-handed g c =
     entries_handed from_text Ge false c.args.tenant (column_of c.args.account) c.args.time (is_from c.args.time) (compares_from c.args.time) (λ a b. value_cmp (column a 1) (column b 1)) (oldest_first Ge unlimited) _ _ _ (search rules) g.K.EntrySink.takes g.K.EntrySink.is_full
-    (λ clean. from_is c.args.conn.now.schema (c.requires.ledger (omega (arith, c.hand_out.ensures.follows.survives.clean, clean)))) _ _ c.hand_out.result c.hand_out.ensures.handed c.known.result c.known.ensures.ok c.known.ensures.err
+    (λ clean. from_is c.args.conn.now.schema (c.requires.ledger (omega (arith, c.hand_out.ensures.reads.follows.survives.clean, clean)))) _ _ c.hand_out.result c.hand_out.ensures.handed c.known.result c.known.ensures.ok c.known.ensures.err

@@ -13,15 +13,14 @@ use Rattle.ledger_sql.proofs.entries.hand_out.Goals as goal
 pub returns-in_err-rows-clause-handed : goal.returns-in_err-rows-clause-handed
 returns-in_err-rows-clause-handed g c = record { handed = []; taken = refl; first = λ _. inl refl; ended = λ _. never_ok _ c.from_residual.result c.from_residual.ensures.0; wants = always_err _ c.from_residual.result c.requires.open }
 
-pub returns-in_err-rows-clause-kept : goal.returns-in_err-rows-clause-kept
-returns-in_err-rows-clause-kept g c clean =
+pub returns-in_err-rows-clause-reads : goal.returns-in_err-rows-clause-reads
+returns-in_err-rows-clause-reads g c =
     let held = rw c.in_err-rows.was at c.query.follows.holds-at-none in
-    failed_kept c.args.text.now (bound c.args.params.now) _ _ c.requires.reading _ (held.err clean)
-
-pub returns-in_err-rows-clause-follows : goal.returns-in_err-rows-clause-follows
-returns-in_err-rows-clause-follows g c =
-    let held = rw c.in_err-rows.was at c.query.follows.holds-at-none in
-    query_follows c.args.text.now (bound c.args.params.now) _ _ c.requires.reading held.survives (λ clean. failed_kept c.args.text.now (bound c.args.params.now) _ _ c.requires.reading _ (held.err clean))
+    record {
+      same = search rules;
+      kept = λ clean. failed_kept c.args.text.now (bound c.args.params.now) _ _ c.requires.reading _ (held.err clean);
+      follows = query_follows c.args.text.now (bound c.args.params.now) _ _ c.requires.reading held.survives (λ clean. failed_kept c.args.text.now (bound c.args.params.now) _ _ c.requires.reading _ (held.err clean));
+    }
 
 pub rows-init : goal.rows-init
 rows-init g c =

@@ -9,8 +9,12 @@ use Rattle.ledger_sql.proofs.finding.find_balance.Goals as goal
 pub first_row-requires : goal.first_row-requires
 first_row-requires g c = find_balance_reads
 
-pub returns-clause-ok : goal.returns-clause-ok
+pub returns : goal.returns
 unfolding column_of
-returns-clause-ok g c clean =
-    let text = find_balance_is c.args.conn.now.schema (c.requires (omega (arith, c.first_row.ensures.follows.survives.clean, clean))) in
-    point_read (λ row. balance_values (balance_cells row)) c.args.tenant (column_of c.args.account) find_balance_text _ 11 4 text _ _ refl _ (search rules) c.first_row.result (c.first_row.ensures.ok clean) c.read_found.result c.read_found.ensures.values
+returns g c = record {
+  ok = λ clean.
+      let text = find_balance_is c.args.conn.now.schema (c.requires (omega (arith, c.first_row.ensures.reads.follows.survives.clean, clean))) in
+      point_read (λ row. balance_values (balance_cells row)) c.args.tenant (column_of c.args.account) find_balance_text _ 11 4 text _ _ refl _ (search rules) c.first_row.result (c.first_row.ensures.ok clean) c.read_found.result c.read_found.ensures.values;
+  fits = search rules;
+  reads = search rules;
+}

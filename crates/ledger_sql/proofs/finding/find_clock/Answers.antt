@@ -10,8 +10,12 @@ use Rattle.ledger_sql.proofs.finding.find_clock.Goals as goal
 pub first_row-requires : goal.first_row-requires
 first_row-requires g c = find_clock_reads
 
-pub returns-clause-ok : goal.returns-clause-ok
-returns-clause-ok g c clean =
-    let text = find_clock_is c.args.conn.now.schema (c.requires (omega (arith, c.first_row.ensures.follows.survives.clean, clean))) in
-    view_read (λ clock. clock_values (pos clock)) find_clock_text _ 4 (is_param 0 0 ∷ []) (col 1 2 ∷ []) text (Int c.args.tenant ∷ []) _ _ refl _ (clock_view c.args.tenant (state g.S.Store c.args.conn.now).now.trees) _ (search rules)
-    c.first_row.result (c.first_row.ensures.ok clean) c.read_found.result c.read_found.ensures.values
+pub returns : goal.returns
+returns g c = record {
+  ok = λ clean.
+      let text = find_clock_is c.args.conn.now.schema (c.requires (omega (arith, c.first_row.ensures.reads.follows.survives.clean, clean))) in
+      view_read (λ clock. clock_values (pos clock)) find_clock_text _ 4 (is_param 0 0 ∷ []) (col 1 2 ∷ []) text (Int c.args.tenant ∷ []) _ _ refl _ (clock_view c.args.tenant (state g.S.Store c.args.conn.now).now.trees) _ (search rules)
+      c.first_row.result (c.first_row.ensures.ok clean) c.read_found.result c.read_found.ensures.values;
+  fits = search rules;
+  reads = search rules;
+}

@@ -9,8 +9,12 @@ use Rattle.ledger_sql.proofs.finding.find_status.Goals as goal
 pub first_row-requires : goal.first_row-requires
 first_row-requires g c = find_status_reads
 
-pub returns-clause-ok : goal.returns-clause-ok
+pub returns : goal.returns
 unfolding column_of
-returns-clause-ok g c clean =
-    let text = find_status_is c.args.conn.now.schema (c.requires (omega (arith, c.first_row.ensures.follows.survives.clean, clean))) in
-    point_read (λ row. status_values (status_cells row)) c.args.tenant (column_of c.args.transfer) find_status_text _ 13 2 text _ _ refl _ (search rules) c.first_row.result (c.first_row.ensures.ok clean) c.read_found.result c.read_found.ensures.values
+returns g c = record {
+  ok = λ clean.
+      let text = find_status_is c.args.conn.now.schema (c.requires (omega (arith, c.first_row.ensures.reads.follows.survives.clean, clean))) in
+      point_read (λ row. status_values (status_cells row)) c.args.tenant (column_of c.args.transfer) find_status_text _ 13 2 text _ _ refl _ (search rules) c.first_row.result (c.first_row.ensures.ok clean) c.read_found.result c.read_found.ensures.values;
+  fits = search rules;
+  reads = search rules;
+}

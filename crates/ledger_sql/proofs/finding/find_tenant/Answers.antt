@@ -9,8 +9,12 @@ use Rattle.ledger_sql.proofs.finding.find_tenant.Goals as goal
 pub first_row-requires : goal.first_row-requires
 first_row-requires g c = find_tenant_reads
 
-pub returns-clause-ok : goal.returns-clause-ok
-returns-clause-ok g c clean =
-    let text = find_tenant_is c.args.conn.now.schema (c.requires (omega (arith, c.first_row.ensures.follows.survives.clean, clean))) in
-    view_read (λ number. Int number ∷ []) find_tenant_text _ 1 (is_param 3 0 ∷ []) (col 1 0 ∷ []) text (Blob c.args.digest.now ∷ []) _ _ refl _ (digest_view c.args.digest.now (state g.S.Store c.args.conn.now).now.trees) _ (search rules)
-    c.first_row.result (c.first_row.ensures.ok clean) c.read_found.result c.read_found.ensures.values
+pub returns : goal.returns
+returns g c = record {
+  ok = λ clean.
+      let text = find_tenant_is c.args.conn.now.schema (c.requires (omega (arith, c.first_row.ensures.reads.follows.survives.clean, clean))) in
+      view_read (λ number. Int number ∷ []) find_tenant_text _ 1 (is_param 3 0 ∷ []) (col 1 0 ∷ []) text (Blob c.args.digest.now ∷ []) _ _ refl _ (digest_view c.args.digest.now (state g.S.Store c.args.conn.now).now.trees) _ (search rules)
+      c.first_row.result (c.first_row.ensures.ok clean) c.read_found.result c.read_found.ensures.values;
+  fits = search rules;
+  reads = search rules;
+}

@@ -10,5 +10,5 @@ first_row-requires g c = find_failed_reads
 pub returns-clause-ok : goal.returns-clause-ok
 unfolding column_of
 returns-clause-ok g c clean =
-    let text = find_failed_is c.args.conn.now.schema (c.requires (omega (arith, c.first_row.ensures.follows.survives.clean, clean))) in
+    let text = find_failed_is c.args.conn.now.schema (c.requires (omega (arith, c.first_row.ensures.reads.follows.survives.clean, clean))) in
     there_read c.args.tenant (column_of c.args.id) find_failed_text _ 17 0 text _ _ refl _ (search rules) c.first_row.result (c.first_row.ensures.ok clean) c.was_found.result c.was_found.ensures

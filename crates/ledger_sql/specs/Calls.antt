@@ -1,0 +1,72 @@
+-- What a call over a connection leaves of it: one word for each kind of call.
+use Rattle.std.specs.Prelude.{List, Option, Result, IfOk, IfSome, OnOk, OnErr, option_map}
+use Rattle.sqlite_value.specs.Order.{Row}
+use Rattle.sqlite_trees.specs.Tree.{Trees}
+use Rattle.sqlite_trees.specs.declared.store.Store.{Ghosts}
+use Rattle.sqlite_schema.specs.declared.schema.Schema.{Schema}
+use Rattle.sqlite.specs.Held.{Held, state}
+use Rattle.sqlite.specs.State.{State, HasCleanDisk, IsUnchanged}
+use Rattle.ledger_sql.specs.Effects.{StartsAs, Picks}
+use Rattle.ledger_sql.specs.Frames.{IsKeptOrUndone, Follows}
+
+-- a call that reads: answered, it has changed nothing; failed, it may have undone the transaction
+pub record LeavesRead {A E : Type 0} (old new : State) (result : Result A E) : Type 0 where
+  pub same : HasCleanDisk new → OnOk result (IsUnchanged old new)
+  pub kept : HasCleanDisk new → IsKeptOrUndone old new
+  pub follows : Follows old new
+
+-- a call that reads a table whole: where these tables come first, it answers so
+pub record LeavesListed {A E : Type 0} (ours : Schema) (Answer : Trees → A → Type 0)
+    (old new : State) (result : Result A E) : Type 0 where
+  pub whole : HasCleanDisk new → StartsAs ours.tables old.now.schema →
+      IfOk result (Answer old.now.trees)
+  pub reads : LeavesRead old new result
+
+-- a call that looks for a row: the answer is the one of these rows, and fits its columns
+pub record LeavesFound {A E : Type 0} (Fits : A → Type 0) (values : A → Row)
+    (rows : Trees → List Row) (old new : State) (result : Result (Option A) E) : Type 0 where
+  pub ok : HasCleanDisk new →
+      IfOk result (λ found. Picks (rows old.now.trees) (option_map values found))
+  pub fits : IfOk result (λ found. IfSome found Fits)
+  pub reads : LeavesRead old new result
+
+-- a call that writes inside a transaction: answered, it has this effect; failed, it has changed
+-- nothing or undone the transaction
+pub record LeavesWritten {A E : Type 0} (Effect : State → State → Type 0) (old new : State)
+    (result : Result A E) : Type 0 where
+  pub ok : HasCleanDisk new → OnOk result (Effect old new)
+  pub err : HasCleanDisk new → OnErr result (IsKeptOrUndone old new)
+  pub follows : Follows old new
+
+-- a call of several steps: answered, it has this effect; failed, what was done so far may stand
+pub record LeavesChanged {A E : Type 0} (Effect : State → State → Type 0) (old new : State)
+    (result : Result A E) : Type 0 where
+  pub ok : HasCleanDisk new → OnOk result (Effect old new)
+  pub follows : Follows old new
+
+-- this is so of the connection, where its disk was honest so far
+abbrev pub IfClean : {S : Type 0} → (State → Type 0) → Ghosts S → Held S → Type 0
+IfClean Is store held = HasCleanDisk (state store held) → Is (state store held)
+
+abbrev pub Reads : {S A E : Type 0} → Ghosts S → Held S → Held S → Result A E → Type 0
+Reads store old new result = LeavesRead (state store old) (state store new) result
+
+abbrev pub Lists : {S A E : Type 0} → Schema → (Trees → A → Type 0) → Ghosts S → Held S → Held S
+    → Result A E → Type 0
+Lists ours Answer store old new result =
+    LeavesListed ours Answer (state store old) (state store new) result
+
+abbrev pub FindsRow : {S A E : Type 0} → (A → Type 0) → (A → Row) → (Trees → List Row) → Ghosts S
+    → Held S → Held S → Result (Option A) E → Type 0
+FindsRow Fits values rows store old new result =
+    LeavesFound Fits values rows (state store old) (state store new) result
+
+abbrev pub Writes : {S A E : Type 0} → (State → State → Type 0) → Ghosts S → Held S → Held S
+    → Result A E → Type 0
+Writes Effect store old new result =
+    LeavesWritten Effect (state store old) (state store new) result
+
+abbrev pub Changes : {S A E : Type 0} → (State → State → Type 0) → Ghosts S → Held S → Held S
+    → Result A E → Type 0
+Changes Effect store old new result =
+    LeavesChanged Effect (state store old) (state store new) result
