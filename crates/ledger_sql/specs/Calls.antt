@@ -15,6 +15,12 @@ pub record LeavesRead {A E : Type 0} (old new : State) (result : Result A E) : T
   pub kept : HasCleanDisk new → IsKeptOrUndone old new
   pub follows : Follows old new
 
+-- a call that learns something: answered, it tells what is so of the tables
+pub record LeavesLearnt {A E : Type 0} (Answer : Trees → A → Type 0) (old new : State)
+    (result : Result A E) : Type 0 where
+  pub ok : HasCleanDisk new → IfOk result (Answer old.now.trees)
+  pub reads : LeavesRead old new result
+
 -- a call that reads a table whole: where these tables come first, it answers so
 pub record LeavesListed {A E : Type 0} (ours : Schema) (Answer : Trees → A → Type 0)
     (old new : State) (result : Result A E) : Type 0 where
@@ -29,6 +35,10 @@ pub record LeavesFound {A E : Type 0} (Fits : A → Type 0) (values : A → Row)
       IfOk result (λ found. Picks (rows old.now.trees) (option_map values found))
   pub fits : IfOk result (λ found. IfSome found Fits)
   pub reads : LeavesRead old new result
+
+-- a value that fits its columns, whatever it is
+abbrev pub AnyWidth : {A : Type 0} → A → Type 0
+AnyWidth value = Unit {0}
 
 -- a call that writes inside a transaction: answered, it has this effect; failed, it has changed
 -- nothing or undone the transaction
@@ -50,6 +60,11 @@ IfClean Is store held = HasCleanDisk (state store held) → Is (state store held
 
 abbrev pub Reads : {S A E : Type 0} → Ghosts S → Held S → Held S → Result A E → Type 0
 Reads store old new result = LeavesRead (state store old) (state store new) result
+
+abbrev pub Learns : {S A E : Type 0} → (Trees → A → Type 0) → Ghosts S → Held S → Held S
+    → Result A E → Type 0
+Learns Answer store old new result =
+    LeavesLearnt Answer (state store old) (state store new) result
 
 abbrev pub Lists : {S A E : Type 0} → Schema → (Trees → A → Type 0) → Ghosts S → Held S → Held S
     → Result A E → Type 0

@@ -1,14 +1,12 @@
 //! Single rows, found by their whole key.
 
-ghost use Rattle.std.specs.Prelude.{◌≡◌, pos, [], ◌∷◌, string_bytes, IfOk};
+ghost use Rattle.std.specs.Prelude.{◌≡◌, pos, [], ◌∷◌, string_bytes};
 ghost use Rattle.std.specs.List.{list_any};
-ghost use Rattle.sqlite.specs.State.{HasCleanDisk};
-ghost use Rattle.sqlite.specs.Held.{state};
 ghost use Rattle.sqlite_value.specs.declared.value.Value.TheVariants.{Int};
 ghost use Rattle.amount.specs.Column.{column_of};
 ghost use Rattle.rows.specs.Cells.{account_cells, transfer_cells, balance_cells, status_cells};
 ghost use Rattle.rows.specs.Widths.{IsStorableAccount, IsStorableTransfer, IsStorableBalance, IsStorableStatus};
-ghost use Rattle.ledger_sql.specs.Calls.{FindsRow, IfClean, Reads};
+ghost use Rattle.ledger_sql.specs.Calls.{AnyWidth, FindsRow, IfClean, Learns};
 ghost use Rattle.ledger_sql.specs.Effects.{IsLedger};
 ghost use Rattle.ledger_sql.specs.TableRows.{clock_rows, numbers_with_digest, directory_rows, with_name, account_rows, transfer_rows, balance_rows, status_rows, failed_rows, has_id, with_id};
 ghost use Rattle.ledger_sql.specs.Values.{clock_values, directory_values, account_values, transfer_values, balance_values, status_values};
@@ -105,10 +103,9 @@ pub fn has_failed<S: Alter>(
     id: u128,
 ) -> Result<bool, Unavailable>
     requires { IfClean (λ s. IsLedger s.now.schema) S.Store conn.old }
-    ensures ok { HasCleanDisk (state S.Store conn.new) → IfOk result
-        (λ failed. failed ≡ list_any (has_id (column_of id))
-        (failed_rows tenant (state S.Store conn.old).now.trees)) }
-    ensures reads { Reads S.Store conn.old conn.new result }
+    ensures { Learns
+        (λ trees failed. failed ≡ list_any (has_id (column_of id)) (failed_rows tenant trees))
+        S.Store conn.old conn.new result }
 {
     let key = id.to_be_bytes();
     was_found(first_row(
@@ -124,7 +121,7 @@ pub fn find_clock<S: Alter>(
     tenant: i64,
 ) -> Result<Option<u64>, Unavailable>
     requires { IfClean (λ s. IsLedger s.now.schema) S.Store conn.old }
-    ensures { FindsRow (λ _. Unit {0}) (λ clock. clock_values (pos clock))
+    ensures { FindsRow AnyWidth (λ clock. clock_values (pos clock))
         (λ trees. clock_rows tenant trees) S.Store conn.old conn.new result }
 {
     read_found(first_row(
@@ -140,7 +137,7 @@ pub fn find_tenant<S: Alter>(
     digest: &[u8],
 ) -> Result<Option<i64>, Unavailable>
     requires { IfClean (λ s. IsLedger s.now.schema) S.Store conn.old }
-    ensures { FindsRow (λ _. Unit {0}) (λ number. Int number ∷ [])
+    ensures { FindsRow AnyWidth (λ number. Int number ∷ [])
         (λ trees. numbers_with_digest digest.now trees) S.Store conn.old conn.new result }
 {
     read_found(first_row(
@@ -156,8 +153,9 @@ pub fn find_tenant_by_name<S: Alter>(
     name: &str,
 ) -> Result<Option<DirectoryRow>, Unavailable>
     requires { IfClean (λ s. IsLedger s.now.schema) S.Store conn.old }
-    ensures { FindsRow (λ _. Unit {0}) (λ row. directory_values row.number (string_bytes row.name)
-        row.digest) (λ trees. with_name name.now (directory_rows trees))
+    ensures { FindsRow AnyWidth
+        (λ row. directory_values row.number (string_bytes row.name) row.digest)
+        (λ trees. with_name name.now (directory_rows trees))
         S.Store conn.old conn.new result }
 {
     read_found(first_row(

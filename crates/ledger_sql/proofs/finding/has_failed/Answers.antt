@@ -7,8 +7,11 @@ use Rattle.ledger_sql.proofs.finding.has_failed.Goals as goal
 pub first_row-requires : goal.first_row-requires
 first_row-requires g c = find_failed_reads
 
-pub returns-clause-ok : goal.returns-clause-ok
+pub returns : goal.returns
 unfolding column_of
-returns-clause-ok g c clean =
-    let text = find_failed_is c.args.conn.now.schema (c.requires (omega (arith, c.first_row.ensures.reads.follows.survives.clean, clean))) in
-    there_read c.args.tenant (column_of c.args.id) find_failed_text _ 17 0 text _ _ refl _ (search rules) c.first_row.result (c.first_row.ensures.ok clean) c.was_found.result c.was_found.ensures
+returns g c = record {
+  ok = λ clean.
+      let text = find_failed_is c.args.conn.now.schema (c.requires (omega (arith, c.first_row.ensures.reads.follows.survives.clean, clean))) in
+      there_read c.args.tenant (column_of c.args.id) find_failed_text _ 17 0 text _ _ refl _ (search rules) c.first_row.result (c.first_row.ensures.ok clean) c.was_found.result c.was_found.ensures;
+  reads = search rules;
+}
