@@ -16,7 +16,7 @@ use Rattle.ledger_sql.specs.Effects.{IsInside, AddsRows}
 use Rattle.ledger_sql.specs.TableRows.{account_rows, balance_rows, failed_rows}
 use Rattle.ledger_sql.specs.Values.{clock_values, account_values, balance_values, id_values}
 use Rattle.stored_tables.specs.Holds.{HoldsRows}
-use Rattle.stored_tables.specs.Moves.{Writes, Any}
+use Rattle.stored_tables.specs.Moves.{ChangesRows, Any}
 use Rattle.stored_tables.proofs.Statements.{account_added, balance_added, failed_added}
 use Rattle.stored_tables.proofs.Writing.{writes_then, still_inside}
 
@@ -24,7 +24,7 @@ use Rattle.stored_tables.proofs.Writing.{writes_then, still_inside}
 pub account_written : (tenant : ℤ) (a : Account) (s0 s1 s2 : State) (r : Result (Unit {0}) Unavailable) → IsInside s0
     → AddsRows account_rows 5 tenant (account_values (account_cells a) ∷ []) s0 s1
     → OnOk r (AddsRows balance_rows 11 tenant (balance_values (balance_cells (new_balance a)) ∷ []) s1 s2)
-    → OnOk r (Writes tenant Any (with_opened a) s0 s2)
+    → OnOk r (ChangesRows tenant Any (with_opened a) s0 s2)
 unfolding with_opened
 account_written tenant a s0 s1 s2 r inside first second =
     let account = account_added tenant s0 s1 inside.schema a first in
@@ -63,7 +63,7 @@ FailedAnywhere = (id : ℕ) (xs ys : TypedRows) → has_id id xs.failed ≡ fals
 
 -- an id that failed
 pub failed_written : FailedAnywhere → (tenant : ℤ) (id : ℕ) (s0 s1 : State) → IsInside s0 → AddsRows failed_rows 17 tenant (id_values (column_of id) ∷ []) s0 s1
-    → Writes tenant (λ rows. has_id id rows.failed ≡ false) (with_failed_id id) s0 s1
+    → ChangesRows tenant (λ rows. has_id id rows.failed ≡ false) (with_failed_id id) s0 s1
 failed_written anywhere tenant id s0 s1 inside adds =
     let added = failed_added tenant s0 s1 inside.schema id adds in
     record {

@@ -19,7 +19,7 @@ use Rattle.ledger_sql.specs.TableRows.{status_rows, has_id}
 use Rattle.ledger_sql.specs.Values.{status_values}
 use Rattle.rows.specs.Changes.{set_balances, set_both, set_state}
 use Rattle.rows.specs.Keyed.{row_with, changed}
-use Rattle.stored_tables.specs.Moves.{Writes, IsThere, HasBoth, HasStatus, IsStatusOf}
+use Rattle.stored_tables.specs.Moves.{ChangesRows, IsThere, HasBoth, HasStatus, IsStatusOf}
 use Rattle.stored_tables.proofs.RowMoves.{distinct_kept, all_kept, found_kept, some_of}
 use Rattle.stored_tables.proofs.Statements.{Alone, Replaced, state_set}
 use Rattle.stored_tables.proofs.Writing.{writes_then, writes_after_same}
@@ -44,10 +44,10 @@ there_kept key id k change keeps xs there =
     }
 
 abbrev SetsBalances : ℤ → ℕ → Balances → State → State → Type 0
-SetsBalances tenant account balances s0 s1 = Writes tenant (λ rows. IsThere (λ row. row.account) account rows.balances) (λ rows. record rows { balances = set_balances account balances rows.balances }) s0 s1
+SetsBalances tenant account balances s0 s1 = ChangesRows tenant (λ rows. IsThere (λ row. row.account) account rows.balances) (λ rows. record rows { balances = set_balances account balances rows.balances }) s0 s1
 
 pub both_set : (tenant : ℤ) (t : Transfer) (debit credit : Balances) (s0 s1 s2 : State) (r : Result (Unit {0}) Unavailable) → SetsBalances tenant t.debit_account_id debit s0 s1 → OnOk r (SetsBalances tenant t.credit_account_id credit s1 s2)
-    → OnOk r (Writes tenant (λ rows. HasBoth t rows.balances) (λ rows. record rows { balances = set_both t debit credit rows.balances }) s0 s2)
+    → OnOk r (ChangesRows tenant (λ rows. HasBoth t rows.balances) (λ rows. record rows { balances = set_both t debit credit rows.balances }) s0 s2)
 both_set tenant t debit credit s0 s1 s2 r first second =
     on_ok_weaker r
     (λ (w : SetsBalances tenant t.credit_account_id credit s1 s2).
@@ -70,7 +70,7 @@ row_due_fits o row is fits = due_fits row.due (some_fits IsStorableStatus o row 
 -- a status row that was found is set
 module _ (tenant : ℤ) (id : ℕ) (to : PendingState) (s0 s1 s2 : State) where
   abbrev SetsState : State → Type 0
-  SetsState s = Writes tenant (λ rows. HasStatus id rows.statuses) (λ rows. record rows { statuses = set_state id to rows.statuses }) s s2
+  SetsState s = ChangesRows tenant (λ rows. HasStatus id rows.statuses) (λ rows. record rows { statuses = set_state id to rows.statuses }) s s2
 
   pub state_written : IsInside s0 → IsOneToOne → Alone StatusRow → Replaced StatusRow → (row : StatusRow) (found : Option StatusRow) → found ≡ Some row → IsStatusOf tenant id s0.now.trees found → IsUnchanged s0 s1 → (r : Result (Unit {0}) Unavailable)
       → OnOk r (SetsOne status_rows 13 tenant (has_id (column_of row.transfer)) (status_values (status_cells (record row { state = to }))) s1 s2) → OnOk r (SetsState s0)

@@ -15,13 +15,13 @@ use Rattle.rows.specs.Changes.{with_accepted, set_both, ended, new_statuses, new
 use Rattle.ledger_sql.specs.Effects.{IsInside, AddsRows}
 use Rattle.ledger_sql.specs.TableRows.{transfer_rows, status_rows, history_rows}
 use Rattle.ledger_sql.specs.Values.{transfer_values, status_values, history_values}
-use Rattle.stored_tables.specs.Moves.{Writes, Any, HasBoth, HasEnded, CanAccept}
+use Rattle.stored_tables.specs.Moves.{ChangesRows, Any, HasBoth, HasEnded, CanAccept}
 use Rattle.stored_tables.proofs.Statements.{transfer_added, status_added, history_added}
 use Rattle.stored_tables.proofs.Writing.{writes_then}
 
 module _ (tenant : ℤ) where
   abbrev Status : List StatusRow → State → State → Type 0
-  Status more s0 s1 = Writes tenant Any (λ rows. record rows { statuses = rows.statuses ++ more }) s0 s1
+  Status more s0 s1 = ChangesRows tenant Any (λ rows. record rows { statuses = rows.statuses ++ more }) s0 s1
 
   -- the status of a pending transfer
   pub status_written : (t : Transfer) (due : Option ℕ) (s0 s1 : State) (r : Result (Unit {0}) Unavailable) → IsInside s0 → is_pending t.flags ≡ true → due ≡ due_of t
@@ -36,46 +36,46 @@ module _ (tenant : ℤ) where
 
   -- the history of a transfer
   pub history_written : (a : Accepted) (d c : HistoryRow) (s0 s1 : State) (r : Result (Unit {0}) Unavailable) → IsInside s0 → d ∷ c ∷ [] ≡ new_history a
-      → OnOk r (AddsRows history_rows 15 tenant (history_values (history_cells d) ∷ history_values (history_cells c) ∷ []) s0 s1) → OnOk r (Writes tenant Any (λ rows. record rows { history = rows.history ++ new_history a }) s0 s1)
+      → OnOk r (AddsRows history_rows 15 tenant (history_values (history_cells d) ∷ history_values (history_cells c) ∷ []) s0 s1) → OnOk r (ChangesRows tenant Any (λ rows. record rows { history = rows.history ++ new_history a }) s0 s1)
   history_written a d c s0 s1 r inside is adds =
       on_ok_weaker r
       (λ (rows : AddsRows history_rows 15 tenant (history_values (history_cells d) ∷ history_values (history_cells c) ∷ []) s0 s1).
-      subst (λ (more : List HistoryRow). Writes tenant Any (λ rows. record rows { history = rows.history ++ more }) s0 s1) is (history_added tenant s0 s1 inside.schema d c rows))
+      subst (λ (more : List HistoryRow). ChangesRows tenant Any (λ rows. record rows { history = rows.history ++ more }) s0 s1) is (history_added tenant s0 s1 inside.schema d c rows))
       adds
 
   abbrev Transfers : Transfer → State → State → Type 0
-  Transfers t s0 s1 = Writes tenant Any (λ rows. record rows { transfers = rows.transfers ++ t ∷ [] }) s0 s1
+  Transfers t s0 s1 = ChangesRows tenant Any (λ rows. record rows { transfers = rows.transfers ++ t ∷ [] }) s0 s1
 
   abbrev Both : Accepted → State → State → Type 0
-  Both a s0 s1 = Writes tenant (λ rows. HasBoth a.stored rows.balances) (λ rows. record rows { balances = set_both a.stored a.debit_after a.credit_after rows.balances }) s0 s1
+  Both a s0 s1 = ChangesRows tenant (λ rows. HasBoth a.stored rows.balances) (λ rows. record rows { balances = set_both a.stored a.debit_after a.credit_after rows.balances }) s0 s1
 
   abbrev Ended : Accepted → State → State → Type 0
-  Ended a s0 s1 = Writes tenant (λ rows. HasEnded a.ends rows.statuses) (λ rows. record rows { statuses = ended a.ends rows.statuses }) s0 s1
+  Ended a s0 s1 = ChangesRows tenant (λ rows. HasEnded a.ends rows.statuses) (λ rows. record rows { statuses = ended a.ends rows.statuses }) s0 s1
 
   abbrev History : Accepted → State → State → Type 0
-  History a s0 s1 = Writes tenant Any (λ rows. record rows { history = rows.history ++ new_history a }) s0 s1
+  History a s0 s1 = ChangesRows tenant Any (λ rows. record rows { history = rows.history ++ new_history a }) s0 s1
 
   -- all rows of an accepted transfer
   module _ (a : Accepted) (s0 s1 s2 s3 s4 s5 : State) (inside : IsInside s0) (first : AddsRows transfer_rows 8 tenant (transfer_values (transfer_cells a.stored) ∷ []) s0 s1) (both : Both a s1 s2) (ends : Ended a s2 s3) (opens : Status (new_statuses a.stored) s3 s4) where
-    with_both : Writes tenant (CanAccept a) (λ rows. record rows { transfers = rows.transfers ++ a.stored ∷ []; balances = set_both a.stored a.debit_after a.credit_after rows.balances }) s0 s2
+    with_both : ChangesRows tenant (CanAccept a) (λ rows. record rows { transfers = rows.transfers ++ a.stored ∷ []; balances = set_both a.stored a.debit_after a.credit_after rows.balances }) s0 s2
     with_both =
         writes_then tenant Any (λ rows. HasBoth a.stored rows.balances) (CanAccept a) (λ rows. record rows { transfers = rows.transfers ++ a.stored ∷ [] })
         (λ rows. record rows { balances = set_both a.stored a.debit_after a.credit_after rows.balances }) s0 s1 s2 (transfer_added tenant s0 s1 inside.schema a.stored first) both (λ rows can. (tt, can.balances))
 
-    with_ended : Writes tenant (CanAccept a) (λ rows. record rows { transfers = rows.transfers ++ a.stored ∷ []; balances = set_both a.stored a.debit_after a.credit_after rows.balances; statuses = ended a.ends rows.statuses }) s0 s3
+    with_ended : ChangesRows tenant (CanAccept a) (λ rows. record rows { transfers = rows.transfers ++ a.stored ∷ []; balances = set_both a.stored a.debit_after a.credit_after rows.balances; statuses = ended a.ends rows.statuses }) s0 s3
     with_ended =
         writes_then tenant (CanAccept a) (λ rows. HasEnded a.ends rows.statuses) (CanAccept a)
         (λ rows. record rows { transfers = rows.transfers ++ a.stored ∷ []; balances = set_both a.stored a.debit_after a.credit_after rows.balances }) (λ rows. record rows { statuses = ended a.ends rows.statuses }) s0 s2 s3 with_both ends
         (λ rows can. (can, can.ended))
 
-    with_status : Writes tenant (CanAccept a)
+    with_status : ChangesRows tenant (CanAccept a)
         (λ rows. record rows { transfers = rows.transfers ++ a.stored ∷ []; balances = set_both a.stored a.debit_after a.credit_after rows.balances; statuses = ended a.ends rows.statuses ++ new_statuses a.stored }) s0 s4
     with_status =
         writes_then tenant (CanAccept a) Any (CanAccept a)
         (λ rows. record rows { transfers = rows.transfers ++ a.stored ∷ []; balances = set_both a.stored a.debit_after a.credit_after rows.balances; statuses = ended a.ends rows.statuses })
         (λ rows. record rows { statuses = rows.statuses ++ new_statuses a.stored }) s0 s3 s4 with_ended opens (λ rows can. (can, tt))
 
-    pub transfer_written : (r : Result (Unit {0}) Unavailable) → OnOk r (History a s4 s5) → OnOk r (Writes tenant (CanAccept a) (with_accepted a) s0 s5)
+    pub transfer_written : (r : Result (Unit {0}) Unavailable) → OnOk r (History a s4 s5) → OnOk r (ChangesRows tenant (CanAccept a) (with_accepted a) s0 s5)
     unfolding with_accepted
     transfer_written r history =
         on_ok_weaker r

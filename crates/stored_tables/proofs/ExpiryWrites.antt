@@ -13,16 +13,16 @@ use Rattle.rows.specs.TypedRows.{TypedRows}
 use Rattle.rows.specs.Keyed.{row_with}
 use Rattle.rows.specs.Widths.{IsStorableBalance, IsStorableStatus}
 use Rattle.stored_tables.specs.declared.expiry.Expiry.{Expiry}
-use Rattle.stored_tables.specs.Moves.{Moves, Writes, HasBoth, HasStatus}
+use Rattle.stored_tables.specs.Moves.{Moves, ChangesRows, HasBoth, HasStatus}
 use Rattle.stored_tables.specs.Releasing.{CanExpire, IsExpiry, HasExpiring, with_expiry, Expires}
 use Rattle.stored_tables.proofs.Writing.{writes_then, writes_after_same}
 
 abbrev SetsState : ℤ → Expiry → State → State → Type 0
-SetsState tenant e s1 s2 = Writes tenant (λ rows. HasStatus e.transfer.id rows.statuses) (λ rows. record rows { statuses = set_state e.transfer.id Expired rows.statuses }) s1 s2
+SetsState tenant e s1 s2 = ChangesRows tenant (λ rows. HasStatus e.transfer.id rows.statuses) (λ rows. record rows { statuses = set_state e.transfer.id Expired rows.statuses }) s1 s2
 
 pub expiry_written : (tenant : ℤ) (e : Expiry) (s0 s1 s2 : State) (r : Result (Unit {0}) Unavailable)
-    → Writes tenant (λ rows. HasBoth e.transfer rows.balances) (λ rows. record rows { balances = set_both e.transfer e.debit e.credit rows.balances }) s0 s1 → OnOk r (SetsState tenant e s1 s2)
-    → OnOk r (Writes tenant (HasExpiring e.transfer) (with_expiry e) s0 s2)
+    → ChangesRows tenant (λ rows. HasBoth e.transfer rows.balances) (λ rows. record rows { balances = set_both e.transfer e.debit e.credit rows.balances }) s0 s1 → OnOk r (SetsState tenant e s1 s2)
+    → OnOk r (ChangesRows tenant (HasExpiring e.transfer) (with_expiry e) s0 s2)
 expiry_written tenant e s0 s1 s2 r first second =
     on_ok_weaker r
     (λ (w : SetsState tenant e s1 s2).
@@ -54,7 +54,7 @@ has_expiring t debit credit rows can =
     }
 
 module _ (tenant : ℤ) (id : ℕ) (e : Expiry) (s0 s1 s2 : State) (is : IsExpiry tenant id s0.now.trees e) (same : IsUnchanged s0 s1) where
-  expires : Writes tenant (HasExpiring e.transfer) (with_expiry e) s1 s2 → Expires tenant id s0 s2
+  expires : ChangesRows tenant (HasExpiring e.transfer) (with_expiry e) s1 s2 → Expires tenant id s0 s2
   unfolding with_expired
   expires w =
       let all = writes_after_same tenant (HasExpiring e.transfer) (with_expiry e) s0 s1 s2 same w in
@@ -69,5 +69,5 @@ module _ (tenant : ℤ) (id : ℕ) (e : Expiry) (s0 s1 s2 : State) (is : IsExpir
         };
       }
 
-  pub expired : (r : Result (Unit {0}) Unavailable) → OnOk r (Writes tenant (HasExpiring e.transfer) (with_expiry e) s1 s2) → OnOk r (Expires tenant id s0 s2)
+  pub expired : (r : Result (Unit {0}) Unavailable) → OnOk r (ChangesRows tenant (HasExpiring e.transfer) (with_expiry e) s1 s2) → OnOk r (Expires tenant id s0 s2)
   expired r w = on_ok_weaker r expires w

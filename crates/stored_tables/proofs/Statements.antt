@@ -25,7 +25,7 @@ use Rattle.ledger_sql.specs.Effects.{IsLedger, AddsRows, SetsRow, SetsOne, Picks
 use Rattle.ledger_sql.specs.Rowids.{IsNumbered}
 use Rattle.ledger_sql.specs.TableRows.{clock_rows, account_rows, transfer_rows, balance_rows, status_rows, history_rows, failed_rows, has_id, with_id}
 use Rattle.ledger_sql.specs.Values.{clock_values, account_values, transfer_values, balance_values, status_values, history_values, id_values}
-use Rattle.stored_tables.specs.Moves.{Writes, Any, IsThere, HasStatus, IsStatusOf}
+use Rattle.stored_tables.specs.Moves.{ChangesRows, Any, IsThere, HasStatus, IsStatusOf}
 use Rattle.stored_tables.proofs.RowMoves.{with_more, tells_id, one, found_row, with_changed, found_key, found_all, if_found, some_of}
 use Rattle.stored_tables.proofs.SameValues.{CellsTellRows, same_status}
 use Rattle.stored_tables.proofs.OneTableMoves.{StaysAside, clock_moved, account_moved, transfer_moved, balance_moved, status_moved, history_moved, failed_moved}
@@ -47,7 +47,7 @@ module _ (tenant : ℤ) (old new : State) (ledger : IsLedger old.now.schema) whe
   added_aside : (rows : ℤ → Trees → List Row) (tree : ℕ) (added : List Row) → AddsRows rows tree tenant added old new → IsNumbered (was tree) → StaysAside rows tree tenant old new
   added_aside rows tree added adds num = record { tables = adds.tables; others = adds.others; numbered = adds.numbered num }
 
-  pub account_added : (a : Account) → AddsRows account_rows 5 tenant (account_values (account_cells a) ∷ []) old new → Writes tenant Any (λ rows. record rows { accounts = rows.accounts ++ a ∷ [] }) old new
+  pub account_added : (a : Account) → AddsRows account_rows 5 tenant (account_values (account_cells a) ∷ []) old new → ChangesRows tenant Any (λ rows. record rows { accounts = rows.accounts ++ a ∷ [] }) old new
   account_added a adds = record {
     inside = adds.inside;
     moves = λ rows can num held.
@@ -55,7 +55,7 @@ module _ (tenant : ℤ) (old new : State) (ledger : IsLedger old.now.schema) whe
         (with_more (λ row. account_values (account_cells row)) rows.accounts (a ∷ []) (account_rows tenant was) (account_rows tenant is) held.accounts adds.own);
   }
 
-  pub transfer_added : (t : Transfer) → AddsRows transfer_rows 8 tenant (transfer_values (transfer_cells t) ∷ []) old new → Writes tenant Any (λ rows. record rows { transfers = rows.transfers ++ t ∷ [] }) old new
+  pub transfer_added : (t : Transfer) → AddsRows transfer_rows 8 tenant (transfer_values (transfer_cells t) ∷ []) old new → ChangesRows tenant Any (λ rows. record rows { transfers = rows.transfers ++ t ∷ [] }) old new
   transfer_added t adds = record {
     inside = adds.inside;
     moves = λ rows can num held.
@@ -63,7 +63,7 @@ module _ (tenant : ℤ) (old new : State) (ledger : IsLedger old.now.schema) whe
         (with_more (λ row. transfer_values (transfer_cells row)) rows.transfers (t ∷ []) (transfer_rows tenant was) (transfer_rows tenant is) held.transfers adds.own);
   }
 
-  pub balance_added : (b : BalanceRow) → AddsRows balance_rows 11 tenant (balance_values (balance_cells b) ∷ []) old new → Writes tenant Any (λ rows. record rows { balances = rows.balances ++ b ∷ [] }) old new
+  pub balance_added : (b : BalanceRow) → AddsRows balance_rows 11 tenant (balance_values (balance_cells b) ∷ []) old new → ChangesRows tenant Any (λ rows. record rows { balances = rows.balances ++ b ∷ [] }) old new
   balance_added b adds = record {
     inside = adds.inside;
     moves = λ rows can num held.
@@ -71,7 +71,7 @@ module _ (tenant : ℤ) (old new : State) (ledger : IsLedger old.now.schema) whe
         (with_more (λ row. balance_values (balance_cells row)) rows.balances (b ∷ []) (balance_rows tenant was) (balance_rows tenant is) held.balances adds.own);
   }
 
-  pub status_added : (s : StatusRow) → AddsRows status_rows 13 tenant (status_values (status_cells s) ∷ []) old new → Writes tenant Any (λ rows. record rows { statuses = rows.statuses ++ s ∷ [] }) old new
+  pub status_added : (s : StatusRow) → AddsRows status_rows 13 tenant (status_values (status_cells s) ∷ []) old new → ChangesRows tenant Any (λ rows. record rows { statuses = rows.statuses ++ s ∷ [] }) old new
   status_added s adds = record {
     inside = adds.inside;
     moves = λ rows can num held.
@@ -79,7 +79,7 @@ module _ (tenant : ℤ) (old new : State) (ledger : IsLedger old.now.schema) whe
         (with_more (λ row. status_values (status_cells row)) rows.statuses (s ∷ []) (status_rows tenant was) (status_rows tenant is) held.statuses adds.own);
   }
 
-  pub history_added : (d c : HistoryRow) → AddsRows history_rows 15 tenant (history_values (history_cells d) ∷ history_values (history_cells c) ∷ []) old new → Writes tenant Any (λ rows. record rows { history = rows.history ++ d ∷ c ∷ [] }) old new
+  pub history_added : (d c : HistoryRow) → AddsRows history_rows 15 tenant (history_values (history_cells d) ∷ history_values (history_cells c) ∷ []) old new → ChangesRows tenant Any (λ rows. record rows { history = rows.history ++ d ∷ c ∷ [] }) old new
   history_added d c adds = record {
     inside = adds.inside;
     moves = λ rows can num held.
@@ -87,7 +87,7 @@ module _ (tenant : ℤ) (old new : State) (ledger : IsLedger old.now.schema) whe
         (with_more (λ row. history_values (history_cells row)) rows.history (d ∷ c ∷ []) (history_rows tenant was) (history_rows tenant is) held.history adds.own);
   }
 
-  pub failed_added : (id : ℕ) → AddsRows failed_rows 17 tenant (id_values (column_of id) ∷ []) old new → Writes tenant Any (λ rows. record rows { failed = rows.failed ++ id ∷ [] }) old new
+  pub failed_added : (id : ℕ) → AddsRows failed_rows 17 tenant (id_values (column_of id) ∷ []) old new → ChangesRows tenant Any (λ rows. record rows { failed = rows.failed ++ id ∷ [] }) old new
   failed_added id adds = record {
     inside = adds.inside;
     moves = λ rows can num held.
@@ -98,7 +98,7 @@ module _ (tenant : ℤ) (old new : State) (ledger : IsLedger old.now.schema) whe
   set_aside : (rows : ℤ → Trees → List Row) (tree : ℕ) (test : Row → Bool) (values : Row) → SetsRow rows tree tenant test values old new → StaysAside rows tree tenant old new
   set_aside rows tree test values sets = record { tables = sets.tables; others = sets.others; numbered = sets.numbered }
 
-  pub clock_set : (clock : ℕ) → SetsOne clock_rows 4 tenant (λ r. true) (clock_values (pos clock)) old new → Writes tenant Any (λ rows. record rows { clock = clock }) old new
+  pub clock_set : (clock : ℕ) → SetsOne clock_rows 4 tenant (λ r. true) (clock_values (pos clock)) old new → ChangesRows tenant Any (λ rows. record rows { clock = clock }) old new
   clock_set clock sets = record {
     inside = sets.inside;
     moves = λ rows can num held.
@@ -113,7 +113,7 @@ module _ (tenant : ℤ) (old new : State) (ledger : IsLedger old.now.schema) whe
     tells values key id xs shape fits all = all_weaker (λ x. key x < 2 ^ 128) (λ x. has_id (column_of id) (values x) ≡ eqb (key x) id) (λ x p. shape x ∙ tells_id columns (key x) id p fits) xs all
 
     pub balance_set : Alone BalanceRow → Replaced BalanceRow → (row : BalanceRow) → SetsOne balance_rows 11 tenant (has_id (column_of row.account)) (balance_values (balance_cells row)) old new
-        → Writes tenant (λ rows. IsThere (λ r. r.account) row.account rows.balances) (λ rows. record rows { balances = set_balances row.account row.balances rows.balances }) old new
+        → ChangesRows tenant (λ rows. IsThere (λ r. r.account) row.account rows.balances) (λ rows. record rows { balances = set_balances row.account row.balances rows.balances }) old new
     balance_set alone replaced row sets = record {
       inside = sets.inside;
       moves = λ rows can num held.
@@ -137,7 +137,7 @@ module _ (tenant : ℤ) (old new : State) (ledger : IsLedger old.now.schema) whe
 
     -- the status row that was found is set to this state
     pub state_set : Alone StatusRow → Replaced StatusRow → (id : ℕ) (state : PendingState) (row : StatusRow) (found : IsStatusOf tenant id was (Some row)) → SetsOne status_rows 13 tenant (has_id (column_of row.transfer)) (status_values (status_cells (record row { state = state }))) old new
-        → Writes tenant (λ rows. HasStatus id rows.statuses) (λ rows. record rows { statuses = set_state id state rows.statuses }) old new
+        → ChangesRows tenant (λ rows. HasStatus id rows.statuses) (λ rows. record rows { statuses = set_state id state rows.statuses }) old new
     state_set alone replaced id state row found sets = record {
       inside = sets.inside;
       moves = λ rows can num held.

@@ -17,7 +17,7 @@ use Rattle.stored_tables.specs.Holds.{HoldsRows, HoldsMachine}
 use Rattle.stored_tables.specs.InBatch.{AreMarks, IsInBatch, IsUsable, shown, marked_in}
 use Rattle.stored_tables.specs.MachineOf.{machine_of}
 use Rattle.stored_tables.specs.Meaning.{batch_meaning}
-use Rattle.stored_tables.specs.Moves.{Moves, Writes}
+use Rattle.stored_tables.specs.Moves.{Moves, ChangesRows}
 
 pub inside_then : (a b c : State) → WritesInside a b → WritesInside b c → WritesInside a c
 inside_then a b c f g = record {
@@ -45,7 +45,7 @@ others_then tenant a b c f g = record {
 }
 
 -- a write behind a write
-pub writes_then : (tenant : ℤ) (can next both : TypedRows → Type 0) (change more : TypedRows → TypedRows) (a b c : State) → Writes tenant can change a b → Writes tenant next more b c → ((rows : TypedRows) → both rows → can rows × next (change rows)) → Writes tenant both (λ rows. more (change rows)) a c
+pub writes_then : (tenant : ℤ) (can next both : TypedRows → Type 0) (change more : TypedRows → TypedRows) (a b c : State) → ChangesRows tenant can change a b → ChangesRows tenant next more b c → ((rows : TypedRows) → both rows → can rows × next (change rows)) → ChangesRows tenant both (λ rows. more (change rows)) a c
 writes_then tenant can next both change more a b c f g leads = record {
   inside = inside_then a b c f.inside g.inside;
   moves = λ rows may num held.
@@ -56,7 +56,7 @@ writes_then tenant can next both change more a b c f g leads = record {
 }
 
 -- a write behind a call that changed nothing
-pub writes_after_same : (tenant : ℤ) (can : TypedRows → Type 0) (change : TypedRows → TypedRows) (a b c : State) → IsUnchanged a b → Writes tenant can change b c → Writes tenant can change a c
+pub writes_after_same : (tenant : ℤ) (can : TypedRows → Type 0) (change : TypedRows → TypedRows) (a b c : State) → IsUnchanged a b → ChangesRows tenant can change b c → ChangesRows tenant can change a c
 writes_after_same tenant can change a b c same w = record {
   inside = record {
     schema = w.inside.schema ∙ ap (λ (db : Database). db.schema) same.0.now_is;
@@ -84,7 +84,7 @@ pub record IsChange (can : TypedRows → Type 0) (change : TypedRows → TypedRo
   pub rows : rows_for 3 (step m) ≡ change (rows_for 3 m)
   pub valid : IsValid (step m)
 
-module _ (held_machines : HeldMachines) (tenant : ℤ) (can : TypedRows → Type 0) (change : TypedRows → TypedRows) (step : Machine → Machine) (old new : State) (batch : IsInBatch tenant old) (w : Writes tenant can change old new) (is : IsChange can change step (machine_of tenant old.now.trees)) where
+module _ (held_machines : HeldMachines) (tenant : ℤ) (can : TypedRows → Type 0) (change : TypedRows → TypedRows) (step : Machine → Machine) (old new : State) (batch : IsInBatch tenant old) (w : ChangesRows tenant can change old new) (is : IsChange can change step (machine_of tenant old.now.trees)) where
   moved : Moves tenant (change (rows_for 3 (machine_of tenant old.now.trees))) old.now.trees new.now.trees
   moved = w.moves (rows_for 3 (machine_of tenant old.now.trees)) is.may batch.now.numbered batch.now.holds.rows
 
@@ -110,7 +110,7 @@ module _ (held_machines : HeldMachines) (tenant : ℤ) (can : TypedRows → Type
 
 -- what a write leaves of the tenant's tables
 pub writes_leave : {S : Type 0} (store : Ghosts S) (tenant : ℤ) (old new : Held S) {X : Type 0} (x : X) (can : TypedRows → Type 0) (change : TypedRows → TypedRows) (step : Machine → Machine)
-    → HeldMachines → IsUsable tenant (state store old) → Follows (state store old) (state store new) → (HasCleanDisk (state store new) → Writes tenant can change (state store old) (state store new))
+    → HeldMachines → IsUsable tenant (state store old) → Follows (state store old) (state store new) → (HasCleanDisk (state store new) → ChangesRows tenant can change (state store old) (state store new))
     → (Live (state store old) → IsValid (shown tenant (state store old)).now → IsChange can change step (shown tenant (state store old)).now)
     → Leaves {S = Held S} {X = X} (batch_meaning store tenant) old new (Ok x) (on_now step)
 unfolding shown

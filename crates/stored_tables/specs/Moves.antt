@@ -23,7 +23,7 @@ pub record Moves (tenant : ℤ) (moved : TypedRows) (old new : Trees) : Type 0 w
   pub rows : HoldsRows tenant moved new
 
 -- the transaction goes on, and where the tenant's rows are such, they have changed so
-pub record Writes (tenant : ℤ) (can : TypedRows → Type 0) (change : TypedRows → TypedRows)
+pub record ChangesRows (tenant : ℤ) (can : TypedRows → Type 0) (change : TypedRows → TypedRows)
     (old new : State) : Type 0 where
   pub inside : WritesInside old new
   pub moves :

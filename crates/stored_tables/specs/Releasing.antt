@@ -21,7 +21,7 @@ use Rattle.ledger_sql.specs.Effects.{WritesInside}
 use Rattle.stored_tables.specs.Covers.{DueTest, Covers}
 use Rattle.stored_tables.specs.Frames.{AreNumbered}
 use Rattle.stored_tables.specs.Holds.{HoldsRows}
-use Rattle.stored_tables.specs.Moves.{Moves, Writes, HasBoth, HasStatus}
+use Rattle.stored_tables.specs.Moves.{Moves, ChangesRows, HasBoth, HasStatus}
 use Rattle.stored_tables.specs.declared.expiry.Expiry.{Expiry}
 
 -- rows that fit a file and are told apart by their keys
@@ -89,7 +89,7 @@ pub record Expires (tenant : ℤ) (id : ℕ) (old new : State) : Type 0 where
   pub inside : WritesInside old new
   pub writes :
       (t : Transfer) (debit credit : Balances) → t.id ≡ id →
-      Writes tenant (CanExpire t debit credit) (with_expired t debit credit) old new
+      ChangesRows tenant (CanExpire t debit credit) (with_expired t debit credit) old new
 
 -- of the transfers that are due at the clock these were released, and the others are left
 pub record IsReleased (clock : ℕ) (m : Machine) (done : List ℕ) : Type 0 where
@@ -130,4 +130,4 @@ pub record ReleasesDue (tenant : ℤ) (clock : ℕ) (has : DueTest) (old new : S
 abbrev pub MovesClock : ℤ → ℕ → DueTest → State → State → Type 0
 MovesClock tenant clock has old new =
     (m : Machine) → IsValid m → m.clock ≤ clock → Covers has m →
-    Writes tenant (λ rows. rows ≡ rows_for 3 m) (λ rows. rows_for 3 (at_clock m clock)) old new
+    ChangesRows tenant (λ rows. rows ≡ rows_for 3 m) (λ rows. rows_for 3 (at_clock m clock)) old new

@@ -1,13 +1,13 @@
 //! Rows of a tenant that change inside its batch.
 
-ghost use Rattle.std.specs.Prelude.{OnOk, IfOk, IfSome};
-ghost use Rattle.sqlite.specs.State.{HasCleanDisk, IsUnchanged};
+ghost use Rattle.std.specs.Prelude.{IfOk, IfSome};
+ghost use Rattle.sqlite.specs.State.{HasCleanDisk};
 ghost use Rattle.sqlite.specs.Held.{state};
 ghost use Rattle.rows.specs.Changes.{set_balances, set_both, set_state};
 ghost use Rattle.rows.specs.Widths.{IsStorableStatus};
+ghost use Rattle.ledger_sql.specs.Calls.{Changes, IfClean, Reads};
 ghost use Rattle.ledger_sql.specs.Effects.{IsInside};
-ghost use Rattle.ledger_sql.specs.Frames.{Follows};
-ghost use Rattle.stored_tables.specs.Moves.{Writes, IsThere, HasBoth, HasStatus, IsStatusOf};
+ghost use Rattle.stored_tables.specs.Moves.{ChangesRows, IsThere, HasBoth, HasStatus, IsStatusOf};
 
 use crate::batch::TenantNumber;
 use amount::columns_keep_order;
@@ -24,12 +24,10 @@ pub(crate) fn set_balances<S: Alter>(
     account: u128,
     balances: Balances,
 ) -> Result<(), Unavailable>
-    requires { HasCleanDisk (state S.Store conn.old) → IsInside (state S.Store conn.old) }
-    ensures ok { HasCleanDisk (state S.Store conn.new) → OnOk result
-        (Writes tenant.0 (λ rows. IsThere (λ row. row.account) account rows.balances)
-        (λ rows. record rows { balances = set_balances account balances rows.balances })
-        (state S.Store conn.old) (state S.Store conn.new)) }
-    ensures follows { Follows (state S.Store conn.old) (state S.Store conn.new) }
+    requires { IfClean IsInside S.Store conn.old }
+    ensures { Changes (ChangesRows tenant.0 (λ rows. IsThere (λ row. row.account) account rows.balances)
+        (λ rows. record rows { balances = set_balances account balances rows.balances }))
+        S.Store conn.old conn.new result }
 {
     columns_keep_order();
     found_by_key::<BalanceRow>();
@@ -44,12 +42,10 @@ pub(crate) fn set_both<S: Alter>(
     debit: Balances,
     credit: Balances,
 ) -> Result<(), Unavailable>
-    requires { HasCleanDisk (state S.Store conn.old) → IsInside (state S.Store conn.old) }
-    ensures ok { HasCleanDisk (state S.Store conn.new) → OnOk result
-        (Writes tenant.0 (λ rows. HasBoth transfer.now rows.balances)
-        (λ rows. record rows { balances = set_both transfer.now debit credit rows.balances })
-        (state S.Store conn.old) (state S.Store conn.new)) }
-    ensures follows { Follows (state S.Store conn.old) (state S.Store conn.new) }
+    requires { IfClean IsInside S.Store conn.old }
+    ensures { Changes (ChangesRows tenant.0 (λ rows. HasBoth transfer.now rows.balances)
+        (λ rows. record rows { balances = set_both transfer.now debit credit rows.balances }))
+        S.Store conn.old conn.new result }
 {
     set_balances(conn, tenant, transfer.debit_account_id, debit)?;
     set_balances(conn, tenant, transfer.credit_account_id, credit)
@@ -61,13 +57,11 @@ pub(crate) fn status<S: Alter>(
     tenant: TenantNumber,
     id: u128,
 ) -> Result<Option<StatusRow>, Unavailable>
-    requires { HasCleanDisk (state S.Store conn.old) → IsInside (state S.Store conn.old) }
+    requires { IfClean IsInside S.Store conn.old }
     ensures ok { HasCleanDisk (state S.Store conn.new) → IfOk result
         (IsStatusOf tenant.0 id (state S.Store conn.old).now.trees) }
     ensures fits { IfOk result (λ found. IfSome found IsStorableStatus) }
-    ensures same { HasCleanDisk (state S.Store conn.new) → OnOk result
-        (IsUnchanged (state S.Store conn.old) (state S.Store conn.new)) }
-    ensures follows { Follows (state S.Store conn.old) (state S.Store conn.new) }
+    ensures reads { Reads S.Store conn.old conn.new result }
 {
     columns_keep_order();
     cells_tell_rows();
@@ -82,12 +76,10 @@ pub(crate) fn set_state<S: Alter>(
     id: u128,
     to: PendingState,
 ) -> Result<(), Unavailable>
-    requires { HasCleanDisk (state S.Store conn.old) → IsInside (state S.Store conn.old) }
-    ensures ok { HasCleanDisk (state S.Store conn.new) → OnOk result
-        (Writes tenant.0 (λ rows. HasStatus id rows.statuses)
-        (λ rows. record rows { statuses = set_state id to rows.statuses })
-        (state S.Store conn.old) (state S.Store conn.new)) }
-    ensures follows { Follows (state S.Store conn.old) (state S.Store conn.new) }
+    requires { IfClean IsInside S.Store conn.old }
+    ensures { Changes (ChangesRows tenant.0 (λ rows. HasStatus id rows.statuses)
+        (λ rows. record rows { statuses = set_state id to rows.statuses }))
+        S.Store conn.old conn.new result }
 {
     columns_keep_order();
     found_by_key::<StatusRow>();

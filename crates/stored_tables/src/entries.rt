@@ -1,13 +1,12 @@
 //! The rows of new accounts and transfers.
 
-ghost use Rattle.std.specs.Prelude.{◌++◌, ◌≤◌, IsTrue, OnOk};
+ghost use Rattle.std.specs.Prelude.{◌++◌, ◌≤◌, IsTrue};
 ghost use Rattle.records.specs.Step.{max_clock};
 ghost use Rattle.rows.specs.Changes.{with_opened, with_accepted, ended, new_statuses, new_history};
-ghost use Rattle.sqlite.specs.State.{HasCleanDisk};
 ghost use Rattle.sqlite.specs.Held.{state};
+ghost use Rattle.ledger_sql.specs.Calls.{Changes, IfClean};
 ghost use Rattle.ledger_sql.specs.Effects.{IsInside};
-ghost use Rattle.ledger_sql.specs.Frames.{Follows};
-ghost use Rattle.stored_tables.specs.Moves.{Any, Writes, CanAccept, HasEnded};
+ghost use Rattle.stored_tables.specs.Moves.{Any, ChangesRows, CanAccept, HasEnded};
 
 use crate::batch::TenantNumber;
 use crate::changing::{set_both, set_state};
@@ -23,12 +22,10 @@ pub(crate) fn write_account<S: Alter>(
     tenant: TenantNumber,
     account: &Account,
 ) -> Result<(), Unavailable>
-    requires inside { HasCleanDisk (state S.Store conn.old) → IsInside (state S.Store conn.old) }
+    requires inside { IfClean IsInside S.Store conn.old }
     requires bounded { account.now.timestamp ≤ max_clock }
-    ensures ok { HasCleanDisk (state S.Store conn.new) → OnOk result
-        (Writes tenant.0 Any (with_opened account.now) (state S.Store conn.old)
-        (state S.Store conn.new)) }
-    ensures follows { Follows (state S.Store conn.old) (state S.Store conn.new) }
+    ensures { Changes (ChangesRows tenant.0 Any (with_opened account.now))
+        S.Store conn.old conn.new result }
 {
     add_account(conn, tenant.0, account)?;
     let balance = BalanceRow {
@@ -45,13 +42,11 @@ pub(crate) fn write_transfer<S: Alter>(
     tenant: TenantNumber,
     accepted: &Accepted,
 ) -> Result<(), Unavailable>
-    requires inside { HasCleanDisk (state S.Store conn.old) → IsInside (state S.Store conn.old) }
+    requires inside { IfClean IsInside S.Store conn.old }
     requires bounded { accepted.now.stored.timestamp ≤ max_clock }
     requires at_bounded { accepted.now.stored.at ≤ max_clock }
-    ensures ok { HasCleanDisk (state S.Store conn.new) → OnOk result
-        (Writes tenant.0 (CanAccept accepted.now) (with_accepted accepted.now)
-        (state S.Store conn.old) (state S.Store conn.new)) }
-    ensures follows { Follows (state S.Store conn.old) (state S.Store conn.new) }
+    ensures { Changes (ChangesRows tenant.0 (CanAccept accepted.now) (with_accepted accepted.now))
+        S.Store conn.old conn.new result }
 {
     let stored = &accepted.stored;
     add_transfer(conn, tenant.0, stored)?;
@@ -73,14 +68,11 @@ fn end_pending<S: Alter>(
     tenant: TenantNumber,
     ends: &Option<Ending>,
 ) -> Result<(), Unavailable>
-    requires inside { HasCleanDisk (state S.Store conn.old) → IsInside (state S.Store conn.old) }
-    requires open { HasCleanDisk (state S.Store conn.old) → IsTrue
-        (state S.Store conn.old).is_open }
-    ensures ok { HasCleanDisk (state S.Store conn.new) → OnOk result
-        (Writes tenant.0 (λ rows. HasEnded ends.now rows.statuses)
-        (λ rows. record rows { statuses = ended ends.now rows.statuses })
-        (state S.Store conn.old) (state S.Store conn.new)) }
-    ensures follows { Follows (state S.Store conn.old) (state S.Store conn.new) }
+    requires inside { IfClean IsInside S.Store conn.old }
+    requires open { IfClean (λ s. IsTrue s.is_open) S.Store conn.old }
+    ensures { Changes (ChangesRows tenant.0 (λ rows. HasEnded ends.now rows.statuses)
+        (λ rows. record rows { statuses = ended ends.now rows.statuses }))
+        S.Store conn.old conn.new result }
 {
     match ends {
         Some(Ending::Posted(id)) => set_state(conn, tenant, *id, PendingState::Posted),
@@ -95,15 +87,12 @@ fn open_pending<S: Alter>(
     tenant: TenantNumber,
     stored: &Transfer,
 ) -> Result<(), Unavailable>
-    requires inside { HasCleanDisk (state S.Store conn.old) → IsInside (state S.Store conn.old) }
-    requires open { HasCleanDisk (state S.Store conn.old) → IsTrue
-        (state S.Store conn.old).is_open }
+    requires inside { IfClean IsInside S.Store conn.old }
+    requires open { IfClean (λ s. IsTrue s.is_open) S.Store conn.old }
     requires bounded { stored.now.timestamp ≤ max_clock }
-    ensures ok { HasCleanDisk (state S.Store conn.new) → OnOk result
-        (Writes tenant.0 Any
-        (λ rows. record rows { statuses = rows.statuses ++ new_statuses stored.now })
-        (state S.Store conn.old) (state S.Store conn.new)) }
-    ensures follows { Follows (state S.Store conn.old) (state S.Store conn.new) }
+    ensures { Changes (ChangesRows tenant.0 Any
+        (λ rows. record rows { statuses = rows.statuses ++ new_statuses stored.now }))
+        S.Store conn.old conn.new result }
 {
     if !stored.flags.is_pending() {
         return Ok(());
@@ -123,13 +112,11 @@ fn write_history<S: Alter>(
     tenant: TenantNumber,
     accepted: &Accepted,
 ) -> Result<(), Unavailable>
-    requires inside { HasCleanDisk (state S.Store conn.old) → IsInside (state S.Store conn.old) }
+    requires inside { IfClean IsInside S.Store conn.old }
     requires bounded { accepted.now.stored.timestamp ≤ max_clock }
-    ensures ok { HasCleanDisk (state S.Store conn.new) → OnOk result
-        (Writes tenant.0 Any
-        (λ rows. record rows { history = rows.history ++ new_history accepted.now })
-        (state S.Store conn.old) (state S.Store conn.new)) }
-    ensures follows { Follows (state S.Store conn.old) (state S.Store conn.new) }
+    ensures { Changes (ChangesRows tenant.0 Any
+        (λ rows. record rows { history = rows.history ++ new_history accepted.now }))
+        S.Store conn.old conn.new result }
 {
     let stored = &accepted.stored;
     let debit = HistoryRow {

@@ -1,13 +1,11 @@
 //! A pending transfer of a tenant expires.
 
-ghost use Rattle.std.specs.Prelude.{◌≡◌, OnOk, IfOk};
+ghost use Rattle.std.specs.Prelude.{◌≡◌, IfOk};
 ghost use Rattle.records.specs.declared.side.Side.TheVariants.{Debit, Credit};
 ghost use Rattle.engine.specs.After.{balances_released};
-ghost use Rattle.sqlite.specs.State.{HasCleanDisk, IsUnchanged};
-ghost use Rattle.sqlite.specs.Held.{state};
+ghost use Rattle.ledger_sql.specs.Calls.{Changes, IfClean, Learns};
 ghost use Rattle.ledger_sql.specs.Effects.{IsInside};
-ghost use Rattle.ledger_sql.specs.Frames.{Follows};
-ghost use Rattle.stored_tables.specs.Moves.{Writes};
+ghost use Rattle.stored_tables.specs.Moves.{ChangesRows};
 ghost use Rattle.stored_tables.specs.Releasing.{Expires, IsExpiry, IsTransferOf, AreBalancesOf};
 ghost use Rattle.stored_tables.specs.Releasing.{HasExpiring, with_expiry};
 
@@ -28,10 +26,8 @@ pub(crate) fn expire<S: Alter>(
     tenant: TenantNumber,
     id: u128,
 ) -> Result<(), Unavailable>
-    requires { HasCleanDisk (state S.Store conn.old) → IsInside (state S.Store conn.old) }
-    ensures ok { HasCleanDisk (state S.Store conn.new) → OnOk result
-        (Expires tenant.0 id (state S.Store conn.old) (state S.Store conn.new)) }
-    ensures follows { Follows (state S.Store conn.old) (state S.Store conn.new) }
+    requires { IfClean IsInside S.Store conn.old }
+    ensures { Changes (Expires tenant.0 id) S.Store conn.old conn.new result }
 {
     let expiry = expiry_of(conn, tenant, id)?;
     write_expiry(conn, tenant, &expiry)
@@ -43,12 +39,8 @@ fn expiry_of<S: Alter>(
     tenant: TenantNumber,
     id: u128,
 ) -> Result<Expiry, Unavailable>
-    requires { HasCleanDisk (state S.Store conn.old) → IsInside (state S.Store conn.old) }
-    ensures ok { HasCleanDisk (state S.Store conn.new) → IfOk result
-        (IsExpiry tenant.0 id (state S.Store conn.old).now.trees) }
-    ensures same { HasCleanDisk (state S.Store conn.new) → OnOk result
-        (IsUnchanged (state S.Store conn.old) (state S.Store conn.new)) }
-    ensures follows { Follows (state S.Store conn.old) (state S.Store conn.new) }
+    requires { IfClean IsInside S.Store conn.old }
+    ensures { Learns (IsExpiry tenant.0 id) S.Store conn.old conn.new result }
 {
     let transfer = stored_transfer(conn, tenant, id)?;
     let debit = stored_balances(conn, tenant, transfer.debit_account_id)?;
@@ -67,12 +59,8 @@ fn stored_transfer<S: Alter>(
     tenant: TenantNumber,
     id: u128,
 ) -> Result<Transfer, Unavailable>
-    requires { HasCleanDisk (state S.Store conn.old) → IsInside (state S.Store conn.old) }
-    ensures ok { HasCleanDisk (state S.Store conn.new) → IfOk result
-        (IsTransferOf tenant.0 id (state S.Store conn.old).now.trees) }
-    ensures same { HasCleanDisk (state S.Store conn.new) → OnOk result
-        (IsUnchanged (state S.Store conn.old) (state S.Store conn.new)) }
-    ensures follows { Follows (state S.Store conn.old) (state S.Store conn.new) }
+    requires { IfClean IsInside S.Store conn.old }
+    ensures { Learns (IsTransferOf tenant.0 id) S.Store conn.old conn.new result }
 {
     columns_keep_order();
     found_by_key::<Transfer>();
@@ -85,12 +73,8 @@ fn stored_balances<S: Alter>(
     tenant: TenantNumber,
     account: u128,
 ) -> Result<Balances, Unavailable>
-    requires { HasCleanDisk (state S.Store conn.old) → IsInside (state S.Store conn.old) }
-    ensures ok { HasCleanDisk (state S.Store conn.new) → IfOk result
-        (AreBalancesOf tenant.0 account (state S.Store conn.old).now.trees) }
-    ensures same { HasCleanDisk (state S.Store conn.new) → OnOk result
-        (IsUnchanged (state S.Store conn.old) (state S.Store conn.new)) }
-    ensures follows { Follows (state S.Store conn.old) (state S.Store conn.new) }
+    requires { IfClean IsInside S.Store conn.old }
+    ensures { Learns (AreBalancesOf tenant.0 account) S.Store conn.old conn.new result }
 {
     columns_keep_order();
     cells_tell_rows();
@@ -123,11 +107,9 @@ fn write_expiry<S: Alter>(
     tenant: TenantNumber,
     expiry: &Expiry,
 ) -> Result<(), Unavailable>
-    requires { HasCleanDisk (state S.Store conn.old) → IsInside (state S.Store conn.old) }
-    ensures ok { HasCleanDisk (state S.Store conn.new) → OnOk result
-        (Writes tenant.0 (HasExpiring expiry.now.transfer) (with_expiry expiry.now)
-        (state S.Store conn.old) (state S.Store conn.new)) }
-    ensures follows { Follows (state S.Store conn.old) (state S.Store conn.new) }
+    requires { IfClean IsInside S.Store conn.old }
+    ensures { Changes (ChangesRows tenant.0 (HasExpiring expiry.now.transfer) (with_expiry expiry.now))
+        S.Store conn.old conn.new result }
 {
     set_both(conn, tenant, &expiry.transfer, expiry.debit, expiry.credit)?;
     set_state(conn, tenant, expiry.transfer.id, PendingState::Expired)

@@ -1,19 +1,17 @@
 //! The clock of a tenant, and what is due at it.
 
-ghost use Rattle.std.specs.Prelude.{◌≡◌, ◌≤◌, false, None, IsTrue, OnOk};
+ghost use Rattle.std.specs.Prelude.{◌≡◌, ◌≤◌, false, None, IsTrue};
 ghost use Rattle.std.specs.BTreeSet.{contains};
 ghost use Rattle.std.specs.Option.{option_map_or};
 ghost use Rattle.records.specs.Due.{has_come};
 ghost use Rattle.records.specs.Step.{at_clock, max_clock};
 ghost use Rattle.rows.specs.Settling.{is_due_row};
-ghost use Rattle.sqlite.specs.State.{HasCleanDisk};
-ghost use Rattle.sqlite.specs.Held.{state};
+ghost use Rattle.ledger_sql.specs.Calls.{Changes, IfClean};
 ghost use Rattle.ledger_sql.specs.Effects.{IsInside};
-ghost use Rattle.ledger_sql.specs.Frames.{Follows};
 ghost use Rattle.chain.specs.Tables.{Leaves, on_now};
 ghost use Rattle.stored_tables.specs.Covers.{Covers};
 ghost use Rattle.stored_tables.specs.Meaning.{batch_meaning};
-ghost use Rattle.stored_tables.specs.Releasing.{Expires, ReleasesOne, ReleasesDue, MovesClock};
+ghost use Rattle.stored_tables.specs.Releasing.{ReleasesOne, ReleasesDue, MovesClock};
 
 use crate::batch::TenantNumber;
 use crate::changing::status;
@@ -60,14 +58,11 @@ fn move_clock<S: Alter>(
     tenant: TenantNumber,
     clock: u64,
 ) -> Result<(), Unavailable>
-    requires inside { HasCleanDisk (state S.Store conn.old) → IsInside (state S.Store conn.old) }
-    requires open { HasCleanDisk (state S.Store conn.old) → IsTrue
-        (state S.Store conn.old).is_open }
+    requires inside { IfClean IsInside S.Store conn.old }
+    requires open { IfClean (λ s. IsTrue s.is_open) S.Store conn.old }
     requires bounded { clock ≤ max_clock }
-    ensures ok { HasCleanDisk (state S.Store conn.new) → OnOk result
-        (MovesClock tenant.0 clock (contains ⟦<(u64, u128) as Ord>⟧.cmp due.now)
-        (state S.Store conn.old) (state S.Store conn.new)) }
-    ensures follows { Follows (state S.Store conn.old) (state S.Store conn.new) }
+    ensures { Changes (MovesClock tenant.0 clock (contains ⟦<(u64, u128) as Ord>⟧.cmp due.now))
+        S.Store conn.old conn.new result }
 {
     clock_rows();
     release_due(conn, due, tenant, clock)?;
@@ -81,13 +76,10 @@ fn release_due<S: Alter>(
     tenant: TenantNumber,
     clock: u64,
 ) -> Result<(), Unavailable>
-    requires inside { HasCleanDisk (state S.Store conn.old) → IsInside (state S.Store conn.old) }
-    requires open { HasCleanDisk (state S.Store conn.old) → IsTrue
-        (state S.Store conn.old).is_open }
-    ensures ok { HasCleanDisk (state S.Store conn.new) → OnOk result
-        (ReleasesDue tenant.0 clock (contains ⟦<(u64, u128) as Ord>⟧.cmp due.now)
-        (state S.Store conn.old) (state S.Store conn.new)) }
-    ensures follows { Follows (state S.Store conn.old) (state S.Store conn.new) }
+    requires inside { IfClean IsInside S.Store conn.old }
+    requires open { IfClean (λ s. IsTrue s.is_open) S.Store conn.old }
+    ensures { Changes (ReleasesDue tenant.0 clock (contains ⟦<(u64, u128) as Ord>⟧.cmp due.now))
+        S.Store conn.old conn.new result }
 {
     clock_rows();
     rows_fit();
@@ -105,10 +97,8 @@ fn release_if_due<S: Alter>(
     clock: u64,
     id: u128,
 ) -> Result<(), Unavailable>
-    requires { HasCleanDisk (state S.Store conn.old) → IsInside (state S.Store conn.old) }
-    ensures ok { HasCleanDisk (state S.Store conn.new) → OnOk result
-        (ReleasesOne tenant.0 clock id (state S.Store conn.old) (state S.Store conn.new)) }
-    ensures follows { Follows (state S.Store conn.old) (state S.Store conn.new) }
+    requires { IfClean IsInside S.Store conn.old }
+    ensures { Changes (ReleasesOne tenant.0 clock id) S.Store conn.old conn.new result }
 {
     clock_rows();
     let found = status(conn, tenant, id)?;

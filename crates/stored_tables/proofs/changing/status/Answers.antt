@@ -13,7 +13,7 @@ returns-clause-ok g c clean =
     let t = c.args.tenant.0 in
     let s0 = state g.S.Store c.args.conn.now in
     let s1 = state g.S.Store c.find_status.new.conn in
-    let clean0 : HasCleanDisk s0 = omega (arith, c.find_status.ensures.follows.survives.clean, clean) in
+    let clean0 : HasCleanDisk s0 = omega (arith, c.find_status.ensures.reads.follows.survives.clean, clean) in
     both_ok c.find_status.result (λ found. IfSome found IsStorableStatus) _ (IsStatusOf t c.args.id s0.now.trees)
     (λ found fits picks. status_found t s0 s1 (c.requires clean0).schema c.columns_keep_order.ensures.one_to_one c.found_by_key.ensures.alone c.cells_tell_rows.ensures c.args.id found c.ranges.id.fits fits picks)
     c.find_status.ensures.fits

@@ -7,9 +7,12 @@ use Rattle.stored_tables.proofs.Numbers.{passed}
 use Rattle.stored_tables.proofs.PointReads.{row_read, same_transfer}
 use Rattle.stored_tables.proofs.expiring.stored_transfer.Goals as goal
 
-pub returns-clause-ok : goal.returns-clause-ok
-returns-clause-ok g c clean =
-    let told = rw (passed c.args.tenant.0 (search rules)) at (c.in_ok-find_transfer.ensures.ok clean) in
-    told_or c.in_ok-find_transfer.field-0 _ c.ok_or.result c.ok_or.ensures.value _ (λ t some rows apart held.
-    sym (row_read (λ x. transfer_values (transfer_cells x)) (λ x. x.id) IsStorableTransfer (λ x id. refl) (λ x fit. fit.widths.id) same_transfer c.columns_keep_order.ensures.one_to_one c.args.id c.ranges.id.fits
-    rows.transfers _ _ (c.found_by_key.ensures.alone (λ x. x.id) c.args.id rows.transfers apart.transfers) apart.transfers_fit held.transfers c.in_ok-find_transfer.ensures.fits told) ∙ some)
+pub returns : goal.returns
+returns g c = record {
+  ok = λ clean.
+      let told = rw (passed c.args.tenant.0 (search rules)) at (c.in_ok-find_transfer.ensures.ok clean) in
+      told_or c.in_ok-find_transfer.field-0 _ c.ok_or.result c.ok_or.ensures.value _ (λ t some rows apart held.
+      sym (row_read (λ x. transfer_values (transfer_cells x)) (λ x. x.id) IsStorableTransfer (λ x id. refl) (λ x fit. fit.widths.id) same_transfer c.columns_keep_order.ensures.one_to_one c.args.id c.ranges.id.fits
+      rows.transfers _ _ (c.found_by_key.ensures.alone (λ x. x.id) c.args.id rows.transfers apart.transfers) apart.transfers_fit held.transfers c.in_ok-find_transfer.ensures.fits told) ∙ some);
+  reads = search rules;
+}

@@ -1,11 +1,14 @@
-use Rattle.std.proofs.Common.{arith}
+use Rattle.std.proofs.Common.{rules, arith}
 use Rattle.sqlite.specs.State.{HasCleanDisk}
 use Rattle.sqlite.specs.Held.{state}
 use Rattle.stored_tables.proofs.ExpiryWrites.{expiry_written}
 use Rattle.stored_tables.proofs.expiring.write_expiry.Goals as goal
 
-pub returns-clause-ok : goal.returns-clause-ok
-returns-clause-ok g c clean =
-    let s1 = state g.S.Store c.set_both.new.conn in
-    let before : HasCleanDisk s1 = omega (arith, c.set_state.ensures.follows.survives.clean, clean) in
-    expiry_written c.args.tenant.0 c.args.expiry.now (state g.S.Store c.args.conn.now) s1 (state g.S.Store c.set_state.new.conn) c.set_state.result (c.in_ok-set_both.ensures.ok before) (c.set_state.ensures.ok clean)
+pub returns : goal.returns
+returns g c = record {
+  ok = λ clean.
+      let s1 = state g.S.Store c.set_both.new.conn in
+      let before : HasCleanDisk s1 = omega (arith, c.set_state.ensures.follows.survives.clean, clean) in
+      expiry_written c.args.tenant.0 c.args.expiry.now (state g.S.Store c.args.conn.now) s1 (state g.S.Store c.set_state.new.conn) c.set_state.result (c.in_ok-set_both.ensures.ok before) (c.set_state.ensures.ok clean);
+  follows = search rules;
+}

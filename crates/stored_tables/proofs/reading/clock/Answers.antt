@@ -5,16 +5,16 @@ use Rattle.stored_tables.proofs.reading.clock.Goals as goal
 
 pub returns-in-Ok-Some-clause-value : goal.returns-in-Ok-Some-clause-value
 returns-in-Ok-Some-clause-value g c live =
-    let held = held_before g.S.Store c.args.tenant.0 c.args.conn.now c.find_clock.new.conn c.requires c.find_clock.ensures.follows live in
+    let held = held_before g.S.Store c.args.tenant.0 c.args.conn.now c.find_clock.new.conn c.requires c.find_clock.ensures.reads.follows live in
     let told = rw (passed c.args.tenant.0 (search rules)) at (c.in-Ok-Some.ensures.ok live.0) in
     let found = c.point_reads.ensures.clock _ _ _ _ held told in
     cc
 
 pub returns-in-Ok-Some-clause-leaves : goal.returns-in-Ok-Some-clause-leaves
-returns-in-Ok-Some-clause-leaves g c = reads g.S.Store _ _ _ c.in-Ok-Some.clock c.requires c.find_clock.ensures.follows c.in-Ok-Some.ensures.same
+returns-in-Ok-Some-clause-leaves g c = reads g.S.Store _ _ _ c.in-Ok-Some.clock c.requires c.find_clock.ensures.reads.follows c.in-Ok-Some.ensures.reads.same
 
 pub returns-in-Err-clause-leaves : goal.returns-in-Err-clause-leaves
-returns-in-Err-clause-leaves g c = gives_up g.S.Store _ _ _ c.find_clock.new.conn _ _ c.find_clock.ensures.follows c.give_up-in-Err.ensures.follows c.give_up-in-Err.ensures.over
+returns-in-Err-clause-leaves g c = gives_up g.S.Store _ _ _ c.find_clock.new.conn _ _ c.find_clock.ensures.reads.follows c.give_up-in-Err.ensures.follows c.give_up-in-Err.ensures.over
 
 pub returns-in-Ok-None-clause-leaves : goal.returns-in-Ok-None-clause-leaves
-returns-in-Ok-None-clause-leaves g c = gives_up g.S.Store _ _ _ c.find_clock.new.conn _ _ c.find_clock.ensures.follows c.give_up.ensures.follows c.give_up.ensures.over
+returns-in-Ok-None-clause-leaves g c = gives_up g.S.Store _ _ _ c.find_clock.new.conn _ _ c.find_clock.ensures.reads.follows c.give_up.ensures.follows c.give_up.ensures.over

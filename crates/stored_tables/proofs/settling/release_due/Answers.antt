@@ -1,4 +1,4 @@
-use Rattle.std.proofs.Common.{[], ◌∷◌, map, filter, sym, subst, ◌∙◌, arith}
+use Rattle.std.proofs.Common.{rules, [], ◌∷◌, map, filter, sym, subst, ◌∙◌, arith}
 use Rattle.std.proofs.lemmas.List.{map-append}
 use Rattle.std.proofs.lemmas.Map.Iter.{iter_end}
 use Rattle.std.specs.Map.Iter.{deref}
@@ -32,12 +32,15 @@ loop-entry-preserved g c =
       follows_then s0 s1 s2 c.loop-entry.invariant.3 follows,
     )
 
-pub returns-clause-ok : goal.returns-clause-ok
-returns-clause-ok g c clean =
-    let s0 = state g.S.Store c.args.conn.now in
-    let s1 = state g.S.Store c.loop-entry.conn in
-    let keys = c.args.due.now.keys in
-    let start = c.into_iter-entry-iterator.ensures.into_iter_gives ∙ c.range-entry-items.ensures.between tt in
-    let end = iter_end deref (filter (is_within (c.args.clock, 340282366920938463463374607431768211455)) keys) c.loop-entry.yielded c.into_iter-entry-iterator.result c.loop-entry.entry-iterator c.next.new.self c.next.result start
-    c.loop-entry.yielded_by c.in-None.is c.next.ensures.steps in
-    seen_all c.rows_fit.ensures c.args.tenant.0 c.args.clock keys s0 s1 (subst (λ seen. ReleasesSeen c.args.tenant.0 c.args.clock seen s0 s1) end.0 (c.loop-entry.invariant.2 clean))
+pub returns : goal.returns
+returns g c = record {
+  ok = λ clean.
+      let s0 = state g.S.Store c.args.conn.now in
+      let s1 = state g.S.Store c.loop-entry.conn in
+      let keys = c.args.due.now.keys in
+      let start = c.into_iter-entry-iterator.ensures.into_iter_gives ∙ c.range-entry-items.ensures.between tt in
+      let end = iter_end deref (filter (is_within (c.args.clock, 340282366920938463463374607431768211455)) keys) c.loop-entry.yielded c.into_iter-entry-iterator.result c.loop-entry.entry-iterator c.next.new.self c.next.result start
+      c.loop-entry.yielded_by c.in-None.is c.next.ensures.steps in
+      seen_all c.rows_fit.ensures c.args.tenant.0 c.args.clock keys s0 s1 (subst (λ seen. ReleasesSeen c.args.tenant.0 c.args.clock seen s0 s1) end.0 (c.loop-entry.invariant.2 clean));
+  follows = search rules;
+}
