@@ -1,9 +1,9 @@
 //! An account's entries, read in chunks, so that a few cost no more than what is taken of them.
 
-ghost use Rattle.std.specs.Prelude.{◌≡◌, ℕ, ◌<◌, pos, take, false, IfSome, OnOk};
+ghost use Rattle.std.specs.Prelude.{◌≡◌, ℕ, ◌<◌, pos, take, false, IfSome};
 ghost use Rattle.sqlite.specs.Held.{state};
-ghost use Rattle.sqlite.specs.State.{HasCleanDisk, IsUnchanged};
-ghost use Rattle.ledger_sql.specs.Frames.{IsKeptOrUndone, Follows};
+ghost use Rattle.sqlite.specs.State.{HasCleanDisk};
+ghost use Rattle.ledger_sql.specs.Calls.{Reads};
 ghost use Rattle.stored_reads.specs.Chunks.{next_bound, HandsChunk};
 ghost use Rattle.stored_reads.specs.Handing.{HandsAccount, entries_behind};
 ghost use Rattle.stored_reads.specs.Idle.{CanRead, machine_at};
@@ -34,11 +34,7 @@ pub(crate) fn each_entry_in_chunks<S: Alter, K: EntrySink>(
     ensures handed { HandsAccount K.takes K.is_full (HasCleanDisk (state S.Store conn.new)) account
         (entries_behind (machine_at tenant.0 (state S.Store conn.old)) account order bound)
         sink.old sink.new result }
-    ensures same { HasCleanDisk (state S.Store conn.new) → OnOk result
-        (IsUnchanged (state S.Store conn.old) (state S.Store conn.new)) }
-    ensures kept { HasCleanDisk (state S.Store conn.new) → IsKeptOrUndone
-        (state S.Store conn.old) (state S.Store conn.new) }
-    ensures follows { Follows (state S.Store conn.old) (state S.Store conn.new) }
+    ensures reads { Reads S.Store conn.old conn.new result }
 {
     let mut from = bound;
     let mut most = size;
@@ -69,11 +65,7 @@ fn next_chunk<S: Alter, K: EntrySink>(
     ensures handed { HandsChunk K.takes K.is_full (HasCleanDisk (state S.Store conn.new)) account
         (entries_behind (machine_at tenant.0 (state S.Store conn.old)) account order) bound
         sink.old sink.new result }
-    ensures same { HasCleanDisk (state S.Store conn.new) → OnOk result
-        (IsUnchanged (state S.Store conn.old) (state S.Store conn.new)) }
-    ensures kept { HasCleanDisk (state S.Store conn.new) → IsKeptOrUndone
-        (state S.Store conn.old) (state S.Store conn.new) }
-    ensures follows { Follows (state S.Store conn.old) (state S.Store conn.new) }
+    ensures reads { Reads S.Store conn.old conn.new result }
 {
     columns_keep_order();
     rows_fit();
@@ -109,11 +101,7 @@ fn first_entries<S: Alter, K: EntrySink>(
     ensures handed { HandsAccount K.takes K.is_full (HasCleanDisk (state S.Store conn.new)) account
         (take count (entries_behind (machine_at tenant.0 (state S.Store conn.old)) account
         order bound)) sink.old sink.new result }
-    ensures same { HasCleanDisk (state S.Store conn.new) → OnOk result
-        (IsUnchanged (state S.Store conn.old) (state S.Store conn.new)) }
-    ensures kept { HasCleanDisk (state S.Store conn.new) → IsKeptOrUndone
-        (state S.Store conn.old) (state S.Store conn.new) }
-    ensures follows { Follows (state S.Store conn.old) (state S.Store conn.new) }
+    ensures reads { Reads S.Store conn.old conn.new result }
 {
     columns_keep_order();
     rows_fit();

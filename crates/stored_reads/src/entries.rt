@@ -1,9 +1,9 @@
 //! An account's entries, in either order.
 
-ghost use Rattle.std.specs.Prelude.{◌≡◌, false, OnOk};
+ghost use Rattle.std.specs.Prelude.{◌≡◌, false};
 ghost use Rattle.sqlite.specs.Held.{state};
-ghost use Rattle.sqlite.specs.State.{HasCleanDisk, IsUnchanged};
-ghost use Rattle.ledger_sql.specs.Frames.{IsKeptOrUndone, Follows};
+ghost use Rattle.sqlite.specs.State.{HasCleanDisk};
+ghost use Rattle.ledger_sql.specs.Calls.{Reads};
 ghost use Rattle.stored_reads.specs.Handing.{HandsAccount, entries_behind};
 ghost use Rattle.stored_reads.specs.Idle.{CanRead, machine_at};
 
@@ -31,11 +31,7 @@ pub(crate) fn each_entry<S: Alter, K: EntrySink>(
     ensures handed { HandsAccount K.takes K.is_full (HasCleanDisk (state S.Store conn.new)) account
         (entries_behind (machine_at tenant.0 (state S.Store conn.old)) account order bound)
         sink.old sink.new result }
-    ensures same { HasCleanDisk (state S.Store conn.new) → OnOk result
-        (IsUnchanged (state S.Store conn.old) (state S.Store conn.new)) }
-    ensures kept { HasCleanDisk (state S.Store conn.new) → IsKeptOrUndone
-        (state S.Store conn.old) (state S.Store conn.new) }
-    ensures follows { Follows (state S.Store conn.old) (state S.Store conn.new) }
+    ensures reads { Reads S.Store conn.old conn.new result }
 {
     columns_keep_order();
     rows_fit();

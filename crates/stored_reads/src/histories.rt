@@ -1,12 +1,13 @@
 //! The history of an account: its transfers, and its balances after them.
 
-ghost use Rattle.std.specs.Prelude.{◌≡◌, Some, map, IfOk, OnOk};
+ghost use Rattle.std.specs.Prelude.{◌≡◌, Some, map, IfOk};
 ghost use Rattle.records.specs.declared.filter.Order.TheVariants.{Oldest, Newest};
 ghost use Rattle.records.specs.Reads.{history_answer, history_balances_answer};
 ghost use Rattle.chain.specs.LedgerReads.{seen_in, IsListed};
 ghost use Rattle.sqlite.specs.Held.{state};
-ghost use Rattle.sqlite.specs.State.{HasCleanDisk, IsUnchanged};
-ghost use Rattle.ledger_sql.specs.Frames.{IsKeptOrUndone, Follows};
+ghost use Rattle.sqlite.specs.State.{HasCleanDisk};
+ghost use Rattle.ledger_sql.specs.Calls.{Learns};
+ghost use Rattle.stored_tables.specs.MachineOf.{machine_of};
 ghost use Rattle.stored_reads.specs.Bounds.{order_of, bound_of};
 ghost use Rattle.stored_reads.specs.Entries.{balance_of};
 ghost use Rattle.stored_reads.specs.Idle.{CanRead, machine_at, OnlyReads};
@@ -100,13 +101,8 @@ fn page<S: Alter>(
     asked: &AccountFilter,
 ) -> Result<Vec<StoredEntry>, Unavailable>
     requires { CanRead tenant.0 (state S.Store conn.old) }
-    ensures value { HasCleanDisk (state S.Store conn.new) → IfOk result (λ page.
-        page.items ≡ stored_page (machine_at tenant.0 (state S.Store conn.old)) asked.now) }
-    ensures same { HasCleanDisk (state S.Store conn.new) → OnOk result
-        (IsUnchanged (state S.Store conn.old) (state S.Store conn.new)) }
-    ensures kept { HasCleanDisk (state S.Store conn.new) → IsKeptOrUndone
-        (state S.Store conn.old) (state S.Store conn.new) }
-    ensures follows { Follows (state S.Store conn.old) (state S.Store conn.new) }
+    ensures { Learns (λ trees page. page.items ≡ stored_page (machine_of tenant.0 trees) asked.now)
+        S.Store conn.old conn.new result }
 {
     columns_keep_order();
     rows_fit();

@@ -1,11 +1,11 @@
 //! What a tenant has, found by a whole key.
 
-ghost use Rattle.std.specs.Prelude.{◌≡◌, IfOk, OnOk};
+ghost use Rattle.std.specs.Prelude.{◌≡◌, IfOk};
 ghost use Rattle.records.specs.Machine.{account_with};
-ghost use Rattle.records.specs.Balances.{balances_in};
 ghost use Rattle.sqlite.specs.Held.{state};
-ghost use Rattle.sqlite.specs.State.{HasCleanDisk, IsUnchanged};
-ghost use Rattle.ledger_sql.specs.Frames.{IsKeptOrUndone, Follows};
+ghost use Rattle.sqlite.specs.State.{HasCleanDisk};
+ghost use Rattle.ledger_sql.specs.Calls.{Learns, Reads};
+ghost use Rattle.stored_tables.specs.MachineOf.{machine_of};
 ghost use Rattle.stored_reads.specs.Idle.{CanRead, machine_at};
 
 use ledger_sql::finding::{find_account, find_clock};
@@ -26,13 +26,8 @@ pub(crate) fn clock<S: Alter>(
     tenant: TenantNumber,
 ) -> Result<u64, Unavailable>
     requires { CanRead tenant.0 (state S.Store conn.old) }
-    ensures value { HasCleanDisk (state S.Store conn.new) → IfOk result (λ clock.
-        clock ≡ (machine_at tenant.0 (state S.Store conn.old)).clock) }
-    ensures same { HasCleanDisk (state S.Store conn.new) → OnOk result
-        (IsUnchanged (state S.Store conn.old) (state S.Store conn.new)) }
-    ensures kept { HasCleanDisk (state S.Store conn.new) → IsKeptOrUndone
-        (state S.Store conn.old) (state S.Store conn.new) }
-    ensures follows { Follows (state S.Store conn.old) (state S.Store conn.new) }
+    ensures { Learns (λ trees clock. clock ≡ (machine_of tenant.0 trees).clock)
+        S.Store conn.old conn.new result }
 {
     point_reads();
     match find_clock(conn, tenant.0)? {
@@ -48,13 +43,8 @@ pub(crate) fn account<S: Alter>(
     id: u128,
 ) -> Result<Option<Account>, Unavailable>
     requires { CanRead tenant.0 (state S.Store conn.old) }
-    ensures value { HasCleanDisk (state S.Store conn.new) → IfOk result (λ account.
-        account ≡ account_with id (machine_at tenant.0 (state S.Store conn.old)).accounts) }
-    ensures same { HasCleanDisk (state S.Store conn.new) → OnOk result
-        (IsUnchanged (state S.Store conn.old) (state S.Store conn.new)) }
-    ensures kept { HasCleanDisk (state S.Store conn.new) → IsKeptOrUndone
-        (state S.Store conn.old) (state S.Store conn.new) }
-    ensures follows { Follows (state S.Store conn.old) (state S.Store conn.new) }
+    ensures { Learns (λ trees account. account ≡ account_with id (machine_of tenant.0 trees).accounts)
+        S.Store conn.old conn.new result }
 {
     point_reads();
     find_account(conn, tenant.0, id)
@@ -67,15 +57,11 @@ pub(crate) fn account_at_clock<S: Alter>(
     id: u128,
 ) -> Result<AccountAtClock, Unavailable>
     requires { CanRead tenant.0 (state S.Store conn.old) }
-    ensures clock { HasCleanDisk (state S.Store conn.new) → IfOk result (λ found.
-        found.clock ≡ (machine_at tenant.0 (state S.Store conn.old)).clock) }
+    ensures clock { HasCleanDisk (state S.Store conn.new) → IfOk result
+        (λ found. found.clock ≡ (machine_at tenant.0 (state S.Store conn.old)).clock) }
     ensures account { HasCleanDisk (state S.Store conn.new) → IfOk result (λ found.
         found.account ≡ account_with id (machine_at tenant.0 (state S.Store conn.old)).accounts) }
-    ensures same { HasCleanDisk (state S.Store conn.new) → OnOk result
-        (IsUnchanged (state S.Store conn.old) (state S.Store conn.new)) }
-    ensures kept { HasCleanDisk (state S.Store conn.new) → IsKeptOrUndone
-        (state S.Store conn.old) (state S.Store conn.new) }
-    ensures follows { Follows (state S.Store conn.old) (state S.Store conn.new) }
+    ensures reads { Reads S.Store conn.old conn.new result }
 {
     let clock = clock(conn, tenant)?;
     let account = account(conn, tenant, id)?;

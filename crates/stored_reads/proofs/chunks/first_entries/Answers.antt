@@ -22,7 +22,7 @@ returns-in-Oldest-clause-handed g c =
     let count = c.args.count in
     let m : Machine = machine_at t old in
     let H : Type 0 = HasCleanDisk (state g.S.Store c.first_entries_from.new.conn) in
-    let was : H → HasCleanDisk old = λ clean. omega (arith, c.first_entries_from.ensures.follows.survives.clean, clean) in
+    let was : H → HasCleanDisk old = λ clean. omega (arith, c.first_entries_from.ensures.reads.follows.survives.clean, clean) in
     let handed = rw (passed c.args.tenant.0 (search rules), passed c.args.bound (search rules)) at c.first_entries_from.ensures.handed in
     let it : HandsAccount g.K.EntrySink.takes g.K.EntrySink.is_full H account (take count (entries_behind m account Oldest bound)) c.args.sink.now c.first_entries_from.new.sink c.first_entries_from.result =
     hands_few g.K.EntrySink.takes g.K.EntrySink.is_full H (entries_when t (column_of account) (is_from bound) old.now.trees) AreOldestFirst account (entries_behind m account Oldest bound)
@@ -41,7 +41,7 @@ returns-in-Newest-clause-handed g c =
     let count = c.args.count in
     let m : Machine = machine_at t old in
     let H : Type 0 = HasCleanDisk (state g.S.Store c.first_entries_until.new.conn) in
-    let was : H → HasCleanDisk old = λ clean. omega (arith, c.first_entries_until.ensures.follows.survives.clean, clean) in
+    let was : H → HasCleanDisk old = λ clean. omega (arith, c.first_entries_until.ensures.reads.follows.survives.clean, clean) in
     let handed = rw (passed c.args.tenant.0 (search rules), passed c.args.bound (search rules)) at c.first_entries_until.ensures.handed in
     let it : HandsAccount g.K.EntrySink.takes g.K.EntrySink.is_full H account (take count (entries_behind m account Newest bound)) c.args.sink.now c.first_entries_until.new.sink c.first_entries_until.result =
     hands_few g.K.EntrySink.takes g.K.EntrySink.is_full H (entries_when t (column_of account) (is_until bound) old.now.trees) AreNewestFirst account (entries_behind m account Newest bound)

@@ -41,7 +41,7 @@ returns-in-Some-clause-handed g c =
     let behind = entries_behind m c.args.account c.args.order in
     let handed = rw (passed c.args.bound (search rules)) at c.in_ok-first_entries.ensures.handed in
     let name = same_name (λ (r : Chunk g.row.K.Denot). r.sink.now) (λ (r : Chunk g.row.K.Denot). r.sink.ghost_name) (λ (r : Chunk g.row.K.Denot). r.is_open) (λ (r : Chunk g.row.K.Denot). r.left) (λ (r : Chunk g.row.K.Denot). r.last) g.K.EntrySink.takes g.K.EntrySink.is_full handed.handed _ c.first_entries.new.sink handed.taken in
-    let was : H → HasCleanDisk old = λ clean. omega (arith, c.first_entries.ensures.follows.survives.clean, clean) in
+    let was : H → HasCleanDisk old = λ clean. omega (arith, c.first_entries.ensures.reads.follows.survives.clean, clean) in
     let free = still_free (λ (r : Chunk g.row.K.Denot). r.sink.now) (λ (r : Chunk g.row.K.Denot). r.sink.ghost_name) (λ (r : Chunk g.row.K.Denot). r.is_open) (λ (r : Chunk g.row.K.Denot). r.left) (λ (r : Chunk g.row.K.Denot). r.last) g.K.EntrySink.takes g.K.EntrySink.is_full H c.args.account c.args.size behind c.args.bound _ c.first_entries.new.sink _ handed (sym (ap not c.requires.open)) (search rules) in
     let here = chunk_goes (λ (r : Chunk g.row.K.Denot). r.sink.now) (λ (r : Chunk g.row.K.Denot). r.sink.ghost_name) (λ (r : Chunk g.row.K.Denot). r.is_open) (λ (r : Chunk g.row.K.Denot). r.left) (λ (r : Chunk g.row.K.Denot). r.last) g.K.EntrySink.takes g.K.EntrySink.is_full H c.args.account c.args.size behind c.args.bound _ c.first_entries.new.sink _ handed (sym (ap not c.requires.open)) refl handed.ended c.args.order c.in-Some.next
     (λ at is. c.in-Some.ensures at (passed c.first_entries.new.sink.last (search rules) ∙ is))

@@ -21,7 +21,7 @@ returns-in-Oldest-clause-handed g c =
     let bound = c.args.bound in
     let m : Machine = machine_at t old in
     let H : Type 0 = HasCleanDisk (state g.S.Store c.each_entry_from.new.conn) in
-    let was : H → HasCleanDisk old = λ clean. omega (arith, c.each_entry_from.ensures.follows.survives.clean, clean) in
+    let was : H → HasCleanDisk old = λ clean. omega (arith, c.each_entry_from.ensures.reads.follows.survives.clean, clean) in
     let handed = rw (passed c.args.tenant.0 (search rules), passed c.args.bound (search rules)) at c.each_entry_from.ensures.handed in
     let it : HandsAccount g.K.EntrySink.takes g.K.EntrySink.is_full H account (entries_behind m account Oldest bound) c.args.sink.now c.each_entry_from.new.sink c.each_entry_from.result =
     hands_account g.K.EntrySink.takes g.K.EntrySink.is_full H (entries_when t (column_of account) (is_from bound) old.now.trees) AreOldestFirst account (entries_behind m account Oldest bound)
@@ -39,7 +39,7 @@ returns-in-Newest-clause-handed g c =
     let bound = c.args.bound in
     let m : Machine = machine_at t old in
     let H : Type 0 = HasCleanDisk (state g.S.Store c.each_entry_until.new.conn) in
-    let was : H → HasCleanDisk old = λ clean. omega (arith, c.each_entry_until.ensures.follows.survives.clean, clean) in
+    let was : H → HasCleanDisk old = λ clean. omega (arith, c.each_entry_until.ensures.reads.follows.survives.clean, clean) in
     let handed = rw (passed c.args.tenant.0 (search rules), passed c.args.bound (search rules)) at c.each_entry_until.ensures.handed in
     let it : HandsAccount g.K.EntrySink.takes g.K.EntrySink.is_full H account (entries_behind m account Newest bound) c.args.sink.now c.each_entry_until.new.sink c.each_entry_until.result =
     hands_account g.K.EntrySink.takes g.K.EntrySink.is_full H (entries_when t (column_of account) (is_until bound) old.now.trees) AreNewestFirst account (entries_behind m account Newest bound)

@@ -17,9 +17,9 @@ returns-clause-told g c clean =
     let t = c.args.tenant.0 in
     let asked = c.args.asked.now in
     let m : Machine = machine_at t old in
-    let mid_clean : HasCleanDisk mid = omega (arith, c.page.ensures.follows.survives.clean, clean) in
-    let same : machine_at t mid ≡ m = ap (λ (db : Database). machine_of t db.trees) (c.in_ok-found.ensures.same mid_clean).0.now_is in
-    let page_is = c.in_ok-page.ensures.value clean ∙ ap (λ (n : Machine). stored_page n asked) same in
+    let mid_clean : HasCleanDisk mid = omega (arith, c.page.ensures.reads.follows.survives.clean, clean) in
+    let same : machine_at t mid ≡ m = ap (λ (db : Database). machine_of t db.trees) (c.in_ok-found.ensures.reads.same mid_clean).0.now_is in
+    let page_is = c.in_ok-page.ensures.ok clean ∙ ap (λ (n : Machine). stored_page n asked) same in
     told_transfers m asked c.in_ok-found.found.clock c.in-Some.field-0 c.in_ok-entries.entries.items
     (c.in_ok-found.ensures.clock mid_clean) (sym c.in-Some.is ∙ c.in_ok-found.ensures.account mid_clean)
     (c.in_ok-entries.ensures ∙ ap (map (λ (e : StoredEntry). e.transfer)) (c.deref.ensures.value ∙ page_is) ∙ transfers_shown m asked)

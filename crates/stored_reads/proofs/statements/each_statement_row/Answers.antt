@@ -24,8 +24,8 @@ returns-in-Ok-clause-reads g c =
     let mid = state g.S.Store c.account_at_clock.new.conn in
     let new = state g.S.Store c.each_entry.new.conn in
     let same : HasCleanDisk new → IsUnchanged old new = λ clean.
-    let mid_clean : HasCleanDisk mid = omega (arith, c.each_entry.ensures.follows.survives.clean, clean) in
-    unchanged_then old mid new (c.in_ok-found.ensures.same mid_clean) (c.in-Ok.ensures.same clean) in
+    let mid_clean : HasCleanDisk mid = omega (arith, c.each_entry.ensures.reads.follows.survives.clean, clean) in
+    unchanged_then old mid new (c.in_ok-found.ensures.reads.same mid_clean) (c.in-Ok.ensures.reads.same clean) in
     record { same = λ clean. always (IsUnchanged old new) c.each_entry.new.sink.stopped (same clean); kept = λ clean. inl (same clean); follows = search rules }
 
 pub returns-in-Err-clause-reads : goal.returns-in-Err-clause-reads
@@ -36,8 +36,8 @@ returns-in-Err-clause-reads g c =
     record {
       same = λ clean. tt;
       kept = λ clean.
-          let mid_clean : HasCleanDisk mid = omega (arith, c.each_entry.ensures.follows.survives.clean, clean) in
-          kept_after old mid new (c.in_ok-found.ensures.same mid_clean) (c.each_entry.ensures.kept clean);
+          let mid_clean : HasCleanDisk mid = omega (arith, c.each_entry.ensures.reads.follows.survives.clean, clean) in
+          kept_after old mid new (c.in_ok-found.ensures.reads.same mid_clean) (c.each_entry.ensures.reads.kept clean);
       follows = search rules;
     }
 
@@ -66,9 +66,9 @@ returns-in-Ok-clause-told g c clean =
     let account = c.args.account in
     let order = c.args.order in
     let m : Machine = machine_at t old in
-    let mid_clean : HasCleanDisk mid = omega (arith, c.each_entry.ensures.follows.survives.clean, clean) in
-    let was : HasCleanDisk old = omega (arith, c.account_at_clock.ensures.follows.survives.clean, mid_clean) in
-    let same : machine_at t mid ≡ m = ap (λ (db : Database). machine_of t db.trees) (c.in_ok-found.ensures.same mid_clean).0.now_is in
+    let mid_clean : HasCleanDisk mid = omega (arith, c.each_entry.ensures.reads.follows.survives.clean, clean) in
+    let was : HasCleanDisk old = omega (arith, c.account_at_clock.ensures.reads.follows.survives.clean, mid_clean) in
+    let same : machine_at t mid ≡ m = ap (λ (db : Database). machine_of t db.trees) (c.in_ok-found.ensures.reads.same mid_clean).0.now_is in
     let held = (c.requires.reading was).holds in
     let fit = all_fit t m old.now.trees held (c.rows_fit.ensures 3 m held.valid) c.columns_keep_order.ensures.one_to_one (c.rows_stand_in_order.ensures.transfers m held.valid) account c.ranges.account.fits in
     let handed = rw (passed c.first_bound.result (search rules)) at c.in-Ok.ensures.handed in
@@ -97,9 +97,9 @@ returns-in-Err-clause-told g c clean =
     let account = c.args.account in
     let order = c.args.order in
     let m : Machine = machine_at t old in
-    let mid_clean : HasCleanDisk mid = omega (arith, c.each_entry.ensures.follows.survives.clean, clean) in
-    let was : HasCleanDisk old = omega (arith, c.account_at_clock.ensures.follows.survives.clean, mid_clean) in
-    let same : machine_at t mid ≡ m = ap (λ (db : Database). machine_of t db.trees) (c.in_ok-found.ensures.same mid_clean).0.now_is in
+    let mid_clean : HasCleanDisk mid = omega (arith, c.each_entry.ensures.reads.follows.survives.clean, clean) in
+    let was : HasCleanDisk old = omega (arith, c.account_at_clock.ensures.reads.follows.survives.clean, mid_clean) in
+    let same : machine_at t mid ≡ m = ap (λ (db : Database). machine_of t db.trees) (c.in_ok-found.ensures.reads.same mid_clean).0.now_is in
     let held = (c.requires.reading was).holds in
     let fit = all_fit t m old.now.trees held (c.rows_fit.ensures 3 m held.valid) c.columns_keep_order.ensures.one_to_one (c.rows_stand_in_order.ensures.transfers m held.valid) account c.ranges.account.fits in
     let handed = rw (passed c.first_bound.result (search rules)) at c.in-Err.ensures.handed in
