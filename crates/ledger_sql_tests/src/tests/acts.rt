@@ -6,7 +6,6 @@ use records::PendingState;
 /// A row that has a key: its tenant first, where a test has more than one.
 #[derive(Drop)]
 pub enum Row {
-    Version,
     /// Its number, its name, and the byte that its digest repeats.
     Tenant(i64, &'static str, u8),
     Clock(i64, u32),
@@ -69,6 +68,7 @@ pub enum Filled {
 pub enum Call {
     Take(Stage),
     Make(Made),
+    AddVersion,
     Add(Row),
     /// Two rows at a time: the account that is debited, the one that is credited, and the amount.
     AddHistory(u32, u128, u128, u32),
@@ -124,8 +124,6 @@ pub enum Act {
     Page(Asked, u32, &'static [i64]),
     /// Whether the store is told to be open, as it is not inside a transaction.
     IsOpen(bool),
-    /// The tables are told to be missing.
-    MissesTables,
     /// Adds so many rows to each table of tenant 1.
     AddMany(u16),
     /// From here on no text takes more steps.

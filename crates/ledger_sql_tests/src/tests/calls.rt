@@ -15,6 +15,7 @@ pub fn answer<S: Unclaimed>(conn: &mut Connection<S>, call: &Call) -> Done {
     match call {
         Call::Take(stage) => take(conn, stage),
         Call::Make(tables) => make(conn, tables),
+        Call::AddVersion => add_version(conn),
         Call::Add(row) => add(conn, row),
         Call::AddHistory(time, debited, credited, amount) => {
             add_history(conn, *time, (*debited, *credited), *amount)
@@ -53,10 +54,14 @@ fn make<S: Unclaimed>(conn: &mut Connection<S>, tables: &Made) -> Done {
     }
 }
 
+fn add_version<S: Unclaimed>(conn: &mut Connection<S>) -> Done {
+    claims_nothing(conn);
+    adding::add_version(conn)
+}
+
 fn add<S: Unclaimed>(conn: &mut Connection<S>, row: &Row) -> Done {
     claims_nothing(conn);
     match row {
-        Row::Version => adding::add_version(conn),
         Row::Tenant(number, name, digest) => {
             adding::add_tenant(conn, *number, name, &[*digest; 32])
         }

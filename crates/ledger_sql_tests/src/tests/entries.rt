@@ -1,6 +1,6 @@
 //! The entries of an account.
 
-ghost use Rattle.std.specs.Prelude.{◌≡◌, None, false, IfOk, is_some};
+ghost use Rattle.std.specs.Prelude.{◌≡◌, None, false, is_some};
 
 use super::acts::Asked;
 use super::unclaimed::{Unclaimed, claims_nothing};
@@ -60,20 +60,42 @@ fn take_two<S: Unclaimed>(
     }
 }
 
-/// Takes the times of all entries that memory has room for.
+/// Takes the times of all entries that memory has room for, with the last bytes of their transfers'
+/// ids.
 #[derive(Drop)]
-struct Times {
-    times: Vec<i64>,
+struct Taken {
+    entries: Vec<(i64, u8)>,
     is_out_of_memory: bool,
 }
 
-impl EntrySink for Times {
+impl Taken {
+    fn new(alloc: Global) -> Taken
+        ensures { result.is_out_of_memory ≡ false }
+    {
+        Taken {
+            entries: Vec::new(alloc),
+            is_out_of_memory: false,
+        }
+    }
+
+    fn have_times(&self, times: &[i64]) -> bool {
+        for (entry, time) in self.entries.iter().zip(times) {
+            if entry.0 != *time {
+                return false;
+            }
+        }
+        self.entries.len() == times.len()
+    }
+}
+
+impl EntrySink for Taken {
     ghost takes = { λ _ _ _. Unit {0} };
 
-    ghost is_full = { λ times. times.is_out_of_memory };
+    ghost is_full = { λ taken. taken.is_out_of_memory };
 
     fn entry(&mut self, entry: &EntryCells) -> bool {
-        self.is_out_of_memory = self.times.push(entry.history.timestamp).is_err();
+        let told = (entry.history.timestamp, entry.transfer.id[15]);
+        self.is_out_of_memory = self.entries.push(told).is_err();
         !self.is_out_of_memory
     }
 }
@@ -86,19 +108,16 @@ pub fn tells_page<S: Unclaimed>(
     count: u32,
     times: &[i64],
 ) -> Result<bool, Unavailable> {
-    let mut taken = Times {
-        times: Vec::new(alloc),
-        is_out_of_memory: false,
-    };
+    let mut taken = Taken::new(alloc);
     take_page(conn, asked, count, &mut taken)?;
-    Ok(taken.times.as_slice() == times)
+    Ok(taken.have_times(times))
 }
 
 fn take_page<S: Unclaimed>(
     conn: &mut Connection<S>,
     asked: &Asked,
     count: u32,
-    taken: &mut Times,
+    taken: &mut Taken,
 ) -> Result<(), Unavailable>
     requires { taken.old.is_out_of_memory ≡ false }
 {
@@ -114,35 +133,27 @@ fn take_page<S: Unclaimed>(
 }
 
 /// Whether the entries have these times, and these last bytes of their transfers' ids.
-fn have_times(
-    entries: Result<Vec<EntryCells>, Unavailable>,
-    told: &[(i64, u8)],
-) -> Result<bool, Unavailable> {
-    let entries = entries?;
-    for (entry, told) in entries.iter().zip(told) {
-        if (entry.history.timestamp, entry.transfer.id[15]) != *told {
-            return Ok(false);
-        }
-    }
-    Ok(entries.len() == told.len())
-}
-
 pub fn tells<S: Unclaimed>(
     alloc: Global,
     conn: &mut Connection<S>,
     asked: &Asked,
     told: &[(i64, u8)],
 ) -> Result<bool, Unavailable> {
+    let mut taken = Taken::new(alloc);
+    take_all(conn, asked, &mut taken)?;
+    Ok(taken.entries.as_slice() == told)
+}
+
+fn take_all<S: Unclaimed>(
+    conn: &mut Connection<S>,
+    asked: &Asked,
+    taken: &mut Taken,
+) -> Result<(), Unavailable>
+    requires { taken.old.is_out_of_memory ≡ false }
+{
     claims_nothing(conn);
     match asked {
-        Asked::From(account, time) => {
-            have_times(entries::entries_from(alloc, conn, 1, *account, *time), told)
-        }
-        Asked::Until(account, time) => {
-            have_times(
-                entries::entries_until(alloc, conn, 1, *account, *time),
-                told,
-            )
-        }
+        Asked::From(account, time) => entries::each_entry_from(conn, 1, *account, *time, taken),
+        Asked::Until(account, time) => entries::each_entry_until(conn, 1, *account, *time, taken),
     }
 }

@@ -16,7 +16,10 @@ pub enum Found {
     AnotherRow,
 }
 
-fn told<T: PartialEq + Drop, E: Drop>(found: Result<Option<T>, E>, row: T) -> Result<Found, E> {
+fn told<T: PartialEq + Drop>(
+    found: Result<Option<T>, Unavailable>,
+    row: T,
+) -> Result<Found, Unavailable> {
     match found? {
         None => Ok(Found::Nothing),
         Some(found) if found == row => Ok(Found::ThisRow),
@@ -37,7 +40,6 @@ fn told_there(found: Result<bool, Unavailable>) -> Result<Found, Unavailable> {
 pub fn find<S: Unclaimed>(conn: &mut Connection<S>, row: &Row) -> Result<Found, Unavailable> {
     claims_nothing(conn);
     match row {
-        Row::Version => Ok(told(finding::find_version(conn), 3)?),
         Row::Tenant(number, _, digest) => told(finding::find_tenant(conn, &[*digest; 32]), *number),
         Row::Clock(tenant, clock) => told(finding::find_clock(conn, *tenant), u64::from(*clock)),
         Row::Account(tenant, id, timestamp, code) => told(

@@ -2,8 +2,8 @@
 
 use super::acts::Table;
 use super::sample::account;
-use super::unclaimed::{Unclaimed, claims_nothing};
-use ledger_sql::{Owned, TableFault, finding, listing};
+use super::unclaimed::Unclaimed;
+use ledger_sql::{Owned, TableFault, listing};
 use rows::{AccountCells, BalanceCells, DirectoryRow, HistoryCells, StatusCells, TransferCells};
 use sqlite::Connection;
 use std::alloc::Global;
@@ -110,12 +110,4 @@ pub fn lists_cells<S: Unclaimed>(
         row: AccountCells::from_account(&account(3, 3, 10)),
     };
     Ok(listing::list_accounts(alloc, conn)?.get(2) == Some(&third))
-}
-
-/// Whether the tables are told to be missing.
-pub fn misses_tables<S: Unclaimed>(alloc: Global, conn: &mut Connection<S>) -> bool {
-    claims_nothing(conn);
-    let version = finding::find_version(conn);
-    let failed = listing::list_failed(alloc, conn);
-    version == Err(TableFault::Missing) && failed.err() == Some(TableFault::Missing)
 }

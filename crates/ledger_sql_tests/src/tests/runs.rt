@@ -4,7 +4,7 @@ use super::acts::{Act, Call, Row};
 use super::calls::{Done, answer};
 use super::entries::{tells, tells_page, tells_two};
 use super::finds::{Found, find, number_of};
-use super::lists::{lists, lists_cells, misses_tables};
+use super::lists::{lists, lists_cells};
 use super::many::add_many;
 use super::unclaimed::Unclaimed;
 use ledger_sql::stages::is_open;
@@ -49,7 +49,6 @@ fn first_wrong<S: Unclaimed>(
         Act::FirstTwo(asked, times) => said(tells_two(conn, asked, times)),
         Act::Page(asked, count, times) => said(tells_page(alloc, conn, asked, *count, times)),
         Act::IsOpen(open) => Ok(unless(is_open(conn) == *open)),
-        Act::MissesTables => Ok(unless(misses_tables(alloc, conn))),
         Act::AddMany(rows) => Ok(unless(add_many(alloc, conn, *rows)?)),
         Act::LimitSteps(steps) => {
             conn.set_step_limit(Some(*steps));

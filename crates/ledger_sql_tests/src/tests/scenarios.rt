@@ -153,7 +153,7 @@ const TAKEN_KEYS: &[Act] = &[
     Does(PENDING_100),
     Does(&[Add(Failed(1, 200))]),
     Refuses(&[
-        Add(Version),
+        AddVersion,
         Add(Tenant(1, "South", 1)),
         Add(Tenant(2, "North", 1)),
         Add(Tenant(2, "South", 0x66)),
@@ -232,9 +232,7 @@ const OUT_OF_ORDER: &[Act] = &[
 ];
 
 const DIRECTORY: &[Act] = &[
-    MissesTables,
     Does(BASE),
-    Finds(&[Version]),
     Does(&[
         Add(Tenant(3, "West", 3)),
         Add(Tenant(2, "South", 2)),
@@ -329,7 +327,7 @@ const BALANCE_SCHEMA: &[Act] = &[
         Make(AccountTable),
         Make(TransferTable),
         Make(BalanceTables),
-        Add(Version),
+        AddVersion,
         Add(Tenant(1, "North", 0x66)),
         Add(Account(1, 1, 1, 10)),
         Add(Account(1, 2, 2, 10)),

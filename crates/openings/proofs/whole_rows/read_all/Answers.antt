@@ -12,7 +12,7 @@ pub returns-clause-whole : goal.returns-clause-whole
 returns-clause-whole g c clean has =
     let first : HasCleanDisk (state g.S.Store c.directory.new.conn) =
     omega (arith, c.in_ok-tables.ensures.follows.survives.clean, clean) in
-    let kept = c.in_ok-directory.ensures.same first in
+    let kept = c.in_ok-directory.ensures.reads.same first in
     let whole = subst (λ (db : Database). ReadsWhole c.args.version db.trees c.in_ok-tables.tables) kept.0.now_is
     (c.in_ok-tables.ensures.whole clean
     (subst (λ (db : Database). HasTables c.args.version db.schema) (sym kept.0.now_is) has)) in record {

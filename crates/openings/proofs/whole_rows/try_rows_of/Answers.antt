@@ -13,7 +13,7 @@ use Rattle.openings.proofs.whole_rows.try_rows_of.Goals as goal
 pub returns-in_default-clause-whole : goal.returns-in_default-clause-whole
 returns-in_default-clause-whole g c clean =
     let before : HasCleanDisk (state g.S.Store c.args.conn.now) =
-    omega (arith, c.in_ok-number.ensures.follows.survives.clean, clean) in
+    omega (arith, c.in_ok-number.ensures.reads.follows.survives.clean, clean) in
     found_number c.args.digest.now _ c.in_ok-number.field-0
     ((c.requires before).2.distinct.digests c.args.digest.now) (c.in_ok-number.ensures.ok clean)
     ∙ c.in_default.is
@@ -23,9 +23,9 @@ returns-clause-whole g c clean =
     let first : HasCleanDisk (state g.S.Store c.find_tenant.new.conn) =
     omega (arith, c.in_ok-tables.ensures.follows.survives.clean, clean) in
     let before : HasCleanDisk (state g.S.Store c.args.conn.now) =
-    omega (arith, c.in_ok-number.ensures.follows.survives.clean, first) in
+    omega (arith, c.in_ok-number.ensures.reads.follows.survives.clean, first) in
     let ledgers = (c.requires before).2 in
-    let kept = c.in_ok-number.ensures.same first in
+    let kept = c.in_ok-number.ensures.reads.same first in
     let whole = subst (λ (db : Database). ReadsWhole c.args.version db.trees c.in_ok-tables.tables) kept.0.now_is
     (c.in_ok-tables.ensures.whole clean
     (subst (λ (db : Database). HasTables c.args.version db.schema) (sym kept.0.now_is)
@@ -43,4 +43,4 @@ returns-clause-whole g c clean =
 
 pub returns-clause-follows : goal.returns-clause-follows
 returns-clause-follows g c =
-    follows_then _ _ _ c.in_ok-number.ensures.follows c.in_ok-tables.ensures.follows
+    follows_then _ _ _ c.in_ok-number.ensures.reads.follows c.in_ok-tables.ensures.follows

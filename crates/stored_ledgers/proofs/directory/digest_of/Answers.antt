@@ -10,7 +10,7 @@ returns-clause-value g c clean =
     let mid : HasCleanDisk (state g.S.Store c.find_tenant_by_name-row.new.conn) =
     omega (arith, c.in_ok-judged.ensures.follows.survives.clean, clean) in
     let before : HasCleanDisk (state g.S.Store c.args.conn.now) =
-    omega (arith, c.find_tenant_by_name-row.ensures.follows.survives.clean, mid) in
+    omega (arith, c.find_tenant_by_name-row.ensures.reads.follows.survives.clean, mid) in
     let picks = MatchResult-at_ok _ _ _ c.in_ok-judged.ensures.ok.0
     (c.find_tenant_by_name-row.ensures.ok mid) in
     digest_found c.args.name.now _ c.in_ok-judged.field-0 c.digest_in.result

@@ -11,7 +11,7 @@ returns-clause-value g c clean =
     let mid : HasCleanDisk (state g.S.Store c.find_tenant-number.new.conn) =
     omega (arith, c.in_ok-judged.ensures.follows.survives.clean, clean) in
     let before : HasCleanDisk (state g.S.Store c.args.conn.now) =
-    omega (arith, c.find_tenant-number.ensures.follows.survives.clean, mid) in
+    omega (arith, c.find_tenant-number.ensures.reads.follows.survives.clean, mid) in
     let picks = MatchResult-at_ok _ _ _ c.in_ok-judged.ensures.ok.0 (c.find_tenant-number.ensures.ok mid) in
     c.is_some.ensures
     ∙ found_tenant c.args.digest.now _ c.in_ok-judged.field-0 (found_number c.args.digest.now _ _

@@ -15,12 +15,12 @@ returns-then-is_some-clause-told g c clean =
 pub returns-then-is_some-2-clause-told : goal.returns-then-is_some-2-clause-told
 returns-then-is_some-2-clause-told g c clean =
     let mid : HasCleanDisk (state g.S.Store c.find_tenant_by_name.new.conn) =
-    omega (arith, c.in_ok-find_tenant.ensures.follows.survives.clean, clean) in (
+    omega (arith, c.in_ok-find_tenant.ensures.reads.follows.survives.clean, clean) in (
       picked_none _ _ c.in_ok-find_tenant_by_name.field-0
           (rw c.as_str.ensures.same at (c.in_ok-find_tenant_by_name.ensures.ok mid))
           (sym c.is_some.ensures ∙ c.if-is_some.false),
       subst (λ (db : Database). with_digest c.args.digest.now db.trees ≢ [])
-          (c.in_ok-find_tenant_by_name.ensures.same mid).0.now_is
+          (c.in_ok-find_tenant_by_name.ensures.reads.same mid).0.now_is
           (digest_some c.args.digest.now (state g.S.Store c.find_tenant_by_name.new.conn).now.trees (picked_some _ _ c.in_ok-find_tenant.field-0
           (c.in_ok-find_tenant.ensures.ok clean) (sym c.is_some-2.ensures ∙ c.if-is_some-2.true))),
     )
@@ -28,12 +28,12 @@ returns-then-is_some-2-clause-told g c clean =
 pub returns-clause-told : goal.returns-clause-told
 returns-clause-told g c clean =
     let mid : HasCleanDisk (state g.S.Store c.find_tenant_by_name.new.conn) =
-    omega (arith, c.in_ok-find_tenant.ensures.follows.survives.clean, clean) in (
+    omega (arith, c.in_ok-find_tenant.ensures.reads.follows.survives.clean, clean) in (
       picked_none _ _ c.in_ok-find_tenant_by_name.field-0
           (rw c.as_str.ensures.same at (c.in_ok-find_tenant_by_name.ensures.ok mid))
           (sym c.is_some.ensures ∙ c.if-is_some.false),
       subst (λ (db : Database). with_digest c.args.digest.now db.trees ≡ [])
-          (c.in_ok-find_tenant_by_name.ensures.same mid).0.now_is
+          (c.in_ok-find_tenant_by_name.ensures.reads.same mid).0.now_is
           (digest_none c.args.digest.now (state g.S.Store c.find_tenant_by_name.new.conn).now.trees (picked_none _ _ c.in_ok-find_tenant.field-0
           (c.in_ok-find_tenant.ensures.ok clean) (sym c.is_some-2.ensures ∙ c.if-is_some-2.false))),
     )

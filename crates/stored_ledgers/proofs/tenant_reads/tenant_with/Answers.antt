@@ -9,7 +9,7 @@ returns-clause-value g c clean =
     let mid : HasCleanDisk (state g.S.Store c.find_tenant-number.new.conn) =
     omega (arith, c.judged.ensures.follows.survives.clean, clean) in
     let before : HasCleanDisk (state g.S.Store c.args.conn.now) =
-    omega (arith, c.find_tenant-number.ensures.follows.survives.clean, mid) in
+    omega (arith, c.find_tenant-number.ensures.reads.follows.survives.clean, mid) in
     number_told c.args.digest.now _ _ c.find_tenant-number.result c.judged.result
     ((c.requires before).2.distinct.digests c.args.digest.now) c.judged.ensures.ok
     (c.find_tenant-number.ensures.ok mid)
