@@ -114,8 +114,12 @@ def haproxy(folder, port, front):
     return subprocess.Popen(["haproxy", "-db", "-f", str(path)])
 
 
-def has(tool):
-    return bool(shutil.which(tool) or importlib.util.find_spec(tool))
+def has(tool, name):
+    """Whether a tool is there; says so where it is not."""
+    if shutil.which(tool) or importlib.util.find_spec(tool):
+        return True
+    print(f"{name}: no {tool} here", flush=True)
+    return False
 
 
 def try_all(title, place, cases, word):
@@ -123,10 +127,7 @@ def try_all(title, place, cases, word):
     wrong = 0
     for case in cases:
         name = f"{title}: {case.name}"
-        if word not in name:
-            continue
-        if not has(case.tool):
-            print(f"{name}: no {case.tool} here", flush=True)
+        if word not in name or not has(case.tool, name):
             continue
         start = time.perf_counter()
         found = collections.Counter(case.way(place))
@@ -151,12 +152,12 @@ def behind(proxy, title, front, cases, word):
 
 def try_proxies(folder, port, word):
     wrong = 0
-    if has("nginx"):
+    if has("nginx", "nginx"):
         front, bare = free_port(), free_port()
         wrong += behind(nginx(folder, port, front, False), "nginx", front, BEHIND_NGINX, word)
         wrong += behind(nginx(folder, port, bare, True), "nginx without its two lines", bare,
                         BEHIND_BARE_NGINX, word)
-    if has("haproxy"):
+    if has("haproxy", "haproxy"):
         front = free_port()
         wrong += behind(haproxy(folder, port, front), "haproxy", front, BEHIND_HAPROXY, word)
     return wrong
