@@ -141,7 +141,7 @@ def free_port():
 
 
 def read_message(connection):
-    """The next message, whole, or None where the client has closed."""
+    """The next message, whole, or None where the connection has ended before it."""
     read = b""
     while b"\r\n\r\n" not in read:
         more = connection.recv(65536)
@@ -152,7 +152,10 @@ def read_message(connection):
     lines = [line.partition(b":") for line in head.split(b"\r\n")[1:]]
     length = next((int(value) for name, _, value in lines if name.lower() == b"content-length"), 0)
     while len(body) < length:
-        body += connection.recv(65536)
+        more = connection.recv(65536)
+        if not more:
+            return None
+        body += more
     return head + b"\r\n\r\n" + body
 
 
