@@ -9,7 +9,7 @@ use Rattle.ledger_http.specs.Limits.{max_head}
 use Rattle.ledger_http.specs.Message.{blank_line, end_of_head, length_of_head}
 
 -- a text that is too short does not begin with a blank line
-short_start : (bytes : List ℕ) → length bytes < 4 → starts_with nat_eq bytes blank_line ≡ false
+pub short_start : (bytes : List ℕ) → length bytes < 4 → starts_with nat_eq bytes blank_line ≡ false
 short_start bytes few =
     let other : length blank_line ≢ length (take 4 bytes) = λ e. absurd (omega (arith, e, length-take 4 bytes)) in
     unequal nat_eq blank_line (take 4 bytes) other

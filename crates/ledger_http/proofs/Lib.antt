@@ -5,3 +5,5 @@ pub mod MessageLemmas
 pub mod ReadingLemmas
 pub mod FirstLemmas
 pub mod MeaningLemmas
+pub mod LaterLemmas
+pub mod ProgressLemmas

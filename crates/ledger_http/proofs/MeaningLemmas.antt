@@ -34,13 +34,13 @@ least_of false None n least ends = cc
 least_of false (Some m) n least ends = let same : suc m ≡ n = cc in omega (arith, least m refl)
 
 -- a head has room for a blank line
-end_at_least : (bytes : List ℕ) (n : ℕ) → end_of_head bytes ≡ Some n → 4 ≤ n
+pub end_at_least : (bytes : List ℕ) (n : ℕ) → end_of_head bytes ≡ Some n → 4 ≤ n
 end_at_least [] n ends = cc
 end_at_least (b ∷ bytes) n ends =
     least_of (starts_with nat_eq (b ∷ bytes) blank_line) (end_of_head bytes) n (end_at_least bytes) ends
 
 -- one byte more in front
-end_of_tail : (b : Bool) (here there : Option ℕ) (n m : ℕ)
+pub end_of_tail : (b : Bool) (here there : Option ℕ) (n m : ℕ)
     → ((k : ℕ) → here ≡ Some k → k ≤ m → there ≡ Some k)
     → (if b then Some 4 else option_map suc here) ≡ Some n → n ≤ suc m
     → (if b then Some 4 else option_map suc there) ≡ Some n
@@ -74,7 +74,7 @@ take-swap bytes m n =
     ∙ sym (take-take n m bytes more))
     (cases_lt m n)
 
-of_ok_or : (end : Option ℕ) (refusal : Refusal) (n : ℕ) → ok_or end refusal ≡ Ok n → end ≡ Some n
+pub of_ok_or : (end : Option ℕ) (refusal : Refusal) (n : ℕ) → ok_or end refusal ≡ Ok n → end ≡ Some n
 of_ok_or None refusal n ok = cc
 of_ok_or (Some m) refusal n ok = cc
 
@@ -101,7 +101,7 @@ whole_of (Ok k) bytes h n first cut =
     (k, refl, leb-true (n + k) (length bytes) whole.0, whole.1)
 whole_of (Err refusal) bytes h n first cut = cc
 
-first_whole : (bytes : List ℕ) (h : RequestHead) (n : ℕ) (first : First) → length_of_head bytes ≡ Ok n
+pub first_whole : (bytes : List ℕ) (h : RequestHead) (n : ℕ) (first : First) → length_of_head bytes ≡ Ok n
     → first_message bytes (Some h) ≡ Ok first
     → (k : ℕ) × (length_of_body h ≡ Ok k) × (n + k ≤ length bytes) × (message_of bytes h n k ≡ first)
 unfolding first_message

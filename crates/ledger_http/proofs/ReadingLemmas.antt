@@ -9,6 +9,7 @@ use borrow.Rule.Slice.PartMut.{put_mid, post_of}
 use Rattle.ledger_http.specs.declared.refusal.Refusal.TheVariants.{Truncated, HeadTooLarge}
 use Rattle.ledger_http.specs.Limits.{max_head}
 use Rattle.ledger_http.specs.Message.{blank_line, end_of_head, length_of_head}
+use Rattle.ledger_http.specs.Progress.{HasNoEnd}
 use Rattle.ledger_http.proofs.EndLemmas.{end_of_head-first, end_of_head-none, length_of_head-ended, length_of_head-open}
 
 -- the first byte, if there is one
@@ -37,10 +38,6 @@ one_more head bytes at b same within room here =
 shorter : (head bytes : List ℕ) (j n : ℕ) → j ≤ n → take n head ≡ take n bytes → take j head ≡ take j bytes
 shorter head bytes j n below same =
     sym (take-take j n head below) ∙ ap (take j) same ∙ take-take j n bytes below
-
--- no beginning of so many bytes or fewer ends with a blank line
-abbrev pub HasNoEnd : List ℕ → ℕ → Type 0
-HasNoEnd head n = (j : ℕ) → j ≤ n → ends_with nat_eq (take j head) blank_line ≡ false
 
 -- the same in what the bytes begin with
 same_ends : (head bytes : List ℕ) (n m j : ℕ) → take n head ≡ take n bytes → j ≤ n → j ≤ m

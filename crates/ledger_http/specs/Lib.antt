@@ -11,3 +11,5 @@ pub mod Routes
 pub mod Routing
 pub mod Question
 pub mod Alone
+pub mod Progress
+pub mod Unread

@@ -1,5 +1,5 @@
-//! Messages of HTTP/1.1: which message a reader gives first, which request it asks, and the bytes
-//! of a reply.
+//! Messages of HTTP/1.1: which message a reader gives first, or what has come from a client, which
+//! request it asks, and the bytes of a reply.
 #![tactic(auto)]
 
 mod asking;
@@ -7,9 +7,11 @@ mod content_type;
 mod ends;
 mod head;
 mod header;
+mod inbox;
 mod laws;
 mod limits;
 mod message;
+mod progress;
 mod reading;
 mod refusal;
 mod reply;
@@ -20,7 +22,8 @@ mod writing;
 
 pub use asking::asked;
 pub use content_type::ContentType;
-pub use laws::{meanings_are_unique, messages_stand_alone};
+pub use inbox::{Inbox, Next};
+pub use laws::{later_bytes_change_nothing, meanings_are_unique, messages_stand_alone};
 pub use message::{Message, ReadError, read_message};
 pub use refusal::Refusal;
 pub use reply::Reply;

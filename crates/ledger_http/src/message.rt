@@ -38,8 +38,8 @@ impl From<Failed> for ReadError {
     }
 }
 
-// How long the body is behind a head that takes up all bytes.
-fn announced(head: &[u8]) -> Result<usize, Refusal>
+/// How long the body is behind a head that takes up all bytes.
+pub(crate) fn announced(head: &[u8]) -> Result<usize, Refusal>
     ensures good { IfOk result (λ size. (h : RequestHead)
         × IsGoodHead head.now h × (length_of_body h ≡ Ok size)) }
     ensures bad { IfErr result (IsHeadRefused head.now) }

@@ -1,5 +1,6 @@
-//! Messages as bytes: heads, lengths, routes, keys and replies.
+//! Messages as bytes: heads, lengths, what comes in pieces, routes, keys and replies.
 
+mod arriving;
 mod asking;
 mod reading;
 mod replies;

@@ -1,5 +1,6 @@
 use super::sample::{
     KEY, is_of_reading, is_read_whole, message, reader_of, refusal_of, refusal_read, refused,
+    request_of,
 };
 use ledger_http::{Message, Refusal, read_message};
 use std::alloc::AllocError;
@@ -37,17 +38,6 @@ fn wrong_message(rt: &impl AllocGlobal) -> Result<Option<u8>, AllocError> {
 fn refuses_what_is_no_message(rt: HostRuntime) -> Result<(), AllocError> {
     assert_eq!(rt; wrong_message(&rt)?, None);
     Ok(())
-}
-
-// A request whose head has this many bytes, with a body of two.
-fn request_of(rt: &impl AllocGlobal, head: usize) -> Result<Vec<u8>, AllocError> {
-    let front = b"POST /accounts HTTP/1.1\r\ncontent-length: 2\r\na: ";
-    let mut bytes = Vec::from_slice(rt.alloc(), front)?;
-    for _ in front.len() + 4..head {
-        bytes.push(b'x')?;
-    }
-    bytes.extend_from_slice(b"\r\n\r\n[]")?;
-    Ok(bytes)
 }
 
 // Whether reading and asking both refuse the front of the bytes.

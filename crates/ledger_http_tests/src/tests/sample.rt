@@ -267,6 +267,17 @@ pub(crate) fn message(
     format!(in rt.alloc(); "{line} HTTP/1.1\r\n{headers}\r\n{body}")
 }
 
+/// A request whose head has this many bytes, with a body of two.
+pub(crate) fn request_of(rt: &impl AllocGlobal, head: usize) -> Result<Vec<u8>, AllocError> {
+    let front = b"POST /accounts HTTP/1.1\r\ncontent-length: 2\r\na: ";
+    let mut bytes = Vec::from_slice(rt.alloc(), front)?;
+    for _ in front.len() + 4..head {
+        bytes.push(b'x')?;
+    }
+    bytes.extend_from_slice(b"\r\n\r\n[]")?;
+    Ok(bytes)
+}
+
 /// Whether the refusal comes before the request is looked at.
 pub(crate) fn is_of_reading(refusal: Refusal) -> bool {
     matches!(

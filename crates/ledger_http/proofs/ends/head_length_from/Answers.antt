@@ -2,7 +2,7 @@ use Rattle.std.proofs.Common.{◌≡◌, ◌∙◌, ap, sym, Err, if◌then◌el
 use Rattle.ledger_http.specs.declared.refusal.Refusal.TheVariants.{Truncated, HeadTooLarge}
 use Rattle.ledger_http.specs.Limits.{max_head}
 use Rattle.ledger_http.proofs.EndLemmas.{length_of_head-ended, length_of_head-open}
-use Rattle.ledger_http.proofs.ends.head_length.Goals as goal
+use Rattle.ledger_http.proofs.ends.head_length_from.Goals as goal
 
 pub returns-in-Some-clause-size : goal.returns-in-Some-clause-size
 returns-in-Some-clause-size c =
