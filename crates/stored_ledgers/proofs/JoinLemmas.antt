@@ -1,5 +1,5 @@
 -- What a new tenant's rows leave of a database.
-use Rattle.std.proofs.Common.{◌≡◌, ◌≢◌, ℕ, ℤ, pos, None, drop, List, [], ◌∷◌, ◌++◌, map, filter, refl, sym, ap, subst, ◌∙◌, arith}
+use Rattle.std.proofs.Common.{◌≡◌, ◌≢◌, ℕ, ℤ, pos, None, Some, drop, List, [], ◌∷◌, ◌++◌, map, filter, Ok, Err, refl, sym, ap, subst, ◌∙◌, arith}
 use Rattle.std.specs.List.{AllByRecursion}
 use Rattle.std.specs.List.Sorted.{IsPermutation}
 use Rattle.std.proofs.lemmas.List.Sorted.{IsPermutation-refl}
@@ -19,13 +19,13 @@ use Rattle.ledger_sql.specs.TableRows.{directory_rows, clock_rows, is_own, is_in
 use Rattle.ledger_sql.specs.Values.{directory_values, clock_values}
 use Rattle.stored_tables.specs.Frames.{KeepsRows}
 use Rattle.stored_tables.specs.Holds.{HoldsMachine}
-use Rattle.sqlite.specs.State.{HasCleanDisk, Survives}
-use Rattle.sqlite.proofs.StateLemmas.{survives_then}
-use Rattle.ledger_sql.specs.Frames.{Follows}
-use Rattle.stored_tables.specs.BatchLaws.{follows_then}
-use Rattle.stored_ledgers.specs.Directory.{IsLeastFree}
-use Rattle.stored_ledgers.specs.Joining.{Joins, Joined, AreTaken}
+use Rattle.stored_ledgers.specs.declared.joining.Taken.{Taken}
+use Rattle.stored_ledgers.specs.declared.joining.Taken.TheVariants.{Name, Digest}
+use Rattle.stored_ledgers.specs.DueSets.{DueSets}
+use Rattle.stored_ledgers.specs.Joining.{Joins, IsJoined, Joined, HasJoined, AreTaken, joining_answer}
 use Rattle.stored_ledgers.specs.Ledger.{HoldsLedgers}
+use Rattle.stored_ledgers.specs.Resting.{CanServe, IsSame}
+use Rattle.stored_ledgers.specs.Transactions.{Answer, Tells, UnlessMade, IsLeft}
 use Rattle.stored_ledgers.proofs.TakenLemmas.{only_row}
 
 -- all tables of ours but one stay
@@ -234,28 +234,30 @@ joined_trees number name digest old new trees same joins =
 pub starts_as_ours : (schema : Schema) → IsLedger schema → StartsAs after_tenant.tables schema
 starts_as_ours schema ledger = (drop 2 ledger_schema.tables ++ ledger.more, ledger.tables)
 
--- what a crash may leave of a tenant that is joining, whose name and digest nobody has
-pub join_survives :
-    (old mid1 mid2 new : State) (number : ℕ) (name digest : List ℕ) →
-    Follows old mid1 → Follows mid1 mid2 →
-    Survives mid2 new
-    (λ trees. Joins number name digest mid2.now (record { schema = mid2.now.schema; trees = trees })) →
-    (HasCleanDisk mid1 → AreTaken name digest old.now.trees None) →
-    (HasCleanDisk mid1 → mid1.now ≡ old.now) → (HasCleanDisk mid2 → mid2.now ≡ mid1.now) →
-    (HasCleanDisk mid2 → IsLeastFree number mid1.now.trees) →
-    Survives old new (Joined name digest old.now)
-join_survives old mid1 mid2 new number name digest one two three untaken same1 same2 least =
-    survives_then old mid2 new _ _ _ (λ _ db none. absurd none)
-    (λ clean db joins.
-    let clean2 : HasCleanDisk mid2 = omega (arith, three.clean, clean) in
-    let clean1 : HasCleanDisk mid1 = omega (arith, two.survives.clean, clean2) in (
-      untaken clean1,
+-- what the adding of a tenant is told, and what it leaves
+pub has_joined : (name digest : List ℕ) (sets : DueSets) (old new : State)
+    (answer : Answer (Unit {0}) Taken)
+    → Tells answer (λ done. (AreTaken name digest old.now.trees None
+    × IsJoined name digest old.now new.now) × CanServe sets new.now)
+    (λ taken. AreTaken name digest old.now.trees (Some taken))
+    → UnlessMade answer (IsSame old new)
+    → HasJoined name digest old.now new.now (joining_answer answer)
+has_joined name digest sets old new (Ok (Ok done)) told same = told.0
+has_joined name digest sets old new (Ok (Err Name)) told same = (told, same.now)
+has_joined name digest sets old new (Ok (Err Digest)) told same = (told, same.now)
+has_joined name digest sets old new (Err why) told same = same.now
+
+-- what it may leave in the files
+pub left_joined : (name digest : List ℕ) (old : Database) (trees : Trees)
+    → IsLeft (λ (done : Unit {0}) (sets : DueSets) new. (AreTaken name digest old.trees None
+    × IsJoined name digest old new) × CanServe sets new) trees
+    → Joined name digest old trees
+left_joined name digest old trees left =
+    let joined = left.done.0.1 in (
+      left.done.0.0,
       record {
-        number = number;
-        least = subst (λ (at : Database). IsLeastFree number at.trees) (same1 clean1) (least clean2);
-        joins = subst
-            (λ (at : Database). Joins number name digest at (record { schema = at.schema; trees = db }))
-            (same2 clean2 ∙ same1 clean1) joins;
+        number = joined.number;
+        least = joined.least;
+        joins = joined_trees joined.number name digest old left.after trees left.is joined.joins;
       },
-    ))
-    (follows_then old mid1 mid2 one two).survives three
+    )

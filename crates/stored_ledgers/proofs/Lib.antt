@@ -1,6 +1,7 @@
 mod TenantLemmas
 mod LedgerLemmas
 mod BatchLemmas
+mod ServingLemmas
 mod OutcomeLemmas
 mod TakenLemmas
 mod JoinLemmas

@@ -1,6 +1,5 @@
 -- A new tenant.
 use Rattle.std.specs.Prelude.{◌≡◌, ◌≢◌, ℕ, ℤ, pos, List, [], ◌∷◌, Option, Some, None, Result, Ok, Err, IsPermutation}
-use Rattle.records.specs.declared.unavailable.Unavailable.{Unavailable}
 use Rattle.records.specs.Machine.{new_machine}
 use Rattle.sqlite.specs.Effect.{Database}
 use Rattle.sqlite_trees.specs.Tree.{Trees}
@@ -16,6 +15,7 @@ use Rattle.stored_ledgers.specs.declared.joining.AddTenant.{AddTenant}
 use Rattle.stored_ledgers.specs.declared.joining.AddTenant.TheVariants.{NameTaken, DigestTaken, Unavailable as IsUnavailable}
 use Rattle.stored_ledgers.specs.declared.joining.Taken.{Taken}
 use Rattle.stored_ledgers.specs.declared.joining.Taken.TheVariants.{Name, Digest}
+use Rattle.stored_ledgers.specs.Transactions.{Answer}
 
 -- the directory has one row more, the tenant's rows are those of a new machine, and all others stay
 pub record Joins (number : ℕ) (name digest : List ℕ) (old new : Database) : Type 0 where
@@ -61,10 +61,10 @@ JoiningAddsOne =
     → AddsTenant digest (tenants_in old.trees) (tenants_in new.trees)
 
 -- what the adding of a tenant answers
-abbrev pub joining_answer : Result (Option Taken) Unavailable → Result (Unit {0}) AddTenant
-joining_answer (Ok None) = Ok tt
-joining_answer (Ok (Some Name)) = Err NameTaken
-joining_answer (Ok (Some Digest)) = Err DigestTaken
+abbrev pub joining_answer : Answer (Unit {0}) Taken → Result (Unit {0}) AddTenant
+joining_answer (Ok (Ok done)) = Ok tt
+joining_answer (Ok (Err Name)) = Err NameTaken
+joining_answer (Ok (Err Digest)) = Err DigestTaken
 joining_answer (Err why) = Err (IsUnavailable why)
 
 -- and what it leaves

@@ -3,6 +3,7 @@ pub mod DirectoryLaws
 pub mod DueSets
 pub mod DueSetLaws
 pub mod Ledger
+pub mod Transactions
 pub mod Resting
 pub mod RestingLaws
 pub mod Outcomes

@@ -1,6 +1,7 @@
 -- A connection between two batches.
 use Rattle.std.specs.Prelude.{◌≡◌, ℤ, false, [], IsTrue}
 use Rattle.sqlite_schema.specs.declared.schema.Schema.{Schema}
+use Rattle.sqlite.specs.Effect.{Database}
 use Rattle.sqlite.specs.State.{State, HasCleanDisk}
 use Rattle.ledger_sql.specs.Creating.{IsEmptyLedger}
 use Rattle.ledger_sql.specs.Effects.{IsLedger}
@@ -10,17 +11,12 @@ use Rattle.stored_tables.specs.Holds.{HoldsMachine}
 use Rattle.stored_tables.specs.MachineOf.{machine_of}
 use Rattle.stored_ledgers.specs.DueSets.{DueSets, AreCovered}
 use Rattle.stored_ledgers.specs.Ledger.{HoldsLedgers}
+pub use Rattle.stored_ledgers.specs.Transactions.{IsQuiet, IsSame}
 
 -- it is open, and outside a transaction over this schema
 pub record Rests (schema : Schema) (s : State) : Type 0 where
   pub is_open : IsTrue s.is_open
   pub schema_is : s.now.schema ≡ schema
-  pub mode : s.in_transaction ≡ false
-  pub settled : s.now ≡ s.committed
-  pub unmarked : s.marks ≡ []
-
--- no transaction is open, so it sees what is committed
-pub record IsQuiet (s : State) : Type 0 where
   pub mode : s.in_transaction ≡ false
   pub settled : s.now ≡ s.committed
   pub unmarked : s.marks ≡ []
@@ -31,16 +27,14 @@ pub record IsResting (sets : DueSets) (s : State) : Type 0 where
   pub ledgers : HoldsLedgers s.now
   pub covered : AreCovered sets s.now.trees
 
+-- the database holds ledgers, which the sets cover
+pub record CanServe (sets : DueSets) (db : Database) : Type 0 where
+  pub ledgers : HoldsLedgers db
+  pub covered : AreCovered sets db.trees
+
 -- as long as the disk was honest it is open and rests
 abbrev pub Serves : DueSets → State → Type 0
 Serves sets s = HasCleanDisk s → IsTrue s.is_open × IsResting sets s
-
--- what it sees and what is committed are as before, and no transaction is open
-pub record IsSame (old new : State) : Type 0 where
-  pub now : new.now ≡ old.now
-  pub committed : new.committed ≡ old.committed
-  pub mode : new.in_transaction ≡ false
-  pub unmarked : new.marks ≡ []
 
 -- it is open, outside a transaction, and this tenant has the rows of its machine
 pub record IsIdle (tenant : ℤ) (s : State) : Type 0 where

@@ -8,3 +8,4 @@ pub mod joining;
 pub mod laws;
 pub mod probe;
 pub mod tenant_reads;
+pub mod transactions;

@@ -11,7 +11,7 @@ ghost use Rattle.stored_ledgers.specs.Directory.{number_of, tenants_in};
 ghost use Rattle.stored_ledgers.specs.Resting.{IsQuiet, IsSame, HoldsHere};
 ghost use Rattle.stored_ledgers.specs.TenantReads.{reach_of, ReadsHere};
 
-use crate::probe::{cause, judged};
+use crate::probe::{judged, or_disk_fault};
 use chain::{Listed, ReadFault};
 use ledger_sql::finding::find_tenant;
 use records::{AccountFilter, BalanceAt, Order, RowSink, Transfer, Unavailable};
@@ -116,7 +116,7 @@ fn told_after<S: Alter, T>(
 {
     match told {
         Ok(answer) => Ok(answer),
-        Err(ReadFault::Unavailable(why)) => Err(ReadFault::Unavailable(cause(conn, why))),
+        Err(ReadFault::Unavailable(why)) => Err(ReadFault::Unavailable(or_disk_fault(conn, why))),
         Err(fault) => Err(fault),
     }
 }

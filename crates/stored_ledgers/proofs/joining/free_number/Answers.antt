@@ -10,7 +10,7 @@ pub returns-clause-least : goal.returns-clause-least
 returns-clause-least g c clean =
     let old = state g.S.Store c.args.conn.now in
     let before : HasCleanDisk old = omega (arith, c.in_ok-rows.ensures.reads.follows.survives.clean, clean) in
-    let reads = c.in_ok-rows.ensures.whole clean (starts_as_ours _ (c.requires before).2.schema) in
+    let reads = c.in_ok-rows.ensures.whole clean (starts_as_ours _ (c.requires before).schema) in
     if_ok_or (IsLeastMissing c.as_slice.result.now) (λ number. IsLeastFree number old.now.trees)
     c.least_missing.result _ c.ok_or.result c.ok_or.ensures.value c.least_missing.ensures
     (λ number least. least_free old.now.trees c.in_ok-rows.rows.items number reads
