@@ -27,8 +27,8 @@ use Rattle.stored_ledgers.specs.Directory.{number_of}
 use Rattle.stored_ledgers.specs.DueSets.{DueSet, due_cmp, CoversMachine}
 use Rattle.openings.specs.Opened.{CoversCells}
 use Rattle.openings.specs.Whole.{AreAllRows, lists_in, lists_for}
-use Rattle.whole_tables.specs.Reading.{ReadsWhole, own_lists}
-use Rattle.whole_tables.specs.declared.reading.WholeTables.{WholeTables}
+use Rattle.openings.specs.Tables.{ReadsWhole, own_lists}
+use Rattle.openings.specs.declared.tables.WholeTables.{WholeTables}
 use Rattle.stored_ledgers.specs.DirectoryLaws.{found_row, all_among}
 
 -- a list with the elements of a list of one

@@ -1,3 +1,6 @@
+mod ReadLemmas
+mod PartLemmas
+mod FillLemmas
 mod FileLemmas
 mod EmptyLemmas
 mod WholeLemmas

@@ -8,7 +8,7 @@ use Rattle.ledger_sql.specs.Effects.{StartsAs}
 use Rattle.ledger_sql.specs.Schema.{after_schema, list_schema, balance_schema}
 use Rattle.ledger_sql.specs.Values.{version_values}
 use Rattle.openings.specs.Upgrading.{older_schema}
-use Rattle.whole_tables.specs.Reading.{HasTables}
+use Rattle.openings.specs.Tables.{HasTables}
 use Rattle.openings.proofs.HeldMachines.{only_one}
 
 -- the one version that a file names

@@ -18,11 +18,11 @@ use Rattle.stored_tables.specs.Holds.{HoldsMachine}
 use Rattle.stored_tables.specs.MachineOf.{machine_of}
 use Rattle.stored_ledgers.specs.Directory.{number_of}
 use Rattle.stored_ledgers.specs.DueSets.{DueSets, CoversMachine, AreCovered}
-use Rattle.whole_tables.specs.Filling.{HasOrderedTables}
+use Rattle.openings.specs.Filling.{HasOrderedTables}
 use Rattle.stored_ledgers.specs.Ledger.{HoldsLedgers}
 use Rattle.openings.specs.Opened.{CoversCells, IsKept, IsExamined}
 use Rattle.openings.specs.Whole.{lists_in, lists_for}
-use Rattle.whole_tables.specs.Reading.{own_lists}
+use Rattle.openings.specs.Tables.{own_lists}
 use Rattle.openings.proofs.HeldMachines.{machine_held, machine_covered, of_tenant, all_sound}
 use Rattle.openings.proofs.RuledRows.{are_numbered, are_distinct, no_rows_of}
 

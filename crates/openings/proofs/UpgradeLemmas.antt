@@ -22,10 +22,10 @@ use Rattle.ledger_sql.specs.TableRows.{is_own, is_int, cells_from}
 use Rattle.stored_tables.specs.Holds.{HoldsMachine}
 use Rattle.stored_tables.specs.MachineOf.{machine_of, account_of, transfer_of, clock_of, wide}
 use Rattle.stored_ledgers.specs.DueSets.{DueSets}
-use Rattle.whole_tables.specs.Filling.{HasOrderedTables, IsAltering, HasOneVersion, KeepsEntries, MakesDerived, MakesBalanced, MakesCurrent}
+use Rattle.openings.specs.Filling.{HasOrderedTables, IsAltering, HasOneVersion, KeepsEntries, MakesDerived, MakesBalanced, MakesCurrent}
 use Rattle.openings.specs.Opened.{IsExamined}
 use Rattle.openings.specs.Upgrading.{KeepsMachines, IsUpgraded, IsPrepared, Upgraded, IsSoundIn, IsLifted, Lifted, IsOlder}
-use Rattle.whole_tables.specs.FillingLaws.{entries_then}
+use Rattle.openings.specs.FillingLaws.{entries_then}
 use Rattle.openings.proofs.OpenedLedger.{examined_holds, examined_covered}
 
 -- where the entries stay, each machine stays but for failed ids

@@ -7,7 +7,7 @@ use Rattle.ledger_sql.specs.Effects.{StartsAs, IsLedger}
 use Rattle.ledger_sql.specs.Schema.{after_tenant, list_schema, ledger_schema}
 use Rattle.stored_ledgers.specs.Resting.{HoldsHere}
 use Rattle.openings.specs.Whole.{CanBeRead}
-use Rattle.whole_tables.specs.Reading.{HasTables}
+use Rattle.openings.specs.Tables.{HasTables}
 
 -- the next pair of two lists that agree so far
 pub paired_more : {X Y Z : Type 0} (f : X → Z) (g : Y → Z) (xs ys : List X) (zs : List Y) (i : ℕ) (x : X) (z : Y)

@@ -8,7 +8,7 @@ use Rattle.sqlite_disk.specs.declared.Files.{Files}
 use Rattle.sqlite_trees.specs.Tree.{Trees}
 use Rattle.sqlite_wal.specs.Reads.{AreClean}
 use Rattle.sqlite.specs.Files.{HoldsDatabase, AreFoundIn, image_of}
-use Rattle.whole_tables.specs.Filling.{NamesVersion}
+use Rattle.openings.specs.Filling.{NamesVersion}
 use Rattle.openings.specs.Whole.{AreAllRows}
 use Rattle.openings.specs.declared.opening.OpenFault.{OpenFault}
 use Rattle.openings.specs.declared.opening.OpenFault.TheVariants.{Unreadable, NotALedger, OldSchema}

@@ -13,7 +13,7 @@ use Rattle.sqlite.specs.declared.file.Leftover.{Leftover}
 use Rattle.sqlite.specs.Start.{FindsIn}
 use Rattle.sqlite.specs.State.{State, Opens, IsLive}
 use Rattle.ledger_sql.specs.Creating.{IsEmptyLedger}
-use Rattle.whole_tables.specs.Filling.{HasOrderedTables}
+use Rattle.openings.specs.Filling.{HasOrderedTables}
 use Rattle.openings.specs.Shape.{has_ours}
 
 -- while the database is open, a crash leaves what was committed last, and nothing else

@@ -1,3 +1,7 @@
+pub mod Tables
+pub mod TablesLaws
+pub mod Filling
+pub mod FillingLaws
 pub mod Whole
 pub mod Shape
 pub mod Found

@@ -14,11 +14,11 @@ use Rattle.audit.specs.Newer.{none_failed}
 use Rattle.audit.specs.Sound.{AreSound}
 use Rattle.stored_tables.specs.MachineOf.{machine_of}
 use Rattle.stored_ledgers.specs.DueSets.{DueSets, AreCovered}
-use Rattle.whole_tables.specs.Filling.{HasOrderedTables}
+use Rattle.openings.specs.Filling.{HasOrderedTables}
 use Rattle.stored_ledgers.specs.Ledger.{HoldsLedgers}
 use Rattle.stored_ledgers.specs.Resting.{Rests}
 use Rattle.openings.specs.Whole.{AreAllRows}
-use Rattle.whole_tables.specs.Filling.{NamesVersion}
+use Rattle.openings.specs.Filling.{NamesVersion}
 
 -- the same tenants, each with the same machine but for failed ids
 pub record KeepsMachines (old new : Trees) : Type 0 where

@@ -8,7 +8,7 @@ use Rattle.ledger_sql.specs.TableRows.{version_rows}
 use Rattle.ledger_sql.specs.Values.{version_values}
 use Rattle.stored_ledgers.specs.DueSets.{DueSets}
 use Rattle.stored_ledgers.specs.Resting.{IsQuiet, IsResting, IsSame}
-use Rattle.whole_tables.specs.Filling.{HasOrderedTables}
+use Rattle.openings.specs.Filling.{HasOrderedTables}
 use Rattle.openings.specs.Upgrading.{older_schema, IsOlder, IsOlderLedger, KeepsMachines, IsRaised}
 
 -- where nothing changed, it is still the older ledger

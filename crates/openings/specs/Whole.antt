@@ -13,8 +13,8 @@ use Rattle.ledger_sql.specs.TableRows.{directory_rows}
 use Rattle.ledger_sql.specs.Values.{directory_values}
 use Rattle.stored_ledgers.specs.Directory.{number_of}
 use Rattle.stored_ledgers.specs.Resting.{IsQuiet}
-use Rattle.whole_tables.specs.declared.reading.WholeTables.{WholeTables}
-use Rattle.whole_tables.specs.Reading.{HasTables, ReadsWhole, own_lists}
+use Rattle.openings.specs.declared.tables.WholeTables.{WholeTables}
+use Rattle.openings.specs.Tables.{HasTables, ReadsWhole, own_lists}
 
 -- the rows of a tenant with its digest
 abbrev pub lists_in : TenantOfDigest → List ℕ × FileRows

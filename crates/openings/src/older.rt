@@ -13,7 +13,7 @@ ghost use Rattle.ledger_sql.specs.Schema.{after_schema};
 ghost use Rattle.openings.specs.Damage.{HasFirstDamage, IfDamaged, IsNoDamage};
 ghost use Rattle.stored_ledgers.specs.Resting.{IsQuiet, IsSame};
 ghost use Rattle.openings.specs.Upgrading.{older_schema, IsOlder, IsSoundIn};
-ghost use Rattle.whole_tables.specs.Filling.{NamesVersion};
+ghost use Rattle.openings.specs.Filling.{NamesVersion};
 ghost use Rattle.openings.specs.Whole.{AreAllRows};
 
 use crate::auditing::Audit;

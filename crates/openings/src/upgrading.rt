@@ -10,6 +10,7 @@ ghost use Rattle.stored_ledgers.specs.Resting.{IsQuiet, IsSame};
 ghost use Rattle.openings.specs.Upgrading.{IsOlder, IsPrepared, IsUpgraded, Upgraded, IsLifted, Lifted};
 
 use crate::auditing::Audit;
+use crate::filling::{make_balanced, make_current, make_derived};
 use crate::older::examine_older;
 use crate::opened::examine;
 use crate::opening::OpenFault;
@@ -19,7 +20,6 @@ use sqlite::{Alter, Connection};
 use std::alloc::Global;
 use stored_ledgers::batches::DueSets;
 use stored_tables::held_machines;
-use whole_tables::filling::{make_balanced, make_current, make_derived};
 
 /// The version of the balance schema.
 const BALANCE_VERSION: u32 = 2;

@@ -7,8 +7,9 @@ ghost use Rattle.ledger_sql.specs.Frames.{Live, Follows};
 ghost use Rattle.stored_ledgers.specs.Resting.{IsQuiet, IsSame, HoldsHere};
 ghost use Rattle.records.specs.declared.unavailable.Unavailable.TheVariants.{Disk};
 ghost use Rattle.openings.specs.Whole.{CanBeRead, AreRowsOf, AreAllRows, lists_in, lists_for};
-ghost use Rattle.whole_tables.specs.Reading.{HasTables, AreInOrder};
+ghost use Rattle.openings.specs.Tables.{HasTables, AreInOrder};
 
+use crate::tables::{WholeTables, own_tables, read_tables};
 use ledger_sql::TableFault;
 use ledger_sql::finding::find_tenant;
 use ledger_sql::listing::directory;
@@ -17,7 +18,6 @@ use rows::{AllRows, DirectoryRow, TenantOfDigest, TenantRows};
 use sqlite::{Alter, Connection};
 use std::alloc::Global;
 use stored_ledgers::probe::judged;
-use whole_tables::reading::{WholeTables, own_tables, read_tables};
 
 /// All rows of a database that holds ledgers, tenant by tenant.
 pub fn all_rows<S: Alter>(

@@ -3,7 +3,7 @@ use Rattle.std.proofs.lemmas.Result.{err_from_is_err_and}
 use Rattle.sqlite.specs.Files.{file_state, image_of}
 use Rattle.sqlite.specs.State.{HasCleanDisk}
 use Rattle.openings.specs.Damage.{IsDamaged}
-use Rattle.whole_tables.specs.Filling.{HasOrderedTables}
+use Rattle.openings.specs.Filling.{HasOrderedTables}
 use Rattle.openings.specs.Upgrading.{IsOlderLedger}
 use Rattle.openings.specs.UpgradingLaws.{older_between}
 use Rattle.openings.proofs.DamageLemmas.{damage_held}

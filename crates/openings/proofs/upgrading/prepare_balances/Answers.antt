@@ -2,7 +2,7 @@ use Rattle.std.proofs.Common.{sym, subst, arith}
 use Rattle.sqlite.specs.Effect.{Database}
 use Rattle.sqlite.specs.Held.{state}
 use Rattle.sqlite.specs.State.{HasCleanDisk}
-use Rattle.whole_tables.specs.Filling.{HasOrderedTables, HasOneVersion}
+use Rattle.openings.specs.Filling.{HasOrderedTables, HasOneVersion}
 use Rattle.openings.proofs.UpgradeLemmas.{begun_altering_balances, balances_one, entries_same, prepared_now}
 use Rattle.openings.proofs.upgrading.prepare_balances.Goals as goal
 

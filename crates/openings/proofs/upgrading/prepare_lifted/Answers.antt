@@ -2,8 +2,8 @@ use Rattle.std.proofs.Common.{sym, subst, arith}
 use Rattle.sqlite.specs.Effect.{Database}
 use Rattle.sqlite.specs.Held.{state}
 use Rattle.sqlite.specs.State.{HasCleanDisk}
-use Rattle.whole_tables.specs.Filling.{HasOneVersion}
-use Rattle.whole_tables.specs.FillingLaws.{entries_then}
+use Rattle.openings.specs.Filling.{HasOneVersion}
+use Rattle.openings.specs.FillingLaws.{entries_then}
 use Rattle.openings.proofs.UpgradeLemmas.{begun_altering, derived_altering, still_one, lists_one, derived_ordered, entries_same, lifted_now, both_on_ok}
 use Rattle.openings.proofs.upgrading.prepare_lifted.Goals as goal
 

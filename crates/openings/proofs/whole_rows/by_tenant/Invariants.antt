@@ -1,6 +1,6 @@
 use Rattle.std.proofs.Common.{◌≡◌, map, take}
 use Rattle.openings.specs.Whole.{lists_in, lists_for}
-use Rattle.whole_tables.specs.Reading.{AreInOrder}
+use Rattle.openings.specs.Tables.{AreInOrder}
 use Rattle.openings.proofs.whole_rows.by_tenant.Given as goal
 
 abbrev pub invariant-loop-row : goal.invariant-loop-row

@@ -2,8 +2,8 @@ use Rattle.std.proofs.Common.{◌∙◌, map, refl, sym, ap, subst, arith}
 use Rattle.sqlite.specs.Effect.{Database}
 use Rattle.sqlite.specs.Held.{state}
 use Rattle.sqlite.specs.State.{HasCleanDisk}
-use Rattle.whole_tables.specs.Reading.{HasTables, ReadsWhole}
-use Rattle.whole_tables.specs.ReadingLaws.{whole_in_order}
+use Rattle.openings.specs.Tables.{HasTables, ReadsWhole}
+use Rattle.openings.specs.TablesLaws.{whole_in_order}
 use Rattle.openings.specs.Whole.{lists_for}
 use Rattle.openings.proofs.WholeLemmas.{starts_with_directory}
 use Rattle.openings.proofs.whole_rows.read_all.Goals as goal

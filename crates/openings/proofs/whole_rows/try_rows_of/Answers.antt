@@ -2,8 +2,8 @@ use Rattle.std.proofs.Common.{◌∙◌, sym, subst, rules, arith}
 use Rattle.sqlite.specs.Effect.{Database}
 use Rattle.sqlite.specs.Held.{state}
 use Rattle.sqlite.specs.State.{HasCleanDisk}
-use Rattle.whole_tables.specs.Reading.{HasTables, ReadsWhole}
-use Rattle.whole_tables.specs.ReadingLaws.{whole_in_order}
+use Rattle.openings.specs.Tables.{HasTables, ReadsWhole}
+use Rattle.openings.specs.TablesLaws.{whole_in_order}
 use Rattle.openings.proofs.Passed.{passed}
 use Rattle.stored_tables.specs.BatchLaws.{follows_then}
 use Rattle.stored_ledgers.specs.DirectoryLaws.{found_number}

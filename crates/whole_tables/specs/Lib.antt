@@ -1,4 +1,0 @@
-pub mod Reading
-pub mod ReadingLaws
-pub mod Filling
-pub mod FillingLaws
