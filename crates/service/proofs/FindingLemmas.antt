@@ -15,7 +15,8 @@ use Rattle.wire.specs.declared.outcome.Outcome.{Outcome}
 use Rattle.wire.specs.declared.request.Request.{Request}
 use Rattle.service.specs.Served.{left_by, served_to}
 use Rattle.service.specs.Reading.{refusal_of}
-use Rattle.service.specs.Replies.{Gives, IsLeft, batch_reply, unavailable}
+use Rattle.service.specs.Deeds.{Asked, IsDeedDone}
+use Rattle.service.specs.Replies.{Gives, batch_reply, unavailable}
 use Rattle.service.proofs.ServedReads.{left_alone}
 
 led :
@@ -54,8 +55,10 @@ batch_answered (Err (batch.Unavailable why)) available = available refl
 
 batch_leads :
     (request : Request) (moment : ℕ) (digest : List ℕ) (was now : Tenants) →
-    LeadsBy (Gives request moment) digest was now → IsLeft digest (Ok request) moment was now
+    LeadsBy (Gives request moment) digest was now →
+    IsDeedDone (Asked digest (Ok request) moment) was now
 batch_leads request moment digest was now leads = record {
+  may = tt;
   own =
       leads.1.holds
       ∙ (ap (λ (m : Machine). Some m) leads.1.given.left
@@ -70,19 +73,20 @@ pub finds_by_batch :
     (digest : List ℕ) (result : Result Reply BatchFault) (reply : Reply) →
     reply ≡ batch_reply result →
     Finds t (IsAnswered result) (LeadsBy (Gives request moment) digest) old new →
-    Finds t (reply ≢ unavailable) (IsLeft digest (Ok request) moment) old new
+    Finds t (reply ≢ unavailable) (IsDeedDone (Asked digest (Ok request) moment)) old new
 finds_by_batch t old new request moment digest result reply is =
     finds_on t old new (IsAnswered result) (reply ≢ unavailable)
-    (LeadsBy (Gives request moment) digest) (IsLeft digest (Ok request) moment)
+    (LeadsBy (Gives request moment) digest) (IsDeedDone (Asked digest (Ok request) moment))
     (λ available. batch_answered result (λ u. available (is ∙ u)))
     (batch_leads request moment digest)
 
 kept_left :
     (digest : List ℕ) (asked request : Request) (moment : ℕ) → asked ≡ request →
     ((m : Machine) → left_by m moment request ≡ m) → (was now : Tenants) → KeepsAll was now →
-    IsLeft digest (Ok asked) moment was now
+    IsDeedDone (Asked digest (Ok asked) moment) was now
 kept_left digest asked request moment is same was now keeps =
-    subst (λ (r : Request). IsLeft digest (Ok r) moment was now) (sym is) (record {
+    subst (λ (r : Request). IsDeedDone (Asked digest (Ok r) moment) was now) (sym is) (record {
+      may = tt;
       own = keeps digest ∙ sym (left_alone request moment same (was digest));
       others = λ other differs. keeps other;
     })
@@ -92,9 +96,9 @@ pub finds_by_read :
     {S : Type 0} (t : LedgersMeaning S) (old new : S) (asked request : Request) (moment : ℕ)
     (digest : List ℕ) (A B : Type 0) → asked ≡ request →
     ((m : Machine) → left_by m moment request ≡ m) → (B → A) → Finds t A KeepsAll old new →
-    Finds t B (IsLeft digest (Ok asked) moment) old new
+    Finds t B (IsDeedDone (Asked digest (Ok asked) moment)) old new
 finds_by_read t old new asked request moment digest A B is same answered =
-    finds_on t old new A B KeepsAll (IsLeft digest (Ok asked) moment) answered
+    finds_on t old new A B KeepsAll (IsDeedDone (Asked digest (Ok asked) moment)) answered
     (kept_left digest asked request moment is same)
 
 -- a read that fails as another one did

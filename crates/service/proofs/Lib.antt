@@ -5,6 +5,7 @@ pub mod ServedReads
 pub mod Responses
 pub mod Isolation
 pub mod ConnectionRuns
-pub mod OwnRequestsLemmas
+pub mod OwnDeedLemmas
 pub mod ConnectionEventsLemmas
 pub mod FindingLemmas
+pub mod RetryLemmas

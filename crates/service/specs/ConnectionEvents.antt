@@ -1,12 +1,13 @@
--- The messages of a connection that were read whole, as events.
+-- A connection as a course: the messages that were read whole, as events.
 use Rattle.std.specs.Prelude.{◌⊎◌, ℕ, List, [], ◌∷◌, ◌++◌}
 use Rattle.std.proofs.Common.{inl, inr}
-use Rattle.chain.specs.Ledgers.{LedgersMeaning}
+use Rattle.chain.specs.Ledgers.{LedgersMeaning, Tenants}
 use Rattle.ledger_http.specs.declared.reply.Reply.{Reply}
 use Rattle.ledger_http.specs.Question.{asked_of}
-use Rattle.service.specs.Connections.{Connection, IsAnswered, IsTurnedAway, LacksMemory}
+use Rattle.service.specs.Connections.{Connection, IsAnswered, IsTurnedAway, LacksMemory, Exchange}
 use Rattle.service.specs.Connections.{Runs, Nothing, More}
-use Rattle.service.specs.OwnRequests.{Event, SeesItself}
+use Rattle.service.specs.Courses.{Event, Replied, Course}
+use Rattle.service.specs.OwnDeeds.{SeesItself}
 
 -- the event of an exchange; what is refused while it is read is none
 abbrev pub event_in :
@@ -15,11 +16,7 @@ abbrev pub event_in :
     IsAnswered t gives old reply new ⊎ (IsTurnedAway old reply new ⊎ LacksMemory old reply new)
     → List Event
 event_in reply (inl answered) =
-    record {
-      asked = asked_of answered.message answered.early.head;
-      moment = answered.moment;
-      reply = reply;
-    } ∷ []
+    Replied (asked_of answered.message answered.early.head) answered.moment reply ∷ []
 event_in reply (inr refused) = []
 
 -- the events of exchanges, in turn
@@ -29,6 +26,25 @@ abbrev pub events_in :
 events_in Nothing = []
 events_in (More replies last reply next runs exchange) =
     events_in runs ++ event_in reply exchange.by
+
+-- an exchange leads every course on that has led to its ledgers
+abbrev pub ExchangesLeadOn :
+    {S C : Type 0} → LedgersMeaning S → (C → ℕ → C → Type 0) → Type 0
+ExchangesLeadOn {S} {C} t gives =
+    (first : Tenants) (events : List Event) (old new : Connection S C) (reply : Reply)
+    (exchange : Exchange t gives old reply new)
+    → t.is_live new.ledgers
+    → Course first events (t.tenants old.ledgers)
+    → Course first (events ++ event_in reply exchange.by) (t.tenants new.ledgers)
+
+-- so the exchanges of a connection are a course
+abbrev pub ConnectionsAreCourses :
+    {S C : Type 0} → LedgersMeaning S → (C → ℕ → C → Type 0) → Type 0
+ConnectionsAreCourses {S} {C} t gives =
+    (first last : Connection S C) (replies : List Reply)
+    (runs : Runs S C t gives first replies last)
+    → t.is_live last.ledgers
+    → Course (t.tenants first.ledgers) (events_in runs) (t.tenants last.ledgers)
 
 -- on a connection each tenant sees its own requests alone
 abbrev pub ServesEachAlone :

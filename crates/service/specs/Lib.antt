@@ -1,8 +1,11 @@
 pub mod Served
 pub mod Replies
+pub mod Deeds
 pub mod Reading
 pub mod Responds
 pub mod Connections
 pub mod Sound
-pub mod OwnRequests
+pub mod Courses
+pub mod OwnDeeds
 pub mod ConnectionEvents
+pub mod Retries

@@ -46,9 +46,3 @@ abbrev pub batch_reply : Result Reply BatchFault → Reply
 batch_reply (Ok reply) = reply
 batch_reply (Err fault.UnknownKey) = Fixed UnknownKey
 batch_reply (Err (fault.Unavailable why)) = unavailable
-
--- the machines after a tenant's request was done
-pub record IsLeft (digest : List ℕ) (meaning : Result Request Refusal) (moment : ℕ)
-    (old found : Tenants) : Type 0 where
-  pub own : found digest ≡ (served_to (old digest) meaning moment).left
-  pub others : KeepsOthers digest old found

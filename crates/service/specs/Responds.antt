@@ -9,8 +9,8 @@ use Rattle.ledger_http.specs.ReplyText.{refusal_text, reply_text}
 use Rattle.ledger_http.specs.Message.{HasHead, first_message, Begins}
 use Rattle.ledger_http.specs.Question.{Question, asked_of}
 use Rattle.service.specs.Served.{served}
-use Rattle.service.specs.Replies.{AnswersTenant, IsLeft, unavailable}
-use Rattle.wire.specs.Meaning.{meaning_of}
+use Rattle.service.specs.Deeds.{asking, IsDeedDone}
+use Rattle.service.specs.Replies.{AnswersTenant, unavailable}
 
 -- a message is refused before any tenant is looked up, and nothing changes
 pub record Refuses (old new : Tenants) (refusal : Refusal) (text : List ℕ) : Type 0 where
@@ -50,9 +50,7 @@ pub record IsAnswered (bytes : List ℕ) (reply : Reply) : Type 0 where
 
 -- the machines after what the bytes ask was done
 abbrev pub IsLeftByAsked : Result Question Refusal → ℕ → Tenants → Tenants → Type 0
-IsLeftByAsked (Ok question) moment old found =
-    IsLeft (sha256 question.key) (meaning_of question.route question.account question.body) moment
-    old found
+IsLeftByAsked (Ok question) moment old found = IsDeedDone (asking question moment) old found
 IsLeftByAsked (Err refusal) moment old found = ⊥
 
 abbrev pub IsLeftBy : List ℕ → ℕ → Tenants → Tenants → Type 0

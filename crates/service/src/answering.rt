@@ -6,7 +6,9 @@ ghost use Rattle.ledger_http.specs.declared.refusal.Refusal.{Refusal};
 ghost use Rattle.wire.specs.declared.request.Request.{Request};
 ghost use Rattle.wire.specs.Meaning.{meaning_of, HasFew};
 ghost use Rattle.wire.specs.declared.request.Request.TheVariants.{Accounts, Transfers};
-ghost use Rattle.service.specs.Replies.{Serves, IsLeft, batch_reply, unavailable};
+ghost use Rattle.service.specs.Deeds as deed;
+ghost use Rattle.service.specs.Deeds.{IsDeedDone};
+ghost use Rattle.service.specs.Replies.{Serves, batch_reply, unavailable};
 
 use crate::batches::{AccountBatch, TransferBatch};
 use crate::reading::{
@@ -42,7 +44,7 @@ fn accounts<L: Ledgers>(
     ensures serves { L.means.is_live ledgers.new → Serves (L.means.tenants ledgers.old)
         (L.means.tenants ledgers.new) digest.now (Ok (Accounts events)) moment result }
     ensures finds { Finds L.means (result ≢ unavailable)
-        (IsLeft digest.now (Ok (Accounts events)) moment) ledgers.old ledgers.new }
+        (IsDeedDone (deed.Asked digest.now (Ok (Accounts events)) moment)) ledgers.old ledgers.new }
     ensures usable { L.means.is_usable ledgers.new }
     ensures follows { L.means.follows ledgers.old ledgers.new }
 {
@@ -66,7 +68,7 @@ fn transfers<L: Ledgers>(
     ensures serves { L.means.is_live ledgers.new → Serves (L.means.tenants ledgers.old)
         (L.means.tenants ledgers.new) digest.now (Ok (Transfers events)) moment result }
     ensures finds { Finds L.means (result ≢ unavailable)
-        (IsLeft digest.now (Ok (Transfers events)) moment) ledgers.old ledgers.new }
+        (IsDeedDone (deed.Asked digest.now (Ok (Transfers events)) moment)) ledgers.old ledgers.new }
     ensures usable { L.means.is_usable ledgers.new }
     ensures follows { L.means.follows ledgers.old ledgers.new }
 {
@@ -91,7 +93,7 @@ fn serve_request<L: Ledgers>(
     ensures serves { L.means.is_live ledgers.new → Serves (L.means.tenants ledgers.old)
         (L.means.tenants ledgers.new) digest.now (Ok request) moment result }
     ensures finds { Finds L.means (result ≢ unavailable)
-        (IsLeft digest.now (Ok request) moment) ledgers.old ledgers.new }
+        (IsDeedDone (deed.Asked digest.now (Ok request) moment)) ledgers.old ledgers.new }
     ensures usable { L.means.is_usable ledgers.new }
     ensures follows { L.means.follows ledgers.old ledgers.new }
 {
@@ -155,8 +157,9 @@ pub(crate) fn answer<L: Ledgers>(
     ensures serves { L.means.is_live ledgers.new → Serves (L.means.tenants ledgers.old)
         (L.means.tenants ledgers.new) (sha256 asked.now.key)
         (meaning_of asked.now.route asked.now.account.now asked.now.body.now) moment result }
-    ensures finds { Finds L.means (result ≢ unavailable) (IsLeft (sha256 asked.now.key)
-        (meaning_of asked.now.route asked.now.account.now asked.now.body.now) moment) ledgers.old
+    ensures finds { Finds L.means (result ≢ unavailable) (IsDeedDone
+        (deed.Asked (sha256 asked.now.key)
+        (meaning_of asked.now.route asked.now.account.now asked.now.body.now) moment)) ledgers.old
         ledgers.new }
     ensures usable { L.means.is_usable ledgers.new }
     ensures follows { L.means.follows ledgers.old ledgers.new }

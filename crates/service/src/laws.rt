@@ -1,12 +1,22 @@
 //! Laws of responses. The functions do nothing; their contracts are the laws.
+ghost use Rattle.service.specs.ConnectionEvents.{ExchangesLeadOn, ConnectionsAreCourses};
 ghost use Rattle.service.specs.ConnectionEvents.{ServesEachAlone};
-ghost use Rattle.service.specs.OwnRequests.{EachSeesItself};
+ghost use Rattle.service.specs.Courses.{ResponsesHappen};
+ghost use Rattle.service.specs.OwnDeeds.{EachSeesItself};
 ghost use Rattle.service.specs.Responds.{Isolates, StandsAlone};
+ghost use Rattle.service.specs.Retries.{HasAsked, RetriesAddNothing, FailedStaysFailed};
 ghost use Rattle.service.specs.Sound.{AreSound};
+ghost use Rattle.records.specs.Step.{account_rules, transfer_rules};
+ghost use Rattle.records.specs.declared.account_result.AccountResult.TheVariants as for_account;
+ghost use Rattle.records.specs.declared.transfer_result.TransferResult.TheVariants as for_transfer;
+ghost use Rattle.wire.specs.declared.request.Request.TheVariants.{Accounts, Transfers};
 
 use crate::Moments;
 use chain::Ledgers;
-use engine::{books_balance, ends_once, failed_ids_hold, limits_hold, sums_fit};
+use engine::{
+    books_balance, ends_once, failed_ids_hold, failed_stays_failed, later_of_later_is_later,
+    limits_hold, retry_adds_nothing, steps_lead_to_later, sums_fit,
+};
 use ledger_http::{meanings_are_unique, messages_stand_alone};
 
 /// For any two ledgers that agree on the caller's machine, the same bytes at the same moment give
@@ -26,17 +36,59 @@ pub fn messages_answered_alone()
     messages_stand_alone();
 }
 
-/// Over any run of messages of any tenants, what a tenant is told and the machine that it is left
-/// with are those of its own requests alone. What was answered `unavailable` counts as never asked.
+/// In any course, what a tenant is told and the machine that it is left with are those of its own
+/// requests alone, and of its own joining. What was answered `unavailable` counts as never asked,
+/// unless a reopening found it done.
 pub fn each_tenant_sees_itself()
     ensures { EachSeesItself }
 {}
 
-/// The same of the messages of a connection, as long as the ledgers are live.
+/// The response to a message is the event of that message and its reply.
+pub fn responses_happen()
+    ensures { ResponsesHappen }
+{
+    meanings_are_unique();
+}
+
+/// The exchanges of a connection are a course, as long as the ledgers are live, and so are those of
+/// several connections, one exchange after the other.
+pub fn connections_are_courses<L: Ledgers, C: Moments>()
+    ensures exchanges { ExchangesLeadOn L.means C.gives }
+    ensures connections { ConnectionsAreCourses L.means C.gives }
+{
+    meanings_are_unique();
+}
+
+/// What a tenant is told on a connection and the machine that it is left with are those of its own
+/// requests alone, as long as the ledgers are live.
 pub fn connections_serve_each_alone<L: Ledgers, C: Moments>()
     ensures { ServesEachAlone L.means C.gives }
 {
-    meanings_are_unique();
+    connections_are_courses::<L, C>();
+    each_tenant_sees_itself();
+}
+
+/// A batch whose every event was accepted in a course adds nothing when it is sent again, however
+/// often, whenever, and whatever any tenant did between. So it is whether the batch was answered,
+/// or answered `unavailable` and found done.
+pub fn retried_in_course_adds_nothing()
+    ensures accounts { RetriesAddNothing HasAsked account_rules for_account.Exists Accounts }
+    ensures transfers { RetriesAddNothing HasAsked transfer_rules for_transfer.Exists Transfers }
+{
+    steps_lead_to_later();
+    later_of_later_is_later();
+    retry_adds_nothing();
+}
+
+/// A transfer event that failed for good in a course stays failed: sent again, however often and
+/// whenever, as the first event of a closed chain it answers `id_already_failed`, and its chain
+/// changes nothing.
+pub fn failed_in_course_stays_failed()
+    ensures { FailedStaysFailed HasAsked }
+{
+    steps_lead_to_later();
+    later_of_later_is_later();
+    failed_stays_failed();
 }
 
 /// Of live ledgers that may be called, and every response leaves them so, each tenant's books

@@ -5,7 +5,8 @@ use Rattle.std.proofs.Common.{ℕ, List, Result}
 use Rattle.sha2.specs.Sha256.{sha256}
 use Rattle.wire.specs.Meaning.{meaning_of}
 use Rattle.chain.specs.Ledgers.{Finds}
-use Rattle.service.specs.Replies.{Serves, IsLeft, unavailable}
+use Rattle.service.specs.Deeds.{Asked, IsDeedDone}
+use Rattle.service.specs.Replies.{Serves, unavailable}
 use Rattle.service.proofs.FindingLemmas.{finds_on}
 use Rattle.service.proofs.answering.answer.Goals as goal
 
@@ -39,13 +40,13 @@ returns-in-Ok-clause-finds g c =
     subst
     (λ (meaning : Result Request Refusal).
     Finds g.L.Ledgers.means (c.serve_request.result ≢ unavailable)
-    (IsLeft (sha256 c.args.asked.now.key) meaning c.args.moment) c.args.ledgers.now
+    (IsDeedDone (Asked (sha256 c.args.asked.now.key) meaning c.args.moment)) c.args.ledgers.now
     c.serve_request.new.ledgers)
     (sym c.in-Ok.ensures.ok)
     (subst
     (λ (digest : List ℕ).
     Finds g.L.Ledgers.means (c.serve_request.result ≢ unavailable)
-    (IsLeft digest (Ok c.in-Ok.request) c.args.moment) c.args.ledgers.now
+    (IsDeedDone (Asked digest (Ok c.in-Ok.request) c.args.moment)) c.args.ledgers.now
     c.serve_request.new.ledgers)
     c.digest-digest.ensures c.serve_request.ensures.finds)
 

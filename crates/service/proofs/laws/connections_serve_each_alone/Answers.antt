@@ -1,7 +1,8 @@
-use Rattle.service.proofs.ConnectionEventsLemmas.{serves_each_alone}
+use Rattle.service.specs.ConnectionEvents.{events_in}
 use Rattle.service.proofs.laws.connections_serve_each_alone.Goals as goal
 
 pub returns : goal.returns
-returns g c =
-    serves_each_alone g.L.Ledgers.means g.C.Moments.gives c.meanings_are_unique.ensures.head
-    g.met.L.Ledgers.lived
+returns g c first last replies runs live =
+    c.each_tenant_sees_itself.ensures (g.L.Ledgers.means.tenants first.ledgers)
+    (g.L.Ledgers.means.tenants last.ledgers) (events_in runs)
+    (c.connections_are_courses.ensures.connections first last replies runs live)

@@ -1,0 +1,63 @@
+-- What a tenant's ledger goes through: deeds, each of one tenant.
+use Rattle.std.specs.Prelude.{◌≡◌, ℕ, List, [], ◌∷◌, Option, Some, None, Result, Ok, Err}
+use Rattle.sha2.specs.Sha256.{sha256}
+use Rattle.records.specs.Machine.{Machine, new_machine}
+use Rattle.chain.specs.Ledgers.{Tenants, KeepsAll, KeepsOthers}
+use Rattle.ledger_http.specs.declared.refusal.Refusal.{Refusal}
+use Rattle.ledger_http.specs.Question.{Question}
+use Rattle.wire.specs.declared.request.Request.{Request}
+use Rattle.wire.specs.Meaning.{meaning_of}
+use Rattle.wire.specs.Told.{outcome_text}
+use Rattle.service.specs.Served.{served_to}
+
+-- the tenant with this digest asks for this at a moment, or it joins
+pub data Deed : Type 0 where
+  Asked : List ℕ → Result Request Refusal → ℕ → Deed
+  Joined : List ℕ → Deed
+
+-- the deed of a question, and of whatever was asked
+abbrev pub asking : Question → ℕ → Deed
+asking question moment =
+    Asked (sha256 question.key) (meaning_of question.route question.account question.body) moment
+
+abbrev pub deeds_in : Result Question Refusal → ℕ → List Deed
+deeds_in (Ok question) moment = asking question moment ∷ []
+deeds_in (Err refusal) moment = []
+
+-- the digest of its tenant
+abbrev pub tenant_of : Deed → List ℕ
+tenant_of (Asked digest meaning moment) = digest
+tenant_of (Joined digest) = digest
+
+-- a tenant that joins has a new machine, if it has none
+abbrev pub joined : Option Machine → Option Machine
+joined None = Some new_machine
+joined (Some m) = Some m
+
+-- its tenant's machine after it
+abbrev pub after_deed : Deed → Option Machine → Option Machine
+after_deed (Asked digest meaning moment) tenant = (served_to tenant meaning moment).left
+after_deed (Joined digest) tenant = joined tenant
+
+-- the reply that its tenant's machine gives to it
+abbrev pub reply_to_deed : Deed → Option Machine → List (List ℕ)
+reply_to_deed (Asked digest meaning moment) tenant =
+    outcome_text (served_to tenant meaning moment).told ∷ []
+reply_to_deed (Joined digest) tenant = []
+
+-- whoever joins was not there
+abbrev pub MayBeDone : Deed → Tenants → Type 0
+MayBeDone (Asked digest meaning moment) old = Unit {0}
+MayBeDone (Joined digest) old = old digest ≡ None
+
+-- it was done, and every other tenant's machine is as before
+pub record IsDeedDone (deed : Deed) (old new : Tenants) : Type 0 where
+  pub may : MayBeDone deed old
+  pub own : new (tenant_of deed) ≡ after_deed deed (old (tenant_of deed))
+  pub others : KeepsOthers (tenant_of deed) old new
+
+-- deeds were done, one after the other
+abbrev pub AreDone : List Deed → Tenants → Tenants → Type 0
+AreDone [] old new = KeepsAll old new
+AreDone (deed ∷ deeds) old new =
+    (mid : Tenants) × IsDeedDone deed old mid × AreDone deeds mid new
