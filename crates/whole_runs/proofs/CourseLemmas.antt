@@ -1,51 +1,72 @@
 -- A run, step by step.
-use Rattle.std.proofs.Common.{◌≡◌, List, [], ◌∷◌, ◌++◌, Option, Some, None, Ok, Err, refl}
-use Rattle.std.proofs.Common.{sym, subst, ap, ◌∙◌, ◌+◌, ◌<◌, ℕ, length, take, get_or, add-one}
+use Rattle.std.proofs.Common.{◌≡◌, Bool, true, false, List, [], ◌∷◌, ◌++◌, Result, Ok, Err, refl}
+use Rattle.std.proofs.Common.{if◌then◌else◌, sym, subst, ap, ◌∙◌, ◌+◌, ◌<◌, ℕ, length, take}
+use Rattle.std.proofs.Common.{get_or, add-one}
 use Rattle.std.proofs.Math.Logic.{∥∥₁_map, ∥∥₁_elim}
 use Rattle.std.proofs.Math.Seq.{take-suc}
 use Rattle.std.specs.List.{AllZip}
 use Rattle.chain.specs.Ledgers.{Tenants, KeepsAll}
-use Rattle.service.specs.OwnRequests as message
-use Rattle.stored_ledgers.specs.declared.joining.AddTenant.TheVariants.{Unavailable}
+use Rattle.ledger_http.specs.declared.refusal.Refusal.{Refusal}
+use Rattle.ledger_http.specs.declared.reply.Reply.{Reply}
+use Rattle.ledger_http.specs.Question.{Question}
+use Rattle.service.specs.Replies.{unavailable}
+use Rattle.service.specs.Deeds.{Deed, Joined, deeds_in, AreDone}
+use Rattle.service.specs.Courses.{Event, Replied, Tried, Reopened, Done, Declined, Unavailable}
+use Rattle.service.specs.Courses.{Happens, is_unavailable, IsStill, untold_in, Nothing}
+use Rattle.service.specs.Courses.{Last, Before, Follows, Begin, Then}
 use Rattle.openings.specs.declared.opening.OpenFault.{OpenFault}
 use Rattle.whole_runs.specs.declared.steps.Step.{Step}
 use Rattle.whole_runs.specs.declared.steps.Step.TheVariants as step
 use Rattle.whole_runs.specs.declared.steps.Answer.{Answer}
 use Rattle.whole_runs.specs.declared.steps.Answer.TheVariants as answer
-use Rattle.whole_runs.specs.Events.{Deed, Asked, Joined, IsDone, Event, Replied, Added, Reopened}
-use Rattle.whole_runs.specs.Events.{Happens, IsStill, IsUntold, Last, Before, Follows}
-use Rattle.whole_runs.specs.Courses.{IsOf, Begin, Anew, Then, Leads, MayFind}
+use Rattle.whole_runs.specs.Courses.{ending_of, IsOf, Start, Anew, Onward, RunCourse, Leads, MayFind}
 use Rattle.whole_runs.specs.Reopenings.{RunMeaning, IsSettled, FoundAfter, As_now, As_before}
 use Rattle.whole_runs.specs.Reopenings.{As_done, Moves, IsOpened, StepMakes, HasRun, IsAnswerTo}
 use Rattle.whole_runs.specs.Reopenings.{RunsThrough, Goes_on}
+use Rattle.whole_runs.proofs.Unavailable.{told_unavailable}
 
 still_happens :
     (event : Event) (tenants : Tenants) → IsStill event → Happens tenants event tenants
-still_happens (Replied event) tenants still = still tenants
-still_happens (Added added (Ok done)) tenants still = absurd still
-still_happens (Added added (Err (Unavailable why))) tenants still = λ digest. refl
-still_happens (Added added (Err why)) tenants still = absurd still
-still_happens (Reopened found) tenants still = absurd still
+still_happens (Replied asked moment reply) tenants still = still tenants
+still_happens (Tried deed Unavailable) tenants still = λ digest. refl
+still_happens (Tried deed Done) tenants still = absurd still
+still_happens (Tried deed Declined) tenants still = absurd still
+still_happens (Reopened deeds) tenants still = absurd still
+
+untold_reply :
+    (untold : Bool) (asked : Result Question Refusal) (moment : ℕ) (reply : Reply) (deed : Deed)
+    (more : List Deed) → is_unavailable reply ≡ untold →
+    (if untold then deeds_in asked moment else []) ≡ deed ∷ more → reply ≡ unavailable
+untold_reply true asked moment reply deed more is untold = told_unavailable reply is
+untold_reply false asked moment reply deed more is untold = absurd (cc)
 
 untold_happens :
-    (deed : Deed) (event : Event) (tenants : Tenants) → IsUntold deed event →
-    Happens tenants event tenants
-untold_happens (Asked question moment) (Replied event) tenants is =
-    subst (λ (e : message.Event). message.Happens tenants e tenants) (sym is)
-    (record { answered = λ ne. absurd (ne refl); same = λ u digest. refl })
-untold_happens (Asked question moment) (Added added result) tenants is = absurd is
-untold_happens (Asked question moment) (Reopened found) tenants is = absurd is
-untold_happens (Joined digest) (Added added (Err (Unavailable why))) tenants is = λ other. refl
-untold_happens (Joined digest) (Added added (Err why)) tenants is = absurd is
-untold_happens (Joined digest) (Added added (Ok done)) tenants is = absurd is
-untold_happens (Joined digest) (Replied event) tenants is = absurd is
-untold_happens (Joined digest) (Reopened found) tenants is = absurd is
+    (event : Event) (deed : Deed) (more : List Deed) (tenants : Tenants) →
+    untold_in event ≡ deed ∷ more → Happens tenants event tenants
+untold_happens (Replied asked moment reply) deed more tenants untold = record {
+  answered = λ available.
+      absurd
+      (available
+      (untold_reply (is_unavailable reply) asked moment reply deed more refl untold));
+  same = λ u digest. refl;
+}
+untold_happens (Tried tried Unavailable) deed more tenants untold = λ digest. refl
+untold_happens (Tried tried Done) deed more tenants untold = absurd (cc)
+untold_happens (Tried tried Declined) deed more tenants untold = absurd (cc)
+untold_happens (Reopened deeds) deed more tenants untold = absurd (cc)
 
-still_follows :
-    (events : List Event) (event : Event) (deed : Option Deed) → IsStill event →
-    Follows events (Reopened deed) → Follows (events ++ event ∷ []) (Reopened deed)
-still_follows events event None still follows = tt
-still_follows events event (Some deed) still lost = Before events event lost still
+-- an event more
+course_on :
+    (first began mid new : Tenants) (steps : List Step) (answers : List Answer)
+    (events : List Event) (step : Step) (answer : Answer) (event : Event) →
+    RunCourse first steps answers events began mid → IsOf step answer event →
+    Follows events event → Happens mid event new →
+    RunCourse first (steps ++ step ∷ []) (answers ++ answer ∷ []) (events ++ event ∷ []) began new
+course_on first began mid new steps answers events step answer event run is follows happens =
+    record {
+      since = Onward steps answers events began step answer event run.since is;
+      course = Then events mid event new run.course follows happens;
+    }
 
 -- nothing is lost
 now_found :
@@ -56,8 +77,8 @@ now_found first last found steps answers leads keeps = record {
   began = leads.began;
   last = last;
   course = leads.course;
-  deed = None;
-  follows = tt;
+  deeds = [];
+  follows = Nothing leads.events refl;
   happens = keeps;
 }
 
@@ -74,8 +95,8 @@ event_leads first mid new steps answers step answer event is free happens leads 
   events = leads.events ++ event ∷ [];
   began = leads.began;
   course =
-      Then steps answers leads.events leads.began mid step answer event new leads.course is
-      (free leads.events) happens;
+      course_on first leads.began mid new steps answers leads.events step answer event
+      leads.course is (free leads.events) happens;
 }
 
 still_finds :
@@ -88,28 +109,29 @@ still_finds first found steps answers step answer event is free still f = record
   began = f.began;
   last = f.last;
   course =
-      Then steps answers f.events f.began f.last step answer event f.last f.course is
+      course_on first f.began f.last f.last steps answers f.events step answer event f.course is
       (free f.events) (still_happens event f.last still);
-  deed = f.deed;
-  follows = still_follows f.events event f.deed still f.follows;
+  deeds = f.deeds;
+  follows = Before f.events event f.follows still;
   happens = f.happens;
 }
 
 untold_finds :
     (first last found : Tenants) (steps : List Step) (answers : List Answer) (step : Step)
-    (answer : Answer) (event : Event) (deed : Deed) → IsOf step answer event → IsFree event →
-    IsUntold deed event → IsDone deed last found → Leads first steps answers last →
+    (answer : Answer) (event : Event) (deed : Deed) (more : List Deed) → IsOf step answer event →
+    IsFree event → untold_in event ≡ deed ∷ more → AreDone (deed ∷ more) last found →
+    Leads first steps answers last →
     MayFind first (steps ++ step ∷ []) (answers ++ answer ∷ []) found
-untold_finds first last found steps answers step answer event deed is free untold done leads =
+untold_finds first last found steps answers step answer event deed more is free untold done leads =
     record {
       events = leads.events ++ event ∷ [];
       began = leads.began;
       last = last;
       course =
-          Then steps answers leads.events leads.began last step answer event last leads.course is
-          (free leads.events) (untold_happens deed event last untold);
-      deed = Some deed;
-      follows = Last leads.events event untold;
+          course_on first leads.began last last steps answers leads.events step answer event
+          leads.course is (free leads.events) (untold_happens event deed more last untold);
+      deeds = deed ∷ more;
+      follows = Last leads.events event (sym untold);
       happens = done;
     }
 
@@ -130,10 +152,10 @@ module _ {S : Type 0} (t : RunMeaning S) (old mid new : S) (steps : List Step)
   found_after step answer event found is free moves run (As_before still before) =
       ∥∥₁_map (run.found found before) (λ f.
       still_finds (t.tenants old) found steps answers step answer event is free still f)
-  found_after step answer event found is free moves run (As_done deed untold live done) =
+  found_after step answer event found is free moves run (As_done deed more untold live done) =
       ∥∥₁_map (run.here live) (λ leads.
-      untold_finds (t.tenants old) (t.tenants mid) found steps answers step answer event deed is
-      free untold done leads)
+      untold_finds (t.tenants old) (t.tenants mid) found steps answers step answer event deed more
+      is free untold done leads)
 
   event_more :
       (step : Step) (answer : Answer) (event : Event) → IsOf step answer event → IsFree event →
@@ -155,11 +177,11 @@ module _ {S : Type 0} (t : RunMeaning S) (old mid new : S) (steps : List Step)
   opened_here opened run live =
       ∥∥₁_elim (opened.member live) squash₁ (λ may.
       ∥∥₁_map (run.found (t.tenants new) may) (λ f. record {
-        events = f.events ++ Reopened f.deed ∷ [];
+        events = f.events ++ Reopened f.deeds ∷ [];
         began = f.began;
         course =
-            Then steps answers f.events f.began f.last step.Reopen (answer.Reopened (Ok tt))
-            (Reopened f.deed) (t.tenants new) f.course tt f.follows f.happens;
+            course_on (t.tenants old) f.began f.last (t.tenants new) steps answers f.events
+            step.Reopen (answer.Reopened (Ok tt)) (Reopened f.deeds) f.course tt f.follows f.happens;
       }))
 
   opened_more :
@@ -183,9 +205,9 @@ module _ {S : Type 0} (t : RunMeaning S) (old mid new : S) (steps : List Step)
       events = [];
       began = found;
       last = found;
-      course = Anew steps answers fault found;
-      deed = None;
-      follows = tt;
+      course = record { since = Anew steps answers fault found; course = Begin };
+      deeds = [];
+      follows = Nothing [] refl;
       happens = λ digest. refl;
     }) ∣₁;
   }
@@ -196,13 +218,13 @@ module _ {S : Type 0} (t : RunMeaning S) (old mid new : S) (steps : List Step)
       StepMakes t mid step answer new →
       HasRun t old (steps ++ step ∷ []) (answers ++ answer ∷ []) new
   step_more (step.Request bytes moment) (answer.Replied reply) run makes =
-      event_more (step.Request bytes moment) (answer.Replied reply) (Replied makes.event) makes.is
-      (λ events. tt) makes.moves run
+      event_more (step.Request bytes moment) (answer.Replied reply) makes.event makes.is
+      (subst IsFree (sym makes.is.is) (λ events. tt)) makes.moves run
   step_more (step.Request bytes moment) (answer.Added result) run makes = absurd makes
   step_more (step.Request bytes moment) (answer.Reopened result) run makes = absurd makes
   step_more (step.AddTenant name digest) (answer.Added result) run makes =
-      event_more (step.AddTenant name digest) (answer.Added result) (Added digest result)
-      (refl, refl) (λ events. tt) makes run
+      event_more (step.AddTenant name digest) (answer.Added result)
+      (Tried (Joined digest) (ending_of result)) refl (λ events. tt) makes run
   step_more (step.AddTenant name digest) (answer.Replied reply) run makes = absurd makes
   step_more (step.AddTenant name digest) (answer.Reopened result) run makes = absurd makes
   step_more step.Reopen (answer.Reopened (Ok done)) run makes = opened_more makes run
@@ -215,14 +237,18 @@ pub none_yet :
     {S : Type 0} (t : RunMeaning S) (old : S) → t.is_live old → IsSettled t old →
     HasRun t old [] [] old
 none_yet t old live settled = record {
-  here = λ still_live. ∣ (record { events = []; began = t.tenants old; course = Begin }) ∣₁;
+  here = λ still_live. ∣ (record {
+    events = [];
+    began = t.tenants old;
+    course = record { since = Start; course = Begin };
+  }) ∣₁;
   found = λ found may. ∣ (record {
     events = [];
     began = t.tenants old;
     last = t.tenants old;
-    course = Begin;
-    deed = None;
-    follows = tt;
+    course = record { since = Start; course = Begin };
+    deeds = [];
+    follows = Nothing [] refl;
     happens = settled live found may;
   }) ∣₁;
 }

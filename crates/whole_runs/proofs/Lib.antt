@@ -1,6 +1,6 @@
-mod OwnDeedLemmas
+mod Asked
+mod Unavailable
 mod CourseLemmas
-mod RetryLemmas
 mod ReplyLemmas
 mod SameRowsLemmas
 mod StoreLemmas

@@ -1,6 +1,6 @@
 -- A reply, as what happened.
 use Rattle.std.proofs.Common.{◌≡◌, ◌≢◌, ◌⊎◌, inl, inr, ℕ, Bool, true, false, List, Option, Result}
-use Rattle.std.proofs.Common.{Ok, Err, IsOk, refl, sym, subst}
+use Rattle.std.proofs.Common.{[], Ok, Err, IsOk, refl, sym, ap, ◌∙◌, subst}
 use Rattle.httparse.specs.Grammar.{RequestHead}
 use Rattle.chain.specs.Ledgers.{LedgersMeaning, Tenants, KeepsAll, Finds}
 use Rattle.ledger_http.specs.declared.refusal.Refusal.{Refusal}
@@ -8,15 +8,15 @@ use Rattle.ledger_http.specs.declared.reply.Reply.{Reply}
 use Rattle.ledger_http.specs.ReplyText.{reply_text}
 use Rattle.ledger_http.specs.Message.{HasHead}
 use Rattle.ledger_http.specs.Question.{Question, asked_of}
-use Rattle.service.specs.OwnRequests as message
-use Rattle.service.specs.OwnRequests.{is_unavailable}
 use Rattle.service.specs.Replies.{unavailable}
 use Rattle.service.specs.Responds.{Answers, Responds, RefusesEarly}
 use Rattle.service.specs.Responds.{IsAnswered, IsLeftBy, IsLeftByAsked}
-use Rattle.whole_runs.specs.Events.{Asked, Replied, IsStill}
+use Rattle.service.specs.Deeds.{asking}
+use Rattle.service.specs.Courses.{Event, Replied, is_unavailable, IsStill, untold_in}
+use Rattle.service.specs.Courses.{ResponsesHappen}
 use Rattle.whole_runs.specs.Reopenings.{run_meaning, FoundAfter, As_now, As_before, As_done}
 use Rattle.whole_runs.specs.Reopenings.{Replies}
-use Rattle.whole_runs.proofs.OwnDeedLemmas.{told_unavailable, told_available}
+use Rattle.whole_runs.proofs.Unavailable.{told_unavailable, told_available}
 
 -- bytes have one head
 abbrev pub HeadsAreUnique : Type 0
@@ -25,35 +25,22 @@ HeadsAreUnique =
 
 -- the event of a reply
 abbrev pub event_of :
-    (bytes : List ℕ) (moment : ℕ) (reply : Reply) → RefusesEarly bytes reply → message.Event
-event_of bytes moment reply early =
-    record { asked = asked_of bytes early.head; moment = moment; reply = reply }
-
-pub happens_so :
-    HeadsAreUnique → (old new : Tenants) (bytes : List ℕ) (moment : ℕ) (reply : Reply)
-    (early : RefusesEarly bytes reply) → Responds old new bytes moment reply →
-    message.Happens old (event_of bytes moment reply early) new
-happens_so unique old new bytes moment reply early r = record {
-  answered = λ available.
-      subst
-      (λ (head : Option RequestHead).
-      Answers old new (asked_of bytes head) moment (reply_text reply))
-      (unique bytes r.head early.head r.has early.has) (r.answered available);
-  same = r.same;
-}
+    (bytes : List ℕ) (moment : ℕ) (reply : Reply) → RefusesEarly bytes reply → Event
+event_of bytes moment reply early = Replied (asked_of bytes early.head) moment reply
 
 still_unavailable :
-    (event : message.Event) → event.reply ≡ unavailable → IsStill (Replied event)
-still_unavailable event is tenants =
+    (asked : Result Question Refusal) (moment : ℕ) (reply : Reply) → reply ≡ unavailable →
+    IsStill (Replied asked moment reply)
+still_unavailable asked moment reply is tenants =
     record { answered = λ available. absurd (available is); same = λ u digest. refl }
 
 module _ {S : Type 0} (t : LedgersMeaning S) (unique : HeadsAreUnique) (old new : S)
     (bytes : List ℕ) (moment : ℕ) (reply : Reply) (early : RefusesEarly bytes reply) where
-  abbrev event : message.Event
+  abbrev event : Event
   event = event_of bytes moment reply early
 
   still_refused :
-      (refusal : Refusal) → asked_of bytes early.head ≡ Err refusal → IsStill (Replied event)
+      (refusal : Refusal) → asked_of bytes early.head ≡ Err refusal → IsStill event
   still_refused refusal is tenants = record {
     answered = λ available.
         subst
@@ -67,11 +54,12 @@ module _ {S : Type 0} (t : LedgersMeaning S) (unique : HeadsAreUnique) (old new 
   found_lost :
       (asked : Result Question Refusal) (found : Tenants) → asked_of bytes early.head ≡ asked →
       reply ≡ unavailable → t.is_live old → IsLeftByAsked asked moment (t.tenants old) found →
-      FoundAfter (run_meaning t) old (Replied event) new found
+      FoundAfter (run_meaning t) old event new found
   found_lost (Ok question) found is untold live left =
-      As_done (Asked question moment)
-      (λ i. record { asked = is i; moment = moment; reply = untold i })
-      live (record { own = left.own; others = left.others })
+      As_done (asking question moment) []
+      (ap (λ asked. untold_in (Replied asked moment reply)) is
+      ∙ ap (λ (r : Reply). untold_in (Replied (Ok question) moment r)) untold)
+      live (found, left, λ digest. refl)
   found_lost (Err refusal) found is untold live left = absurd left
 
   module _ (finds : Finds t (IsAnswered bytes reply) (IsLeftBy bytes moment) old new)
@@ -90,15 +78,16 @@ module _ {S : Type 0} (t : LedgersMeaning S) (unique : HeadsAreUnique) (old new 
       found_untold :
           (found : Tenants) → reply ≡ unavailable →
           t.may_find old found ⊎ (t.is_live old × IsLeftBy bytes moment (t.tenants old) found) →
-          FoundAfter (run_meaning t) old (Replied event) new found
-      found_untold found untold (inl before) = As_before (still_unavailable event untold) before
+          FoundAfter (run_meaning t) old event new found
+      found_untold found untold (inl before) =
+          As_before (still_unavailable (asked_of bytes early.head) moment reply untold) before
       found_untold found untold (inr done) =
           found_lost (asked_of bytes early.head) found refl untold done.0 (at_head found done.1)
 
       found_refused :
           (found : Tenants) (refusal : Refusal) → asked_of bytes early.head ≡ Err refusal →
           t.may_find old found ⊎ (t.is_live old × IsLeftBy bytes moment (t.tenants old) found) →
-          FoundAfter (run_meaning t) old (Replied event) new found
+          FoundAfter (run_meaning t) old event new found
       found_refused found refusal is (inl before) = As_before (still_refused refusal is) before
       found_refused found refusal is (inr done) =
           absurd
@@ -109,7 +98,7 @@ module _ {S : Type 0} (t : LedgersMeaning S) (unique : HeadsAreUnique) (old new 
       found_told :
           (asked : Result Question Refusal) (found : Tenants) → asked_of bytes early.head ≡ asked →
           reply ≢ unavailable → t.may_find new found →
-          FoundAfter (run_meaning t) old (Replied event) new found
+          FoundAfter (run_meaning t) old event new found
       found_told (Ok question) found is available may =
           let live =
           finds.live
@@ -127,7 +116,7 @@ module _ {S : Type 0} (t : LedgersMeaning S) (unique : HeadsAreUnique) (old new 
 
       found_by :
           (untold : Bool) (found : Tenants) → is_unavailable reply ≡ untold →
-          t.may_find new found → FoundAfter (run_meaning t) old (Replied event) new found
+          t.may_find new found → FoundAfter (run_meaning t) old event new found
       found_by true found is may =
           found_untold found (told_unavailable reply is) (finds.found found may)
       found_by false found is may =
@@ -135,15 +124,16 @@ module _ {S : Type 0} (t : LedgersMeaning S) (unique : HeadsAreUnique) (old new 
 
       -- a response, as a step of a run
       pub replies_so :
+          ResponsesHappen →
           (t.is_live new → Responds (t.tenants old) (t.tenants new) bytes moment reply) →
           (t.is_live new → t.is_live old) → Replies (run_meaning t) old bytes moment reply new
-      replies_so responds lived = record {
+      replies_so happen responds lived = record {
         event = event;
         is = record { head = early.head; has = early.has; is = refl };
         moves = record {
           happens = λ live.
-              happens_so unique (t.tenants old) (t.tenants new) bytes moment reply early
-              (responds live);
+              happen (t.tenants old) (t.tenants new) bytes moment reply event
+              (record { head = early.head; has = early.has; is = refl }) (responds live);
           lived = lived;
           found = λ found may. found_by (is_unavailable reply) found refl may;
         };

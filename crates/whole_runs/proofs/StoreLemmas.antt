@@ -1,5 +1,6 @@
 -- A store as ledgers that can be opened again.
-use Rattle.std.proofs.Common.{◌≡◌, ◌≢◌, ◌⊎◌, inl, inr, ℕ, Bool, true, false, List, Result, Ok, Err}
+use Rattle.std.proofs.Common.{◌≡◌, ◌≢◌, ◌⊎◌, inl, inr, ℕ, Bool, true, false, List, [], Result}
+use Rattle.std.proofs.Common.{Ok, Err}
 use Rattle.std.proofs.Common.{OnOk, OnErr, refl, sym, ap, subst, ◌∙◌}
 use Rattle.std.proofs.Math.Logic.{∥∥₁_map}
 use Rattle.std.proofs.lemmas.Bool.{cases_Bool, both_ways}
@@ -23,8 +24,10 @@ use Rattle.store.specs.Stores.{IsUsable, IsUsableAt, IsLive, IsLiveAt, IsHonest,
 use Rattle.store.specs.Stores.{tenants_of, tenants_at, may_find, may_find_at, FindsTenants, Finds}
 use Rattle.store.specs.Stores.{FindsAt, Follows, Goes, OfDatabase, OfDatabaseAt, OfDatabases}
 use Rattle.store.specs.Stores.{IsSettledStore, IsSettledAt}
-use Rattle.whole_runs.specs.Events as event
-use Rattle.whole_runs.specs.Events.{Event, Added, Happens, IsDone, joined}
+use Rattle.service.specs.Deeds as deed
+use Rattle.service.specs.Deeds.{IsDeedDone, joined}
+use Rattle.service.specs.Courses.{Tried, Happens}
+use Rattle.whole_runs.specs.Courses.{ending_of}
 use Rattle.whole_runs.specs.Reopenings.{run_meaning, IsSettled, FoundAfter, As_now, As_before}
 use Rattle.whole_runs.specs.Reopenings.{As_done, Moves, Reopens}
 
@@ -61,14 +64,18 @@ module _ {D : Type 0} {g : disk.Ghosts D} where
         IsLiveAt new →
         OfDatabaseAt (λ before. OfDatabaseAt (λ after. HasJoined name digest before after result)
         new) old →
-        Happens (tenants_at old) (Added digest result) (tenants_at new)
+        Happens (tenants_at old) (Tried (deed.Joined digest) (ending_of result)) (tenants_at new)
     added_at ready sets (at.Shut files) new result usable live live' told = absurd live
     added_at ready sets (at.Open conn) (at.Shut files) result usable live live' told = absurd live'
     added_at ready sets (at.Open conn) (at.Open conn') (Ok done) usable live live' told =
         let adds =
         law name digest (file_state conn).now (file_state conn').now (usable.0 live).ledgers told.0
         told.1 in
-        (adds.none, record { own = adds.own ∙ sym (ap joined adds.none); others = adds.others })
+        record {
+          may = adds.none;
+          own = adds.own ∙ sym (ap joined adds.none);
+          others = adds.others;
+        }
     added_at ready sets (at.Open conn) (at.Open conn') (Err NameTaken) usable live live' told =
         λ d. ap (λ (db : Database). tenants_in db.trees d) told.1
     added_at ready sets (at.Open conn) (at.Open conn') (Err DigestTaken) usable live live' told =
@@ -81,7 +88,7 @@ module _ {D : Type 0} {g : disk.Ghosts D} where
         IsUsableAt ready sets place → IsLiveAt place →
         ((d : List ℕ) → found d ≡ tenants_in db d) →
         OfDatabaseAt (λ was. Joined name digest was db) place →
-        IsDone (event.Joined digest) (tenants_at place) found
+        IsDeedDone (deed.Joined digest) (tenants_at place) found
     joined_at ready sets (at.Shut files) db found usable live agrees after = absurd live
     joined_at ready sets (at.Open conn) db found usable live agrees after =
         let adds =
@@ -89,6 +96,7 @@ module _ {D : Type 0} {g : disk.Ghosts D} where
         (record { schema = (file_state conn).now.schema; trees = db }) (usable.0 live).ledgers
         after.0 after.1 in
         record {
+          may = adds.none;
           own = agrees digest ∙ (adds.own ∙ sym (ap joined adds.none));
           others = λ other differs. agrees other ∙ adds.others other differs;
         }
@@ -100,7 +108,7 @@ module _ {D : Type 0} {g : disk.Ghosts D} where
           (found : Tenants) (f : FindsTenants new found) → old.ready ≡ true →
           may_find old f.db ⊎ OfDatabase (λ was. Joined name digest was f.db) old →
           FindsTenants old found
-          ⊎ (IsLive old × IsDone (event.Joined digest) (tenants_of old) found)
+          ⊎ (IsLive old × IsDeedDone (deed.Joined digest) (tenants_of old) found)
       crashed found f ready (inl before) = inl (record {
         honest = follows.honest f.honest;
         db = f.db;
@@ -115,7 +123,7 @@ module _ {D : Type 0} {g : disk.Ghosts D} where
       untold :
           (found : Tenants) → FindsTenants new found →
           FindsTenants old found
-          ⊎ (IsLive old × IsDone (event.Joined digest) (tenants_of old) found)
+          ⊎ (IsLive old × IsDeedDone (deed.Joined digest) (tenants_of old) found)
       untold found f =
           elim (cases_Bool old.ready) [
             | inl ready ↦ crashed found f ready (goes f.honest f.db f.may)
@@ -126,7 +134,7 @@ module _ {D : Type 0} {g : disk.Ghosts D} where
         found_now :
             (result : Result (Unit {0}) AddTenant) (found : Tenants) → FindsTenants new found →
             (IsHonest new → IsLive new) →
-            FoundAfter (run_meaning store_meaning) old (Added digest result) new found
+            FoundAfter (run_meaning store_meaning) old (Tried (deed.Joined digest) (ending_of result)) new found
         found_now result found f open_yet =
             let live = open_yet f.honest in As_now live (settled live found f)
 
@@ -134,7 +142,7 @@ module _ {D : Type 0} {g : disk.Ghosts D} where
             (result : Result (Unit {0}) AddTenant) (found : Tenants) →
             (IsHonest new → result ≢ Err (Unavailable DiskFailed) → IsLive new) →
             FindsTenants new found →
-            FoundAfter (run_meaning store_meaning) old (Added digest result) new found
+            FoundAfter (run_meaning store_meaning) old (Tried (deed.Joined digest) (ending_of result)) new found
         found_so (Ok done) found open_yet f =
             found_now (Ok done) found f (λ honest. open_yet honest (λ is. cc))
         found_so (Err NameTaken) found open_yet f =
@@ -144,7 +152,8 @@ module _ {D : Type 0} {g : disk.Ghosts D} where
         found_so (Err (Unavailable why)) found open_yet f =
             elim (untold found f) [
               | inl before ↦ As_before tt before
-              | inr done ↦ As_done (event.Joined digest) refl done.0 done.1
+              | inr done ↦
+                  As_done (deed.Joined digest) [] refl done.0 (found, done.1, λ d. refl)
             ]
 
         -- the adding of a tenant, as a step of a run
@@ -153,7 +162,7 @@ module _ {D : Type 0} {g : disk.Ghosts D} where
             (IsLive new → OfDatabases (λ before after. HasJoined name digest before after result)
             old new) →
             (IsHonest new → result ≢ Err (Unavailable DiskFailed) → IsLive new) →
-            Moves (run_meaning store_meaning) old (Added digest result) new
+            Moves (run_meaning store_meaning) old (Tried (deed.Joined digest) (ending_of result)) new
         joins_so result told open_yet = record {
           happens = λ live.
               added_at old.ready old.due old.place new.place result usable (follows.lived live) live

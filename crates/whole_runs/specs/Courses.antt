@@ -1,57 +1,60 @@
--- The course of a run: its steps, its answers, and what happened.
-use Rattle.std.specs.Prelude.{◌≡◌, ℕ, List, [], ◌∷◌, ◌++◌, Option, Ok, Err}
-use Rattle.httparse.specs.Grammar.{RequestHead}
+-- A run as a course: its steps, its answers, and what happened.
+use Rattle.std.specs.Prelude.{◌≡◌, ℕ, List, [], ◌∷◌, ◌++◌, Result, Ok, Err}
 use Rattle.chain.specs.Ledgers.{Tenants}
-use Rattle.ledger_http.specs.declared.reply.Reply.{Reply}
-use Rattle.ledger_http.specs.Message.{HasHead}
-use Rattle.ledger_http.specs.Question.{asked_of}
-use Rattle.service.specs.OwnRequests as message
+use Rattle.service.specs.Deeds.{Deed, Joined, AreDone}
+use Rattle.service.specs.Courses.{Ending, Done, Declined, Unavailable, Event, Tried, Reopened}
+use Rattle.service.specs.Courses.{MayBeFound, Course, IsReplyTo}
+use Rattle.service.specs.OwnDeeds.{SeesItself}
+use Rattle.stored_ledgers.specs.declared.joining.AddTenant.{AddTenant}
+use Rattle.stored_ledgers.specs.declared.joining.AddTenant.TheVariants as add
 use Rattle.openings.specs.declared.opening.OpenFault.{OpenFault}
 use Rattle.whole_runs.specs.declared.steps.Step.{Step}
 use Rattle.whole_runs.specs.declared.steps.Step.TheVariants as step
 use Rattle.whole_runs.specs.declared.steps.Answer.{Answer}
 use Rattle.whole_runs.specs.declared.steps.Answer.TheVariants as answer
-use Rattle.whole_runs.specs.Events.{Event, Replied, Added, Reopened, Deed, Happens, Follows}
 
--- what the first message of some bytes asks, at a moment, and the reply
-pub record IsReplyTo (bytes : List ℕ) (moment : ℕ) (reply : Reply) (event : message.Event) :
-    Type 0 where
-  pub head : Option RequestHead
-  pub has : HasHead bytes head
-  pub is : event ≡ record { asked = asked_of bytes head; moment = moment; reply = reply }
+-- how the adding of a tenant ended
+abbrev pub ending_of : Result (Unit {0}) AddTenant → Ending
+ending_of (Ok done) = Done
+ending_of (Err (add.Unavailable why)) = Unavailable
+ending_of (Err why) = Declined
 
 -- the event is that of a step and its answer
 abbrev pub IsOf : Step → Answer → Event → Type 0
-IsOf (step.Request bytes moment) (answer.Replied reply) (Replied event) =
+IsOf (step.Request bytes moment) (answer.Replied reply) event =
     IsReplyTo bytes.items moment reply event
-IsOf (step.AddTenant name digest) (answer.Added result) (Added added told) =
-    (added ≡ digest) × (told ≡ result)
-IsOf step.Reopen (answer.Reopened (Ok done)) (Reopened found) = Unit {0}
+IsOf (step.AddTenant name digest) (answer.Added result) event =
+    event ≡ Tried (Joined digest) (ending_of result)
+IsOf step.Reopen (answer.Reopened (Ok done)) (Reopened deeds) = Unit {0}
 IsOf step answer event = ⊥
 
--- steps and their answers; the events since the last opening that was refused, or since the
--- beginning where none was; the machines at that time; and the machines now. After a refused
--- opening the machines are taken as the next opening finds them.
-pub data Course (first : Tenants) : List Step → List Answer → List Event → Tenants → Tenants
-    → Type 0 where
-  Begin : Course first [] [] [] first first
+-- the events of steps and their answers since the last opening that was refused, or since the
+-- beginning where none was, and the machines at that time. After a refused opening the machines
+-- are taken as the next opening finds them.
+pub data IsSince (first : Tenants) : List Step → List Answer → List Event → Tenants → Type 0 where
+  Start : IsSince first [] [] [] first
   Anew :
       (steps : List Step) (answers : List Answer) (fault : OpenFault) (found : Tenants) →
-      Course first (steps ++ step.Reopen ∷ []) (answers ++ answer.Reopened (Err fault) ∷ []) []
-      found found
-  Then :
-      (steps : List Step) (answers : List Answer) (events : List Event) (began last : Tenants)
-      (step : Step) (answer : Answer) (event : Event) (next : Tenants) →
-      Course first steps answers events began last →
-      IsOf step answer event → Follows events event → Happens last event next →
-      Course first (steps ++ step ∷ []) (answers ++ answer ∷ []) (events ++ event ∷ []) began next
+      IsSince first (steps ++ step.Reopen ∷ []) (answers ++ answer.Reopened (Err fault) ∷ []) []
+      found
+  Onward :
+      (steps : List Step) (answers : List Answer) (events : List Event) (began : Tenants)
+      (step : Step) (answer : Answer) (event : Event) →
+      IsSince first steps answers events began → IsOf step answer event →
+      IsSince first (steps ++ step ∷ []) (answers ++ answer ∷ []) (events ++ event ∷ []) began
+
+-- a run is the course of these events, from the machines at that time to those now
+pub record RunCourse (first : Tenants) (steps : List Step) (answers : List Answer)
+    (events : List Event) (began last : Tenants) : Type 0 where
+  pub since : IsSince first steps answers events began
+  pub course : Course began events last
 
 -- a course to these machines
 pub record Leads (first : Tenants) (steps : List Step) (answers : List Answer) (last : Tenants) :
     Type 0 where
   pub events : List Event
   pub began : Tenants
-  pub course : Course first steps answers events began last
+  pub course : RunCourse first steps answers events began last
 
 -- a course to an opening that finds these machines
 pub record MayFind (first : Tenants) (steps : List Step) (answers : List Answer) (found : Tenants) :
@@ -59,7 +62,14 @@ pub record MayFind (first : Tenants) (steps : List Step) (answers : List Answer)
   pub events : List Event
   pub began : Tenants
   pub last : Tenants
-  pub course : Course first steps answers events began last
-  pub deed : Option Deed
-  pub follows : Follows events (Reopened deed)
-  pub happens : Happens last (Reopened deed) found
+  pub course : RunCourse first steps answers events began last
+  pub deeds : List Deed
+  pub follows : MayBeFound deeds events
+  pub happens : AreDone deeds last found
+
+-- in a run each tenant sees its own deeds alone
+abbrev pub RunsServeEachAlone : Type 0
+RunsServeEachAlone =
+    (first began last : Tenants) (steps : List Step) (answers : List Answer) (events : List Event)
+    → RunCourse first steps answers events began last
+    → (digest : List ℕ) → SeesItself began events last digest

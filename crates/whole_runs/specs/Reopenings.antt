@@ -1,15 +1,15 @@
 -- What each step of a run promises of ledgers that can be opened again, and what a run does.
-use Rattle.std.specs.Prelude.{ℕ, List, [], ◌∷◌, ◌++◌, Result, Ok, Err}
+use Rattle.std.specs.Prelude.{◌≡◌, ℕ, List, [], ◌∷◌, ◌++◌, Result, Ok, Err}
 use Rattle.chain.specs.Ledgers.{LedgersMeaning, Tenants, KeepsAll}
 use Rattle.ledger_http.specs.declared.reply.Reply.{Reply}
-use Rattle.service.specs.OwnRequests as message
+use Rattle.service.specs.Deeds.{Deed, Joined, AreDone}
+use Rattle.service.specs.Courses.{Event, Tried, Happens, IsStill, untold_in, IsReplyTo}
 use Rattle.openings.specs.declared.opening.OpenFault.{OpenFault}
 use Rattle.whole_runs.specs.declared.steps.Step.{Step}
 use Rattle.whole_runs.specs.declared.steps.Step.TheVariants as step
 use Rattle.whole_runs.specs.declared.steps.Answer.{Answer}
 use Rattle.whole_runs.specs.declared.steps.Answer.TheVariants as answer
-use Rattle.whole_runs.specs.Events.{Deed, IsDone, Event, Replied, Added, Happens, IsStill, IsUntold}
-use Rattle.whole_runs.specs.Courses.{IsReplyTo, Leads, MayFind}
+use Rattle.whole_runs.specs.Courses.{ending_of, Leads, MayFind}
 
 -- what ledgers that can be opened again mean: their machines, whether calls are allowed, whether
 -- they are live, and which machines an opening may find in what they stand on
@@ -35,15 +35,15 @@ IsSettled t ledgers =
     → KeepsAll (t.tenants ledgers) found
 
 -- what an opening may find after an event: what is there; or, where the event says nothing of any
--- tenant, what might have been found before; or the machines after a deed of which it was answered
--- that the ledgers are unavailable
+-- tenant, what might have been found before; or the machines after the deeds of which it was
+-- answered that the ledgers are unavailable
 pub data FoundAfter {S : Type 0} (t : RunMeaning S) (old : S) (event : Event) (new : S)
     (found : Tenants) : Type 0 where
   As_now : t.is_live new → KeepsAll (t.tenants new) found → FoundAfter t old event new found
   As_before : IsStill event → t.may_find old found → FoundAfter t old event new found
   As_done :
-      (deed : Deed) → IsUntold deed event → t.is_live old → IsDone deed (t.tenants old) found →
-      FoundAfter t old event new found
+      (deed : Deed) (more : List Deed) → untold_in event ≡ deed ∷ more → t.is_live old →
+      AreDone (deed ∷ more) (t.tenants old) found → FoundAfter t old event new found
 
 -- what an event makes of the ledgers
 pub record Moves {S : Type 0} (t : RunMeaning S) (old : S) (event : Event) (new : S) : Type 0 where
@@ -54,9 +54,9 @@ pub record Moves {S : Type 0} (t : RunMeaning S) (old : S) (event : Event) (new 
 -- a message is replied to
 pub record Replies {S : Type 0} (t : RunMeaning S) (old : S) (bytes : List ℕ) (moment : ℕ)
     (reply : Reply) (new : S) : Type 0 where
-  pub event : message.Event
+  pub event : Event
   pub is : IsReplyTo bytes moment reply event
-  pub moves : Moves t old (Replied event) new
+  pub moves : Moves t old event new
 
 -- the ledgers are opened again: they are what was to be found, and that is what may be found
 pub record IsOpened {S : Type 0} (t : RunMeaning S) (old new : S) : Type 0 where
@@ -74,7 +74,7 @@ abbrev pub StepMakes : {S : Type 0} → RunMeaning S → S → Step → Answer �
 StepMakes t old (step.Request bytes moment) (answer.Replied reply) new =
     Replies t old bytes.items moment reply new
 StepMakes t old (step.AddTenant name digest) (answer.Added result) new =
-    Moves t old (Added digest result) new
+    Moves t old (Tried (Joined digest) (ending_of result)) new
 StepMakes t old step.Reopen (answer.Reopened result) new = Reopens t old result new
 StepMakes t old step answer new = ⊥
 

@@ -1,39 +1,17 @@
--- What becomes of events that are sent again in the course of a run.
-use Rattle.std.specs.Prelude.{◌≡◌, ℕ, true, List, ◌∷◌, ◌++◌, Option, Some, Ok, All}
-use Rattle.records.specs.declared.transfer.TransferEvent.{TransferEvent}
+-- What a tenant has asked in the course of a run.
+use Rattle.std.specs.Prelude.{◌≡◌, ℕ, List, Some}
 use Rattle.records.specs.Machine.{Machine}
-use Rattle.records.specs.Chains.{Rules}
-use Rattle.records.specs.Step.{step_outcome, transfer_rules}
-use Rattle.records.specs.TransferVerdict.{fails_for_good}
-use Rattle.records.specs.Valid.{IsValid}
-use Rattle.engine.specs.RetryLaws.{AllAccepted, AddsNothing}
-use Rattle.engine.specs.FailedLaws.{AnswersIfFirst, batch_runs, OfEach}
 use Rattle.chain.specs.Ledgers.{Tenants}
-use Rattle.ledger_http.specs.Question.{Question}
 use Rattle.wire.specs.declared.request.Request.{Request}
-use Rattle.wire.specs.declared.request.Request.TheVariants.{Transfers}
-use Rattle.wire.specs.Meaning.{meaning_of}
+use Rattle.service.specs.Courses.{Event}
+use Rattle.service.specs.OwnDeeds.{own_happenings}
+use Rattle.service.specs.Retries.{IsAsked}
 use Rattle.whole_runs.specs.declared.steps.Step.{Step}
 use Rattle.whole_runs.specs.declared.steps.Answer.{Answer}
-use Rattle.whole_runs.specs.Events.{Event, Asked}
-use Rattle.whole_runs.specs.Courses.{Course}
-use Rattle.whole_runs.specs.OwnDeeds.{Own, deed_of, own_deeds, after_all}
-
--- among what a tenant went through is a request that was answered, or answered `unavailable` and
--- found done, and this is its machine then
-pub record IsAsked (began : Option Machine) (owns : List Own) (request : Request) (moment : ℕ)
-    (m : Machine) : Type 0 where
-  pub before : List Own
-  pub own : Own
-  pub since : List Own
-  pub is : owns ≡ before ++ own ∷ since
-  pub question : Question
-  pub asks : deed_of own ≡ Asked question moment
-  pub means : meaning_of question.route question.account question.body ≡ Ok request
-  pub held : after_all began before ≡ Some m
+use Rattle.whole_runs.specs.Courses.{RunCourse}
 
 -- in the course of a run this request of a tenant was done at this machine, and it has this one now
-pub record HasAsked (digest : List ℕ) (request : Request) (moment : ℕ) (m now : Machine) :
+pub record HasAskedInRun (digest : List ℕ) (request : Request) (moment : ℕ) (m now : Machine) :
     Type 0 where
   pub first : Tenants
   pub began : Tenants
@@ -41,25 +19,6 @@ pub record HasAsked (digest : List ℕ) (request : Request) (moment : ℕ) (m no
   pub steps : List Step
   pub answers : List Answer
   pub events : List Event
-  pub course : Course first steps answers events began last
-  pub asked : IsAsked (began digest) (own_deeds digest events) request moment m
+  pub course : RunCourse first steps answers events began last
+  pub asked : IsAsked (began digest) (own_happenings digest events) request moment m
   pub held : last digest ≡ Some now
-
--- a batch that was done, and whose every event was accepted, adds nothing when it is sent again
-abbrev pub RetriesAddNothing : {E R : Type 0} → Rules E R → R → (List E → Request) → Type 0
-RetriesAddNothing {E} rules exists asks =
-    (digest : List ℕ) (batch : List E) (moment : ℕ) (m now : Machine)
-    → HasAsked digest (asks batch) moment m now
-    → AllAccepted rules (step_outcome rules m batch moment)
-    → (again : ℕ) → AddsNothing rules exists now batch again
-
--- an event that failed for good stays failed
-abbrev pub FailedStaysFailed : Type 0
-FailedStaysFailed =
-    (digest : List ℕ) (batch : List TransferEvent) (moment : ℕ) (m now : Machine)
-    → HasAsked digest (Transfers batch) moment m now → IsValid now
-    → (again : List TransferEvent) (later : ℕ)
-    → OfEach
-    (λ ev result. fails_for_good result ≡ true
-    → All (AnswersIfFirst ev) (batch_runs transfer_rules now again later))
-    batch (step_outcome transfer_rules m batch moment)

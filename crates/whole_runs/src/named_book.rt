@@ -4,10 +4,10 @@ ghost use Rattle.chain.specs.Ledgers.{AreValid, KeepsAll};
 ghost use Rattle.plain.specs.BookLedgers.{machines_in};
 
 use crate::Reopening;
-use ledger_http::{Reply, meanings_are_unique};
+use ledger_http::Reply;
 use plain::{Book, PlainTables};
 use records::Unavailable;
-use service::respond;
+use service::{respond, responses_happen};
 use std::alloc::Global;
 use store::{AddTenant, OpenFault};
 use tenants::TenantName;
@@ -46,7 +46,7 @@ impl Reopening for NamedBook {
     fn is_settled(&self) {}
 
     fn reply_to(&mut self, alloc: Global, bytes: &[u8], moment: u64) -> Reply {
-        meanings_are_unique();
+        responses_happen();
         respond(alloc, &mut self.book, bytes, moment)
     }
 

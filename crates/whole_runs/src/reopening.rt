@@ -1,5 +1,7 @@
 //! Ledgers that can be closed and opened again.
-ghost use Rattle.whole_runs.specs.Events.{Added};
+ghost use Rattle.service.specs.Deeds.{Joined};
+ghost use Rattle.service.specs.Courses.{Tried};
+ghost use Rattle.whole_runs.specs.Courses.{ending_of};
 ghost use Rattle.whole_runs.specs.Reopenings.{RunMeaning, IsSettled, Replies, Moves, Reopens};
 
 use ledger_http::Reply;
@@ -30,7 +32,7 @@ pub trait Reopening {
     /// Adds a tenant, whose machine is a new one.
     fn join(&mut self, name: &TenantName, digest: &[u8; 32]) -> Result<(), AddTenant>
         requires { means.is_usable self.old }
-        ensures moves { Moves means self.old (Added digest.now result) self.new }
+        ensures moves { Moves means self.old (Tried (Joined digest.now) (ending_of result)) self.new }
         ensures usable { means.is_usable self.new };
 
     /// Closes the ledgers and opens them again. After an error each call but a later opening

@@ -2,7 +2,7 @@
 
 use crate::reopening::Reopening;
 use ledger_http::{Reply, meanings_are_unique};
-use service::respond;
+use service::{respond, responses_happen};
 use sqlite_disk::Disk;
 use std::alloc::Global;
 use store::{AddTenant, FullAudit, OpenFault, Store, joining_adds_one};
@@ -20,6 +20,7 @@ impl<D: Disk + Drop> Reopening for Store<D> {
 
     fn reply_to(&mut self, alloc: Global, bytes: &[u8], moment: u64) -> Reply {
         meanings_are_unique();
+        responses_happen();
         let reply = respond(alloc, self, bytes, moment);
         self.is_settled();
         reply

@@ -1,25 +1,13 @@
 use Rattle.wire.specs.declared.request.Request.TheVariants.{Accounts, Transfers}
-use Rattle.whole_runs.proofs.RetryLemmas.{LaterLaws, asked_later}
+use Rattle.whole_runs.proofs.Asked.{asked_in_course}
 use Rattle.whole_runs.proofs.laws.retries_add_nothing.Goals as goal
 
 pub returns-clause-accounts : goal.returns-clause-accounts
-returns-clause-accounts c digest batch moment m now asked accepted again =
-    let laws : LaterLaws = record {
-      accounts = c.steps_lead_to_later.ensures.accounts;
-      transfers = c.steps_lead_to_later.ensures.transfers;
-      itself = c.later_of_later_is_later.ensures.itself;
-      onward = c.later_of_later_is_later.ensures.onward;
-    } in
-    c.retry_adds_nothing.ensures.accounts m now batch moment again accepted
-    (asked_later laws digest (Accounts batch) moment m now asked)
+returns-clause-accounts c digest batch moment m now asked =
+    c.retried_in_course_adds_nothing.ensures.accounts digest batch moment m now
+    (asked_in_course digest (Accounts batch) moment m now asked)
 
 pub returns-clause-transfers : goal.returns-clause-transfers
-returns-clause-transfers c digest batch moment m now asked accepted again =
-    let laws : LaterLaws = record {
-      accounts = c.steps_lead_to_later.ensures.accounts;
-      transfers = c.steps_lead_to_later.ensures.transfers;
-      itself = c.later_of_later_is_later.ensures.itself;
-      onward = c.later_of_later_is_later.ensures.onward;
-    } in
-    c.retry_adds_nothing.ensures.transfers m now batch moment again accepted
-    (asked_later laws digest (Transfers batch) moment m now asked)
+returns-clause-transfers c digest batch moment m now asked =
+    c.retried_in_course_adds_nothing.ensures.transfers digest batch moment m now
+    (asked_in_course digest (Transfers batch) moment m now asked)

@@ -1,28 +1,8 @@
-use Rattle.std.proofs.Common.{◌≡◌, true}
-use Rattle.std.specs.Prelude.{All}
-use Rattle.records.specs.Step.{step_machine, step_outcome, transfer_rules}
-use Rattle.records.specs.TransferVerdict.{fails_for_good}
-use Rattle.engine.specs.FailedLaws.{StaysFailed, AnswersIfFirst, batch_runs}
 use Rattle.wire.specs.declared.request.Request.TheVariants.{Transfers}
-use Rattle.whole_runs.proofs.RetryLemmas.{LaterLaws, asked_later, each_on}
+use Rattle.whole_runs.proofs.Asked.{asked_in_course}
 use Rattle.whole_runs.proofs.laws.stays_failed.Goals as goal
 
 pub returns : goal.returns
-returns c digest batch moment m now asked valid again later =
-    let laws : LaterLaws = record {
-      accounts = c.steps_lead_to_later.ensures.accounts;
-      transfers = c.steps_lead_to_later.ensures.transfers;
-      itself = c.later_of_later_is_later.ensures.itself;
-      onward = c.later_of_later_is_later.ensures.onward;
-    } in
-    each_on
-    (λ ev result.
-    fails_for_good result ≡ true → StaysFailed (step_machine transfer_rules m batch moment) ev)
-    (λ ev result.
-    fails_for_good result ≡ true
-    → All (AnswersIfFirst ev) (batch_runs transfer_rules now again later))
-    batch (step_outcome transfer_rules m batch moment)
-    (λ ev result stays fails.
-    stays fails now again later valid
-    (asked_later laws digest (Transfers batch) moment m now asked))
-    (c.failed_stays_failed.ensures.failed m batch moment)
+returns c digest batch moment m now asked =
+    c.failed_in_course_stays_failed.ensures digest batch moment m now
+    (asked_in_course digest (Transfers batch) moment m now asked)

@@ -1,17 +1,19 @@
 use Rattle.std.proofs.Common.{refl}
 use Rattle.whole_runs.specs.Reopenings.{As_now}
-use Rattle.whole_runs.proofs.ReplyLemmas.{event_of, happens_so}
+use Rattle.whole_runs.proofs.ReplyLemmas.{event_of}
 use Rattle.whole_runs.proofs.named_book.NamedBookReopening.reply_to.Goals as goal
 
 pub returns-clause-replies : goal.returns-clause-replies
 returns-clause-replies c =
     let early = c.respond.ensures.early in
+    let event = event_of c.args.bytes.now c.args.moment c.respond.result early in
     record {
-      event = event_of c.args.bytes.now c.args.moment c.respond.result early;
+      event = event;
       is = record { head = early.head; has = early.has; is = refl };
       moves = record {
         happens = λ live.
-            happens_so c.meanings_are_unique.ensures.head _ _ _ _ _ early
+            c.responses_happen.ensures _ _ c.args.bytes.now c.args.moment c.respond.result event
+            (record { head = early.head; has = early.has; is = refl })
             (c.respond.ensures.responds tt);
         lived = λ live. tt;
         found = λ found keeps. As_now tt keeps;

@@ -9,4 +9,4 @@ returns-clause-replies g c =
     c.respond-reply.new.ledgers c.args.bytes.now c.args.moment c.respond-reply.result
     c.respond-reply.ensures.early c.respond-reply.ensures.finds
     (settled_so c.respond-reply.new.ledgers c.is_settled.ensures c.respond-reply.ensures.usable)
-    c.respond-reply.ensures.responds c.respond-reply.ensures.follows.lived
+    c.responses_happen.ensures c.respond-reply.ensures.responds c.respond-reply.ensures.follows.lived
