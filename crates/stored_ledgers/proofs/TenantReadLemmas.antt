@@ -19,7 +19,7 @@ use Rattle.ledger_sql.specs.Frames.{Live, Follows, IsKeptOrUndone}
 use Rattle.stored_tables.specs.BatchLaws.{follows_then, live_before}
 use Rattle.stored_tables.specs.Holds.{HoldsMachine}
 use Rattle.stored_tables.specs.MachineOf.{machine_of}
-use Rattle.stored_reads.specs.Idle.{CanRead, machine_at, OnlyReads, UnlessUnavailable}
+use Rattle.stored_tables.specs.Idle.{CanRead, machine_at, OnlyReads, UnlessUnavailable}
 use Rattle.stored_ledgers.specs.Directory.{number_of, tenants_in, with_digest}
 use Rattle.stored_ledgers.specs.Resting.{IsQuiet, IsSame, HoldsHere}
 use Rattle.stored_ledgers.specs.TenantReads.{reach_of, ReadsHere}

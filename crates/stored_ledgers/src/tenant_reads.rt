@@ -35,7 +35,7 @@ pub fn history_transfers<S: Alter>(
     let Some(number) = tenant_with(conn, digest)? else {
         return Err(ReadFault::UnknownKey);
     };
-    let told = stored_reads::history_transfers(alloc, conn, TenantNumber(number), asked);
+    let told = stored_tables::history_transfers(alloc, conn, TenantNumber(number), asked);
     told_after(conn, told)
 }
 
@@ -55,7 +55,7 @@ pub fn history_balances<S: Alter>(
     let Some(number) = tenant_with(conn, digest)? else {
         return Err(ReadFault::UnknownKey);
     };
-    let told = stored_reads::history_balances(alloc, conn, TenantNumber(number), asked);
+    let told = stored_tables::history_balances(alloc, conn, TenantNumber(number), asked);
     told_after(conn, told)
 }
 
@@ -79,7 +79,7 @@ pub fn each_statement_row<S: Alter, K: RowSink>(
     let Some(number) = tenant_with(conn, digest)? else {
         return Err(ReadFault::UnknownKey);
     };
-    let told = stored_reads::each_statement_row(conn, TenantNumber(number), account, order, sink);
+    let told = stored_tables::each_statement_row(conn, TenantNumber(number), account, order, sink);
     told_after(conn, told)
 }
 

@@ -1,8 +1,13 @@
 pub mod AcceptedCovers
 pub mod AcceptedRows
 pub mod AcceptedThere
+pub mod AccountEntries
+pub mod AccountOrder
+pub mod AccountRows
 pub mod Apart
 pub mod ChangedRows
+pub mod ChunkEnds
+pub mod ChunkHands
 pub mod ClockMoves
 pub mod Covering
 pub mod DueKeys
@@ -13,8 +18,12 @@ pub mod ExpiryWrites
 pub mod Keeping
 pub mod MachineBack
 pub mod Marks
+pub mod NextEntries
 pub mod Numbers
 pub mod OneTableMoves
+pub mod PageGrowth
+pub mod PageTimes
+pub mod PageValue
 pub mod PastTimes
 pub mod PointReads
 pub mod Released
@@ -23,6 +32,8 @@ pub mod RowMoves
 pub mod RowsTell
 pub mod SameValues
 pub mod SortedBack
+pub mod StatementRows
+pub mod StatementValue
 pub mod Statements
 pub mod TableMoves
 pub mod WideBytes

@@ -1,9 +1,16 @@
 pub mod BatchLaws
+pub mod Bounds
+pub mod Chunks
 pub mod Covers
+pub mod Entries
 pub mod Frames
+pub mod Handing
 pub mod Holds
+pub mod Idle
 pub mod InBatch
 pub mod MachineOf
 pub mod Meaning
 pub mod Moves
+pub mod Pages
 pub mod Releasing
+pub mod Rows

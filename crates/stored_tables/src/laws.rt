@@ -44,7 +44,7 @@ pub fn held_machines()
 }
 
 /// What is found of a tenant by a whole key is what its machine has.
-pub fn point_reads()
+pub(crate) fn point_reads()
     ensures clock { (tenant : ℤ) (m : Machine) (trees : Trees) (found : Option ℕ) →
         HoldsMachine tenant m trees →
         Picks (clock_rows tenant trees) (option_map (λ clock. clock_values (pos clock)) found) →

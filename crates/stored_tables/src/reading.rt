@@ -1,4 +1,4 @@
-//! What a tenant has, found by a whole key.
+//! What a tenant has, found by a whole key in its batch.
 
 ghost use Rattle.std.specs.Prelude.{◌≡◌};
 ghost use Rattle.records.specs.Facts.{account_in};
