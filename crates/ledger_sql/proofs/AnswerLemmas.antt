@@ -25,11 +25,11 @@ use Rattle.sqlite_sql.specs.Program.{overlay}
 use Rattle.sqlite_schema.specs.declared.schema.Schema.{Schema}
 use Rattle.sqlite_schema.specs.declared.command.Command.TheVariants.{Select}
 use Rattle.sqlite.specs.Listing.{understood, reads_listing}
-use Rattle.sqlite.specs.State.{State, Shown, Begins}
-use Rattle.sqlite.proofs.Callers.{IsPlain, command_of, reads_as, begins_as, first_as}
+use Rattle.sqlite.specs.State.{State, Shown}
+use Rattle.sqlite.proofs.Callers.{IsPlain, command_of, reads_as, first_as}
 use Rattle.ledger_sql.specs.TableRows.{is_int, is_blob, is_text}
 use Rattle.ledger_sql.specs.Effects.{Picks}
-use Rattle.ledger_sql.specs.Queries.{Finds}
+use Rattle.ledger_sql.specs.Queries.{FindsFirst}
 
 -- ---- equality in WHERE
 
@@ -154,14 +154,8 @@ module _ (sql : List ℕ) (schema : Schema) (tree : ℕ) (terms shown : List Ter
       let made = subst (All (λ (o : Output). (env : Env) × (o ≡ output q env))) (sym kept) (made_by (output q) [] a.staged) in
       subst (IsSorted cmp) (sym a.shown) (sorted_shown q old.now.trees params cmp same a.kept a.ordered made a.same a.sorted)
 
-  pub first_shown : (rows : List Row) → Begins sql params old rows
-      → (tail : List Row) × IsPermutation (map (show tree terms shown order text.here old.now.trees params) (filter (passes tree terms shown order text.here old.now.trees params) (old.now.trees tree))) (rows ++ tail)
-  first_shown rows h =
-      let got = begins_as sql params old new schema has (Select (record { lets = []; body = plain_query tree terms shown order }) text.names) text.is text.plain text.unlisted rows h in
-      (got.1.0, answered tree terms shown order text.here old.now.trees params (rows ++ got.1.0) (got.1.1 Null))
-
   -- the row that was found, or that there is none
-  pub found_shown : (found : Option Row) → Finds sql params old new found
+  pub found_shown : (found : Option Row) → FindsFirst sql params old new found
       → Picks (map (show tree terms shown order text.here old.now.trees params) (filter (passes tree terms shown order text.here old.now.trees params) (old.now.trees tree))) found
   found_shown None h = none_left _ (all_shown [] h)
   found_shown (Some row) h =

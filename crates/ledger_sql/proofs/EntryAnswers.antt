@@ -14,7 +14,7 @@ use Rattle.sqlite_sql.specs.Query.{output, output_cmp, as_count, limited}
 use Rattle.sqlite.specs.State.{State, HasCleanDisk, Shown, Begins}
 use Rattle.ledger_sql.specs.declared.entry_cells.EntryCells.{EntryCells}
 use Rattle.ledger_sql.specs.declared.table_fault.TableFault.{TableFault}
-use Rattle.ledger_sql.specs.Entries.{entry_values, entries_when, ReadsEntries, ReadsFirst, HandsEntries, HandsUpTo}
+use Rattle.ledger_sql.specs.Entries.{entry_values, entries_when, ReadsAll, ReadsFirst, HandsEntries, HandsUpTo}
 use Rattle.ledger_sql.specs.Handing.{HandsRows}
 use Rattle.ledger_sql.proofs.EntryTexts.{entry_query, unlimited, given_limit, IsEntryText}
 use Rattle.ledger_sql.proofs.EntryLemmas.{AreFirst, compares, keys, entries_shown, entries_begun}
@@ -105,7 +105,7 @@ module _ (sql : List ℕ) (op : CompareOp) (descending : Bool) (tenant : ℤ) (a
   abbrev all_entries : List Row
   all_entries = entries_when tenant account in_time old.now.trees
 
-  whole : (read : List EntryCells) → AreFirst None all_entries cmp (map entry_values read) → ReadsEntries all_entries (IsSorted cmp) read
+  whole : (read : List EntryCells) → AreFirst None all_entries cmp (map entry_values read) → ReadsAll all_entries (IsSorted cmp) read
   whole read it = record { all = subst (IsPermutation all_entries) (sym it.rows_are) it.all; order = subst (IsSorted cmp) (sym it.rows_are) it.order }
 
   pub entries_handed : {K : Type 0} (takes : K → EntryCells → K → Type 0) (is_full : K → Bool) → (HasCleanDisk new → IsEntryText sql old.now.schema op descending unlimited) → (before after : K)

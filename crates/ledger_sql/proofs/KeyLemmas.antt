@@ -17,7 +17,7 @@ use Rattle.ledger_sql.specs.Schema.{clock_tree, tenant_tree}
 use Rattle.ledger_sql.specs.TableRows.{clock_rows, numbers_with_digest, is_int, is_blob, is_text, is_own, cells_from, rows_in, directory_rows, with_name, has_id, with_id}
 use Rattle.ledger_sql.specs.declared.table_fault.TableFault.{TableFault}
 use Rattle.ledger_sql.specs.Effects.{Picks}
-use Rattle.ledger_sql.specs.Queries.{Finds}
+use Rattle.ledger_sql.specs.Queries.{FindsFirst}
 use Rattle.ledger_sql.proofs.AnswerLemmas.{equals_int, equals_blob, equals_text, IsPlainText, passes, show, found_shown}
 
 -- the place of a row equals the parameter at an index
@@ -71,19 +71,19 @@ module _ (tenant : ℤ) (id : List ℕ) where
         ∙ ap (map cells) (filter_same (λ r. list_all (holds (keys ∷ r ∷ [])) (is_param 1 0 ∷ is_param 2 1 ∷ [])) both rows (all_of _ passes_id rows))
         ∙ sym (filter-map (has_id id) cells (filter (is_own tenant) rows) ∙ ap (map cells) (filter_both (is_own tenant) (λ r. is_blob id (column r 2)) rows))
 
-    pub point_found : (found : Option Row) → Finds sql keys old new found → Picks (with_id id (rows_in tree (suc width) tenant old.now.trees)) found
+    pub point_found : (found : Option Row) → FindsFirst sql keys old new found → Picks (with_id id (rows_in tree (suc width) tenant old.now.trees)) found
     point_found found h =
         subst (λ rows. Picks rows found) same_rows (found_shown sql schema tree (is_param 1 0 ∷ is_param 2 1 ∷ []) (columns_from 2 (suc width)) [] text keys old new has found h)
 
 -- the same, read
 pub point_read : {X : Type 0} (values : X → Row) (tenant : ℤ) (id : List ℕ) (sql : List ℕ) (schema : Schema) (tree width : ℕ)
     → IsPlainText sql schema tree (is_param 1 0 ∷ is_param 2 1 ∷ []) (columns_from 2 (suc width)) [] → (old new : State) → old.now.schema ≡ schema → (key : Row) → key ≡ Int tenant ∷ Blob id ∷ []
-    → (found : Result (Option Row) TableFault) → IfOk found (Finds sql key old new) → (read : Result (Option X) Unavailable) → IfOk read (λ x. found ≡ Ok (option_map values x))
+    → (found : Result (Option Row) TableFault) → IfOk found (FindsFirst sql key old new) → (read : Result (Option X) Unavailable) → IfOk read (λ x. found ≡ Ok (option_map values x))
     → IfOk read (λ x. Picks (with_id id (rows_in tree (suc width) tenant old.now.trees)) (option_map values x))
 point_read values tenant id sql schema tree width text old new has key is found finds (Err e) same = tt
 point_read values tenant id sql schema tree width text old new has key is found finds (Ok x) same =
-    let it : Finds sql key old new (option_map values x) = subst (λ f. IfOk f (Finds sql key old new)) same finds in
-    point_found tenant id sql schema tree width text old new has (option_map values x) (subst (λ k. Finds sql k old new (option_map values x)) is it)
+    let it : FindsFirst sql key old new (option_map values x) = subst (λ f. IfOk f (FindsFirst sql key old new)) same finds in
+    point_found tenant id sql schema tree width text old new has (option_map values x) (subst (λ k. FindsFirst sql k old new (option_map values x)) is it)
 
 none_passes : {A : Type 0} (p : A → Bool) (xs : List A) → list_any p xs ≡ false → filter p xs ≡ []
 none_passes p [] none = refl
@@ -112,24 +112,24 @@ picks_any p xs (Some row) some = at (list_any p xs) refl
 
 pub there_read : (tenant : ℤ) (id : List ℕ) (sql : List ℕ) (schema : Schema) (tree width : ℕ)
     → IsPlainText sql schema tree (is_param 1 0 ∷ is_param 2 1 ∷ []) (columns_from 2 (suc width)) [] → (old new : State) → old.now.schema ≡ schema → (key : Row) → key ≡ Int tenant ∷ Blob id ∷ []
-    → (found : Result (Option Row) TableFault) → IfOk found (Finds sql key old new) → (read : Result Bool Unavailable)
+    → (found : Result (Option Row) TableFault) → IfOk found (FindsFirst sql key old new) → (read : Result Bool Unavailable)
     → IfOk read (λ there. (row : Option Row) × (found ≡ Ok row) × (there ≡ is_some row)) → IfOk read (λ there. there ≡ list_any (has_id id) (rows_in tree (suc width) tenant old.now.trees))
 there_read tenant id sql schema tree width text old new has key is found finds (Err e) same = tt
 there_read tenant id sql schema tree width text old new has key is found finds (Ok there) same =
-    let it : Finds sql key old new same.0 = subst (λ f. IfOk f (Finds sql key old new)) same.1 finds in
-    let picks = point_found tenant id sql schema tree width text old new has same.0 (subst (λ k. Finds sql k old new same.0) is it) in
+    let it : FindsFirst sql key old new same.0 = subst (λ f. IfOk f (FindsFirst sql key old new)) same.1 finds in
+    let picks = point_found tenant id sql schema tree width text old new has same.0 (subst (λ k. FindsFirst sql k old new same.0) is it) in
     same.2 ∙ picks_any (has_id id) (rows_in tree (suc width) tenant old.now.trees) same.0 picks
 
 -- a query over one table, read, whatever it looks for
 pub view_read : {X E : Type 0} (values : X → Row) (sql : List ℕ) (schema : Schema) (tree : ℕ) (terms shown : List Term) (text : IsPlainText sql schema tree terms shown []) (good : Row) (old new : State)
     → old.now.schema ≡ schema → (view : List Row)
     → map (show tree terms shown [] text.here old.now.trees good) (filter (passes tree terms shown [] text.here old.now.trees good) (old.now.trees tree)) ≡ view
-    → (key : Row) → key ≡ good → (found : Result (Option Row) TableFault) → IfOk found (Finds sql key old new)
+    → (key : Row) → key ≡ good → (found : Result (Option Row) TableFault) → IfOk found (FindsFirst sql key old new)
     → (got : Result (Option X) E) → IfOk got (λ x. found ≡ Ok (option_map values x)) → IfOk got (λ x. Picks view (option_map values x))
 view_read values sql schema tree terms shown text good old new has view is key given found finds (Err e) same = tt
 view_read values sql schema tree terms shown text good old new has view is key given found finds (Ok x) same =
-    let it : Finds sql key old new (option_map values x) = subst (λ f. IfOk f (Finds sql key old new)) same finds in
-    subst (λ rows. Picks rows (option_map values x)) is (found_shown sql schema tree terms shown [] text good old new has (option_map values x) (subst (λ k. Finds sql k old new (option_map values x)) given it))
+    let it : FindsFirst sql key old new (option_map values x) = subst (λ f. IfOk f (FindsFirst sql key old new)) same finds in
+    subst (λ rows. Picks rows (option_map values x)) is (found_shown sql schema tree terms shown [] text good old new has (option_map values x) (subst (λ k. FindsFirst sql k old new (option_map values x)) given it))
 
 pub clock_view : (tenant : ℤ) (db : Trees) → map (λ (r : Row). column r 2 ∷ []) (filter (λ r. list_all (holds ((Int tenant ∷ []) ∷ r ∷ [])) (is_param 0 0 ∷ [])) (db clock_tree)) ≡ clock_rows tenant db
 clock_view tenant db =

@@ -15,7 +15,7 @@ use Rattle.sqlite.specs.Listing.{understood}
 use Rattle.sqlite.specs.State.{State, HasCleanDisk, IsUnchanged, IsNotRun, IsNoStatement, FailsToQuery, QueriesRow, Shown, Survives, CommitsShowing, store_error}
 use Rattle.sqlite.proofs.StateLemmas.{survives_weaker}
 use Rattle.ledger_sql.specs.Frames.{IsKeptOrUndone, Follows}
-use Rattle.ledger_sql.specs.Queries.{IsReading, found_of, Finds}
+use Rattle.ledger_sql.specs.Queries.{IsReading, found_of, FindsFirst}
 use Rattle.ledger_sql.proofs.ReadingTexts.{IsCalm, calm_text}
 use Rattle.ledger_sql.proofs.RunLemmas.{stays_left, follows_from}
 
@@ -79,7 +79,7 @@ module _ (sql : List ℕ) (params : Row) (old new : State) (reading : IsReading 
   error_kept e (inl h) = failed_kept e h
   error_kept e (inr h) = inl (shown_same [] h.1)
 
-  pub found_ok : (r : Result Row Error) → QueriesRow sql params old new r → IfOk (found_of r) (Finds sql params old new)
+  pub found_ok : (r : Result Row Error) → QueriesRow sql params old new r → IfOk (found_of r) (FindsFirst sql params old new)
   found_ok (Ok row) h = h
   found_ok (Err QueryReturnedNoRows) h = none_shown h
   found_ok (Err e) h = tt

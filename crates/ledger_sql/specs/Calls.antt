@@ -7,7 +7,7 @@ use Rattle.sqlite_schema.specs.declared.schema.Schema.{Schema}
 use Rattle.sqlite.specs.Held.{Held, state}
 use Rattle.sqlite.specs.State.{State, HasCleanDisk, IsUnchanged}
 use Rattle.ledger_sql.specs.Effects.{StartsAs, Picks}
-use Rattle.ledger_sql.specs.Frames.{IsKeptOrUndone, Follows}
+use Rattle.ledger_sql.specs.Frames.{Live, IsKeptOrUndone, IsOver, Follows}
 
 -- a call that reads: answered, it has changed nothing; failed, it may have undone the transaction
 pub record LeavesRead {A E : Type 0} (old new : State) (result : Result A E) : Type 0 where
@@ -54,6 +54,11 @@ pub record LeavesChanged {A E : Type 0} (Effect : State → State → Type 0) (o
   pub ok : HasCleanDisk new → OnOk result (Effect old new)
   pub follows : Follows old new
 
+-- a call that ends the transaction with nothing of it kept
+pub record LeavesOver (old new : State) : Type 0 where
+  pub over : Live new → IsOver old new
+  pub follows : Follows old new
+
 -- this is so of the connection, where its disk was honest so far
 abbrev pub IfClean : {S : Type 0} → (State → Type 0) → Ghosts S → Held S → Type 0
 IfClean Is store held = HasCleanDisk (state store held) → Is (state store held)
@@ -85,3 +90,6 @@ abbrev pub Changes : {S A E : Type 0} → (State → State → Type 0) → Ghost
     → Result A E → Type 0
 Changes Effect store old new result =
     LeavesChanged Effect (state store old) (state store new) result
+
+abbrev pub GivesUp : {S : Type 0} → Ghosts S → Held S → Held S → Type 0
+GivesUp store old new = LeavesOver (state store old) (state store new)

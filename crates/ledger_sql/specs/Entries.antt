@@ -40,7 +40,7 @@ abbrev pub AreNewestFirst : List Row → Type 0
 AreNewestFirst entries = IsSorted (λ a b. value_cmp (column b 1) (column a 1)) entries
 
 -- all these entries were read, in order
-pub record ReadsEntries (entries : List Row) (InOrder : List Row → Type 0)
+pub record ReadsAll (entries : List Row) (InOrder : List Row → Type 0)
     (read : List EntryCells) : Type 0 where
   pub all : IsPermutation entries (map entry_values read)
   pub order : InOrder (map entry_values read)
@@ -61,7 +61,7 @@ pub record HandsEntries {K E : Type 0} (takes : K → EntryCells → K → Type 
   pub handed : List EntryCells
   pub taken : TakesRows takes old handed new
   pub first : IsHonest → (handed ≡ []) ⊎ ReadsFirst entries InOrder handed
-  pub ended : IsHonest → OnOk result ((is_full new ≡ true) ⊎ ReadsEntries entries InOrder handed)
+  pub ended : IsHonest → OnOk result ((is_full new ≡ true) ⊎ ReadsAll entries InOrder handed)
   pub wants : OnErr result (is_full new ≡ false)
 
 -- so many of these entries were read, the first in order, or all, if there are no more

@@ -33,6 +33,6 @@ found_of (Err QueryReturnedNoRows) = Ok None
 found_of (Err e) = Err (table_fault_in e)
 
 -- the row begins an answer, or the answer has no row
-abbrev pub Finds : List ℕ → Row → State → State → Option Row → Type 0
-Finds sql params old new (Some row) = QueriesRow sql params old new (Ok row)
-Finds sql params old new None = Shown sql params old new []
+abbrev pub FindsFirst : List ℕ → Row → State → State → Option Row → Type 0
+FindsFirst sql params old new (Some row) = QueriesRow sql params old new (Ok row)
+FindsFirst sql params old new None = Shown sql params old new []

@@ -5,7 +5,7 @@ ghost use Rattle.sqlite.specs.Values.{bound};
 ghost use Rattle.sqlite.specs.State.{HasCleanDisk, Shown};
 ghost use Rattle.sqlite.specs.Held.{state};
 ghost use Rattle.ledger_sql.specs.Calls.{Reads};
-ghost use Rattle.ledger_sql.specs.Queries.{IsReading, found_of, Finds};
+ghost use Rattle.ledger_sql.specs.Queries.{IsReading, found_of, FindsFirst};
 
 use crate::cause::table_fault;
 use crate::read::{ReadRow, read_row};
@@ -23,7 +23,7 @@ pub(crate) fn first_row<S: Alter>(
 ) -> Result<Option<Row>, TableFault>
     requires { IsReading text.now }
     ensures ok { HasCleanDisk (state S.Store conn.new) → IfOk result
-        (Finds text.now (bound params.now) (state S.Store conn.old) (state S.Store conn.new)) }
+        (FindsFirst text.now (bound params.now) (state S.Store conn.old) (state S.Store conn.new)) }
     ensures reads { Reads S.Store conn.old conn.new result }
 {
     found(conn.query_row(text, params))

@@ -23,7 +23,7 @@ use Rattle.rows.specs.Prescribed.{rows_for}
 use Rattle.rows.specs.SameRows.{TellsOf, account_from}
 use Rattle.rows.specs.Tables.{AreKeyed}
 use Rattle.rows.specs.Widths.{AreStorable, IsStorableBalance, IsStorableStatus}
-use Rattle.stored_tables.specs.Moves.{IsThere, HasStatus, HasEnded, CanAccept}
+use Rattle.stored_tables.specs.Moves.{IsThere, HasStatus, CanEnd, CanAccept}
 
 -- an account with balances has a balance row
 has_balance : (f : Account → AccountWithBalances) (found : Option Account) (x : Account) (row : Option BalanceRow) → found ≡ Some x → account_from found row ≡ option_map f found → IsSome row
@@ -56,7 +56,7 @@ module _ (m : Machine) (valid : IsValid m) (fit : AreStorable (rows_for 3 m)) (k
   }
 
   module _ (a : Accepted) (accepted : IsAccepted m a) (fates : TellsFates m a) where
-    ended_there : (ends : Option Ending) → a.ends ≡ ends → HasEnded ends (rows_for 3 m).statuses
+    ended_there : (ends : Option Ending) → a.ends ≡ ends → CanEnd ends (rows_for 3 m).statuses
     ended_there None is = tt
     ended_there (Some ending) is = let e = fates.ended ending is in status_there (ended_id ending) e.pending e.found e.is_pending
 

@@ -19,7 +19,7 @@ use Rattle.sqlite_value.specs.Order.{Row}
 use Rattle.sqlite_trees.specs.Tree.{Trees, IsAscending}
 use Rattle.sqlite_trees.proofs.ListLemmas.{all_weaker, all-filter, all_both, all-permutation, ascending-filter, ascending_weaker, ascending-append}
 use Rattle.ledger_sql.specs.declared.entry_cells.EntryCells.{EntryCells}
-use Rattle.ledger_sql.specs.Entries.{entry_values, entries_when, AreOldestFirst, AreNewestFirst, ReadsEntries, ReadsFirst, ReadsUpTo, HandsEntries, HandsUpTo}
+use Rattle.ledger_sql.specs.Entries.{entry_values, entries_when, AreOldestFirst, AreNewestFirst, ReadsAll, ReadsFirst, ReadsUpTo, HandsEntries, HandsUpTo}
 use Rattle.ledger_sql.specs.TableRows.{is_from, is_until}
 use Rattle.stored_tables.specs.Holds.{HoldsMachine}
 use Rattle.stored_tables.specs.Entries.{account_entries, entry_cells}
@@ -128,7 +128,7 @@ module _ {K : Type 0} (takes : K → EntryCells → K → Type 0) (is_full : K �
     (fits_all : H → AllByRecursion (IsStorableEntry account) es)
     (read : H → (ys : List Row) → IsPermutation entries ys → InOrder ys → rows_of account es ≡ ys)
     (old new : K) where
-  ended_so : {E : Type 0} (result : Result (Unit {0}) E) (handed : List EntryCells) → H → OnOk result ((is_full new ≡ true) ⊎ ReadsEntries entries InOrder handed) → OnOk result ((is_full new ≡ true) ⊎ AreAll account es handed)
+  ended_so : {E : Type 0} (result : Result (Unit {0}) E) (handed : List EntryCells) → H → OnOk result ((is_full new ≡ true) ⊎ ReadsAll entries InOrder handed) → OnOk result ((is_full new ≡ true) ⊎ AreAll account es handed)
   ended_so (Err e) handed honest ended = tt
   ended_so (Ok u) handed honest (inl full) = inl full
   ended_so (Ok u) handed honest (inr all) = inr (are_all account es handed (fits_all honest) (read honest (map entry_values handed) all.all all.order))

@@ -15,7 +15,7 @@ use Rattle.rows.specs.Changes.{with_accepted, set_both, ended, new_statuses, new
 use Rattle.ledger_sql.specs.Effects.{IsInside, AddsRows}
 use Rattle.ledger_sql.specs.TableRows.{transfer_rows, status_rows, history_rows}
 use Rattle.ledger_sql.specs.Values.{transfer_values, status_values, history_values}
-use Rattle.stored_tables.specs.Moves.{ChangesRows, Any, HasBoth, HasEnded, CanAccept}
+use Rattle.stored_tables.specs.Moves.{ChangesRows, Any, HasBoth, CanEnd, CanAccept}
 use Rattle.stored_tables.proofs.Statements.{transfer_added, status_added, history_added}
 use Rattle.stored_tables.proofs.Writing.{writes_then}
 
@@ -50,7 +50,7 @@ module _ (tenant : ℤ) where
   Both a s0 s1 = ChangesRows tenant (λ rows. HasBoth a.stored rows.balances) (λ rows. record rows { balances = set_both a.stored a.debit_after a.credit_after rows.balances }) s0 s1
 
   abbrev Ended : Accepted → State → State → Type 0
-  Ended a s0 s1 = ChangesRows tenant (λ rows. HasEnded a.ends rows.statuses) (λ rows. record rows { statuses = ended a.ends rows.statuses }) s0 s1
+  Ended a s0 s1 = ChangesRows tenant (λ rows. CanEnd a.ends rows.statuses) (λ rows. record rows { statuses = ended a.ends rows.statuses }) s0 s1
 
   abbrev History : Accepted → State → State → Type 0
   History a s0 s1 = ChangesRows tenant Any (λ rows. record rows { history = rows.history ++ new_history a }) s0 s1
@@ -64,7 +64,7 @@ module _ (tenant : ℤ) where
 
     with_ended : ChangesRows tenant (CanAccept a) (λ rows. record rows { transfers = rows.transfers ++ a.stored ∷ []; balances = set_both a.stored a.debit_after a.credit_after rows.balances; statuses = ended a.ends rows.statuses }) s0 s3
     with_ended =
-        writes_then tenant (CanAccept a) (λ rows. HasEnded a.ends rows.statuses) (CanAccept a)
+        writes_then tenant (CanAccept a) (λ rows. CanEnd a.ends rows.statuses) (CanAccept a)
         (λ rows. record rows { transfers = rows.transfers ++ a.stored ∷ []; balances = set_both a.stored a.debit_after a.credit_after rows.balances }) (λ rows. record rows { statuses = ended a.ends rows.statuses }) s0 s2 s3 with_both ends
         (λ rows can. (can, can.ended))
 

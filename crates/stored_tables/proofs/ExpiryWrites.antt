@@ -13,7 +13,7 @@ use Rattle.rows.specs.TypedRows.{TypedRows}
 use Rattle.rows.specs.Keyed.{row_with}
 use Rattle.rows.specs.Widths.{IsStorableBalance, IsStorableStatus}
 use Rattle.stored_tables.specs.declared.expiry.Expiry.{Expiry}
-use Rattle.stored_tables.specs.Moves.{Moves, ChangesRows, HasBoth, HasStatus}
+use Rattle.stored_tables.specs.Moves.{MovesRows, ChangesRows, HasBoth, HasStatus}
 use Rattle.stored_tables.specs.Releasing.{CanExpire, IsExpiry, HasExpiring, with_expiry, Expires}
 use Rattle.stored_tables.proofs.Writing.{writes_then, writes_after_same}
 
@@ -64,7 +64,7 @@ module _ (tenant : ℤ) (id : ℕ) (e : Expiry) (s0 s1 s2 : State) (is : IsExpir
           inside = all.inside;
           moves = λ rows can num held.
               let equal = is t debit credit rows can same_id held in
-              subst (λ (e : Expiry). Moves tenant (with_expiry e rows) s0.now.trees s2.now.trees) equal
+              subst (λ (e : Expiry). MovesRows tenant (with_expiry e rows) s0.now.trees s2.now.trees) equal
               (all.moves rows (subst (λ (e : Expiry). HasExpiring e.transfer rows) (sym equal) (has_expiring t debit credit rows can)) num held);
         };
       }

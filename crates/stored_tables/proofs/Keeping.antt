@@ -5,18 +5,26 @@ use Rattle.chain.specs.Tables.{State as Meant, Leaves, same}
 use Rattle.sqlite_trees.specs.declared.store.Store.{Ghosts}
 use Rattle.sqlite.specs.State.{State, HasCleanDisk, IsUnchanged}
 use Rattle.sqlite.specs.Held.{Held, state}
-use Rattle.ledger_sql.specs.Frames.{Live, IsOver, Follows}
+use Rattle.ledger_sql.specs.Calls.{LeavesOver}
+use Rattle.ledger_sql.specs.Frames.{Live, Follows}
 use Rattle.stored_tables.specs.BatchLaws.{live_before, follows_then}
 use Rattle.stored_tables.specs.Holds.{HoldsMachine}
-use Rattle.stored_tables.specs.InBatch.{IsInBatch, IsBatchOf, AreMarks, IsUsable, shown, marked_in}
+use Rattle.stored_tables.specs.InBatch.{IsInBatchOf, IsBatchOf, AreMarks, IsUsable, shown, marked_in}
+use Rattle.stored_tables.specs.Idle.{CanRead}
 use Rattle.stored_tables.specs.MachineOf.{machine_of}
 use Rattle.stored_tables.specs.Meaning.{batch_meaning}
 
 -- after a call that gave up the tenant has the machine of the beginning
-pub undone : (tenant : ℤ) (old mid new : State) → Follows old mid → Follows mid new → (Live new → IsOver mid new) → Live new → (shown tenant new).now ≡ (shown tenant old).begun
+pub undone : (tenant : ℤ) (old mid new : State) → Follows old mid → LeavesOver mid new → Live new → (shown tenant new).now ≡ (shown tenant old).begun
 unfolding shown
-undone tenant old mid new f g over live =
-    ap (λ db. machine_of tenant db.trees) ((over live).now ∙ f.committed (live_before mid new g live))
+undone tenant old mid new f end live =
+    ap (λ db. machine_of tenant db.trees) ((end.over live).now ∙ f.committed (live_before mid new end.follows live))
+
+-- what may be called in a batch may be read
+pub can_read : (tenant : ℤ) (s : State) → IsUsable tenant s → CanRead tenant s
+can_read tenant s usable clean =
+    let batch = usable clean in
+    record { is_open = batch.is_open; schema = batch.now.ledger; holds = batch.now.holds }
 
 -- where nothing changed, the machines are the same
 pub same_shown : (tenant : ℤ) (old new : State) → IsUnchanged old new → shown tenant new ≡ shown tenant old
@@ -28,7 +36,7 @@ same_shown tenant old new is = λ i. record {
 }
 
 -- and so is the batch
-pub same_batch : (tenant : ℤ) (old new : State) → IsUnchanged old new → IsInBatch tenant old → IsInBatch tenant new
+pub same_batch : (tenant : ℤ) (old new : State) → IsUnchanged old new → IsInBatchOf tenant old → IsInBatchOf tenant new
 same_batch tenant old new is was = record {
   is_open = is.0.is_open;
   mode = is.0.mode ∙ was.mode;
@@ -46,14 +54,13 @@ module _ {S : Type 0} (store : Ghosts S) (tenant : ℤ) (old new : Held S) where
     follows = follows;
   }
 
-  pub gives_up : {X : Type 0} (mid : Held S) (cause : Unavailable) (change : Meant → Meant) → Follows (state store old) (state store mid) → Follows (state store mid) (state store new)
-      → (Live (state store new) → IsOver (state store mid) (state store new))
+  pub gives_up : {X : Type 0} (mid : Held S) (cause : Unavailable) (change : Meant → Meant) → Follows (state store old) (state store mid) → LeavesOver (state store mid) (state store new)
       → Leaves {S = Held S} {X = X} (batch_meaning store tenant) old new (Err cause) change
-  gives_up mid cause change f g over = record {
+  gives_up mid cause change f end = record {
     state = λ live. tt;
     usable = tt;
-    undone = undone tenant (state store old) (state store mid) (state store new) f g over;
-    follows = follows_then (state store old) (state store mid) (state store new) f g;
+    undone = undone tenant (state store old) (state store mid) (state store new) f end;
+    follows = follows_then (state store old) (state store mid) (state store new) f end.follows;
   }
 
   -- what was there before a call were the rows of the tenant's machine

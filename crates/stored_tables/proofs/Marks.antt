@@ -7,7 +7,7 @@ use Rattle.sqlite.specs.State.{State, Savepoint, HasCleanDisk}
 use Rattle.sqlite.specs.Held.{Held, state}
 use Rattle.ledger_sql.specs.Frames.{Live, Follows}
 use Rattle.ledger_sql.specs.Stages.{the_mark, IsMarked, HasMarked, HasGoneBack, HasReleased}
-use Rattle.stored_tables.specs.InBatch.{IsInBatch, IsBatchOf, AreMarks, IsUsable, shown, marked_in}
+use Rattle.stored_tables.specs.InBatch.{IsInBatchOf, IsBatchOf, AreMarks, IsUsable, shown, marked_in}
 use Rattle.stored_tables.specs.MachineOf.{machine_of}
 use Rattle.stored_tables.specs.Meaning.{batch_meaning}
 
@@ -33,7 +33,7 @@ module _ (tenant : ℤ) (old new : State) where
         marked = marked_in tenant (alone i);
       }
 
-  marked_batch : (shown tenant old).marked ≡ None → IsInBatch tenant old → HasMarked old new → IsInBatch tenant new
+  marked_batch : (shown tenant old).marked ≡ None → IsInBatchOf tenant old → HasMarked old new → IsInBatchOf tenant new
   unfolding shown
   marked_batch none was has =
       let alone : new.marks ≡ the_mark old.now ∷ [] = has.marks ∙ ap (λ ms. ms ++ the_mark old.now ∷ []) (no_marks tenant old.marks none) in
@@ -45,7 +45,7 @@ module _ (tenant : ℤ) (old new : State) where
       }
 
   -- the mark of a batch in which a machine is marked
-  pub mark_of : IsInBatch tenant old → IsSome (shown tenant old).marked → (db : Database) × (old.marks ≡ the_mark db ∷ []) × IsBatchOf tenant old.committed db
+  pub mark_of : IsInBatchOf tenant old → IsSome (shown tenant old).marked → (db : Database) × (old.marks ≡ the_mark db ∷ []) × IsBatchOf tenant old.committed db
   unfolding shown
   mark_of was some = one_mark tenant old.committed old.marks was.marks some
 
@@ -61,7 +61,7 @@ module _ (tenant : ℤ) (old new : State) where
         marked = marked_in tenant (has.marks i);
       }
 
-  back_batch : (db : Database) → old.marks ≡ the_mark db ∷ [] → IsBatchOf tenant old.committed db → IsInBatch tenant old → HasGoneBack old new → IsInBatch tenant new
+  back_batch : (db : Database) → old.marks ≡ the_mark db ∷ [] → IsBatchOf tenant old.committed db → IsInBatchOf tenant old → HasGoneBack old new → IsInBatchOf tenant new
   back_batch db marks its was has = record {
     is_open = has.is_open;
     mode = has.mode;
@@ -79,7 +79,7 @@ module _ (tenant : ℤ) (old new : State) where
         marked = marked_in tenant (none i);
       }
 
-  released_batch : (db : Database) → old.marks ≡ the_mark db ∷ [] → IsInBatch tenant old → HasReleased old new → IsInBatch tenant new
+  released_batch : (db : Database) → old.marks ≡ the_mark db ∷ [] → IsInBatchOf tenant old → HasReleased old new → IsInBatchOf tenant new
   released_batch db marks was has = record {
     is_open = has.is_open;
     mode = has.mode;

@@ -17,7 +17,7 @@ use Rattle.ledger_sql.specs.TableRows.{clock_rows, account_rows, transfer_rows, 
 use Rattle.ledger_sql.specs.Values.{clock_values, account_values, transfer_values, balance_values, status_values, history_values, id_values}
 use Rattle.stored_tables.specs.Frames.{AreNumbered}
 use Rattle.stored_tables.specs.Holds.{HasRows, HoldsRows}
-use Rattle.stored_tables.specs.Moves.{Moves}
+use Rattle.stored_tables.specs.Moves.{MovesRows}
 use Rattle.stored_tables.proofs.TableMoves.{ours_stay, patched, rows_kept, numbered_kept, held_kept}
 
 -- what a statement leaves of all tenants' rows in one table
@@ -33,7 +33,7 @@ module _ (tenant : ℤ) (rows : TypedRows) (old new : State) (ledger : IsLedger 
   abbrev is : Trees
   is = new.now.trees
 
-  pub clock_moved : (moved : ℕ) → StaysAside clock_rows 4 tenant old new → clock_rows tenant is ≡ clock_values (pos moved) ∷ [] → Moves tenant (record rows { clock = moved }) was is
+  pub clock_moved : (moved : ℕ) → StaysAside clock_rows 4 tenant old new → clock_rows tenant is ≡ clock_values (pos moved) ∷ [] → MovesRows tenant (record rows { clock = moved }) was is
   clock_moved moved aside own =
       let stay = ours_stay 4 old new ledger aside.tables in
       let h = held_kept tenant rows was (patched 4 was is) (rows_kept 4 was is tenant stay) held in
@@ -47,7 +47,7 @@ module _ (tenant : ℤ) (rows : TypedRows) (old new : State) (ledger : IsLedger 
         rows = record { clock = own; accounts = h.accounts; transfers = h.transfers; balances = h.balances; statuses = h.statuses; history = h.history; failed = h.failed };
       }
 
-  pub account_moved : (moved : List Account) → StaysAside account_rows 5 tenant old new → HasRows (λ a. account_values (account_cells a)) moved (account_rows tenant is) → Moves tenant (record rows { accounts = moved }) was is
+  pub account_moved : (moved : List Account) → StaysAside account_rows 5 tenant old new → HasRows (λ a. account_values (account_cells a)) moved (account_rows tenant is) → MovesRows tenant (record rows { accounts = moved }) was is
   account_moved moved aside own =
       let stay = ours_stay 5 old new ledger aside.tables in
       let h = held_kept tenant rows was (patched 5 was is) (rows_kept 5 was is tenant stay) held in
@@ -61,7 +61,7 @@ module _ (tenant : ℤ) (rows : TypedRows) (old new : State) (ledger : IsLedger 
         rows = record { clock = h.clock; accounts = own; transfers = h.transfers; balances = h.balances; statuses = h.statuses; history = h.history; failed = h.failed };
       }
 
-  pub transfer_moved : (moved : List Transfer) → StaysAside transfer_rows 8 tenant old new → HasRows (λ t. transfer_values (transfer_cells t)) moved (transfer_rows tenant is) → Moves tenant (record rows { transfers = moved }) was is
+  pub transfer_moved : (moved : List Transfer) → StaysAside transfer_rows 8 tenant old new → HasRows (λ t. transfer_values (transfer_cells t)) moved (transfer_rows tenant is) → MovesRows tenant (record rows { transfers = moved }) was is
   transfer_moved moved aside own =
       let stay = ours_stay 8 old new ledger aside.tables in
       let h = held_kept tenant rows was (patched 8 was is) (rows_kept 8 was is tenant stay) held in
@@ -75,7 +75,7 @@ module _ (tenant : ℤ) (rows : TypedRows) (old new : State) (ledger : IsLedger 
         rows = record { clock = h.clock; accounts = h.accounts; transfers = own; balances = h.balances; statuses = h.statuses; history = h.history; failed = h.failed };
       }
 
-  pub balance_moved : (moved : List BalanceRow) → StaysAside balance_rows 11 tenant old new → HasRows (λ row. balance_values (balance_cells row)) moved (balance_rows tenant is) → Moves tenant (record rows { balances = moved }) was is
+  pub balance_moved : (moved : List BalanceRow) → StaysAside balance_rows 11 tenant old new → HasRows (λ row. balance_values (balance_cells row)) moved (balance_rows tenant is) → MovesRows tenant (record rows { balances = moved }) was is
   balance_moved moved aside own =
       let stay = ours_stay 11 old new ledger aside.tables in
       let h = held_kept tenant rows was (patched 11 was is) (rows_kept 11 was is tenant stay) held in
@@ -89,7 +89,7 @@ module _ (tenant : ℤ) (rows : TypedRows) (old new : State) (ledger : IsLedger 
         rows = record { clock = h.clock; accounts = h.accounts; transfers = h.transfers; balances = own; statuses = h.statuses; history = h.history; failed = h.failed };
       }
 
-  pub status_moved : (moved : List StatusRow) → StaysAside status_rows 13 tenant old new → HasRows (λ row. status_values (status_cells row)) moved (status_rows tenant is) → Moves tenant (record rows { statuses = moved }) was is
+  pub status_moved : (moved : List StatusRow) → StaysAside status_rows 13 tenant old new → HasRows (λ row. status_values (status_cells row)) moved (status_rows tenant is) → MovesRows tenant (record rows { statuses = moved }) was is
   status_moved moved aside own =
       let stay = ours_stay 13 old new ledger aside.tables in
       let h = held_kept tenant rows was (patched 13 was is) (rows_kept 13 was is tenant stay) held in
@@ -103,7 +103,7 @@ module _ (tenant : ℤ) (rows : TypedRows) (old new : State) (ledger : IsLedger 
         rows = record { clock = h.clock; accounts = h.accounts; transfers = h.transfers; balances = h.balances; statuses = own; history = h.history; failed = h.failed };
       }
 
-  pub history_moved : (moved : List HistoryRow) → StaysAside history_rows 15 tenant old new → HasRows (λ row. history_values (history_cells row)) moved (history_rows tenant is) → Moves tenant (record rows { history = moved }) was is
+  pub history_moved : (moved : List HistoryRow) → StaysAside history_rows 15 tenant old new → HasRows (λ row. history_values (history_cells row)) moved (history_rows tenant is) → MovesRows tenant (record rows { history = moved }) was is
   history_moved moved aside own =
       let stay = ours_stay 15 old new ledger aside.tables in
       let h = held_kept tenant rows was (patched 15 was is) (rows_kept 15 was is tenant stay) held in
@@ -117,7 +117,7 @@ module _ (tenant : ℤ) (rows : TypedRows) (old new : State) (ledger : IsLedger 
         rows = record { clock = h.clock; accounts = h.accounts; transfers = h.transfers; balances = h.balances; statuses = h.statuses; history = own; failed = h.failed };
       }
 
-  pub failed_moved : (moved : List ℕ) → StaysAside failed_rows 17 tenant old new → HasRows (λ id. id_values (column_of id)) moved (failed_rows tenant is) → Moves tenant (record rows { failed = moved }) was is
+  pub failed_moved : (moved : List ℕ) → StaysAside failed_rows 17 tenant old new → HasRows (λ id. id_values (column_of id)) moved (failed_rows tenant is) → MovesRows tenant (record rows { failed = moved }) was is
   failed_moved moved aside own =
       let stay = ours_stay 17 old new ledger aside.tables in
       let h = held_kept tenant rows was (patched 17 was is) (rows_kept 17 was is tenant stay) held in

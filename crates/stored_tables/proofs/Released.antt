@@ -20,9 +20,9 @@ use Rattle.rows.specs.Prescribed.{rows_for}
 use Rattle.rows.specs.TypedRows.{TypedRows}
 use Rattle.rows.specs.Settling.{rows_when, rows_released, due_ids, is_due_row, IsNextRelease}
 use Rattle.ledger_sql.specs.Effects.{IsInside}
-use Rattle.stored_tables.specs.Frames.{KeepsOthers}
-use Rattle.stored_tables.specs.Moves.{Moves, IsStatusOf}
-use Rattle.stored_tables.specs.Releasing.{AreApart, CanExpire, Expires, IsReleased, IsLess, ReleasesOne}
+use Rattle.stored_tables.specs.Frames.{KeepsOtherTenants}
+use Rattle.stored_tables.specs.Moves.{MovesRows, IsStatusOf}
+use Rattle.stored_tables.specs.Releasing.{AreApart, CanExpire, Expires, AreReleased, IsLess, ReleasesOne}
 use Rattle.stored_tables.proofs.Apart.{apart_expired}
 use Rattle.stored_tables.proofs.DueRows.{due_in, expires, gone, not_due, not_in_fewer}
 use Rattle.stored_tables.proofs.Writing.{writes_after_same}
@@ -46,7 +46,7 @@ due_after : (clock : ℕ) (t : Transfer) (debit credit : Balances) (rows : Typed
 unfolding with_expired
 due_after clock t debit credit rows = refl
 
-module _ (next : NextReleases) (clock id : ℕ) (m : Machine) (done : List ℕ) (valid : IsValid m) (was : IsReleased clock m done) (row : StatusRow) (found : row_with (λ r. r.transfer) id (rows_released m done).statuses ≡ Some row) (due : is_due_row clock row ≡ true) where
+module _ (next : NextReleases) (clock id : ℕ) (m : Machine) (done : List ℕ) (valid : IsValid m) (was : AreReleased clock m done) (row : StatusRow) (found : row_with (λ r. r.transfer) id (rows_released m done).statuses ≡ Some row) (due : is_due_row clock row ≡ true) where
   abbrev rows : TypedRows
   rows = rows_released m done
 
@@ -78,7 +78,7 @@ module _ (next : NextReleases) (clock id : ℕ) (m : Machine) (done : List ℕ) 
     left : due_ids clock (rows_released m more) ≡ rest
     left = ap (due_ids clock) is.leaves ∙ due_after clock t debit credit rows ∙ ap (λ k. due_in clock (set_state k Expired rows.statuses)) is.id_is
 
-    released : IsReleased clock m more
+    released : AreReleased clock m more
     released = record {
       split = subst (IsPermutation (due_ids clock (rows_for 3 m))) (sym (append_assoc done (id ∷ []) rest) ∙ ap (λ ids. more ++ ids) (sym left)) split;
       apart = subst AreApart (sym is.leaves) (apart_expired t debit credit rows can);
@@ -90,7 +90,7 @@ module _ (next : NextReleases) (clock id : ℕ) (m : Machine) (done : List ℕ) 
       fewer = λ other lacks. ap (has_id other) left ∙ not_in_fewer other id (due_ids clock rows) rest fewer lacks;
     }
 
-pub keeps_itself : (tenant : ℤ) (trees : Trees) → KeepsOthers tenant trees trees
+pub keeps_itself : (tenant : ℤ) (trees : Trees) → KeepsOtherTenants tenant trees trees
 keeps_itself tenant trees = record {
   version = refl;
   directory = refl;
@@ -119,7 +119,7 @@ module _ (tenant : ℤ) (clock id : ℕ) (found : Option StatusRow) (s0 s1 : Sta
           done,
           was,
           record { gone = not_due clock id (rows_released m done).statuses (was.apart.statuses id) (λ row there. due_none clock found row not (is ∙ there)); fewer = λ other lacks. lacks },
-          subst (λ (db : Database). Moves tenant (rows_released m done) s0.now.trees db.trees) (sym same.0.now_is) (record { numbered = num; others = keeps_itself tenant s0.now.trees; rows = held }),
+          subst (λ (db : Database). MovesRows tenant (rows_released m done) s0.now.trees db.trees) (sym same.0.now_is) (record { numbered = num; others = keeps_itself tenant s0.now.trees; rows = held }),
         );
   }
 
@@ -136,7 +136,7 @@ module _ (tenant : ℤ) (clock id : ℕ) (found : Option StatusRow) (s0 s1 : Sta
             done ++ id ∷ [],
             released next clock id m done valid was row.0 there row.2 it.0 it.1 it.2 it.3,
             less next clock id m done valid was row.0 there row.2 it.0 it.1 it.2 it.3,
-            subst (λ (rows : TypedRows). Moves tenant rows s0.now.trees s2.now.trees) (sym it.3.leaves)
+            subst (λ (rows : TypedRows). MovesRows tenant rows s0.now.trees s2.now.trees) (sym it.3.leaves)
                 (all.moves (rows_released m done) (can next clock id m done valid was row.0 there row.2 it.0 it.1 it.2 it.3) num held),
           );
     }

@@ -25,8 +25,8 @@ use Rattle.ledger_sql.specs.Effects.{IsInside, WritesInside}
 use Rattle.stored_tables.specs.Covers.{IsCovered, Covers}
 use Rattle.stored_tables.specs.Frames.{AreNumbered}
 use Rattle.stored_tables.specs.Holds.{HoldsRows}
-use Rattle.stored_tables.specs.Moves.{Moves}
-use Rattle.stored_tables.specs.Releasing.{AreApart, IsReleased, IsLess, ReleasesOne, ReleasesDue}
+use Rattle.stored_tables.specs.Moves.{MovesRows}
+use Rattle.stored_tables.specs.Releasing.{AreApart, AreReleased, IsLess, ReleasesOne, ReleasesDue}
 use Rattle.stored_tables.proofs.DueKeys.{finds, is_within, holds_within}
 use Rattle.stored_tables.proofs.DueRows.{due_row}
 use Rattle.stored_tables.proofs.Released.{keeps_itself}
@@ -38,9 +38,9 @@ pub record ReleasesSeen (tenant : ℤ) (clock : ℕ) (seen : List (ℕ × ℕ)) 
   pub inside : WritesInside old new
   pub all :
       (m : Machine) → IsValid m → AreNumbered old.now.trees → HoldsRows tenant (rows_for 3 m) old.now.trees → (done : List ℕ)
-      × IsReleased clock m done
+      × AreReleased clock m done
       × AllByRecursion (λ key. has_id key.1 (due_ids clock (rows_released m done)) ≡ false) seen
-      × Moves tenant (rows_released m done) old.now.trees new.now.trees
+      × MovesRows tenant (rows_released m done) old.now.trees new.now.trees
 
 abbrev pub NoneReleased : Type 0
 NoneReleased = (m : Machine) → rows_released m [] ≡ rows_for 3 m
@@ -118,7 +118,7 @@ behind false b h = h
 itself : (k : ℕ) → eqb k k ≡ true
 itself k = (Decides-eqb k k).1 refl
 
-module _ (clock : ℕ) (m : Machine) (done : List ℕ) (keys : List (ℕ × ℕ)) (fit : All IsStorableStatus (rows_for 3 m).statuses) (covers : Covers (λ key. list_any (finds key) keys) m) (released : IsReleased clock m done)
+module _ (clock : ℕ) (m : Machine) (done : List ℕ) (keys : List (ℕ × ℕ)) (fit : All IsStorableStatus (rows_for 3 m).statuses) (covers : Covers (λ key. list_any (finds key) keys) m) (released : AreReleased clock m done)
     (seen : AllByRecursion (λ key. has_id key.1 (due_ids clock (rows_released m done)) ≡ false) (filter (is_within (clock, 340282366920938463463374607431768211455)) keys)) where
   abbrev IsKnown : StatusRow → Type 0
   IsKnown row = IsCovered (λ key. list_any (finds key) keys) row × IsStorableStatus row

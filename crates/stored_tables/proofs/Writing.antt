@@ -12,12 +12,12 @@ use Rattle.rows.specs.Prescribed.{rows_for}
 use Rattle.rows.specs.TypedRows.{TypedRows}
 use Rattle.ledger_sql.specs.Effects.{IsLedger, IsInside, WritesInside}
 use Rattle.ledger_sql.specs.Frames.{Live, Follows}
-use Rattle.stored_tables.specs.Frames.{KeepsRows, KeepsOthers, AreNumbered}
+use Rattle.stored_tables.specs.Frames.{KeepsRows, KeepsOtherTenants, AreNumbered}
 use Rattle.stored_tables.specs.Holds.{HoldsRows, HoldsMachine}
-use Rattle.stored_tables.specs.InBatch.{AreMarks, IsInBatch, IsUsable, shown, marked_in}
+use Rattle.stored_tables.specs.InBatch.{AreMarks, IsInBatchOf, IsUsable, shown, marked_in}
 use Rattle.stored_tables.specs.MachineOf.{machine_of}
 use Rattle.stored_tables.specs.Meaning.{batch_meaning}
-use Rattle.stored_tables.specs.Moves.{Moves, ChangesRows}
+use Rattle.stored_tables.specs.Moves.{MovesRows, ChangesRows}
 
 pub inside_then : (a b c : State) → WritesInside a b → WritesInside b c → WritesInside a c
 inside_then a b c f g = record {
@@ -37,7 +37,7 @@ keeps_then tenant a b c f g = record {
   failed = g.failed ∙ f.failed;
 }
 
-pub others_then : (tenant : ℤ) (a b c : Trees) → KeepsOthers tenant a b → KeepsOthers tenant b c → KeepsOthers tenant a c
+pub others_then : (tenant : ℤ) (a b c : Trees) → KeepsOtherTenants tenant a b → KeepsOtherTenants tenant b c → KeepsOtherTenants tenant a c
 others_then tenant a b c f g = record {
   version = g.version ∙ f.version;
   directory = g.directory ∙ f.directory;
@@ -64,7 +64,7 @@ writes_after_same tenant can change a b c same w = record {
     marks = w.inside.marks ∙ same.2;
   };
   moves = λ rows may num held.
-      subst (λ (db : Database). Moves tenant (change rows) db.trees c.now.trees) same.0.now_is
+      subst (λ (db : Database). MovesRows tenant (change rows) db.trees c.now.trees) same.0.now_is
       (w.moves rows may (subst (λ (db : Database). AreNumbered db.trees) (sym same.0.now_is) num) (subst (λ (db : Database). HoldsRows tenant rows db.trees) (sym same.0.now_is) held));
 }
 
@@ -72,7 +72,7 @@ writes_after_same tenant can change a b c same w = record {
 pub still_inside : (a b : State) → IsInside a → WritesInside a b → IsInside b
 still_inside a b inside w = record { schema = subst IsLedger (sym w.schema) inside.schema; mode = w.shown.mode }
 
-pub is_inside : (tenant : ℤ) (s : State) → IsInBatch tenant s → IsInside s
+pub is_inside : (tenant : ℤ) (s : State) → IsInBatchOf tenant s → IsInside s
 is_inside tenant s batch = record { schema = batch.now.ledger; mode = batch.mode }
 
 abbrev pub HeldMachines : Type 0
@@ -84,8 +84,8 @@ pub record IsChange (can : TypedRows → Type 0) (change : TypedRows → TypedRo
   pub rows : rows_for 3 (step m) ≡ change (rows_for 3 m)
   pub valid : IsValid (step m)
 
-module _ (held_machines : HeldMachines) (tenant : ℤ) (can : TypedRows → Type 0) (change : TypedRows → TypedRows) (step : Machine → Machine) (old new : State) (batch : IsInBatch tenant old) (w : ChangesRows tenant can change old new) (is : IsChange can change step (machine_of tenant old.now.trees)) where
-  moved : Moves tenant (change (rows_for 3 (machine_of tenant old.now.trees))) old.now.trees new.now.trees
+module _ (held_machines : HeldMachines) (tenant : ℤ) (can : TypedRows → Type 0) (change : TypedRows → TypedRows) (step : Machine → Machine) (old new : State) (batch : IsInBatchOf tenant old) (w : ChangesRows tenant can change old new) (is : IsChange can change step (machine_of tenant old.now.trees)) where
+  moved : MovesRows tenant (change (rows_for 3 (machine_of tenant old.now.trees))) old.now.trees new.now.trees
   moved = w.moves (rows_for 3 (machine_of tenant old.now.trees)) is.may batch.now.numbered batch.now.holds.rows
 
   holds : HoldsMachine tenant (step (machine_of tenant old.now.trees)) new.now.trees
@@ -94,7 +94,7 @@ module _ (held_machines : HeldMachines) (tenant : ℤ) (can : TypedRows → Type
   pub machine_after : machine_of tenant new.now.trees ≡ step (machine_of tenant old.now.trees)
   machine_after = held_machines tenant (step (machine_of tenant old.now.trees)) new.now.trees holds
 
-  pub batch_after : IsInBatch tenant new
+  pub batch_after : IsInBatchOf tenant new
   batch_after = record {
     is_open = w.inside.shown.is_open;
     mode = w.inside.shown.mode;
@@ -103,7 +103,7 @@ module _ (held_machines : HeldMachines) (tenant : ℤ) (can : TypedRows → Type
       schema = w.inside.schema ∙ batch.now.schema ∙ ap (λ (db : Database). db.schema) (sym w.inside.shown.committed_is);
       numbered = moved.numbered;
       holds = subst (λ m. HoldsMachine tenant m new.now.trees) (sym machine_after) holds;
-      others = subst (λ (db : Database). KeepsOthers tenant db.trees new.now.trees) (sym w.inside.shown.committed_is) (others_then tenant old.committed.trees old.now.trees new.now.trees batch.now.others moved.others);
+      others = subst (λ (db : Database). KeepsOtherTenants tenant db.trees new.now.trees) (sym w.inside.shown.committed_is) (others_then tenant old.committed.trees old.now.trees new.now.trees batch.now.others moved.others);
     };
     marks = subst₂ (AreMarks tenant) (sym w.inside.shown.committed_is) (sym w.inside.marks) batch.marks;
   }

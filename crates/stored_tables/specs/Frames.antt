@@ -18,7 +18,7 @@ pub record KeepsRows (tenant : ℤ) (old new : Trees) : Type 0 where
   pub failed : failed_rows tenant new ≡ failed_rows tenant old
 
 -- so are the rows of every tenant but this one, the directory and the version of the schema
-pub record KeepsOthers (tenant : ℤ) (old new : Trees) : Type 0 where
+pub record KeepsOtherTenants (tenant : ℤ) (old new : Trees) : Type 0 where
   pub version : new schema_tree ≡ old schema_tree
   pub directory : new tenant_tree ≡ old tenant_tree
   pub others : (other : ℤ) → other ≢ tenant → KeepsRows other old new

@@ -6,7 +6,7 @@ use Rattle.sqlite.specs.Effect.{Database}
 use Rattle.sqlite.specs.State.{State, Savepoint, HasCleanDisk}
 use Rattle.ledger_sql.specs.Effects.{IsLedger}
 use Rattle.ledger_sql.specs.Stages.{the_mark}
-use Rattle.stored_tables.specs.Frames.{KeepsOthers, AreNumbered}
+use Rattle.stored_tables.specs.Frames.{KeepsOtherTenants, AreNumbered}
 use Rattle.stored_tables.specs.Holds.{HoldsMachine}
 use Rattle.stored_tables.specs.MachineOf.{machine_of}
 
@@ -17,7 +17,7 @@ pub record IsBatchOf (tenant : ℤ) (begun now : Database) : Type 0 where
   pub schema : now.schema ≡ begun.schema
   pub numbered : AreNumbered now.trees
   pub holds : HoldsMachine tenant (machine_of tenant now.trees) now.trees
-  pub others : KeepsOthers tenant begun.trees now.trees
+  pub others : KeepsOtherTenants tenant begun.trees now.trees
 
 -- one mark is open, of such a database, or none is
 abbrev pub AreMarks : ℤ → Database → List Savepoint → Type 0
@@ -25,7 +25,7 @@ AreMarks tenant begun marks =
     (marks ≡ []) ⊎ ((db : Database) × (marks ≡ the_mark db ∷ []) × IsBatchOf tenant begun db)
 
 -- in a transaction that is such a batch
-pub record IsInBatch (tenant : ℤ) (s : State) : Type 0 where
+pub record IsInBatchOf (tenant : ℤ) (s : State) : Type 0 where
   pub is_open : IsTrue s.is_open
   pub mode : IsTrue s.in_transaction
   pub now : IsBatchOf tenant s.committed s.now
@@ -33,7 +33,7 @@ pub record IsInBatch (tenant : ℤ) (s : State) : Type 0 where
 
 -- so it is as long as the disk was honest
 abbrev pub IsUsable : ℤ → State → Type 0
-IsUsable tenant s = HasCleanDisk s → IsInBatch tenant s
+IsUsable tenant s = HasCleanDisk s → IsInBatchOf tenant s
 
 -- the machine at the mark
 abbrev pub marked_in : ℤ → List Savepoint → Option Machine

@@ -1,10 +1,12 @@
 -- How the rows of one tenant move inside a transaction.
-use Rattle.std.specs.Prelude.{ℕ, ℤ, ◌<◌, ◌^◌, ◌≡◌, List, All, Option, Some, None, IsSome}
+use Rattle.std.specs.Prelude.{ℕ, ℤ, ◌<◌, ◌≤◌, ◌^◌, ◌≡◌, List, All, IsTrue}
+use Rattle.std.specs.Prelude.{Option, Some, None, IsSome}
 use Rattle.sqlite_trees.specs.Tree.{Trees}
 use Rattle.sqlite.specs.State.{State}
 use Rattle.records.specs.declared.accepted.Accepted.{Accepted}
 use Rattle.records.specs.declared.accepted.Ending.{Ending}
 use Rattle.records.specs.declared.transfer.Transfer.{Transfer}
+use Rattle.records.specs.Step.{max_clock}
 use Rattle.engine.specs.EndingLaw.{ended_id}
 use Rattle.rows.specs.declared.balance_row.BalanceRow.{BalanceRow}
 use Rattle.rows.specs.declared.status_row.StatusRow.{StatusRow}
@@ -12,14 +14,19 @@ use Rattle.rows.specs.Widths.{IsStorableStatus}
 use Rattle.rows.specs.Keyed.{row_with}
 use Rattle.rows.specs.Tables.{HasDistinctKeys}
 use Rattle.rows.specs.TypedRows.{TypedRows}
-use Rattle.ledger_sql.specs.Effects.{WritesInside}
-use Rattle.stored_tables.specs.Frames.{KeepsOthers, AreNumbered}
+use Rattle.ledger_sql.specs.Effects.{IsInside, WritesInside}
+use Rattle.stored_tables.specs.Frames.{KeepsOtherTenants, AreNumbered}
 use Rattle.stored_tables.specs.Holds.{HoldsRows}
 
+-- in a transaction over the current schema, and the store is open
+pub record CanWrite (s : State) : Type 0 where
+  pub inside : IsInside s
+  pub is_open : IsTrue s.is_open
+
 -- the tenant has these rows now, and all else is as it was
-pub record Moves (tenant : ℤ) (moved : TypedRows) (old new : Trees) : Type 0 where
+pub record MovesRows (tenant : ℤ) (moved : TypedRows) (old new : Trees) : Type 0 where
   pub numbered : AreNumbered new
-  pub others : KeepsOthers tenant old new
+  pub others : KeepsOtherTenants tenant old new
   pub rows : HoldsRows tenant moved new
 
 -- the transaction goes on, and where the tenant's rows are such, they have changed so
@@ -29,7 +36,7 @@ pub record ChangesRows (tenant : ℤ) (can : TypedRows → Type 0) (change : Typ
   pub moves :
       (rows : TypedRows) → can rows → AreNumbered old.now.trees →
       HoldsRows tenant rows old.now.trees →
-      Moves tenant (change rows) old.now.trees new.now.trees
+      MovesRows tenant (change rows) old.now.trees new.now.trees
 
 -- any rows
 abbrev pub Any : TypedRows → Type 0
@@ -52,14 +59,19 @@ pub record HasStatus (id : ℕ) (rows : List StatusRow) : Type 0 where
   pub storable : All IsStorableStatus rows
 
 -- so has the one that is ended, if one is
-abbrev pub HasEnded : Option Ending → List StatusRow → Type 0
-HasEnded None rows = Unit {0}
-HasEnded (Some ending) rows = HasStatus (ended_id ending) rows
+abbrev pub CanEnd : Option Ending → List StatusRow → Type 0
+CanEnd None rows = Unit {0}
+CanEnd (Some ending) rows = HasStatus (ended_id ending) rows
+
+-- the times of a transfer are at most the latest clock
+pub record HasBoundedTimes (t : Transfer) : Type 0 where
+  pub timestamp : t.timestamp ≤ max_clock
+  pub at : t.at ≤ max_clock
 
 -- what an accepted transfer changes is there
 pub record CanAccept (a : Accepted) (rows : TypedRows) : Type 0 where
   pub balances : HasBoth a.stored rows.balances
-  pub ended : HasEnded a.ends rows.statuses
+  pub ended : CanEnd a.ends rows.statuses
 
 -- what is found is the tenant's status row with this id, if there is one
 abbrev pub IsStatusOf : ℤ → ℕ → Trees → Option StatusRow → Type 0

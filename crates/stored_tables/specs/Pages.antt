@@ -11,6 +11,12 @@ use Rattle.stored_tables.specs.declared.page.Progress.TheVariants.{Open, Full, F
 use Rattle.stored_tables.specs.declared.stored_entry.StoredEntry.{StoredEntry}
 use Rattle.stored_tables.specs.Entries.{stored_entry, AreCellsOf}
 
+-- a page for a filter, with no entry yet
+pub record IsEmptyPage (filter : AccountFilter) (page : Page) : Type 0 where
+  pub asked : page.asked ≡ filter
+  pub empty : page.entries.items ≡ []
+  pub is_open : page.progress ≡ Open
+
 -- whether a page wants no more
 abbrev pub is_closed : Progress → Bool
 is_closed Open = false

@@ -21,7 +21,7 @@ use Rattle.ledger_sql.specs.Effects.{WritesInside}
 use Rattle.stored_tables.specs.Covers.{DueTest, Covers}
 use Rattle.stored_tables.specs.Frames.{AreNumbered}
 use Rattle.stored_tables.specs.Holds.{HoldsRows}
-use Rattle.stored_tables.specs.Moves.{Moves, ChangesRows, HasBoth, HasStatus}
+use Rattle.stored_tables.specs.Moves.{MovesRows, ChangesRows, HasBoth, HasStatus}
 use Rattle.stored_tables.specs.declared.expiry.Expiry.{Expiry}
 
 -- rows that fit a file and are told apart by their keys
@@ -92,7 +92,7 @@ pub record Expires (tenant : ℤ) (id : ℕ) (old new : State) : Type 0 where
       ChangesRows tenant (CanExpire t debit credit) (with_expired t debit credit) old new
 
 -- of the transfers that are due at the clock these were released, and the others are left
-pub record IsReleased (clock : ℕ) (m : Machine) (done : List ℕ) : Type 0 where
+pub record AreReleased (clock : ℕ) (m : Machine) (done : List ℕ) : Type 0 where
   pub split :
       IsPermutation (due_ids clock (rows_for 3 m))
       (done ++ due_ids clock (rows_released m done))
@@ -109,12 +109,12 @@ pub record IsLess (clock id : ℕ) (m : Machine) (done more : List ℕ) : Type 0
 pub record ReleasesOne (tenant : ℤ) (clock id : ℕ) (old new : State) : Type 0 where
   pub inside : WritesInside old new
   pub step :
-      (m : Machine) (done : List ℕ) → IsValid m → IsReleased clock m done →
+      (m : Machine) (done : List ℕ) → IsValid m → AreReleased clock m done →
       AreNumbered old.now.trees → HoldsRows tenant (rows_released m done) old.now.trees →
       (more : List ℕ)
-      × IsReleased clock m more
+      × AreReleased clock m more
       × IsLess clock id m done more
-      × Moves tenant (rows_released m more) old.now.trees new.now.trees
+      × MovesRows tenant (rows_released m more) old.now.trees new.now.trees
 
 -- all that is due is released, where the set has it
 pub record ReleasesDue (tenant : ℤ) (clock : ℕ) (has : DueTest) (old new : State) : Type 0 where
@@ -124,7 +124,7 @@ pub record ReleasesDue (tenant : ℤ) (clock : ℕ) (has : DueTest) (old new : S
       HoldsRows tenant (rows_for 3 m) old.now.trees →
       (done : List ℕ)
       × IsPermutation (due_ids clock (rows_for 3 m)) done
-      × Moves tenant (rows_released m done) old.now.trees new.now.trees
+      × MovesRows tenant (rows_released m done) old.now.trees new.now.trees
 
 -- the clock is later, and what was due at it has expired
 abbrev pub MovesClock : ℤ → ℕ → DueTest → State → State → Type 0

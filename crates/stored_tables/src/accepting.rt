@@ -9,6 +9,7 @@ ghost use Rattle.records.specs.Valid.{IsNextAccount, with_account, with_transfer
 ghost use Rattle.chain.specs.Tables.{Leaves, FailsNow, on_now};
 ghost use Rattle.stored_tables.specs.Covers.{Covers};
 ghost use Rattle.stored_tables.specs.Meaning.{batch_meaning};
+ghost use Rattle.stored_tables.specs.Moves.{HasBoundedTimes};
 
 use crate::batch::TenantNumber;
 use crate::due_times::remember;
@@ -57,8 +58,7 @@ pub(crate) fn accept_transfer<S: Alter>(
     requires usable { (batch_meaning S.Store tenant.0).is_usable conn.old }
     requires next { (batch_meaning S.Store tenant.0).is_live conn.old →
         IsAccepted ((batch_meaning S.Store tenant.0).state conn.old).now accepted.now }
-    requires bounded { accepted.now.stored.timestamp ≤ max_clock }
-    requires at_bounded { accepted.now.stored.at ≤ max_clock }
+    requires times { HasBoundedTimes accepted.now.stored }
     ensures leaves { Leaves (batch_meaning S.Store tenant.0) conn.old conn.new result
         (on_now (λ m. with_transfer m accepted.now.stored)) }
     ensures covers { (batch_meaning S.Store tenant.0).is_live conn.new → OnOk result

@@ -1,12 +1,11 @@
-//! A tenant's clock and one of its accounts, outside any transaction.
+//! A tenant's clock and one of its accounts, in a batch or outside one.
 
-ghost use Rattle.std.specs.Prelude.{◌≡◌, IfOk};
+ghost use Rattle.std.specs.Prelude.{◌≡◌};
 ghost use Rattle.records.specs.Machine.{account_with};
 ghost use Rattle.sqlite.specs.Held.{state};
-ghost use Rattle.sqlite.specs.State.{HasCleanDisk};
-ghost use Rattle.ledger_sql.specs.Calls.{Learns, Reads};
+ghost use Rattle.ledger_sql.specs.Calls.{Learns};
 ghost use Rattle.stored_tables.specs.MachineOf.{machine_of};
-ghost use Rattle.stored_tables.specs.Idle.{CanRead, machine_at};
+ghost use Rattle.stored_tables.specs.Idle.{CanRead, IsAccountAtClock};
 
 use crate::batch::TenantNumber;
 use crate::laws::point_reads;
@@ -44,7 +43,8 @@ pub(crate) fn account<S: Alter>(
     id: u128,
 ) -> Result<Option<Account>, Unavailable>
     requires { CanRead tenant.0 (state S.Store conn.old) }
-    ensures { Learns (λ trees account. account ≡ account_with id (machine_of tenant.0 trees).accounts)
+    ensures { Learns
+        (λ trees account. account ≡ account_with id (machine_of tenant.0 trees).accounts)
         S.Store conn.old conn.new result }
 {
     point_reads();
@@ -58,11 +58,7 @@ pub(crate) fn account_at_clock<S: Alter>(
     id: u128,
 ) -> Result<AccountAtClock, Unavailable>
     requires { CanRead tenant.0 (state S.Store conn.old) }
-    ensures clock { HasCleanDisk (state S.Store conn.new) → IfOk result
-        (λ found. found.clock ≡ (machine_at tenant.0 (state S.Store conn.old)).clock) }
-    ensures account { HasCleanDisk (state S.Store conn.new) → IfOk result (λ found.
-        found.account ≡ account_with id (machine_at tenant.0 (state S.Store conn.old)).accounts) }
-    ensures reads { Reads S.Store conn.old conn.new result }
+    ensures { Learns (IsAccountAtClock tenant.0 id) S.Store conn.old conn.new result }
 {
     let clock = clock(conn, tenant)?;
     let account = account(conn, tenant, id)?;

@@ -25,7 +25,8 @@ pub(crate) fn set_balances<S: Alter>(
     balances: Balances,
 ) -> Result<(), Unavailable>
     requires { IfClean IsInside S.Store conn.old }
-    ensures { Changes (ChangesRows tenant.0 (λ rows. IsThere (λ row. row.account) account rows.balances)
+    ensures { Changes (ChangesRows tenant.0
+        (λ rows. IsThere (λ row. row.account) account rows.balances)
         (λ rows. record rows { balances = set_balances account balances rows.balances }))
         S.Store conn.old conn.new result }
 {

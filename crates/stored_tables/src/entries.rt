@@ -1,12 +1,12 @@
 //! The rows of new accounts and transfers.
 
-ghost use Rattle.std.specs.Prelude.{◌++◌, ◌≤◌, IsTrue};
+ghost use Rattle.std.specs.Prelude.{◌++◌, ◌≤◌};
 ghost use Rattle.records.specs.Step.{max_clock};
 ghost use Rattle.rows.specs.Changes.{with_opened, with_accepted, ended, new_statuses, new_history};
 ghost use Rattle.sqlite.specs.Held.{state};
 ghost use Rattle.ledger_sql.specs.Calls.{Changes, IfClean};
 ghost use Rattle.ledger_sql.specs.Effects.{IsInside};
-ghost use Rattle.stored_tables.specs.Moves.{Any, ChangesRows, CanAccept, HasEnded};
+ghost use Rattle.stored_tables.specs.Moves.{Any, CanWrite, ChangesRows, CanAccept, CanEnd, HasBoundedTimes};
 
 use crate::batch::TenantNumber;
 use crate::changing::{set_both, set_state};
@@ -43,8 +43,7 @@ pub(crate) fn write_transfer<S: Alter>(
     accepted: &Accepted,
 ) -> Result<(), Unavailable>
     requires inside { IfClean IsInside S.Store conn.old }
-    requires bounded { accepted.now.stored.timestamp ≤ max_clock }
-    requires at_bounded { accepted.now.stored.at ≤ max_clock }
+    requires times { HasBoundedTimes accepted.now.stored }
     ensures { Changes (ChangesRows tenant.0 (CanAccept accepted.now) (with_accepted accepted.now))
         S.Store conn.old conn.new result }
 {
@@ -68,9 +67,8 @@ fn end_pending<S: Alter>(
     tenant: TenantNumber,
     ends: &Option<Ending>,
 ) -> Result<(), Unavailable>
-    requires inside { IfClean IsInside S.Store conn.old }
-    requires open { IfClean (λ s. IsTrue s.is_open) S.Store conn.old }
-    ensures { Changes (ChangesRows tenant.0 (λ rows. HasEnded ends.now rows.statuses)
+    requires { IfClean CanWrite S.Store conn.old }
+    ensures { Changes (ChangesRows tenant.0 (λ rows. CanEnd ends.now rows.statuses)
         (λ rows. record rows { statuses = ended ends.now rows.statuses }))
         S.Store conn.old conn.new result }
 {
@@ -87,8 +85,7 @@ fn open_pending<S: Alter>(
     tenant: TenantNumber,
     stored: &Transfer,
 ) -> Result<(), Unavailable>
-    requires inside { IfClean IsInside S.Store conn.old }
-    requires open { IfClean (λ s. IsTrue s.is_open) S.Store conn.old }
+    requires writing { IfClean CanWrite S.Store conn.old }
     requires bounded { stored.now.timestamp ≤ max_clock }
     ensures { Changes (ChangesRows tenant.0 Any
         (λ rows. record rows { statuses = rows.statuses ++ new_statuses stored.now }))

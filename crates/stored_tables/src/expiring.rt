@@ -92,8 +92,8 @@ fn released(
     credit: Balances,
     amount: Amount,
 ) -> Result<(Balances, Balances), Unavailable>
-    ensures debit { IfOk result (λ left. left.0 ≡ balances_released Debit debit amount) }
-    ensures credit { IfOk result (λ left. left.1 ≡ balances_released Credit credit amount) }
+    ensures { IfOk result (λ left. (left.0 ≡ balances_released Debit debit amount)
+        × (left.1 ≡ balances_released Credit credit amount)) }
 {
     if amount > debit.debits.pending || amount > credit.credits.pending {
         return Err(Unavailable::Disk);
@@ -108,7 +108,8 @@ fn write_expiry<S: Alter>(
     expiry: &Expiry,
 ) -> Result<(), Unavailable>
     requires { IfClean IsInside S.Store conn.old }
-    ensures { Changes (ChangesRows tenant.0 (HasExpiring expiry.now.transfer) (with_expiry expiry.now))
+    ensures { Changes
+        (ChangesRows tenant.0 (HasExpiring expiry.now.transfer) (with_expiry expiry.now))
         S.Store conn.old conn.new result }
 {
     set_both(conn, tenant, &expiry.transfer, expiry.debit, expiry.credit)?;

@@ -1,9 +1,9 @@
 //! A page of a history, entry by entry.
 
-ghost use Rattle.std.specs.Prelude.{◌≡◌, ℕ, [], ◌<◌, not, IfOk};
+ghost use Rattle.std.specs.Prelude.{◌≡◌, ℕ, ◌<◌, not, IfOk};
 ghost use Rattle.records.specs.Reads.{Entry};
 ghost use Rattle.stored_tables.specs.Entries.{stored_entry, AreCellsOf};
-ghost use Rattle.stored_tables.specs.Pages.{AddsEntry};
+ghost use Rattle.stored_tables.specs.Pages.{AddsEntry, IsEmptyPage};
 
 use crate::stored_entry::StoredEntry;
 use ledger_sql::{EntryCells, EntrySink};
@@ -29,9 +29,7 @@ pub(crate) struct Page {
 
 impl Page {
     pub(crate) fn new(alloc: Global, asked: AccountFilter) -> Page
-        ensures asked { result.asked ≡ asked }
-        ensures empty { result.entries.items ≡ [] }
-        ensures open { result.progress ≡ Progress.Open }
+        ensures { IsEmptyPage asked result }
     {
         Page {
             asked,

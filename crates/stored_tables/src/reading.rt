@@ -4,9 +4,10 @@ ghost use Rattle.std.specs.Prelude.{◌≡◌};
 ghost use Rattle.records.specs.Facts.{account_in};
 ghost use Rattle.records.specs.Machine.{account_with, transfer_with, has_id};
 ghost use Rattle.records.specs.Balances.{balances_in};
-ghost use Rattle.chain.specs.Tables.{Tells, Leaves, pending_state_of, same};
-ghost use Rattle.stored_tables.specs.Meaning.{batch_meaning};
+ghost use Rattle.chain.specs.Tables.{pending_state_of};
+ghost use Rattle.stored_tables.specs.Meaning.{batch_meaning, OnlyTells};
 
+use crate::account_at_clock;
 use crate::batch::TenantNumber;
 use crate::failing::give_up;
 use crate::laws::point_reads;
@@ -21,13 +22,11 @@ pub(crate) fn clock<S: Alter>(
     tenant: TenantNumber,
 ) -> Result<u64, Unavailable>
     requires { (batch_meaning S.Store tenant.0).is_usable conn.old }
-    ensures value { Tells (batch_meaning S.Store tenant.0) conn.old conn.new result (λ m. m.clock) }
-    ensures leaves { Leaves (batch_meaning S.Store tenant.0) conn.old conn.new result same }
+    ensures { OnlyTells (batch_meaning S.Store tenant.0) conn.old conn.new result
+        (λ m. m.clock) }
 {
-    point_reads();
-    match finding::find_clock(conn, tenant.0) {
-        Ok(Some(clock)) => Ok(clock),
-        Ok(None) => Err(give_up(conn, Unavailable::Disk)),
+    match account_at_clock::clock(conn, tenant) {
+        Ok(clock) => Ok(clock),
         Err(cause) => Err(give_up(conn, cause)),
     }
 }
@@ -39,9 +38,8 @@ pub(crate) fn account<S: Alter>(
     id: u128,
 ) -> Result<Option<AccountWithBalances>, Unavailable>
     requires { (batch_meaning S.Store tenant.0).is_usable conn.old }
-    ensures value { Tells (batch_meaning S.Store tenant.0) conn.old conn.new result
+    ensures { OnlyTells (batch_meaning S.Store tenant.0) conn.old conn.new result
         (λ m. account_in m id) }
-    ensures leaves { Leaves (batch_meaning S.Store tenant.0) conn.old conn.new result same }
 {
     let Some(account) = account_alone(conn, tenant, id)? else {
         return Ok(None);
@@ -57,12 +55,10 @@ fn account_alone<S: Alter>(
     id: u128,
 ) -> Result<Option<Account>, Unavailable>
     requires { (batch_meaning S.Store tenant.0).is_usable conn.old }
-    ensures value { Tells (batch_meaning S.Store tenant.0) conn.old conn.new result
+    ensures { OnlyTells (batch_meaning S.Store tenant.0) conn.old conn.new result
         (λ m. account_with id m.accounts) }
-    ensures leaves { Leaves (batch_meaning S.Store tenant.0) conn.old conn.new result same }
 {
-    point_reads();
-    match finding::find_account(conn, tenant.0, id) {
+    match account_at_clock::account(conn, tenant, id) {
         Ok(found) => Ok(found),
         Err(cause) => Err(give_up(conn, cause)),
     }
@@ -76,9 +72,8 @@ fn balances<S: Alter>(
     account: u128,
 ) -> Result<Balances, Unavailable>
     requires { (batch_meaning S.Store tenant.0).is_usable conn.old }
-    ensures value { Tells (batch_meaning S.Store tenant.0) conn.old conn.new result
+    ensures { OnlyTells (batch_meaning S.Store tenant.0) conn.old conn.new result
         (λ m. balances_in m account) }
-    ensures leaves { Leaves (batch_meaning S.Store tenant.0) conn.old conn.new result same }
 {
     point_reads();
     match finding::find_balance(conn, tenant.0, account) {
@@ -95,9 +90,8 @@ pub(crate) fn transfer<S: Alter>(
     id: u128,
 ) -> Result<Option<Transfer>, Unavailable>
     requires { (batch_meaning S.Store tenant.0).is_usable conn.old }
-    ensures value { Tells (batch_meaning S.Store tenant.0) conn.old conn.new result
+    ensures { OnlyTells (batch_meaning S.Store tenant.0) conn.old conn.new result
         (λ m. transfer_with id m.transfers) }
-    ensures leaves { Leaves (batch_meaning S.Store tenant.0) conn.old conn.new result same }
 {
     point_reads();
     match finding::find_transfer(conn, tenant.0, id) {
@@ -113,9 +107,8 @@ pub(crate) fn pending_state<S: Alter>(
     id: u128,
 ) -> Result<Option<PendingState>, Unavailable>
     requires { (batch_meaning S.Store tenant.0).is_usable conn.old }
-    ensures value { Tells (batch_meaning S.Store tenant.0) conn.old conn.new result
+    ensures { OnlyTells (batch_meaning S.Store tenant.0) conn.old conn.new result
         (λ m. pending_state_of m id) }
-    ensures leaves { Leaves (batch_meaning S.Store tenant.0) conn.old conn.new result same }
 {
     point_reads();
     single_rows();
@@ -132,9 +125,8 @@ pub(crate) fn failed<S: Alter>(
     id: u128,
 ) -> Result<bool, Unavailable>
     requires { (batch_meaning S.Store tenant.0).is_usable conn.old }
-    ensures value { Tells (batch_meaning S.Store tenant.0) conn.old conn.new result
+    ensures { OnlyTells (batch_meaning S.Store tenant.0) conn.old conn.new result
         (λ m. has_id id m.failed) }
-    ensures leaves { Leaves (batch_meaning S.Store tenant.0) conn.old conn.new result same }
 {
     point_reads();
     match finding::has_failed(conn, tenant.0, id) {

@@ -1,6 +1,6 @@
 //! The clock of a tenant, and what is due at it.
 
-ghost use Rattle.std.specs.Prelude.{◌≡◌, ◌≤◌, false, None, IsTrue};
+ghost use Rattle.std.specs.Prelude.{◌≡◌, ◌≤◌, false, None};
 ghost use Rattle.std.specs.BTreeSet.{contains};
 ghost use Rattle.std.specs.Option.{option_map_or};
 ghost use Rattle.records.specs.Due.{has_come};
@@ -11,6 +11,7 @@ ghost use Rattle.ledger_sql.specs.Effects.{IsInside};
 ghost use Rattle.chain.specs.Tables.{Leaves, on_now};
 ghost use Rattle.stored_tables.specs.Covers.{Covers};
 ghost use Rattle.stored_tables.specs.Meaning.{batch_meaning};
+ghost use Rattle.stored_tables.specs.Moves.{CanWrite};
 ghost use Rattle.stored_tables.specs.Releasing.{ReleasesOne, ReleasesDue, MovesClock};
 
 use crate::batch::TenantNumber;
@@ -58,8 +59,7 @@ fn move_clock<S: Alter>(
     tenant: TenantNumber,
     clock: u64,
 ) -> Result<(), Unavailable>
-    requires inside { IfClean IsInside S.Store conn.old }
-    requires open { IfClean (λ s. IsTrue s.is_open) S.Store conn.old }
+    requires writing { IfClean CanWrite S.Store conn.old }
     requires bounded { clock ≤ max_clock }
     ensures { Changes (MovesClock tenant.0 clock (contains ⟦<(u64, u128) as Ord>⟧.cmp due.now))
         S.Store conn.old conn.new result }
@@ -76,8 +76,7 @@ fn release_due<S: Alter>(
     tenant: TenantNumber,
     clock: u64,
 ) -> Result<(), Unavailable>
-    requires inside { IfClean IsInside S.Store conn.old }
-    requires open { IfClean (λ s. IsTrue s.is_open) S.Store conn.old }
+    requires { IfClean CanWrite S.Store conn.old }
     ensures { Changes (ReleasesDue tenant.0 clock (contains ⟦<(u64, u128) as Ord>⟧.cmp due.now))
         S.Store conn.old conn.new result }
 {

@@ -16,4 +16,4 @@ returns-in-Ok g c =
     (λ live valid. let next = c.requires.next live in record { may = tt; rows = c.account_rows.ensures _ a valid next; valid = next_account _ a valid next })
 
 pub returns-in-Err : goal.returns-in-Err
-returns-in-Err g c = gives_up g.S.Store _ _ _ c.write_account.new.conn _ _ c.write_account.ensures.follows c.give_up.ensures.follows c.give_up.ensures.over
+returns-in-Err g c = gives_up g.S.Store _ _ _ c.write_account.new.conn _ _ c.write_account.ensures.follows c.give_up.ensures.over

@@ -25,10 +25,10 @@ changes g c m valid next =
     }
 
 pub returns-in-Err-clause-leaves : goal.returns-in-Err-clause-leaves
-returns-in-Err-clause-leaves g c = gives_up g.S.Store _ _ _ c.args.conn.now _ _ (follows_itself _) c.give_up.ensures.follows c.give_up.ensures.over
+returns-in-Err-clause-leaves g c = gives_up g.S.Store _ _ _ c.args.conn.now _ _ (follows_itself _) c.give_up.ensures.over
 
 pub returns-in-Err-write_transfer-clause-leaves : goal.returns-in-Err-write_transfer-clause-leaves
-returns-in-Err-write_transfer-clause-leaves g c = gives_up g.S.Store _ _ _ c.write_transfer.new.conn _ _ c.write_transfer.ensures.follows c.give_up-in-Err-write_transfer.ensures.follows c.give_up-in-Err-write_transfer.ensures.over
+returns-in-Err-write_transfer-clause-leaves g c = gives_up g.S.Store _ _ _ c.write_transfer.new.conn _ _ c.write_transfer.ensures.follows c.give_up-in-Err-write_transfer.ensures.over
 
 pub returns-in-Ok-clause-leaves : goal.returns-in-Ok-clause-leaves
 returns-in-Ok-clause-leaves g c =

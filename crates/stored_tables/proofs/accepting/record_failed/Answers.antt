@@ -28,4 +28,4 @@ returns-in-Ok g c =
     (λ live valid. let fails = c.requires.fails live in record { may = fails.unrecorded; rows = c.failed_rows.ensures _ id; valid = next_failed _ id valid fails.next })
 
 pub returns-in-Err : goal.returns-in-Err
-returns-in-Err g c = gives_up g.S.Store _ _ _ c.add_failed.new.conn _ _ c.add_failed.ensures.follows c.give_up.ensures.follows c.give_up.ensures.over
+returns-in-Err g c = gives_up g.S.Store _ _ _ c.add_failed.new.conn _ _ c.add_failed.ensures.follows c.give_up.ensures.over

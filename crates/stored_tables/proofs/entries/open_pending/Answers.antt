@@ -13,6 +13,6 @@ returns g c = record {
       let s0 = state g.S.Store c.args.conn.now in
       let clean0 : HasCleanDisk s0 = omega (arith, c.add_status.ensures.follows.survives.clean, clean) in
       let pends : is_pending c.args.stored.now.flags ≡ true = sym (c.if-not-is_pending.ensures {u = tt}) in
-      status_written t c.args.stored.now c.due.result s0 (state g.S.Store c.add_status.new.conn) c.add_status.result (c.requires.inside clean0) pends c.due.ensures (rw (passed t (search rules)) at (c.add_status.ensures.ok clean));
+      status_written t c.args.stored.now c.due.result s0 (state g.S.Store c.add_status.new.conn) c.add_status.result (c.requires.writing clean0).inside pends c.due.ensures (rw (passed t (search rules)) at (c.add_status.ensures.ok clean));
   follows = search rules;
 }

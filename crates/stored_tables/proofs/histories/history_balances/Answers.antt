@@ -21,5 +21,5 @@ returns-clause-told g c clean =
     let same : machine_at t mid ≡ m = ap (λ (db : Database). machine_of t db.trees) (c.in_ok-found.ensures.reads.same mid_clean).0.now_is in
     let page_is = c.in_ok-page.ensures.ok clean ∙ ap (λ (n : Machine). stored_page n asked) same in
     told_balances m asked c.in_ok-found.found.clock c.in-Some.account c.in_ok-entries.entries.items
-    (c.in_ok-found.ensures.clock mid_clean) (sym c.in-Some.is ∙ c.in_ok-found.ensures.account mid_clean) (search rules)
+    (c.in_ok-found.ensures.ok mid_clean).clock (sym c.in-Some.is ∙ (c.in_ok-found.ensures.ok mid_clean).account) (search rules)
     (c.in_ok-entries.ensures ∙ ap (map balance_of) (c.deref.ensures.value ∙ page_is) ∙ balances_shown m asked)

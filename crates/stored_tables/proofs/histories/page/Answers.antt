@@ -35,6 +35,6 @@ returns g c = record {
       (all_fit t m old.now.trees held fit one up asked.account_id (search rules))
       (in_time_order t m old.now.trees held fit one up asked.account_id (search rules))
       H clean c.order.result c.bound.result c.order.ensures c.bound.ensures c.new-page.result c.each_entry_in_chunks.new.sink c.in_ok-each_entry_in_chunks.field-0 handed
-      c.new-page.ensures.asked c.new-page.ensures.empty c.new-page.ensures.open (omega arith) h.1));
+      c.new-page.ensures.asked c.new-page.ensures.empty c.new-page.ensures.is_open (omega arith) h.1));
   reads = search rules;
 }

@@ -9,4 +9,4 @@ pub returns-in-Ok : goal.returns-in-Ok
 returns-in-Ok g c = releases g.S.Store _ c.args.conn.now c.requires.usable tt c.release_mark.new.conn c.release_mark.ensures.follows c.requires.marked c.in-Ok.ensures.ok
 
 pub returns-in-Err : goal.returns-in-Err
-returns-in-Err g c = gives_up g.S.Store _ _ _ c.release_mark.new.conn _ _ c.release_mark.ensures.follows c.give_up.ensures.follows c.give_up.ensures.over
+returns-in-Err g c = gives_up g.S.Store _ _ _ c.release_mark.new.conn _ _ c.release_mark.ensures.follows c.give_up.ensures.over

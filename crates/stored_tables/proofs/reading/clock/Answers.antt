@@ -1,20 +1,22 @@
 use Rattle.std.proofs.Common.{rules}
-use Rattle.stored_tables.proofs.Keeping.{reads, gives_up, held_before}
-use Rattle.stored_tables.proofs.Numbers.{passed}
+use Rattle.stored_tables.specs.InBatch.{shown}
+use Rattle.stored_tables.proofs.Keeping.{can_read, reads, gives_up}
 use Rattle.stored_tables.proofs.reading.clock.Goals as goal
 
-pub returns-in-Ok-Some-clause-value : goal.returns-in-Ok-Some-clause-value
-returns-in-Ok-Some-clause-value g c live =
-    let held = held_before g.S.Store c.args.tenant.0 c.args.conn.now c.find_clock.new.conn c.requires c.find_clock.ensures.reads.follows live in
-    let told = rw (passed c.args.tenant.0 (search rules)) at (c.in-Ok-Some.ensures.ok live.0) in
-    let found = c.point_reads.ensures.clock _ _ _ _ held told in
-    cc
+pub clock-requires : goal.clock-requires
+clock-requires g c = can_read _ _ c.requires
 
-pub returns-in-Ok-Some-clause-leaves : goal.returns-in-Ok-Some-clause-leaves
-returns-in-Ok-Some-clause-leaves g c = reads g.S.Store _ _ _ c.in-Ok-Some.clock c.requires c.find_clock.ensures.reads.follows c.in-Ok-Some.ensures.reads.same
+pub returns-in-Ok : goal.returns-in-Ok
+unfolding shown
+returns-in-Ok g c = record {
+  value = λ live. c.in-Ok.ensures.ok live.0;
+  leaves =
+      reads g.S.Store _ _ _ c.in-Ok.clock c.requires c.clock.ensures.reads.follows c.in-Ok.ensures.reads.same;
+}
 
-pub returns-in-Err-clause-leaves : goal.returns-in-Err-clause-leaves
-returns-in-Err-clause-leaves g c = gives_up g.S.Store _ _ _ c.find_clock.new.conn _ _ c.find_clock.ensures.reads.follows c.give_up-in-Err.ensures.follows c.give_up-in-Err.ensures.over
-
-pub returns-in-Ok-None-clause-leaves : goal.returns-in-Ok-None-clause-leaves
-returns-in-Ok-None-clause-leaves g c = gives_up g.S.Store _ _ _ c.find_clock.new.conn _ _ c.find_clock.ensures.reads.follows c.give_up.ensures.follows c.give_up.ensures.over
+pub returns-in-Err : goal.returns-in-Err
+returns-in-Err g c = record {
+  value = search rules;
+  leaves =
+      gives_up g.S.Store _ _ _ c.clock.new.conn _ _ c.clock.ensures.reads.follows c.give_up.ensures.over;
+}

@@ -13,7 +13,7 @@ pub loop-entry-init : goal.loop-entry-init
 loop-entry-init g c = (
   tt,
   tt,
-  λ clean. seen_none c.args.tenant.0 c.args.clock c.clock_rows.ensures.first c.rows_fit.ensures c.keys_are_distinct.ensures (state g.S.Store c.args.conn.now) (c.requires.inside clean) (c.requires.open clean),
+  λ clean. seen_none c.args.tenant.0 c.args.clock c.clock_rows.ensures.first c.rows_fit.ensures c.keys_are_distinct.ensures (state g.S.Store c.args.conn.now) (c.requires clean).inside (c.requires clean).is_open,
   follows_itself (state g.S.Store c.args.conn.now),
 )
 

@@ -12,10 +12,10 @@ use Rattle.stored_tables.proofs.Writing.{writes_leave, is_inside}
 use Rattle.stored_tables.proofs.settling.settle.Goals as goal
 
 pub move_clock-requires : goal.move_clock-requires
-move_clock-requires g c = record { inside = λ clean. is_inside _ _ (c.requires.usable clean); «open» = λ clean. (c.requires.usable clean).is_open; bounded = c.requires.bounded }
+move_clock-requires g c = record { writing = λ clean. record { inside = is_inside _ _ (c.requires.usable clean); is_open = (c.requires.usable clean).is_open }; bounded = c.requires.bounded }
 
 pub returns-in-Err : goal.returns-in-Err
-returns-in-Err g c = gives_up g.S.Store _ _ _ c.move_clock.new.conn _ _ c.move_clock.ensures.follows c.give_up.ensures.follows c.give_up.ensures.over
+returns-in-Err g c = gives_up g.S.Store _ _ _ c.move_clock.new.conn _ _ c.move_clock.ensures.follows c.give_up.ensures.over
 
 pub returns-in-Ok : goal.returns-in-Ok
 returns-in-Ok g c =

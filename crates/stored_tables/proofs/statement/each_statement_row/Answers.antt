@@ -77,7 +77,7 @@ returns-in-Ok-clause-told g c clean =
     let rows_are : map (statement_row account) es ≡ rows =
     ap (λ (n : Machine). map (statement_row account) (entries_behind n account order c.first_bound.result)) same
     ∙ ap (λ z. map (statement_row account) (entries_behind m account order z)) c.first_bound.ensures ∙ statement_rows m account fit order in
-    let seen_is = statement_seen m account order c.in-Some.field-0 (sym c.in-Some.is ∙ c.in_ok-found.ensures.account mid_clean) in
+    let seen_is = statement_seen m account order c.in-Some.field-0 (sym c.in-Some.is ∙ (c.in_ok-found.ensures.ok mid_clean).account) in
     let sink : g.row.K.Denot = c.each_entry.new.sink.sink.now in
     let stopped = c.each_entry.new.sink.stopped in
     let name = kept_name (λ (r : Rows g.row.K.Denot). r.account) (λ (r : Rows g.row.K.Denot). r.sink.now) (λ (r : Rows g.row.K.Denot). r.sink.ghost_name) (λ (r : Rows g.row.K.Denot). r.stopped) g.K.RowSink.takes g.K.RowSink.refused handed.handed _ c.each_entry.new.sink handed.taken in
@@ -108,7 +108,7 @@ returns-in-Err-clause-told g c clean =
     let rows_are : map (statement_row account) es ≡ rows =
     ap (λ (n : Machine). map (statement_row account) (entries_behind n account order c.first_bound.result)) same
     ∙ ap (λ z. map (statement_row account) (entries_behind m account order z)) c.first_bound.ensures ∙ statement_rows m account fit order in
-    let seen_is = statement_seen m account order c.in-Some.field-0 (sym c.in-Some.is ∙ c.in_ok-found.ensures.account mid_clean) in
+    let seen_is = statement_seen m account order c.in-Some.field-0 (sym c.in-Some.is ∙ (c.in_ok-found.ensures.ok mid_clean).account) in
     let sink : g.row.K.Denot = c.each_entry.new.sink.sink.now in
     let stopped = c.each_entry.new.sink.stopped in
     let name = kept_name (λ (r : Rows g.row.K.Denot). r.account) (λ (r : Rows g.row.K.Denot). r.sink.now) (λ (r : Rows g.row.K.Denot). r.sink.ghost_name) (λ (r : Rows g.row.K.Denot). r.stopped) g.K.RowSink.takes g.K.RowSink.refused handed.handed _ c.each_entry.new.sink handed.taken in
