@@ -25,7 +25,7 @@ use Rattle.stored_ledgers.specs.DueSets.{DueSets}
 use Rattle.stored_ledgers.specs.Joining.{Joins, IsJoined, Joined, HasJoined, AreTaken, joining_answer}
 use Rattle.stored_ledgers.specs.Ledger.{HoldsLedgers}
 use Rattle.stored_ledgers.specs.Resting.{CanServe, IsSame}
-use Rattle.stored_ledgers.specs.Transactions.{Answer, Tells, UnlessMade, IsLeft}
+use Rattle.stored_ledgers.specs.Transactions.{Answer, IfAnswered, UnlessMade, MayLeave}
 use Rattle.stored_ledgers.proofs.TakenLemmas.{only_row}
 
 -- all tables of ours but one stay
@@ -237,7 +237,7 @@ starts_as_ours schema ledger = (drop 2 ledger_schema.tables ++ ledger.more, ledg
 -- what the adding of a tenant is told, and what it leaves
 pub has_joined : (name digest : List ℕ) (sets : DueSets) (old new : State)
     (answer : Answer (Unit {0}) Taken)
-    → Tells answer (λ done. (AreTaken name digest old.now.trees None
+    → IfAnswered answer (λ done. (AreTaken name digest old.now.trees None
     × IsJoined name digest old.now new.now) × CanServe sets new.now)
     (λ taken. AreTaken name digest old.now.trees (Some taken))
     → UnlessMade answer (IsSame old new)
@@ -249,7 +249,7 @@ has_joined name digest sets old new (Err why) told same = same.now
 
 -- what it may leave in the files
 pub left_joined : (name digest : List ℕ) (old : Database) (trees : Trees)
-    → IsLeft (λ (done : Unit {0}) (sets : DueSets) new. (AreTaken name digest old.trees None
+    → MayLeave (λ (done : Unit {0}) (sets : DueSets) new. (AreTaken name digest old.trees None
     × IsJoined name digest old new) × CanServe sets new) trees
     → Joined name digest old trees
 left_joined name digest old trees left =

@@ -3,12 +3,12 @@ use Rattle.std.proofs.Common.{Ok, Err, sym, subst}
 use Rattle.sqlite.specs.State.{State}
 use Rattle.stored_ledgers.specs.DueSets.{DueSets}
 use Rattle.stored_ledgers.specs.Resting.{CanServe, IsResting, IsQuiet, IsSame}
-use Rattle.stored_ledgers.specs.Transactions.{Answer, Tells, UnlessMade}
+use Rattle.stored_ledgers.specs.Transactions.{Answer, IfAnswered, UnlessMade}
 
 -- after a change that keeps what is served a connection rests again, whatever was answered
 pub rests_after : {O R : Type 0} (answer : Answer O R) (does : O → Type 0) (refuses : R → Type 0)
     (sets : DueSets) (old new : State)
-    → Tells answer (λ output. does output × CanServe sets new.now) refuses
+    → IfAnswered answer (λ output. does output × CanServe sets new.now) refuses
     → UnlessMade answer (CanServe sets old.now) → UnlessMade answer (IsSame old new)
     → IsQuiet new → IsResting sets new
 rests_after answer does refuses sets old new told again same quiet = of answer told again same
@@ -19,7 +19,7 @@ rests_after answer does refuses sets old new told again same quiet = of answer t
     still : CanServe sets old.now → IsSame old new → IsResting sets new
     still serves same = serving (subst (CanServe sets) (sym same.now) serves)
 
-    of : (answer : _) → Tells answer (λ output. does output × CanServe sets new.now) refuses
+    of : (answer : _) → IfAnswered answer (λ output. does output × CanServe sets new.now) refuses
         → UnlessMade answer (CanServe sets old.now) → UnlessMade answer (IsSame old new)
         → IsResting sets new
     of (Ok (Ok output)) told again same = serving told.1

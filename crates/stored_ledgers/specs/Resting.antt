@@ -1,14 +1,10 @@
 -- A connection between two batches.
-use Rattle.std.specs.Prelude.{◌≡◌, ℤ, false, [], IsTrue}
+use Rattle.std.specs.Prelude.{◌≡◌, false, [], IsTrue}
 use Rattle.sqlite_schema.specs.declared.schema.Schema.{Schema}
 use Rattle.sqlite.specs.Effect.{Database}
 use Rattle.sqlite.specs.State.{State, HasCleanDisk}
 use Rattle.ledger_sql.specs.Creating.{IsEmptyLedger}
-use Rattle.ledger_sql.specs.Effects.{IsLedger}
 use Rattle.ledger_sql.specs.Schema.{ledger_schema}
-use Rattle.stored_tables.specs.Frames.{AreNumbered}
-use Rattle.stored_tables.specs.Holds.{HoldsMachine}
-use Rattle.stored_tables.specs.MachineOf.{machine_of}
 use Rattle.stored_ledgers.specs.DueSets.{DueSets, AreCovered}
 use Rattle.stored_ledgers.specs.Ledger.{HoldsLedgers}
 pub use Rattle.stored_ledgers.specs.Transactions.{IsQuiet, IsSame}
@@ -35,16 +31,6 @@ pub record CanServe (sets : DueSets) (db : Database) : Type 0 where
 -- as long as the disk was honest it is open and rests
 abbrev pub Serves : DueSets → State → Type 0
 Serves sets s = HasCleanDisk s → IsTrue s.is_open × IsResting sets s
-
--- it is open, outside a transaction, and this tenant has the rows of its machine
-pub record IsIdle (tenant : ℤ) (s : State) : Type 0 where
-  pub is_open : IsTrue s.is_open
-  pub mode : s.in_transaction ≡ false
-  pub settled : s.now ≡ s.committed
-  pub unmarked : s.marks ≡ []
-  pub schema : IsLedger s.now.schema
-  pub numbered : AreNumbered s.now.trees
-  pub holds : HoldsMachine tenant (machine_of tenant s.now.trees) s.now.trees
 
 -- a new ledger: the tables of the current version, with no tenant
 pub record IsNewLedger (s : State) : Type 0 where

@@ -18,7 +18,7 @@ pub record IsReady (Needs : Database → Type 0) (s : State) : Type 0 where
   pub needs : Needs s.now
 
 -- a transaction is open in which nothing was done yet, over such a database
-pub record IsBegun (Needs : Database → Type 0) (s : State) : Type 0 where
+pub record HasOnlyBegun (Needs : Database → Type 0) (s : State) : Type 0 where
   pub is_open : IsTrue s.is_open
   pub mode : s.in_transaction ≡ true
   pub fresh : s.now ≡ s.committed
@@ -37,24 +37,19 @@ abbrev pub Answer : Type 0 → Type 0 → Type 0
 Answer O R = Result (Result O R) Unavailable
 
 -- something holds of the output where the change was made, and of the refusal where it was refused
-abbrev pub Tells : {O R : Type 0} → Answer O R → (O → Type 0) → (R → Type 0) → Type 0
-Tells (Ok (Ok output)) does refuses = does output
-Tells (Ok (Err refusal)) does refuses = refuses refusal
-Tells (Err why) does refuses = Unit {0}
+abbrev pub IfAnswered : {O R : Type 0} → Answer O R → (O → Type 0) → (R → Type 0) → Type 0
+IfAnswered (Ok (Ok output)) does refuses = does output
+IfAnswered (Ok (Err refusal)) does refuses = refuses refusal
+IfAnswered (Err why) does refuses = Unit {0}
 
--- something holds where the change was made, or where it was not
-abbrev pub OnMade : {O R : Type 0} → Answer O R → Type 0 → Type 0
-OnMade (Ok (Ok output)) P = P
-OnMade (Ok (Err refusal)) P = Unit {0}
-OnMade (Err why) P = Unit {0}
-
+-- something holds where it was not made
 abbrev pub UnlessMade : {O R : Type 0} → Answer O R → Type 0 → Type 0
 UnlessMade (Ok (Ok output)) P = Unit {0}
 UnlessMade (Ok (Err refusal)) P = P
 UnlessMade (Err why) P = P
 
 -- what a change that was made, with some output and some memory, may leave in the files
-pub record IsLeft {O M : Type 0} (does : O → M → Database → Type 0) (trees : Trees) : Type 0 where
+pub record MayLeave {O M : Type 0} (does : O → M → Database → Type 0) (trees : Trees) : Type 0 where
   pub output : O
   pub memory : M
   pub after : Database

@@ -6,7 +6,7 @@ ghost use Rattle.sqlite.specs.Effect.{Database};
 ghost use Rattle.sqlite.specs.State.{HasCleanDisk, Survives};
 ghost use Rattle.sqlite.specs.Held.{state};
 ghost use Rattle.ledger_sql.specs.Frames.{Live, Follows};
-ghost use Rattle.stored_ledgers.specs.Transactions.{IsReady, IsBegun, IsQuiet, IsSame, Tells, UnlessMade, IsLeft};
+ghost use Rattle.stored_ledgers.specs.Transactions.{IsReady, HasOnlyBegun, IsQuiet, IsSame, IfAnswered, UnlessMade, MayLeave};
 
 use crate::probe::{ends_open, or_disk_fault};
 use ledger_sql::stages::{begin, commit};
@@ -36,8 +36,8 @@ pub trait Change {
         memory: &mut Self::Memory,
     ) -> Result<Result<Self::Output, Self::Refusal>, Unavailable>
         requires { HasCleanDisk (state S.Store conn.old)
-            → IsBegun (needs self memory.old) (state S.Store conn.old) }
-        ensures told { Live (state S.Store conn.new) → Tells result
+            → HasOnlyBegun (needs self memory.old) (state S.Store conn.old) }
+        ensures told { Live (state S.Store conn.new) → IfAnswered result
             (λ output. does self memory.old (state S.Store conn.old).now output memory.new
             (state S.Store conn.new).now)
             (refuses self memory.old (state S.Store conn.old).now) }
@@ -57,7 +57,7 @@ pub fn in_transaction<S: Alter, C: Change + Drop>(
 ) -> Result<Result<C::Output, C::Refusal>, Unavailable>
     requires { HasCleanDisk (state S.Store conn.old)
         → IsReady (C.needs change memory.old) (state S.Store conn.old) }
-    ensures told { Live (state S.Store conn.new) → Tells result
+    ensures told { Live (state S.Store conn.new) → IfAnswered result
         (λ output. C.does change memory.old (state S.Store conn.old).now output memory.new
         (state S.Store conn.new).now)
         (C.refuses change memory.old (state S.Store conn.old).now) }
@@ -69,7 +69,7 @@ pub fn in_transaction<S: Alter, C: Change + Drop>(
     ensures open { HasCleanDisk (state S.Store conn.new) → result ≢ Err Disk
         → IsTrue (state S.Store conn.new).is_open }
     ensures survives { Survives (state S.Store conn.old) (state S.Store conn.new)
-        (IsLeft (C.does change memory.old (state S.Store conn.old).now)) }
+        (MayLeave (C.does change memory.old (state S.Store conn.old).now)) }
 {
     if let Err(why) = begin(conn) {
         return Err(or_disk_fault(conn, why));
