@@ -1,11 +1,12 @@
 //! The ledger in a file.
 ghost use Rattle.std.specs.Prelude.{◌≡◌, IfErr, IfOk};
-ghost use Rattle.store.specs.Migrating.{IsMigratable};
+ghost use Rattle.migrate.specs.Ledgers.{IsMigratable};
 ghost use Rattle.store.specs.Stores.{IsUsable};
 ghost use Rattle.commands.specs.Openings.{IsOpeningFault, open_fault};
 
 use audit::Damage;
 use command_texts::Fault;
+use migrate::LedgerOfVersion;
 use records::Unavailable;
 use sqlite::Options;
 use sqlite_disk::Unknown;
@@ -71,21 +72,21 @@ pub(crate) fn open_or_make(rt: &HostRuntime, path: &str) -> Result<Store<File>, 
 }
 
 /// The ledger in a file that is there, which may have an older version.
-pub(crate) fn open_to_migrate(rt: &HostRuntime, path: &str) -> Result<Store<File>, Fault>
+pub(crate) fn open_to_migrate(rt: &HostRuntime, path: &str) -> Result<LedgerOfVersion<File>, Fault>
     ensures migratable { IfOk result IsMigratable }
     ensures fault { IfErr result IsOpeningFault }
 {
     match migratable_at(rt, path) {
-        Ok(store) => Ok(store),
+        Ok(ledger) => Ok(ledger),
         Err(fault) => Err(open_fault(fault)),
     }
 }
 
-fn migratable_at(rt: &HostRuntime, path: &str) -> Result<Store<File>, OpenFault>
+fn migratable_at(rt: &HostRuntime, path: &str) -> Result<LedgerOfVersion<File>, OpenFault>
     ensures { IfOk result IsMigratable }
 {
     find(rt, path)?;
-    Store::open_for_migration_at(rt, path, Unknown, options(rt, PAGES)?, &FullAudit)
+    LedgerOfVersion::open_for_migration_at(rt, path, Unknown, options(rt, PAGES)?, &FullAudit)
 }
 
 /// Where the ledger in a file that is there is damaged.

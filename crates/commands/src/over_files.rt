@@ -90,8 +90,8 @@ pub(crate) fn run_migrate<O: Drain + Drop>(
     ensures { Migrates O.written to.now out result }
 {
     let version = version(to)?;
-    let mut store = open_to_migrate(rt, db)?;
-    if let Err(fault) = migrate(rt.alloc(), &mut store, version) {
+    let mut ledger = open_to_migrate(rt, db)?;
+    if let Err(fault) = migrate(rt.alloc(), &mut ledger, version) {
         return Err(migrate_fault(fault));
     }
     put_schema(&mut out, to)?;

@@ -1,21 +1,18 @@
 -- What a migration is refused for.
-use Rattle.std.proofs.Common.{◌≡◌, ◌≢◌, ℕ, Result, Err, IfErr, subst}
+use Rattle.std.proofs.Common.{◌≡◌, ◌≢◌, ℕ, Result, Err, IfErr}
 use Rattle.records.specs.declared.unavailable.Unavailable.{Unavailable}
 use Rattle.rows.specs.declared.all_rows.AllRows.{AllRows}
-use Rattle.sqlite_disk.specs.declared.Disk as disk
-use Rattle.sqlite.specs.Effect.{Database}
+use Rattle.sqlite_trees.specs.Tree.{Trees}
 use Rattle.audit.specs.Damage.{IsFirstDamage, IfDamaged as IfAuditDamaged}
 use Rattle.audit.specs.declared.damage.AuditFault.{AuditFault}
 use Rattle.audit.specs.declared.damage.AuditFault.TheVariants as audit
 use Rattle.audit.specs.declared.damage.Damage.{Damage}
-use Rattle.store.specs.Stores.{OfDatabaseAt}
 use Rattle.openings.specs.Whole.{AreAllRows}
 use Rattle.openings.specs.declared.opening.OpenFault.{OpenFault}
 use Rattle.openings.specs.declared.opening.OpenFault.TheVariants as opening
-use Rattle.store.specs.declared.place.Place.{Place}
-use Rattle.store.specs.declared.place.Place.TheVariants as at
 use Rattle.migrate.specs.Faults.{audit_fault, upgrade_fault, IfDamaged}
 use Rattle.openings.specs.Damage.{HasFirstDamage}
+use Rattle.openings.specs.DamageLaws.{first_of_read}
 use Rattle.migrate.specs.declared.fault.MigrateFault.{MigrateFault}
 use Rattle.migrate.specs.declared.fault.MigrateFault.TheVariants as fault
 
@@ -64,19 +61,14 @@ pub undamaged_by_upgrade : {T : Type 0} (r : Result T MigrateFault) (cause : Ope
     → r ≡ Err (upgrade_fault cause) → IfErr r (λ told. IfDamaged told P)
 undamaged_by_upgrade r cause P is = rw is (upgrade_undamaged cause P)
 
-module _ {D : Type 0} (g : disk.Ghosts D) where
-  damage_at : (version v : ℕ) (cause : AuditFault) (all : AllRows) (place : Place D g) → v ≡ version
-      → IfAuditDamaged cause (IsFirstDamage v all.tenants.items)
-      → OfDatabaseAt (λ (db : Database). AreAllRows version db.trees all) place
-      → IfDamaged (audit_fault cause) (λ damage. OfDatabaseAt (λ (db : Database). HasFirstDamage version damage db.trees) place)
-  damage_at version v (audit.Damaged damage) all (at.Open conn) is first read =
-      record { all = all; read = read; first = subst (λ (n : ℕ). IsFirstDamage n all.tenants.items damage) is first }
-  damage_at version v (audit.Damaged damage) all (at.Shut files) is first read = read
-  damage_at version v audit.Memory all place is first read = tt
+damage_at : (version v : ℕ) (cause : AuditFault) (all : AllRows) (trees : Trees) → v ≡ version
+    → IfAuditDamaged cause (IsFirstDamage v all.tenants.items) → AreAllRows version trees all
+    → IfDamaged (audit_fault cause) (λ damage. HasFirstDamage version damage trees)
+damage_at version v (audit.Damaged damage) all trees is first read = first_of_read version v trees all damage read is first
+damage_at version v audit.Memory all trees is first read = tt
 
-  -- an audit tells of the first damage of what was read
-  pub damage_by_audit : {T : Type 0} (r : Result T MigrateFault) (version v : ℕ) (cause : AuditFault) (all : AllRows) (place : Place D g)
-      → r ≡ Err (audit_fault cause) → v ≡ version → IfAuditDamaged cause (IsFirstDamage v all.tenants.items)
-      → OfDatabaseAt (λ (db : Database). AreAllRows version db.trees all) place
-      → IfErr r (λ told. IfDamaged told (λ damage. OfDatabaseAt (λ (db : Database). HasFirstDamage version damage db.trees) place))
-  damage_by_audit r version v cause all place told is first read = rw told (damage_at version v cause all place is first read)
+-- an audit tells of the first damage of what was read
+pub damage_by_audit : {T : Type 0} (r : Result T MigrateFault) (version v : ℕ) (cause : AuditFault) (all : AllRows)
+    (trees : Trees) → r ≡ Err (audit_fault cause) → v ≡ version → IfAuditDamaged cause (IsFirstDamage v all.tenants.items)
+    → AreAllRows version trees all → IfErr r (λ told. IfDamaged told (λ damage. HasFirstDamage version damage trees))
+damage_by_audit r version v cause all trees told is first read = rw told (damage_at version v cause all trees is first read)

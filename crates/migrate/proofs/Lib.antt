@@ -1,2 +1,5 @@
 mod FaultLemmas
-mod StoreLemmas
+mod FillLemmas
+mod OlderLemmas
+mod UpgradeLemmas
+mod LedgerLemmas

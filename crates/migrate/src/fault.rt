@@ -1,9 +1,9 @@
 use audit::{AuditFault, Damage};
+use openings::opening::OpenFault;
 use records::Unavailable;
 use std::alloc::AllocError;
 use std::error::Error;
 use std::fmt;
-use store::OpenFault;
 
 /// Why a ledger was not migrated. Nothing has changed; only where its disk failed may the next
 /// opening find the whole of the newer ledger.

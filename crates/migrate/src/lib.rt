@@ -2,10 +2,16 @@
 //! stays, and its rows become those that it prescribes in the newer version.
 #![tactic(auto)]
 
+mod any_version;
 mod fault;
+mod filling;
+mod ledger;
 mod migrating;
 mod newer;
+mod older;
+mod raising;
 
 pub use fault::MigrateFault;
+pub use ledger::LedgerOfVersion;
 pub use migrating::migrate;
 pub use newer::rows_in_version;

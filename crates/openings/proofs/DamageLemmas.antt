@@ -1,7 +1,6 @@
 -- Faults that tell damage, and those that tell none.
-use Rattle.std.proofs.Common.{◌≡◌, ℕ, Result, Err, IfErr, subst}
-use Rattle.rows.specs.declared.all_rows.AllRows.{AllRows}
-use Rattle.audit.specs.Damage.{IsFirstDamage, IfDamaged as IfAuditDamaged}
+use Rattle.std.proofs.Common.{◌≡◌, Result, Err, IfErr, subst}
+use Rattle.audit.specs.Damage.{IfDamaged as IfAuditDamaged}
 use Rattle.audit.specs.declared.damage.Damage.{Damage}
 use Rattle.audit.specs.declared.damage.AuditFault.{AuditFault}
 use Rattle.audit.specs.declared.damage.AuditFault.TheVariants as audit
@@ -12,23 +11,16 @@ use Rattle.sqlite_wal.specs.Reads.{AreClean}
 use Rattle.sqlite.specs.Effect.{Database}
 use Rattle.sqlite.specs.Files.{image_of}
 use Rattle.sqlite.specs.State.{State}
-use Rattle.openings.specs.Damage.{IfDamaged, HasFirstDamage, Hold}
+use Rattle.openings.specs.Damage.{IfDamaged, Hold}
 use Rattle.openings.specs.DamageLaws.{if_damaged_more}
 use Rattle.openings.specs.Faults.{damage_fault}
 use Rattle.openings.specs.Found.{IsOpenAt}
-use Rattle.openings.specs.Whole.{AreAllRows}
 use Rattle.openings.specs.declared.opening.OpenFault.{OpenFault}
 
 -- damage is told as it was found
 told_damage : (cause : AuditFault) (P : Damage → Type 0) → IfAuditDamaged cause P → IfDamaged (damage_fault cause) P
 told_damage (audit.Damaged damage) P found = found
 told_damage audit.Memory P found = tt
-
--- of rows that were read it is the first in the database
-pub first_of_read : (version v : ℕ) (trees : Trees) (all : AllRows) (damage : Damage) → AreAllRows version trees all
-    → v ≡ version → IsFirstDamage v all.tenants.items damage → HasFirstDamage version damage trees
-first_of_read version v trees all damage read is first =
-    record { all = all; read = read; first = subst (λ (n : ℕ). IsFirstDamage n all.tenants.items damage) is first }
 
 pub damage_by_audit : {T : Type 0} (r : Result T OpenFault) (cause : AuditFault) (P Q : Damage → Type 0)
     → r ≡ Err (damage_fault cause) → ((damage : Damage) → P damage → Q damage) → IfAuditDamaged cause P

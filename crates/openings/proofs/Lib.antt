@@ -1,6 +1,5 @@
 mod ReadLemmas
 mod PartLemmas
-mod FillLemmas
 mod FileLemmas
 mod EmptyLemmas
 mod WholeLemmas
@@ -12,7 +11,4 @@ mod HeldMachines
 mod OpenedLedger
 mod OpenedLemmas
 mod KeptSets
-mod UpgradeLemmas
-mod OlderLemmas
-mod RaiseLemmas
 mod DamageLemmas

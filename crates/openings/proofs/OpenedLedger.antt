@@ -18,7 +18,7 @@ use Rattle.stored_tables.specs.Holds.{HoldsMachine}
 use Rattle.stored_tables.specs.MachineOf.{machine_of}
 use Rattle.stored_ledgers.specs.Directory.{number_of}
 use Rattle.stored_ledgers.specs.DueSets.{DueSets, CoversMachine, AreCovered}
-use Rattle.openings.specs.Filling.{HasOrderedTables}
+use Rattle.openings.specs.Found.{HasOrderedTables}
 use Rattle.stored_ledgers.specs.Ledger.{HoldsLedgers}
 use Rattle.openings.specs.Opened.{CoversCells, IsKept, IsExamined}
 use Rattle.openings.specs.Whole.{lists_in, lists_for}

@@ -1,5 +1,5 @@
 -- What an opening has looked at.
-use Rattle.std.proofs.Common.{◌≡◌, ℕ, ℤ, pos, ◌+◌, ◌<◌, All, IsTrue, List, [], ◌∷◌, ◌++◌, map, take, drop, length, get_or, Result, Ok, Err, OnOk, inl, inr, sym, ap, subst, ◌∙◌, arith}
+use Rattle.std.proofs.Common.{◌≡◌, ℕ, ℤ, pos, ◌+◌, ◌<◌, All, IsTrue, List, [], ◌∷◌, ◌++◌, map, take, drop, length, get_or, Result, Ok, Err, IfOk, OnOk, inl, inr, sym, ap, subst, ◌∙◌, arith}
 use Rattle.std.specs.BTreeSet.{contains}
 use Rattle.std.specs.List.Sorted.{IsPermutation}
 use Rattle.std.proofs.lemmas.List.Elements.{All-more, All-weaker}
@@ -15,17 +15,17 @@ use Rattle.sqlite_disk.specs.declared.Disk as disk
 use Rattle.sqlite_disk.specs.declared.Files.{Files}
 use Rattle.sqlite_wal.specs.Reads.{AreClean}
 use Rattle.sqlite_wal.specs.Recovery.{Image}
-use Rattle.sqlite.specs.Effect.{Database}
-use Rattle.sqlite.specs.Files.{AreFoundIn}
+use Rattle.sqlite_store.specs.declared.store.FileStore.{FileStore}
+use Rattle.sqlite.specs.Effect.{Database, IsDatabase}
+use Rattle.sqlite.specs.Files.{AreFoundIn, file_state}
+use Rattle.sqlite.specs.Held.{Held}
 use Rattle.sqlite.specs.State.{State, HasCleanDisk, IsUnchanged}
 use Rattle.ledger_sql.specs.Frames.{Follows}
-use Rattle.openings.specs.Found.{IsOpenAt, Yields}
-use Rattle.stored_ledgers.specs.DueSets.{DueSets, AreCovered}
-use Rattle.stored_ledgers.specs.Ledger.{HoldsLedgers}
-use Rattle.openings.specs.Opened.{CoversCells, IsExamined, IsOpened}
-use Rattle.stored_ledgers.specs.Resting.{IsResting}
+use Rattle.openings.specs.Found.{HasOrderedTables, IsOpenAt, Yields}
+use Rattle.stored_ledgers.specs.DueSets.{DueSets}
+use Rattle.openings.specs.Opened.{CanServe, CoversCells, IsOpened}
+use Rattle.stored_ledgers.specs.Resting.{IsResting, Serves}
 use Rattle.openings.proofs.FileLemmas.{yields_more}
-use Rattle.openings.proofs.OpenedLedger.{RowsFit, RowsTell, examined_holds, examined_covered}
 
 -- the next row's due time is kept beside those before it
 pub covers_more : (old new : DueSet) (xs : List StatusCells) (i : ℕ) (cells : StatusCells)
@@ -39,13 +39,13 @@ covers_more old new xs i cells grows kept before within =
     (take i xs) before) kept
 
 -- the one version that a file names
-pub one_version : {T E : Type 0} (r : Result T E) (rows : List Row) (versions items : List ℤ)
-    → IsPermutation rows (map version_values items) → versions ≡ items → OnOk r (versions ≡ pos 3 ∷ [])
-    → OnOk r (rows ≡ version_values (pos 3) ∷ [])
-one_version (Ok done) rows versions items all same is =
-    only_one rows (version_values (pos 3))
+pub named_version : {E : Type 0} (r : Result ℕ E) (rows : List Row) (versions items : List ℤ)
+    → IsPermutation rows (map version_values items) → versions ≡ items → IfOk r (λ version. versions ≡ pos version ∷ [])
+    → IfOk r (λ version. rows ≡ version_values (pos version) ∷ [])
+named_version (Ok version) rows versions items all same is =
+    only_one rows (version_values (pos version))
     (subst (λ xs. IsPermutation rows (map version_values xs)) (sym same ∙ is) all)
-one_version (Err fault) rows versions items all same is = tt
+named_version (Err fault) rows versions items all same is = is
 
 -- the table of the version comes first in a ledger
 pub starts_with_version : (schema : Schema) → IsLedger schema → StartsAs after_schema.tables schema
@@ -63,22 +63,12 @@ module _ (image : Image) (old new : State) where
           settled = same ∙ at.opens.clean ∙ sym last;
           unmarked = kept.2 ∙ at.opens.unmarked;
         };
+        sound = subst IsDatabase (sym same) (at.live at.opens.is_open).0;
+        ordered = subst HasOrderedTables (sym same) at.ordered;
         found = record {
           holds = λ db held. ap (λ (d : Database). d.trees) last ∙ at.found.holds db held;
           reads = subst (λ (d : Database). AreFoundIn image d.trees) (sym last) at.found.reads;
         };
-      }
-
-  -- it holds ledgers, as was examined, and can be served
-  pub opened_rests : (sets : DueSets) → IsOpenAt image old → IsUnchanged old new → IsExamined sets old.now
-      → RowsFit → RowsTell → IsResting sets new
-  opened_rests sets at kept examined fit tell =
-      let sound = (at.live at.opens.is_open).0 in
-      let same : new.now ≡ old.now = kept.0.now_is in record {
-        quiet = (opened_on at kept).quiet;
-        ledgers = subst HoldsLedgers (sym same) (examined_holds sets old.now sound at.ordered examined fit tell);
-        covered = subst (λ (db : Database). AreCovered sets db.trees) (sym same)
-            (examined_covered sets old.now sound at.ordered examined fit tell);
       }
 
   -- and what its files hold once it was refused
@@ -94,3 +84,17 @@ module _ (image : Image) (old new : State) where
         | inl before ↦ subst (AreFoundIn image) (sym (at.settled.only at.opens.is_open db before)) at.found.reads
         | inr none ↦ absurd none
       ]) yields
+
+-- what was opened and looked at serves
+module _ {D : Type 0} (g : disk.Ghosts D) (image : Image) where
+  serves_of : (sets : DueSets) (s : State) → IsOpened image s → CanServe sets s.now → IsTrue s.is_open × IsResting sets s
+  serves_of sets s opened can =
+      let holds = can opened.sound opened.ordered in
+      (opened.is_open, record { quiet = opened.quiet; ledgers = holds.0; covered = holds.1 })
+
+  pub served : {E : Type 0} (r : Result (Held (FileStore D g) × DueSets) E)
+      → IfOk r (λ it. HasCleanDisk (file_state it.0) → IsOpened image (file_state it.0))
+      → IfOk r (λ it. HasCleanDisk (file_state it.0) → CanServe it.1 (file_state it.0).now)
+      → IfOk r (λ it. Serves it.1 (file_state it.0))
+  served (Ok it) opened can = λ clean. serves_of it.1 (file_state it.0) (opened clean) (can clean)
+  served (Err e) opened can = tt

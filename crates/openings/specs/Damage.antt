@@ -1,5 +1,5 @@
 -- Which damage an opening tells.
-use Rattle.std.specs.Prelude.{◌≡◌, ℕ, pos}
+use Rattle.std.specs.Prelude.{◌≡◌, ℕ, ℤ, pos, [], ◌∷◌}
 use Rattle.rows.specs.declared.all_rows.AllRows.{AllRows}
 use Rattle.audit.specs.Damage.{IsFirstDamage}
 use Rattle.audit.specs.declared.damage.Damage.{Damage}
@@ -8,7 +8,8 @@ use Rattle.sqlite_disk.specs.declared.Files.{Files}
 use Rattle.sqlite_trees.specs.Tree.{Trees}
 use Rattle.sqlite_wal.specs.Reads.{AreClean}
 use Rattle.sqlite.specs.Files.{HoldsDatabase, AreFoundIn, image_of}
-use Rattle.openings.specs.Filling.{NamesVersion}
+use Rattle.ledger_sql.specs.TableRows.{version_rows}
+use Rattle.ledger_sql.specs.Values.{version_values}
 use Rattle.openings.specs.Whole.{AreAllRows}
 use Rattle.openings.specs.declared.opening.OpenFault.{OpenFault}
 use Rattle.openings.specs.declared.opening.OpenFault.TheVariants.{Unreadable, NotALedger, OldSchema}
@@ -33,14 +34,14 @@ pub record HasFirstDamage (version : ℕ) (damage : Damage) (trees : Trees) : Ty
   pub read : AreAllRows version trees all
   pub first : IsFirstDamage version all.tenants.items damage
 
+-- the file names this version, and no other
+abbrev pub NamesVersion : ℤ → Trees → Type 0
+NamesVersion version trees = version_rows trees ≡ version_values version ∷ []
+
 -- so it is of a file that names this version
 pub record IsDamagedIn (version : ℕ) (damage : Damage) (trees : Trees) : Type 0 where
   pub named : NamesVersion (pos version) trees
   pub damaged : HasFirstDamage version damage trees
-
--- so it is in the version that the file names
-abbrev pub IsDamaged : Damage → Trees → Type 0
-IsDamaged damage trees = (version : ℕ) × IsDamagedIn version damage trees
 
 -- the files were honest, and what an opening finds in them is such a database
 pub record Hold {D : Type 0} (g : disk.Ghosts D) (files : Files D) (P : Trees → Type 0) : Type 0 where

@@ -1,5 +1,6 @@
 -- What an opening finds in two files, and what a crash leaves in them.
 use Rattle.std.specs.Prelude.{◌≡◌, ◌⊎◌, None, IsTrue}
+use Rattle.std.specs.List.{AllByRecursion}
 use Rattle.sqlite_disk.specs.declared.Disk as disk
 use Rattle.sqlite_disk.specs.declared.Files.{Files}
 use Rattle.sqlite_trees.specs.Tree.{Trees}
@@ -13,13 +14,17 @@ use Rattle.sqlite.specs.declared.file.Leftover.{Leftover}
 use Rattle.sqlite.specs.Start.{FindsIn}
 use Rattle.sqlite.specs.State.{State, Opens, IsLive}
 use Rattle.ledger_sql.specs.Creating.{IsEmptyLedger}
-use Rattle.openings.specs.Filling.{HasOrderedTables}
+use Rattle.ledger_sql.specs.Rowids.{IsNumbered}
 use Rattle.openings.specs.Shape.{has_ours}
 
 -- while the database is open, a crash leaves what was committed last, and nothing else
 pub record IsSettled (s : State) : Type 0 where
   pub only : IsTrue s.is_open → (db : Trees) → s.may_leave db → db ≡ s.committed.trees
   pub stays : IsTrue s.is_open → s.may_leave s.committed.trees
+
+-- in each table the rowids are whole numbers, and they rise
+abbrev pub HasOrderedTables : Database → Type 0
+HasOrderedTables db = AllByRecursion (λ t. IsNumbered (db.trees t.tree)) db.schema.tables
 
 -- a database was opened on what the files held
 pub record IsOpenAt (image : Image) (s : State) : Type 0 where

@@ -1,13 +1,9 @@
 pub mod Tables
 pub mod TablesLaws
-pub mod Filling
-pub mod FillingLaws
 pub mod Whole
 pub mod Shape
 pub mod Found
 pub mod Faults
 pub mod Opened
-pub mod Upgrading
-pub mod UpgradingLaws
 pub mod Damage
 pub mod DamageLaws

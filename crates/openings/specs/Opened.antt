@@ -16,7 +16,7 @@ use Rattle.sqlite_disk.specs.declared.Disk as disk
 use Rattle.sqlite_disk.specs.declared.Files.{Files}
 use Rattle.sqlite_trees.specs.Tree.{Trees}
 use Rattle.sqlite_wal.specs.Recovery.{Image}
-use Rattle.sqlite.specs.Effect.{Database}
+use Rattle.sqlite.specs.Effect.{Database, IsDatabase}
 use Rattle.sqlite.specs.Files.{AreFoundIn, image_of}
 use Rattle.sqlite.specs.Start.{FindsIn}
 use Rattle.sqlite.specs.State.{State}
@@ -25,8 +25,9 @@ use Rattle.ledger_sql.specs.TableRows.{version_rows}
 use Rattle.ledger_sql.specs.Values.{version_values}
 use Rattle.stored_tables.specs.Covers.{IsCovered}
 use Rattle.tenants.specs.NameText.{IsTenantName}
-use Rattle.stored_ledgers.specs.DueSets.{DueSet, DueSets, due_cmp}
-use Rattle.openings.specs.Found.{LeavesUnopened, Yields}
+use Rattle.stored_ledgers.specs.DueSets.{DueSet, DueSets, AreCovered, due_cmp}
+use Rattle.stored_ledgers.specs.Ledger.{HoldsLedgers}
+use Rattle.openings.specs.Found.{HasOrderedTables, LeavesUnopened, Yields}
 use Rattle.stored_ledgers.specs.Resting.{IsQuiet}
 use Rattle.openings.specs.Whole.{AreAllRows}
 
@@ -75,10 +76,17 @@ pub record IsExamined (sets : DueSets) (db : Database) : Type 0 where
   pub sound : All (λ tenant. AreSound 3 (lists_of tenant.rows)) all.tenants.items
   pub kept : AreKept sets all.directory.items all.tenants.items
 
+-- sound tables in which the rowids rise hold ledgers, and the sets cover them
+abbrev pub CanServe : DueSets → Database → Type 0
+CanServe sets db =
+    IsDatabase db → HasOrderedTables db → HoldsLedgers db × AreCovered sets db.trees
+
 -- a database was opened on what the files held
 pub record IsOpened (image : Image) (s : State) : Type 0 where
   pub is_open : IsTrue s.is_open
   pub quiet : IsQuiet s
+  pub sound : IsDatabase s.now
+  pub ordered : HasOrderedTables s.now
   pub found : FindsIn image s
 
 -- what an opening that was refused leaves: what the database's own left, or what the files held

@@ -1,38 +1,37 @@
 //! What an opening looks at before a ledger is served.
 
-ghost use Rattle.std.specs.Prelude.{◌≡◌, pos, [], ◌∷◌, IfOk, IfErr, OnOk, IsTrue};
+ghost use Rattle.std.specs.Prelude.{IfOk, IfErr, OnOk, IsTrue};
 ghost use Rattle.sqlite.specs.State.{HasCleanDisk, IsUnchanged};
 ghost use Rattle.sqlite.specs.Held.{state};
 ghost use Rattle.ledger_sql.specs.Effects.{IsLedger};
 ghost use Rattle.ledger_sql.specs.Frames.{Live, Follows};
 ghost use Rattle.openings.specs.Damage.{IfDamaged, IsDamagedIn, IsNoDamage};
-ghost use Rattle.openings.specs.Opened.{HasCurrentVersion, HasNames, IsExamined};
+ghost use Rattle.openings.specs.Opened.{CanServe, HasCurrentVersion, HasNames};
 ghost use Rattle.stored_ledgers.specs.Resting.{IsQuiet, IsSame};
 ghost use Rattle.openings.specs.Whole.{AreAllRows};
 
 use crate::auditing::Audit;
 use crate::due_sets::due_sets;
 use crate::opening::OpenFault;
-use crate::standing::{standing_refusal, version_refusal};
+use crate::standing::standing_refusal;
+use crate::versions::{CURRENT_VERSION, find_version};
 use crate::whole_rows::read_all;
-use ledger_sql::listing::list_versions;
-use rows::{AllRows, DirectoryRow};
+use rows::{AllRows, DirectoryRow, rows_fit};
 use sqlite::{Alter, Connection};
 use std::alloc::Global;
 use stored_ledgers::batches::DueSets;
+use stored_tables::held_machines;
 use tenants::TenantName;
 
-/// The version of the schema that a new ledger has.
-pub const CURRENT_VERSION: u32 = 3;
-
-/// Looks at all that a file holds, and gives the due times of its tenants. It only reads.
-pub(crate) fn examine<S: Alter, A: Audit>(
+/// Looks at all that a file of the current version holds, and gives the due times of its tenants. It
+/// only reads.
+pub fn examine<S: Alter, A: Audit>(
     alloc: Global,
     conn: &mut Connection<S>,
     audit: &A,
 ) -> Result<DueSets, OpenFault>
     ensures examined { HasCleanDisk (state S.Store conn.new)
-        → IfOk result (λ sets. IsExamined sets (state S.Store conn.old).now) }
+        → IfOk result (λ sets. CanServe sets (state S.Store conn.old).now) }
     ensures damaged { HasCleanDisk (state S.Store conn.new)
         → IfErr result (λ fault. IfDamaged fault
         (λ damage. IsDamagedIn 3 damage (state S.Store conn.old).now.trees)) }
@@ -42,6 +41,8 @@ pub(crate) fn examine<S: Alter, A: Audit>(
         → IsSame (state S.Store conn.old) (state S.Store conn.new) }
     ensures follows { Follows (state S.Store conn.old) (state S.Store conn.new) }
 {
+    rows_fit();
+    held_machines();
     find_current(alloc, conn)?;
     let rows = read_ledger(alloc, conn)?;
     audit.audit(alloc, &rows)?;
@@ -60,23 +61,11 @@ fn find_current<S: Alter>(alloc: Global, conn: &mut Connection<S>) -> Result<(),
         → IsSame (state S.Store conn.old) (state S.Store conn.new) }
     ensures follows { Follows (state S.Store conn.old) (state S.Store conn.new) }
 {
-    if let Some(fault) = version_refusal(conn.schema()) {
-        return Err(fault);
+    let version = find_version(alloc, conn)?;
+    if version < CURRENT_VERSION {
+        return Err(OpenFault::OldSchema);
     }
-    let versions = list_versions(alloc, conn)?;
-    version_fault(versions.as_slice())
-}
-
-fn version_fault(versions: &[i64]) -> Result<(), OpenFault>
-    ensures current { OnOk result (versions.now ≡ pos 3 ∷ []) }
-    ensures undamaged { IfErr result IsNoDamage }
-{
-    match versions {
-        [3] => Ok(()),
-        [1 | 2] => Err(OpenFault::OldSchema),
-        [version] if *version > 3 => Err(OpenFault::NewerSchema),
-        _ => Err(OpenFault::NotALedger),
-    }
+    Ok(())
 }
 
 /// Reads all rows of a file of the current version.
@@ -104,7 +93,7 @@ fn read_ledger<S: Alter>(alloc: Global, conn: &mut Connection<S>) -> Result<AllR
 }
 
 /// Whether each tenant has a name that a tenant may have.
-pub(crate) fn has_names(directory: &[DirectoryRow]) -> bool
+pub fn has_names(directory: &[DirectoryRow]) -> bool
     ensures { IsTrue result → HasNames directory.now }
 {
     directory

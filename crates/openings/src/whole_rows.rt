@@ -44,6 +44,7 @@ pub fn rows_in<S: Alter>(
     version: u32,
 ) -> Result<AllRows, Unavailable>
     requires { CanBeRead version (state S.Store conn.old) }
+    ensures version { IfOk result (λ rows. rows.version ≡ version) }
     ensures value { HasCleanDisk (state S.Store conn.new)
         → IfOk result (AreAllRows version (state S.Store conn.old).now.trees) }
     ensures same { Live (state S.Store conn.new)
@@ -82,6 +83,7 @@ fn try_all_rows<S: Alter>(
     conn: &mut Connection<S>,
     version: u32,
 ) -> Result<AllRows, Unavailable>
+    ensures version { IfOk result (λ rows. rows.version ≡ version) }
     ensures whole { HasCleanDisk (state S.Store conn.new)
         → HasTables version (state S.Store conn.old).now.schema
         → IfOk result (AreAllRows version (state S.Store conn.old).now.trees) }
@@ -118,11 +120,12 @@ fn try_rows_of<S: Alter>(
 }
 
 /// All rows of a file of this version, or that it lacks a table.
-pub(crate) fn read_all<S: Alter>(
+pub fn read_all<S: Alter>(
     alloc: Global,
     conn: &mut Connection<S>,
     version: u32,
 ) -> Result<AllRows, TableFault>
+    ensures version { IfOk result (λ rows. rows.version ≡ version) }
     ensures whole { HasCleanDisk (state S.Store conn.new)
         → HasTables version (state S.Store conn.old).now.schema
         → IfOk result (AreAllRows version (state S.Store conn.old).now.trees) }

@@ -2,4 +2,3 @@ mod ReadLemmas
 mod ReopenLemmas
 mod LookupLemmas
 mod FindsLemmas
-mod MigratingLemmas

@@ -42,7 +42,7 @@ module _ {D : Type 0} (g : disk.Ghosts D) where
   module _ {T : Type 0} (result : Result T Unavailable) (fault : Bool) (old new : Store D g)
       (conn conn' : Held (FileStore D g)) (old_is : old.place ≡ at.Open conn)
       (new_is : new.place ≡ at.Open conn') (same_due : new.due ≡ old.due)
-      (same_version : new.version ≡ old.version) (was_ready : old.ready ≡ true)
+      (was_ready : old.ready ≡ true)
       (now_ready : new.ready ≡ not fault) (told : IsTrue fault ↔ (result ≡ Err DiskFailed))
       (usable : IsUsable old) (follows : Follows (file_state conn) (file_state conn'))
       (same : Live (file_state conn') → IsSame (file_state conn) (file_state conn'))
@@ -74,7 +74,6 @@ module _ {D : Type 0} (g : disk.Ghosts D) where
           honest = λ honest. subst IsHonestAt (sym old_is) (clean_before (file_state conn) (file_state conn')
               follows (subst IsHonestAt new_is honest));
           unready = λ ready. was_ready;
-          version = same_version;
         };
         open_yet = λ honest no_fault. subst IsLiveAt (sym new_is)
             (let clean = subst IsHonestAt new_is honest in (clean, is_open clean no_fault));

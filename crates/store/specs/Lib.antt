@@ -1,4 +1,3 @@
 pub mod Stores
 pub mod StoreLaws
 pub mod Lookups
-pub mod Migrating

@@ -1,5 +1,5 @@
 -- What every run of calls on a store keeps, and what a live one holds.
-use Rattle.std.proofs.Common.{◌≡◌, ℤ, Option, Some, None, option_map, refl, ◌∙◌, subst}
+use Rattle.std.proofs.Common.{◌≡◌, ℤ, Option, Some, None, option_map, refl, subst}
 use Rattle.sqlite_disk.specs.declared.Disk as disk
 use Rattle.records.specs.Valid.{IsValid}
 use Rattle.chain.specs.Ledgers.{LedgersMeaning, AreValid}
@@ -42,7 +42,6 @@ module _ {D : Type 0} {g : disk.Ghosts D} where
     lived = λ live. live;
     honest = λ honest. honest;
     unready = λ ready. ready;
-    version = refl;
   }
 
   -- a run of calls behind another is one
@@ -51,7 +50,6 @@ module _ {D : Type 0} {g : disk.Ghosts D} where
     lived = λ live. first.lived (second.lived live);
     honest = λ honest. first.honest (second.honest honest);
     unready = λ ready. first.unready (second.unready ready);
-    version = second.version ∙ first.version;
   }
 
   valid_at : (ready : _) (sets : DueSets) (place : Place D g) → IsLiveAt place

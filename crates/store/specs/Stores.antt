@@ -8,7 +8,9 @@ use Rattle.sqlite_wal.specs.Reads.{AreClean}
 use Rattle.sqlite_wal.specs.Recovery.{Image}
 use Rattle.sqlite.specs.Effect.{Database}
 use Rattle.sqlite.specs.Files.{HoldsDatabase, AreFoundIn, file_state}
+use Rattle.sqlite.specs.Held.{Held}
 use Rattle.sqlite.specs.State.{HasCleanDisk}
+use Rattle.sqlite_store.specs.declared.store.FileStore.{FileStore}
 use Rattle.records.specs.declared.unavailable.Unavailable.{Unavailable}
 use Rattle.records.specs.declared.unavailable.Unavailable.TheVariants.{Disk as DiskFailed}
 use Rattle.chain.specs.Ledgers.{Tenants, KeepsAll}
@@ -97,7 +99,6 @@ module _ {D : Type 0} {g : disk.Ghosts D} where
     pub lived : IsLive new → IsLive old
     pub honest : IsHonest new → IsHonest old
     pub unready : IsTrue new.ready → IsTrue old.ready
-    pub version : new.version ≡ old.version
 
   -- what an opening may find after a call: what it might have found before, or one of these
   abbrev pub Goes : Store D g → Store D g → (Trees → Type 0) → Type 0
@@ -135,9 +136,9 @@ module _ {D : Type 0} {g : disk.Ghosts D} where
   abbrev pub IsReady : Store D g → Type 0
   IsReady store = IsTrue store.ready
 
-  -- the version of the schema that the store knows of
-  abbrev pub version_of : Store D g → ℕ
-  version_of store = store.version
+  -- the store is over this open database
+  abbrev pub IsStoreOver : Held (FileStore D g) → Store D g → Type 0
+  IsStoreOver conn store = store.place ≡ at.Open conn
 
   -- a store that answers no calls tells this fault, and is as before
   abbrev pub RefusesUnready : {T E : Type 0} → E → Store D g → Store D g → Result T E → Type 0

@@ -3,11 +3,10 @@
 ghost use Rattle.std.specs.Prelude.{◌≡◌, IfOk};
 ghost use Rattle.sqlite_wal.specs.Files.{image_at};
 ghost use Rattle.ledger_sql.specs.Creating.{IsEmptyLedger};
-ghost use Rattle.store.specs.Stores.{IsHonest, IsLive, IsOpenedOn, IsReady, IsUsable, OfDatabase, version_of};
+ghost use Rattle.store.specs.Stores.{IsHonest, IsLive, IsOpenedOn, IsReady, IsUsable, OfDatabase};
 
 use crate::Store;
 use openings::auditing::Audit;
-use openings::opened::CURRENT_VERSION;
 use openings::opening::{OpenFault, files_at};
 use sqlite::Options;
 use sqlite_disk::Start;
@@ -24,7 +23,6 @@ impl<St: Start> Store<FileFrom<St>> {
     ) -> Result<Store<FileFrom<St>>, OpenFault>
         ensures usable { IfOk result IsUsable }
         ensures ready { IfOk result IsReady }
-        ensures current { IfOk result (λ store. version_of store ≡ CURRENT_VERSION) }
         ensures empty { IfOk result (λ store. IsHonest store → IsLive store
             × OfDatabase (λ db. IsEmptyLedger db.trees) store) }
     {
@@ -45,7 +43,6 @@ impl<St: Start> Store<FileFrom<St>> {
     ) -> Result<Store<FileFrom<St>>, OpenFault>
         ensures usable { IfOk result IsUsable }
         ensures ready { IfOk result IsReady }
-        ensures current { IfOk result (λ store. version_of store ≡ CURRENT_VERSION) }
         ensures opened { IfOk result (λ store. IsHonest store
             → IsOpenedOn (image_at St.Start) store) }
     {

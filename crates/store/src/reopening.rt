@@ -3,14 +3,14 @@
 ghost use Rattle.std.specs.Prelude.{◌≡◌, false, IfErr, OnOk, OnErr};
 ghost use Rattle.openings.specs.Damage.{IfDamaged, IsDamagedIn};
 ghost use Rattle.store.specs.Stores.{IsHonest, IsLive, IsReady, IsUsable};
-ghost use Rattle.store.specs.Stores.{Finds, MayHold, may_find, version_of};
+ghost use Rattle.store.specs.Stores.{Finds, MayHold, may_find};
 
 use crate::Store;
 use crate::place::Place;
 use core::mem::replace_with;
 use openings::auditing::Audit;
-use openings::opened::CURRENT_VERSION;
 use openings::opening::OpenFault;
+use openings::versions::CURRENT_VERSION;
 use records::Unavailable;
 use sqlite::{Files, Options};
 use sqlite_disk::Disk;
@@ -23,7 +23,6 @@ impl<D: Disk + Drop> Store<D> {
     pub fn reopen<A: Audit>(&mut self, audit: &A) -> Result<(), OpenFault>
         ensures usable { IsUsable self.new }
         ensures ready { OnOk result (IsReady self.new) }
-        ensures current { OnOk result (version_of self.new ≡ CURRENT_VERSION) }
         ensures found { IsHonest self.new → OnOk result (Finds self.new (may_find self.old)) }
         ensures honest { IsHonest self.new → OnOk result (IsHonest self.old) }
         ensures damaged { IsHonest self.new → IfErr result (λ fault. IfDamaged fault
@@ -42,7 +41,6 @@ fn reopened<D: Disk + Drop, A: Audit>(
 ) -> (Store<D>, Result<(), OpenFault>)
     ensures usable { IsUsable result.0 }
     ensures ready { OnOk result.1 (IsReady result.0) }
-    ensures current { OnOk result.1 (version_of result.0 ≡ CURRENT_VERSION) }
     ensures found { IsHonest result.0 → OnOk result.1 (Finds result.0 (may_find store)) }
     ensures honest { IsHonest result.0 → OnOk result.1 (IsHonest store) }
     ensures damaged { IsHonest result.0 → IfErr result.1 (λ fault. IfDamaged fault
@@ -52,29 +50,27 @@ fn reopened<D: Disk + Drop, A: Audit>(
 {
     let alloc = store.alloc;
     let options = store.options;
-    let version = store.version;
     let files = store.close();
     if !(files.log.may_be_used() && files.db.may_be_used()) {
         return (
-            unopened(alloc, version, options, files),
+            unopened(alloc, options, files),
             Err(OpenFault::Unavailable(Unavailable::Disk)),
         );
     }
     match Store::open(alloc, files, options, audit) {
         Ok(store) => (store, Ok(())),
-        Err((fault, left)) => (unopened(alloc, version, options, left), Err(fault)),
+        Err((fault, left)) => (unopened(alloc, options, left), Err(fault)),
     }
 }
 
 /// A store that is not opened, with its files in hand.
-fn unopened<D: Disk>(alloc: Global, version: u32, options: Options, files: Files<D>) -> Store<D>
+fn unopened<D: Disk>(alloc: Global, options: Options, files: Files<D>) -> Store<D>
     ensures place { result.place ≡ Place.Shut files }
     ensures ready { result.ready ≡ false }
 {
     Store {
         place: Place::Shut(files),
         ready: false,
-        version,
         due: BTreeMap::new(alloc),
         options,
         alloc,

@@ -4,7 +4,7 @@ ghost use Rattle.std.specs.Prelude.{◌≡◌, ◌≢◌, false, Err, is_some, I
 ghost use Rattle.records.specs.declared.unavailable.Unavailable.TheVariants.{Disk as DiskFailed};
 ghost use Rattle.chain.specs.Ledgers.{IsRun};
 ghost use Rattle.chain.specs.declared.ledgers.BatchFault.TheVariants.{Unavailable as AreUnavailable};
-ghost use Rattle.sqlite.specs.Files.{image_of};
+ghost use Rattle.sqlite.specs.Files.{file_state, image_of};
 ghost use Rattle.stored_ledgers.specs.Outcomes.{IsAfterBatch};
 ghost use Rattle.sqlite_wal.specs.Reads.{AreClean};
 ghost use Rattle.ledger_sql.specs.Creating.{IsEmptyLedger};
@@ -13,7 +13,8 @@ ghost use Rattle.stored_ledgers.specs.Directory.{digest_in, KeepsDirectory};
 ghost use Rattle.openings.specs.Found.{FindsOurs, LeavesNew};
 ghost use Rattle.stored_ledgers.specs.Joining.{HasJoined, Joined};
 ghost use Rattle.openings.specs.Opened.{LeavesRefused};
-ghost use Rattle.store.specs.Stores.{IsLive, IsHonest, IsOpenedOn, IsReady, tenants_of, version_of, GivesBack, IsUsable, Follows, Goes, OfDatabase, OfDatabases, IsSettledStore, Reads, RefusesUnready};
+ghost use Rattle.stored_ledgers.specs.Resting.{Serves};
+ghost use Rattle.store.specs.Stores.{IsLive, IsHonest, IsOpenedOn, IsReady, IsStoreOver, tenants_of, GivesBack, IsUsable, Follows, Goes, OfDatabase, OfDatabases, IsSettledStore, Reads, RefusesUnready};
 ghost use Rattle.openings.specs.Whole.{AreAllRows, AreRowsOf};
 ghost use Rattle.openings.specs.declared.opening.OpenFault.TheVariants.{NotALedger};
 
@@ -23,8 +24,8 @@ use openings::auditing::Audit;
 use openings::closing::{is_settled, shut};
 use openings::creating::create_ledger;
 use openings::ledgers::open_ledger;
-use openings::opened::CURRENT_VERSION;
 use openings::opening::OpenFault;
+use openings::versions::CURRENT_VERSION;
 use openings::whole_rows::{all_rows, rows_of};
 use records::Unavailable;
 use rows::{AllRows, TenantRows};
@@ -46,7 +47,6 @@ pub struct Store<D: Disk> {
     pub(crate) place: Place<D>,
     /// Whether calls are answered.
     pub(crate) ready: bool,
-    pub(crate) version: u32,
     pub(crate) due: DueSets,
     /// How the files were opened, and are opened again.
     pub(crate) options: Options,
@@ -66,7 +66,6 @@ impl<D: Disk + Drop> Store<D> {
         requires db { IsTrue (D.Disk.is_usable files.db) }
         ensures usable { IfOk result IsUsable }
         ensures ready { IfOk result IsReady }
-        ensures current { IfOk result (λ store. version_of store ≡ CURRENT_VERSION) }
         ensures empty { IfOk result (λ store. IsHonest store → IsLive store
             × OfDatabase (λ db. IsEmptyLedger db.trees) store) }
         ensures refused { IfErr result (λ e. e.0 ≡ NotALedger → AreClean D.Disk e.1.log e.1.db
@@ -74,14 +73,7 @@ impl<D: Disk + Drop> Store<D> {
         ensures left { IfErr result (λ e. LeavesNew D.Disk files e.1) }
     {
         let conn = create_ledger(alloc, files, options)?;
-        Ok(Store {
-            place: Place::Open(conn),
-            ready: true,
-            version: CURRENT_VERSION,
-            due: BTreeMap::new(alloc),
-            options,
-            alloc,
-        })
+        Ok(Store::over(alloc, conn, BTreeMap::new(alloc), options))
     }
 
     /// Opens the ledger in two files, once all of it was looked at. They are given back where it is
@@ -96,7 +88,6 @@ impl<D: Disk + Drop> Store<D> {
         requires db { IsTrue (D.Disk.is_usable files.db) }
         ensures usable { IfOk result IsUsable }
         ensures ready { IfOk result IsReady }
-        ensures current { IfOk result (λ store. version_of store ≡ CURRENT_VERSION) }
         ensures opened { IfOk result (λ store. IsHonest store
             → IsOpenedOn (image_of D.Disk files) store) }
         ensures honest { IfOk result (λ store. IsHonest store
@@ -106,21 +97,36 @@ impl<D: Disk + Drop> Store<D> {
         ensures left { IfErr result (λ e. LeavesRefused D.Disk files e.1) }
     {
         let (conn, due) = open_ledger(alloc, files, options, audit)?;
-        Ok(Store {
+        Ok(Store::over(alloc, conn, due, options))
+    }
+
+    /// A store over a database that is open, whose ledgers were looked at and are the current
+    /// version's. The sets have what is due of each tenant.
+    pub fn over(
+        alloc: Global,
+        conn: Connection<FileStore<D>>,
+        due: DueSets,
+        options: Options,
+    ) -> Store<D>
+        requires { Serves due (file_state conn) }
+        ensures usable { IsUsable result }
+        ensures ready { IsReady result }
+        ensures over { IsStoreOver conn result }
+    {
+        Store {
             place: Place::Open(conn),
             ready: true,
-            version: CURRENT_VERSION,
             due,
             options,
             alloc,
-        })
+        }
     }
 
-    /// The version of the schema that the store's making or its last opening set or found.
+    /// The version of the schema that the ledger has.
     pub fn schema(&self) -> u32
-        ensures { result ≡ self.now.version }
+        ensures { result ≡ CURRENT_VERSION }
     {
-        self.version
+        CURRENT_VERSION
     }
 
     /// Whether calls are answered: not from a fault of the disk on, until the store is reopened.
@@ -147,7 +153,6 @@ impl<D: Disk + Drop> Store<D> {
         let Store {
             place,
             ready: _,
-            version: _,
             due: _due,
             options: _,
             alloc: _,
@@ -180,7 +185,7 @@ impl<D: Disk + Drop> Store<D> {
     pub fn all_rows(&mut self) -> Result<AllRows, Unavailable>
         requires { IsUsable self.old }
         ensures value { IsLive self.new → IfOk result (λ rows. OfDatabase
-            (λ db. AreAllRows (version_of self.old) db.trees rows) self.old) }
+            (λ db. AreAllRows CURRENT_VERSION db.trees rows) self.old) }
         ensures reads { Reads self.old self.new result }
     {
         if !self.ready {
@@ -189,7 +194,7 @@ impl<D: Disk + Drop> Store<D> {
         let Place::Open(conn) = &mut self.place else {
             return Err(Unavailable::Disk);
         };
-        let rows = all_rows(self.alloc, conn, self.version);
+        let rows = all_rows(self.alloc, conn, CURRENT_VERSION);
         self.ready = !is_disk_fault(&rows);
         rows
     }
@@ -198,7 +203,7 @@ impl<D: Disk + Drop> Store<D> {
     pub fn rows_of(&mut self, digest: &[u8; 32]) -> Result<Option<TenantRows>, Unavailable>
         requires { IsUsable self.old }
         ensures value { IsLive self.new → IfOk result (λ rows. OfDatabase
-            (λ db. AreRowsOf (version_of self.old) digest.now db.trees rows) self.old) }
+            (λ db. AreRowsOf CURRENT_VERSION digest.now db.trees rows) self.old) }
         ensures reads { Reads self.old self.new result }
     {
         if !self.ready {
@@ -207,7 +212,7 @@ impl<D: Disk + Drop> Store<D> {
         let Place::Open(conn) = &mut self.place else {
             return Err(Unavailable::Disk);
         };
-        let rows = rows_of(self.alloc, conn, self.version, digest);
+        let rows = rows_of(self.alloc, conn, CURRENT_VERSION, digest);
         self.ready = !is_disk_fault(&rows);
         rows
     }

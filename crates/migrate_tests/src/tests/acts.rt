@@ -2,7 +2,7 @@
 
 use super::database::{changed, connected, number};
 use super::fixture::DIGEST;
-use super::stored::{Migrated, Opened, brought, opened, refusal, usable, used};
+use super::stored::{Migrated, brought, opened, refusal, served, usable, used};
 use audit::{Damage, DamageKind};
 use sqlite::{Alter, Connection, Files};
 use sqlite_disk::Disk;
@@ -16,6 +16,8 @@ pub enum Act {
     IsOld,
     /// What a migration to a version answers, and the version after it.
     Migrates(u32, Migrated, u32),
+    /// Migrated to a version it is served at once, and goes on, or it cannot be.
+    Serves(u32, bool),
     /// A statement of SQL is run.
     Runs(&'static str),
     /// Each text of SQL answers a number.
@@ -40,6 +42,7 @@ pub fn act_on<D: Disk + Drop>(
         Act::Migrates(to, answer, version) => {
             migrates(rt, alloc, files, *to, &(*answer, *version))
         }
+        Act::Serves(to, want) => serves(rt, alloc, files, *to, *want),
         Act::Runs(sql) => run(alloc, files, sql),
         Act::Counts(texts) => counted(rt, alloc, files, texts),
         Act::IsRefused(fault) => refused(rt, opened(alloc, files), *fault),
@@ -83,9 +86,9 @@ fn damaged(kind: DamageKind) -> OpenFault {
     })
 }
 
-fn refused<D: Disk + Drop>(
+fn refused<T: Drop, D: Disk + Drop>(
     rt: &impl Abort,
-    opened: Opened<D>,
+    opened: Result<T, (OpenFault, Files<D>)>,
     want: OpenFault,
 ) -> Result<Files<D>, Fail> {
     let Some((fault, files)) = refusal(opened) else {
@@ -106,9 +109,29 @@ fn migrates<D: Disk + Drop>(
         return Err("no such version".into());
     }
     match opened(alloc, files) {
-        Ok(store) => {
-            let (answer, version, files) = brought(alloc, store, to);
+        Ok(ledger) => {
+            let (answer, version, files) = brought(alloc, ledger, to);
             assert_eq!(rt; (answer, version), *want);
+            Ok(files)
+        }
+        Err((fault, _)) => Err(fault.into()),
+    }
+}
+
+fn serves<D: Disk + Drop>(
+    rt: &impl Abort,
+    alloc: Global,
+    files: Files<D>,
+    to: u32,
+    want: bool,
+) -> Result<Files<D>, Fail> {
+    if 3 < to {
+        return Err("no such version".into());
+    }
+    match opened(alloc, files) {
+        Ok(ledger) => {
+            let (is_served, files) = served(rt, alloc, ledger, to)?;
+            assert_eq!(rt; is_served, want);
             Ok(files)
         }
         Err((fault, _)) => Err(fault.into()),

@@ -1,12 +1,13 @@
 //! A ledger in a file of the host.
 
 ghost use Rattle.std.specs.Prelude.{IfOk};
-ghost use Rattle.store.specs.Migrating.{IsMigratable};
+ghost use Rattle.migrate.specs.Ledgers.{IsMigratable};
 ghost use Rattle.store.specs.Stores.{IsUsable};
 
 use super::database::{SMALL, executed};
 use super::fixture::LEDGER;
 use super::stored::{Migrated, brought, refusal, used};
+use migrate::LedgerOfVersion;
 use sqlite::{Connection, Error, File, FileStore, Unknown};
 use std::fs;
 use std::test::Fail;
@@ -24,10 +25,10 @@ fn connected(rt: &HostRuntime) -> Result<Connection<FileStore<File>>, Error> {
     }
 }
 
-fn opened(rt: &HostRuntime) -> Result<Store<File>, OpenFault>
+fn opened(rt: &HostRuntime) -> Result<LedgerOfVersion<File>, OpenFault>
     ensures { IfOk result IsMigratable }
 {
-    Store::open_for_migration_at(rt, PATH, Unknown, SMALL, &FullAudit)
+    LedgerOfVersion::open_for_migration_at(rt, PATH, Unknown, SMALL, &FullAudit)
 }
 
 fn usable(rt: &HostRuntime) -> Result<Store<File>, OpenFault>
@@ -43,9 +44,9 @@ fn write_file(rt: &HostRuntime) -> Result<(), Error> {
 
 /// The version that is found, what the migration answers, and the version that is there then.
 fn migrate_file(rt: &HostRuntime) -> Result<(u32, Migrated, u32), OpenFault> {
-    let store = opened(rt)?;
-    let from = store.schema();
-    let (answer, to, _files) = brought(rt.alloc(), store, 3);
+    let ledger = opened(rt)?;
+    let from = ledger.schema();
+    let (answer, to, _files) = brought(rt.alloc(), ledger, 3);
     Ok((from, answer, to))
 }
 

@@ -64,6 +64,7 @@ const LEDGERS: &[&[Act]] = &[
         Counts(EXPIRED),
         GoesOn,
     ],
+    &[Serves(2, false), Serves(3, true)],
     &[
         Runs("UPDATE schema SET version = 4"),
         IsRefused(NewerSchema),

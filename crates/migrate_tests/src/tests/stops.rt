@@ -2,7 +2,7 @@
 //! the new one, whole, as the audit of the next opening finds.
 
 use super::fixture::in_memory;
-use super::stored::{Migrated, Opened, brought, files_of, opened};
+use super::stored::{Migrated, Opened, brought, opened};
 use migrate::MigrateFault;
 use records::Unavailable;
 use sqlite::{Error, Files};
@@ -29,8 +29,8 @@ enum Stopping {
 // What an opening and a migration to the current version answer, and the files.
 fn attempted<D: Disk + Drop>(alloc: Global, files: Files<D>) -> (Migrated, Files<D>) {
     match opened(alloc, files) {
-        Ok(store) => {
-            let (answer, _, files) = brought(alloc, store, 3);
+        Ok(ledger) => {
+            let (answer, _, files) = brought(alloc, ledger, 3);
             (answer, files)
         }
         Err((fault, files)) => (Err(fault.into()), files),
@@ -54,7 +54,7 @@ fn stopped<D: Crash + Drop>(alloc: Global, files: Files<D>) -> Result<(Migrated,
 // The version of an opened ledger, and its files.
 fn version_of<D: Disk + Drop>(opened: Opened<D>) -> Result<(u32, Files<D>), Fail> {
     match opened {
-        Ok(store) => Ok((store.schema(), files_of(store))),
+        Ok(ledger) => Ok((ledger.schema(), ledger.close())),
         Err((fault, _)) => Err(fault.into()),
     }
 }

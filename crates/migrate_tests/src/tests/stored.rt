@@ -1,12 +1,12 @@
 //! The ledger in some files: opened, migrated and used.
 
 ghost use Rattle.std.specs.Prelude.{◌≤◌, IfOk};
-ghost use Rattle.store.specs.Migrating.{IsMigratable};
+ghost use Rattle.migrate.specs.Ledgers.{IsMigratable};
 ghost use Rattle.store.specs.Stores.{IsUsable};
 
 use super::database::SMALL;
 use super::work::goes_on;
-use migrate::{MigrateFault, migrate};
+use migrate::{LedgerOfVersion, MigrateFault, migrate};
 use records::Unavailable;
 use sqlite::Files;
 use sqlite_disk::Disk;
@@ -18,8 +18,8 @@ use store::{FullAudit, OpenFault, Store};
 /// What a migration answers.
 pub type Migrated = Result<(), MigrateFault>;
 
-/// A ledger that is opened, or why it is not, with the files.
-pub type Opened<D> = Result<Store<D>, (OpenFault, Files<D>)>;
+/// A ledger that is opened to be migrated, or why it is not, with the files.
+pub type Opened<D> = Result<LedgerOfVersion<D>, (OpenFault, Files<D>)>;
 
 /// The ledger in some files, to be migrated.
 pub fn opened<D: Disk + Drop>(alloc: Global, files: Files<D>) -> Opened<D>
@@ -28,11 +28,14 @@ pub fn opened<D: Disk + Drop>(alloc: Global, files: Files<D>) -> Opened<D>
     if !files.may_be_used() {
         return Err((OpenFault::Unavailable(Unavailable::Disk), files));
     }
-    Store::open_for_migration(alloc, files, SMALL, &FullAudit)
+    LedgerOfVersion::open_for_migration(alloc, files, SMALL, &FullAudit)
 }
 
 /// The ledger in some files, to be used.
-pub fn usable<D: Disk + Drop>(alloc: Global, files: Files<D>) -> Opened<D>
+pub fn usable<D: Disk + Drop>(
+    alloc: Global,
+    files: Files<D>,
+) -> Result<Store<D>, (OpenFault, Files<D>)>
     ensures { IfOk result IsUsable }
 {
     if !files.may_be_used() {
@@ -42,25 +45,47 @@ pub fn usable<D: Disk + Drop>(alloc: Global, files: Files<D>) -> Opened<D>
 }
 
 /// What a migration to a version answers.
-fn migrated<D: Disk + Drop>(alloc: Global, store: &mut Store<D>, to: u32) -> Migrated
-    requires migratable { IsMigratable store.old }
+fn migrated<D: Disk + Drop>(alloc: Global, ledger: &mut LedgerOfVersion<D>, to: u32) -> Migrated
+    requires migratable { IsMigratable ledger.old }
+    requires known { to ≤ 3 }
+    ensures { IsMigratable ledger.new }
+{
+    migrate(alloc, ledger, to)
+}
+
+/// Whether the ledger is served at once after a migration to a version, and the files, after it has
+/// gone on where it is.
+pub fn served<D: Disk + Drop>(
+    rt: &impl Abort,
+    alloc: Global,
+    mut ledger: LedgerOfVersion<D>,
+    to: u32,
+) -> Result<(bool, Files<D>), Fail>
+    requires migratable { IsMigratable ledger }
     requires known { to ≤ 3 }
 {
-    migrate(alloc, store, to)
+    migrated(alloc, &mut ledger, to)?;
+    match ledger.into_served() {
+        Ok((conn, due)) => {
+            let store = Store::over(alloc, conn, due, SMALL);
+            Ok((true, used(rt, alloc, store)?))
+        }
+        Err(ledger) => Ok((false, ledger.close())),
+    }
 }
 
 /// What a migration to a version answers, the version that is there then, and the files.
 pub fn brought<D: Disk + Drop>(
     alloc: Global,
-    mut store: Store<D>,
+    mut ledger: LedgerOfVersion<D>,
     to: u32,
 ) -> (Migrated, u32, Files<D>)
-    requires migratable { IsMigratable store }
+    requires migratable { IsMigratable ledger }
     requires known { to ≤ 3 }
 {
-    let answer = migrated(alloc, &mut store, to);
-    let version = store.schema();
-    (answer, version, files_of(store))
+    let answer = migrated(alloc, &mut ledger, to);
+    let version = ledger.schema();
+    (answer, version, ledger.close())
 }
 
 /// The files, after the ledger has gone on.
@@ -72,23 +97,15 @@ pub fn used<D: Disk + Drop>(
     requires { IsUsable store }
 {
     let went = goes_on(rt, alloc, &mut store);
-    let files = files_of(store);
+    let files = store.close();
     went?;
     Ok(files)
 }
 
 /// Why a ledger was not opened, unless it was.
-pub fn refusal<D: Disk + Drop, E>(opened: Result<Store<D>, E>) -> Option<E> {
+pub fn refusal<T: Drop, E>(opened: Result<T, E>) -> Option<E> {
     match opened {
-        Ok(store) => {
-            let _files = files_of(store);
-            None
-        }
+        Ok(_opened) => None,
         Err(told) => Some(told),
     }
-}
-
-/// Ends a store, and gives its files back.
-pub fn files_of<D: Disk + Drop>(store: Store<D>) -> Files<D> {
-    store.close()
 }

@@ -1,8 +1,13 @@
-use Rattle.migrate.proofs.StoreLemmas.{kept_itself, same_itself}
+use Rattle.std.proofs.Common.{refl}
+use Rattle.migrate.specs.Ledgers.{state_of}
+use Rattle.migrate.proofs.LedgerLemmas.{survives_itself}
 use Rattle.migrate.proofs.migrating.migrate.Goals as goal
 
-pub returns-then-to-schema-clause-same : goal.returns-then-to-schema-clause-same
-returns-then-to-schema-clause-same g c live = same_itself g.D.Disk c.args.store.now live
+pub returns-then-to-ledger-clause-finds : goal.returns-then-to-ledger-clause-finds
+returns-then-to-ledger-clause-finds g c = survives_itself (state_of c.args.ledger.now) _
 
-pub returns-then-to-schema-2-clause-kept : goal.returns-then-to-schema-2-clause-kept
-returns-then-to-schema-2-clause-kept g c live = kept_itself g.D.Disk c.args.store.now live
+pub returns-then-to-ledger-2-clause-finds : goal.returns-then-to-ledger-2-clause-finds
+returns-then-to-ledger-2-clause-finds g c = survives_itself (state_of c.args.ledger.now) _
+
+pub returns-then-to-ledger-2-clause-kept : goal.returns-then-to-ledger-2-clause-kept
+returns-then-to-ledger-2-clause-kept g c live = record { directory = refl; machines = λ number. refl }

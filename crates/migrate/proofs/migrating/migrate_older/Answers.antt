@@ -1,75 +1,73 @@
-use Rattle.std.proofs.Common.{◌≡◌, Err, ℕ, ap, subst, ◌∙◌, arith}
-use Rattle.std.proofs.lemmas.Result.{err_from_is_err_and}
-use Rattle.sqlite.specs.Effect.{Database}
-use Rattle.store.specs.Migrating.{HasRisen}
-use Rattle.store.specs.Stores.{Goes, OfDatabase, OfDatabases}
-use Rattle.openings.specs.Upgrading.{KeepsMachines, Raised}
-use Rattle.migrate.proofs.FaultLemmas.{no_newer_by_upgrade, undamaged_by_upgrade}
-use Rattle.migrate.proofs.StoreLemmas.{then_changed, goes_then, goes_weaker}
+use Rattle.std.proofs.Common.{◌≡◌, true, IfOk, IfErr, OnOk, OnErr, refl, sym, subst, ◌∙◌, arith, rules}
+use Rattle.sqlite.specs.Files.{file_state}
+use Rattle.openings.specs.Damage.{HasFirstDamage}
+use Rattle.stored_ledgers.specs.Resting.{IsQuiet, IsSame}
+use Rattle.migrate.specs.Faults.{IfDamaged}
+use Rattle.migrate.specs.Upgrading.{IsRaised}
+use Rattle.migrate.specs.UpgradingLaws.{raised_kept}
+use Rattle.migrate.proofs.LedgerLemmas.{no_fault, older_open, raised_migratable, still_migratable, unless_fault}
 use Rattle.migrate.proofs.migrating.migrate_older.Goals as goal
 
-pub upgrade-requires-clause-newer : goal.upgrade-requires-clause-newer
-upgrade-requires-clause-newer g c =
-    let stays = c.in_ok-newer.ensures.stays in
-    let is = c.in_ok-newer.ensures.version in
+pub raise_rows-raised-requires-clause-less : goal.raise_rows-raised-requires-clause-less
+raise_rows-raised-requires-clause-less g c =
     let older = c.requires.older in
-    omega (arith, stays, is, older)
-
-pub upgrade-requires-clause-known : goal.upgrade-requires-clause-known
-upgrade-requires-clause-known g c =
-    let is = c.in_ok-newer.ensures.version in
     let known = c.requires.known in
-    omega (arith, is, known)
+    omega (arith, older, known)
 
-pub returns-clause-raised : goal.returns-clause-raised
-returns-clause-raised g c live =
-    let up = c.in_ok-upgrade.ensures in
-    let mid = c.newer_rows.new.store in
-    let new = c.upgrade.new.self in
-    then_changed g.D.Disk (HasRisen c.args.to) c.args.store.now mid new (c.in_ok-newer.ensures.same (up.lived live))
-    (subst (λ (n : ℕ). OfDatabases (HasRisen n) mid new) c.in_ok-newer.ensures.version (up.raised live))
+pub raise_rows-raised-requires-clause-older : goal.raise_rows-raised-requires-clause-older
+raise_rows-raised-requires-clause-older g c =
+    let answers : c.args.ledger.now.ready ≡ true = search rules in
+    let older = c.requires.older in
+    let known = c.requires.known in
+    older_open g.D.Disk c.args.ledger.now c.requires.migratable answers (omega (arith, older, known))
 
-pub returns-clause-kept : goal.returns-clause-kept
-returns-clause-kept g c live =
-    let up = c.in_ok-upgrade.ensures in
-    then_changed g.D.Disk (λ (old new : Database). KeepsMachines old.trees new.trees) c.args.store.now
-    c.newer_rows.new.store c.upgrade.new.self (c.in_ok-newer.ensures.same (up.lived live)) (up.kept live)
+pub returns-in-Ok-clause-migratable : goal.returns-in-Ok-clause-migratable
+returns-in-Ok-clause-migratable g c =
+    let s = file_state c.args.ledger.now.conn in
+    let s' = file_state c.raise_rows-raised.new.conn in
+    let e = c.raise_rows-raised.ensures in
+    raised_migratable g.D.Disk _ c.args.ledger.now.version s.now c.requires.migratable.known.0 c.requires.older c.requires.known
+    (λ clean. subst (λ r. IfOk r (λ sets. IsRaised c.args.to sets s.now s'.now)) c.in-Ok.is (e.raised clean))
+    (λ clean. subst (λ r. OnOk r (IsQuiet s')) c.in-Ok.is (e.quiet clean))
+    (λ clean. e.open clean (λ failed. no_fault (sym c.in-Ok.is ∙ failed)))
 
-pub returns-clause-finds : goal.returns-clause-finds
-returns-clause-finds g c =
-    let up = c.in_ok-upgrade.ensures in
-    let mid = c.newer_rows.new.store in
-    let new = c.upgrade.new.self in
-    goes_then g.D.Disk (Raised c.args.to) c.args.store.now mid new
-    up.honest c.in_ok-newer.ensures.open c.in_ok-newer.ensures.same c.in_ok-newer.ensures.finds
-    (subst (λ (n : ℕ). Goes mid new (λ db. OfDatabase (λ (old : Database). Raised n old db) mid)) c.in_ok-newer.ensures.version up.finds)
+pub returns-in-Ok-clause-raised : goal.returns-in-Ok-clause-raised
+returns-in-Ok-clause-raised g c live =
+    let s = file_state c.args.ledger.now.conn in
+    let s' = file_state c.raise_rows-raised.new.conn in
+    record {
+      sets = c.in-Ok.due;
+      is = subst (λ r. IfOk r (λ sets. IsRaised c.args.to sets s.now s'.now)) c.in-Ok.is (c.raise_rows-raised.ensures.raised live.0);
+    }
 
-pub returns-in_err-upgrade-clause-no_newer : goal.returns-in_err-upgrade-clause-no_newer
-returns-in_err-upgrade-clause-no_newer g c =
-    let p = err_from_is_err_and c.from_residual-in_err-upgrade.result c.from_residual-in_err-upgrade.ensures.1 in
-    no_newer_by_upgrade c.from_residual-in_err-upgrade.result _ (p.1 ∙ ap Err p.2)
+pub returns-in-Ok-clause-kept : goal.returns-in-Ok-clause-kept
+returns-in-Ok-clause-kept g c live =
+    let s = file_state c.args.ledger.now.conn in
+    let s' = file_state c.raise_rows-raised.new.conn in
+    raised_kept c.args.to c.in-Ok.due s.now s'.now
+    (subst (λ r. IfOk r (λ sets. IsRaised c.args.to sets s.now s'.now)) c.in-Ok.is (c.raise_rows-raised.ensures.raised live.0))
 
-pub returns-in_err-upgrade-clause-damaged : goal.returns-in_err-upgrade-clause-damaged
-returns-in_err-upgrade-clause-damaged g c live =
-    let p = err_from_is_err_and c.from_residual-in_err-upgrade.result c.from_residual-in_err-upgrade.ensures.1 in
-    undamaged_by_upgrade c.from_residual-in_err-upgrade.result _ _ (p.1 ∙ ap Err p.2)
+pub returns-in-Err-clause-migratable : goal.returns-in-Err-clause-migratable
+returns-in-Err-clause-migratable g c =
+    let answers : c.args.ledger.now.ready ≡ true = search rules in
+    let s = file_state c.args.ledger.now.conn in
+    let s' = file_state c.raise_rows-raised.new.conn in
+    let e = c.raise_rows-raised.ensures in
+    let older = c.requires.older in
+    let known = c.requires.known in
+    still_migratable g.D.Disk c.args.ledger.now _ refl (omega (arith, older, known)) c.requires.migratable answers
+    (λ clean. omega (arith, e.survives.clean, clean))
+    (λ live. subst (λ r. OnErr r (IsSame s s')) c.in-Err.is (e.same live))
+    (λ ready clean. e.open clean (unless_fault _ _ c.is_disk_fault.result refl c.is_disk_fault.ensures ready))
 
-pub returns-in_err-upgrade-clause-same : goal.returns-in_err-upgrade-clause-same
-returns-in_err-upgrade-clause-same g c live =
-    let p = err_from_is_err_and c.from_residual-in_err-upgrade.result c.from_residual-in_err-upgrade.ensures.1 in
-    let up = c.in_err-upgrade.ensures in
-    rw p.1 (then_changed g.D.Disk (λ (old new : Database). new ≡ old) c.args.store.now c.newer_rows.new.store c.upgrade.new.self
-    (c.in_ok-newer.ensures.same (up.lived live)) (up.same live))
+pub returns-in-Err-clause-same : goal.returns-in-Err-clause-same
+returns-in-Err-clause-same g c live =
+    let s = file_state c.args.ledger.now.conn in
+    let s' = file_state c.raise_rows-raised.new.conn in
+    (subst (λ r. OnErr r (IsSame s s')) c.in-Err.is (c.raise_rows-raised.ensures.same live)).now
 
-pub returns-in_err-upgrade-clause-finds : goal.returns-in_err-upgrade-clause-finds
-returns-in_err-upgrade-clause-finds g c =
-    let up = c.in_err-upgrade.ensures in
-    let mid = c.newer_rows.new.store in
-    let new = c.upgrade.new.self in
-    goes_then g.D.Disk (Raised c.args.to) c.args.store.now mid new
-    up.honest c.in_ok-newer.ensures.open c.in_ok-newer.ensures.same c.in_ok-newer.ensures.finds
-    (subst (λ (n : ℕ). Goes mid new (λ db. OfDatabase (λ (old : Database). Raised n old db) mid)) c.in_ok-newer.ensures.version up.finds)
-
-pub returns-in_err-newer-clause-finds : goal.returns-in_err-newer-clause-finds
-returns-in_err-newer-clause-finds g c =
-    goes_weaker g.D.Disk c.args.store.now c.newer_rows.new.store _ c.in_err-newer.ensures.finds
+pub returns-in-Err-clause-damaged : goal.returns-in-Err-clause-damaged
+returns-in-Err-clause-damaged g c live =
+    let s = file_state c.args.ledger.now.conn in
+    subst (λ r. IfErr r (λ told. IfDamaged told (λ damage. HasFirstDamage c.args.ledger.now.version damage s.now.trees)))
+    c.in-Err.is (c.raise_rows-raised.ensures.damaged live.0)

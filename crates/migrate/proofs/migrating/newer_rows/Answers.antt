@@ -1,7 +1,20 @@
 use Rattle.std.proofs.Common.{Err, ap, ◌∙◌}
 use Rattle.std.proofs.lemmas.Result.{err_from_is_err_and}
+use Rattle.sqlite.specs.Held.{state}
+use Rattle.migrate.specs.Upgrading.{older_schema}
+use Rattle.migrate.specs.UpgradingLaws.{older_quiet}
 use Rattle.migrate.proofs.FaultLemmas.{no_newer_by_audit, damage_by_audit}
+use Rattle.migrate.proofs.LedgerLemmas.{no_fault}
+use Rattle.migrate.proofs.OlderLemmas.{older_tables}
 use Rattle.migrate.proofs.migrating.newer_rows.Goals as goal
+
+pub rows_in-requires : goal.rows_in-requires
+rows_in-requires g c clean =
+    let older = c.requires.older clean in (
+      older.rests.is_open,
+      older_quiet (older_schema c.args.version) _ older,
+      older_tables c.args.version _ c.requires.less older.rests.schema_is,
+    )
 
 pub returns-in_err-check-clause-no_newer : goal.returns-in_err-check-clause-no_newer
 returns-in_err-check-clause-no_newer g c =
@@ -9,7 +22,11 @@ returns-in_err-check-clause-no_newer g c =
     no_newer_by_audit c.from_residual-in_err-check.result _ (p.1 ∙ ap Err p.2)
 
 pub returns-in_err-check-clause-damaged : goal.returns-in_err-check-clause-damaged
-returns-in_err-check-clause-damaged g c live =
+returns-in_err-check-clause-damaged g c clean =
     let p = err_from_is_err_and c.from_residual-in_err-check.result c.from_residual-in_err-check.ensures.1 in
-    damage_by_audit g.D.Disk c.from_residual-in_err-check.result _ _ _ c.in_ok-older.older c.args.store.now.place (p.1 ∙ ap Err p.2)
-    (c.schema.ensures ∙ c.in_ok-older.ensures.kept) c.in_err-check.ensures.damaged (c.in_ok-older.ensures.value live)
+    damage_by_audit c.from_residual-in_err-check.result c.args.version _ _ c.in_ok-older.older
+    (state g.S.Store c.args.conn.now).now.trees (p.1 ∙ ap Err p.2)
+    c.in_ok-older.ensures.version c.in_err-check.ensures.damaged (c.in_ok-older.ensures.value clean)
+
+pub returns-in_err-check-clause-open : goal.returns-in_err-check-clause-open
+returns-in_err-check-clause-open g c clean told = c.in_ok-older.ensures.open clean (λ failed. no_fault failed)

@@ -11,18 +11,23 @@ use Rattle.sqlite.specs.State.{HasCleanDisk}
 use Rattle.ledger_sql.specs.Effects.{IsLedger}
 use Rattle.openings.specs.Damage.{IsDamagedIn}
 use Rattle.openings.specs.Whole.{AreAllRows}
-use Rattle.openings.proofs.DamageLemmas.{damage_by_audit, first_of_read}
+use Rattle.openings.specs.Opened.{IsExamined}
+use Rattle.openings.proofs.OpenedLedger.{examined_holds, examined_covered}
+use Rattle.openings.specs.DamageLaws.{first_of_read}
+use Rattle.openings.proofs.DamageLemmas.{damage_by_audit}
 use Rattle.openings.proofs.opened.examine.Goals as goal
 
 pub returns-clause-examined : goal.returns-clause-examined
-returns-clause-examined g c clean =
+returns-clause-examined g c clean sound ordered =
+    let db = (state g.S.Store c.args.conn.now).now in
+    let sets = c.in_ok-due_sets.field-0 in
     let first : HasCleanDisk (state g.S.Store c.find_current.new.conn) =
     omega (arith, c.in_ok-rows.ensures.follows.survives.clean, clean) in
     let kept = c.in_ok-find_current.ensures.kept first in
     let rows = c.in_ok-rows.rows in
     let ledger = subst (λ (db : Database). IsLedger db.schema) kept.0.now_is (c.in_ok-rows.ensures.ledger clean) in
     let read = subst (λ (db : Database). AreAllRows 3 db.trees rows) kept.0.now_is (c.in_ok-rows.ensures.read clean) in
-    record {
+    let examined : IsExamined sets db = record {
       ledger = ledger;
       version = c.in_ok-find_current.ensures.current first ledger;
       all = rows;
@@ -31,7 +36,10 @@ returns-clause-examined g c clean =
       sound = subst (λ (v : ℕ). All (λ (tenant : TenantOfDigest). AreSound v (lists_of tenant.rows)) rows.tenants.items)
           read.version_is c.in_ok-audit.ensures.sound;
       kept = c.in_ok-due_sets.ensures;
-    }
+    } in (
+      examined_holds sets db sound ordered examined c.rows_fit.ensures c.held_machines.ensures,
+      examined_covered sets db sound ordered examined c.rows_fit.ensures c.held_machines.ensures,
+    )
 
 pub returns-in_err-audit-clause-damaged : goal.returns-in_err-audit-clause-damaged
 returns-in_err-audit-clause-damaged g c clean =

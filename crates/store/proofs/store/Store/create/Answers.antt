@@ -1,10 +1,20 @@
+use Rattle.std.proofs.Common.{sym, subst}
+use Rattle.sqlite.specs.Effect.{Database}
+use Rattle.ledger_sql.specs.Creating.{IsEmptyLedger}
+use Rattle.store.specs.Stores.{IsHonestAt, IsLiveAt, OfDatabaseAt}
 use Rattle.std.proofs.lemmas.Result.{err_from_is_err_and}
 use Rattle.store.proofs.store.Store.create.Goals as goal
 
-pub returns-clause-usable : goal.returns-clause-usable
-returns-clause-usable g c =
-    let serves = c.in_ok-conn.ensures.serves c.new.result in
-    (λ live. (serves live.0).1, λ ready clean. (serves clean).0)
+pub over-requires : goal.over-requires
+over-requires g c = c.in_ok-conn.ensures.serves c.new.result
+
+pub returns-clause-empty : goal.returns-clause-empty
+returns-clause-empty g c honest =
+    subst (λ place. IsLiveAt {g = g.D.Disk} place × OfDatabaseAt (λ (db : Database). IsEmptyLedger db.trees) place)
+    (sym c.over.ensures.over)
+    (let clean = subst (λ place. IsHonestAt {g = g.D.Disk} place) c.over.ensures.over honest in
+    let made = c.in_ok-conn.ensures.made clean in
+    ((clean, made.rests.is_open), made.empty))
 
 pub returns-in_err-conn-clause-refused : goal.returns-in_err-conn-clause-refused
 returns-in_err-conn-clause-refused g c =

@@ -12,5 +12,5 @@ pub returns-clause-reads : goal.returns-clause-reads
 returns-clause-reads g c =
     let answers : c.args.self.now.ready ≡ true = search rules in
     reads_open g.D.Disk c.digest_of-digest.result c.is_disk_fault.result c.args.self.now _ c.in-Open.conn
-    c.digest_of-digest.new.conn c.in-Open.is refl refl refl answers refl c.is_disk_fault.ensures c.requires
+    c.digest_of-digest.new.conn c.in-Open.is refl refl answers refl c.is_disk_fault.ensures c.requires
     c.digest_of-digest.ensures.follows c.digest_of-digest.ensures.same c.digest_of-digest.ensures.open

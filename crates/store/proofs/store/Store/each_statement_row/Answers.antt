@@ -22,6 +22,6 @@ pub returns-clause-reads : goal.returns-clause-reads
 returns-clause-reads g c =
     let answers : c.args.self.now.ready ≡ true = search rules in
     reads_open g.D.Disk (reach_of c.each_statement_row-told.result) c.is_disk_fault.result c.args.self.now _
-    c.in-Open.conn c.each_statement_row-told.new.conn c.in-Open.is refl refl refl answers refl
+    c.in-Open.conn c.each_statement_row-told.new.conn c.in-Open.is refl refl answers refl
     c.is_disk_fault.ensures c.requires.usable c.each_statement_row-told.ensures.reads.follows
     c.each_statement_row-told.ensures.reads.same c.each_statement_row-told.ensures.reads.open_yet

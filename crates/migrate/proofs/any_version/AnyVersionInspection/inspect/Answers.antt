@@ -1,0 +1,52 @@
+use Rattle.std.proofs.Common.{◌≡◌, Err, sym, ap, subst, ◌∙◌, arith}
+use Rattle.std.proofs.lemmas.Result.{err_from_is_err_and}
+use Rattle.sqlite.specs.Effect.{Database}
+use Rattle.sqlite.specs.Held.{state}
+use Rattle.sqlite.specs.State.{HasCleanDisk}
+use Rattle.audit.specs.declared.damage.Damage.{Damage}
+use Rattle.openings.specs.Damage.{IsDamagedIn}
+use Rattle.openings.specs.DamageLaws.{if_damaged_more}
+use Rattle.openings.specs.Opened.{CanServe}
+use Rattle.migrate.specs.Upgrading.{older_schema, IsDamaged, IsSoundIn}
+use Rattle.migrate.proofs.OlderLemmas.{older_starts}
+use Rattle.migrate.proofs.any_version.AnyVersionInspection.inspect.Goals as goal
+
+pub returns-then-version-lt-CURRENT_VERSION-clause-finds : goal.returns-then-version-lt-CURRENT_VERSION-clause-finds
+returns-then-version-lt-CURRENT_VERSION-clause-finds g c clean =
+    let version = c.in_ok-version.version in
+    let s0 = state g.S.Store c.args.conn.now in
+    let s1 = state g.S.Store c.find_version.new.conn in
+    let clean1 : HasCleanDisk s1 = omega (arith, c.in_ok-examine_older.ensures.follows.survives.clean, clean) in
+    let same : s1.now ≡ s0.now = (c.in_ok-version.ensures.kept clean1).0.now_is in
+    let schema : s0.now.schema ≡ older_schema version = ap (λ (d : Database). d.schema) (sym same) ∙ c.in_ok-examine_older.ensures.schema clean in
+    record {
+      current = λ three. absurd (let less = c.if-version-lt-CURRENT_VERSION.true in omega (arith, three, less));
+      older = λ less. record {
+        schema = schema;
+        named = c.in_ok-version.ensures.named clean1 (older_starts version s0.now.schema schema);
+        sound = subst (λ (d : Database). IsSoundIn version d.trees) same (c.in_ok-examine_older.ensures.sound clean);
+      };
+    }
+
+pub returns-clause-finds : goal.returns-clause-finds
+returns-clause-finds g c clean =
+    let s0 = state g.S.Store c.args.conn.now in
+    let s1 = state g.S.Store c.find_version.new.conn in
+    let clean1 : HasCleanDisk s1 = omega (arith, c.in_ok-due.ensures.follows.survives.clean, clean) in
+    let same : s1.now ≡ s0.now = (c.in_ok-version.ensures.kept clean1).0.now_is in
+    record {
+      current = λ three. subst (CanServe c.in_ok-due.due) same (c.in_ok-due.ensures.examined clean);
+      older = λ less. absurd (let three = c.if-version-lt-CURRENT_VERSION.false in omega (arith, three, less));
+    }
+
+pub returns-in_err-due-clause-damaged : goal.returns-in_err-due-clause-damaged
+returns-in_err-due-clause-damaged g c clean =
+    let s0 = state g.S.Store c.args.conn.now in
+    let s1 = state g.S.Store c.find_version.new.conn in
+    let clean1 : HasCleanDisk s1 = omega (arith, c.in_err-due.ensures.follows.survives.clean, clean) in
+    let same : s1.now ≡ s0.now = (c.in_ok-version.ensures.kept clean1).0.now_is in
+    let P = λ (damage : Damage). IsDamagedIn 3 damage s1.now.trees in
+    let Q = λ (damage : Damage). IsDamaged damage s0.now.trees in
+    let p = err_from_is_err_and c.from_residual-in_err-due.result c.from_residual-in_err-due.ensures.1 in
+    let more : (damage : Damage) → P damage → Q damage = λ damage is. (3, subst (λ (db : Database). IsDamagedIn 3 damage db.trees) same is) in
+    rw (p.1 ∙ ap Err p.2) (if_damaged_more _ P Q more (c.in_err-due.ensures.damaged clean))

@@ -1,0 +1,89 @@
+//! What an opening looks at in a ledger of an older version.
+
+ghost use Rattle.std.specs.Prelude.{◌≡◌, ◌<◌, All, None, IfErr, IfSome, OnOk, IsTrue};
+ghost use Rattle.audit.specs.Damage.{IsFirstDamage};
+ghost use Rattle.audit.specs.Sound.{AreSound};
+ghost use Rattle.rows.specs.TypedRows.{lists_of};
+ghost use Rattle.sqlite.specs.State.{HasCleanDisk, IsUnchanged};
+ghost use Rattle.sqlite.specs.Held.{state};
+ghost use Rattle.ledger_sql.specs.Frames.{Live, Follows};
+ghost use Rattle.openings.specs.Damage.{HasFirstDamage, IfDamaged, IsNoDamage};
+ghost use Rattle.stored_ledgers.specs.Resting.{IsQuiet, IsSame};
+ghost use Rattle.migrate.specs.Upgrading.{older_schema, IsSoundIn};
+
+use ledger_shape::{has_balances, has_lists, is_balances, is_lists};
+use openings::auditing::Audit;
+use openings::opened::has_names;
+use openings::opening::OpenFault;
+use openings::whole_rows::read_all;
+use rows::AllRows;
+use sqlite::{Alter, Connection};
+use sqlite_schema::schema::Schema;
+use std::alloc::Global;
+
+/// Looks at all that a file of an older version holds. It only reads.
+pub(crate) fn examine_older<S: Alter, A: Audit>(
+    alloc: Global,
+    conn: &mut Connection<S>,
+    version: u32,
+    audit: &A,
+) -> Result<(), OpenFault>
+    requires { version < 3 }
+    ensures schema { HasCleanDisk (state S.Store conn.new) → OnOk result
+        ((state S.Store conn.old).now.schema ≡ older_schema version) }
+    ensures sound { HasCleanDisk (state S.Store conn.new) → OnOk result
+        (IsSoundIn version (state S.Store conn.old).now.trees) }
+    ensures damaged { HasCleanDisk (state S.Store conn.new)
+        → IfErr result (λ fault. IfDamaged fault
+        (λ damage. ((state S.Store conn.old).now.schema ≡ older_schema version)
+        × HasFirstDamage version damage (state S.Store conn.old).now.trees)) }
+    ensures kept { HasCleanDisk (state S.Store conn.new) → OnOk result
+        (IsUnchanged (state S.Store conn.old) (state S.Store conn.new)) }
+    ensures same { Live (state S.Store conn.new) → IsQuiet (state S.Store conn.old)
+        → IsSame (state S.Store conn.old) (state S.Store conn.new) }
+    ensures follows { Follows (state S.Store conn.old) (state S.Store conn.new) }
+{
+    if let Some(fault) = older_refusal(version, conn.schema()) {
+        return Err(fault);
+    }
+    let rows = read_all(alloc, conn, version)?;
+    audit_older(alloc, &rows, audit)
+}
+
+/// Whether each tenant of an older ledger has a name and sound rows.
+fn audit_older<A: Audit>(alloc: Global, rows: &AllRows, audit: &A) -> Result<(), OpenFault>
+    ensures sound { OnOk result
+        (All (λ tenant. AreSound rows.now.version (lists_of tenant.rows)) rows.now.tenants.items) }
+    ensures damaged { IfErr result (λ fault. IfDamaged fault
+        (IsFirstDamage rows.now.version rows.now.tenants.items)) }
+{
+    if !has_names(&rows.directory) {
+        return Err(OpenFault::NotALedger);
+    }
+    audit.audit(alloc, rows)?;
+    Ok(())
+}
+
+/// Why a file of an older version cannot be migrated: a table of that version is missing, or there
+/// are others than those, behind which no more of a ledger's can be made.
+fn older_refusal(version: u32, schema: &Schema) -> Option<OpenFault>
+    requires { version < 3 }
+    ensures schema { result ≡ None → schema.now ≡ older_schema version }
+    ensures undamaged { IfSome result IsNoDamage }
+{
+    if version == 1 {
+        return refusal_unless(is_lists(schema), has_lists(schema));
+    }
+    refusal_unless(is_balances(schema), has_balances(schema))
+}
+
+fn refusal_unless(is_it: bool, has_it: bool) -> Option<OpenFault>
+    ensures is { result ≡ None → IsTrue is_it }
+    ensures undamaged { IfSome result IsNoDamage }
+{
+    match (is_it, has_it) {
+        (true, _) => None,
+        (false, true) => Some(OpenFault::Unreadable),
+        (false, false) => Some(OpenFault::NotALedger),
+    }
+}

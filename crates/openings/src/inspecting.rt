@@ -1,0 +1,80 @@
+//! A database that was just opened, looked at before anyone else gets it.
+
+ghost use Rattle.std.specs.Prelude.{IfOk, IfErr, IsTrue};
+ghost use Rattle.sqlite.specs.State.{HasCleanDisk};
+ghost use Rattle.sqlite.specs.Files.{file_state, image_of};
+ghost use Rattle.sqlite_wal.specs.Reads.{AreClean};
+ghost use Rattle.openings.specs.Damage.{Hold, IfDamaged};
+ghost use Rattle.openings.specs.Opened.{IsOpened, LeavesRefused};
+
+use crate::closing::shut;
+use crate::opening::{OpenFault, open_on};
+use sqlite::{Alter, Connection, FileStore, Files, Options};
+use sqlite_disk::Disk;
+use std::alloc::Global;
+
+/// What looks at a database that was just opened. It only reads.
+pub trait Inspection {
+    type Found: Drop;
+
+    ghost use Rattle.std.specs.Prelude.{IfOk, IfErr, OnOk};
+    ghost use Rattle.sqlite.specs.Effect.{Database};
+    ghost use Rattle.sqlite.specs.Held.{state};
+    ghost use Rattle.sqlite.specs.State.{HasCleanDisk, IsUnchanged};
+    ghost use Rattle.sqlite_trees.specs.Tree.{Trees};
+    ghost use Rattle.audit.specs.declared.damage.Damage.{Damage};
+    ghost use Rattle.ledger_sql.specs.Frames.{Follows};
+    ghost use Rattle.openings.specs.Damage.{IfDamaged};
+
+    // What is known of each answer, whatever the disk has done.
+    ghost known: { Self.Found → Type 0 };
+
+    // What an answer says of the database.
+    ghost finds: { Self.Found → Database → Type 0 };
+
+    // Which damage is told of it.
+    ghost tells: { Damage → Trees → Type 0 };
+
+    /// Looks at it, and answers what was found, or why it is refused.
+    fn inspect<S: Alter>(
+        &self,
+        alloc: Global,
+        conn: &mut Connection<S>,
+    ) -> Result<Self::Found, OpenFault>
+        ensures known { IfOk result known }
+        ensures finds { HasCleanDisk (state S.Store conn.new) → IfOk result
+            (λ found. finds found (state S.Store conn.old).now) }
+        ensures damaged { HasCleanDisk (state S.Store conn.new)
+            → IfErr result (λ fault. IfDamaged fault
+            (λ damage. tells damage (state S.Store conn.old).now.trees)) }
+        ensures kept { HasCleanDisk (state S.Store conn.new) → OnOk result
+            (IsUnchanged (state S.Store conn.old) (state S.Store conn.new)) }
+        ensures follows { Follows (state S.Store conn.old) (state S.Store conn.new) };
+}
+
+/// Opens the database in two files, and looks at it. They are given back where it is refused.
+pub fn open_inspected<D: Disk + Drop, I: Inspection>(
+    alloc: Global,
+    files: Files<D>,
+    options: Options,
+    inspection: &I,
+) -> Result<(Connection<FileStore<D>>, I::Found), (OpenFault, Files<D>)>
+    requires log { IsTrue (D.Disk.is_usable files.log) }
+    requires db { IsTrue (D.Disk.is_usable files.db) }
+    ensures known { IfOk result (λ it. I.known it.1) }
+    ensures finds { IfOk result (λ it. HasCleanDisk (file_state it.0)
+        → I.finds it.1 (file_state it.0).now) }
+    ensures opened { IfOk result (λ it. HasCleanDisk (file_state it.0)
+        → IsOpened (image_of D.Disk files) (file_state it.0)) }
+    ensures honest { IfOk result (λ it. HasCleanDisk (file_state it.0)
+        → AreClean D.Disk files.log files.db) }
+    ensures damaged { IfErr result (λ e. AreClean D.Disk e.1.log e.1.db
+        → IfDamaged e.0 (λ damage. Hold D.Disk files (I.tells damage))) }
+    ensures left { IfErr result (λ e. LeavesRefused D.Disk files e.1) }
+{
+    let mut conn = open_on(alloc, files, options)?;
+    match inspection.inspect(alloc, &mut conn) {
+        Ok(found) => Ok((conn, found)),
+        Err(fault) => Err((fault, shut(conn))),
+    }
+}

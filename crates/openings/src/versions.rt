@@ -1,0 +1,53 @@
+//! The version of the schema that a file names.
+
+ghost use Rattle.std.specs.Prelude.{◌≡◌, ◌≤◌, pos, [], ◌∷◌, IfOk, IfErr, OnOk};
+ghost use Rattle.sqlite.specs.State.{HasCleanDisk, IsUnchanged};
+ghost use Rattle.sqlite.specs.Held.{state};
+ghost use Rattle.ledger_sql.specs.Effects.{StartsAs};
+ghost use Rattle.ledger_sql.specs.Frames.{Live, Follows};
+ghost use Rattle.ledger_sql.specs.Schema.{after_schema};
+ghost use Rattle.openings.specs.Damage.{IsNoDamage, NamesVersion};
+ghost use Rattle.stored_ledgers.specs.Resting.{IsQuiet, IsSame};
+
+use crate::opening::OpenFault;
+use crate::standing::version_refusal;
+use ledger_sql::listing::list_versions;
+use sqlite::{Alter, Connection};
+use std::alloc::Global;
+
+/// The version of the schema that a new ledger has.
+pub const CURRENT_VERSION: u32 = 3;
+
+/// The version that a file names. It only reads.
+pub fn find_version<S: Alter>(alloc: Global, conn: &mut Connection<S>) -> Result<u32, OpenFault>
+    ensures named { HasCleanDisk (state S.Store conn.new)
+        → StartsAs after_schema.tables (state S.Store conn.old).now.schema
+        → IfOk result (λ version. NamesVersion (pos version) (state S.Store conn.old).now.trees) }
+    ensures known { IfOk result (λ version. (1 ≤ version) × (version ≤ CURRENT_VERSION)) }
+    ensures undamaged { IfErr result IsNoDamage }
+    ensures kept { HasCleanDisk (state S.Store conn.new) → OnOk result
+        (IsUnchanged (state S.Store conn.old) (state S.Store conn.new)) }
+    ensures same { Live (state S.Store conn.new) → IsQuiet (state S.Store conn.old)
+        → IsSame (state S.Store conn.old) (state S.Store conn.new) }
+    ensures follows { Follows (state S.Store conn.old) (state S.Store conn.new) }
+{
+    if let Some(fault) = version_refusal(conn.schema()) {
+        return Err(fault);
+    }
+    let versions = list_versions(alloc, conn)?;
+    one_version(versions.as_slice())
+}
+
+fn one_version(versions: &[i64]) -> Result<u32, OpenFault>
+    ensures named { IfOk result (λ version. versions.now ≡ pos version ∷ []) }
+    ensures known { IfOk result (λ version. (1 ≤ version) × (version ≤ CURRENT_VERSION)) }
+    ensures undamaged { IfErr result IsNoDamage }
+{
+    match versions {
+        [1] => Ok(1),
+        [2] => Ok(2),
+        [3] => Ok(3),
+        [version] if *version > 3 => Err(OpenFault::NewerSchema),
+        _ => Err(OpenFault::NotALedger),
+    }
+}
