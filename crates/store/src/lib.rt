@@ -9,7 +9,6 @@ mod reads;
 mod reopening;
 mod store;
 
-pub use failing_disk::OnceFailing;
 pub use openings::auditing::{Audit, FullAudit};
 pub use openings::opening::OpenFault;
 pub use store::Store;

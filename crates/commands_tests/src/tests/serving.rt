@@ -7,6 +7,7 @@ use super::files::take_steps;
 use super::firms::{KEY, NO_TRANSFERS};
 use command_texts::Fault;
 use commands::{Home, serve_store};
+use failing_disk::OnceFailing;
 use service::Moments;
 use sqlite::{Files, Options};
 use sqlite_disk::{Disk, Fuse, Memory};
@@ -15,7 +16,7 @@ use std::cell::{Cell, RefCell};
 use std::io::{Read, Write};
 use std::net::{Ipv4Addr, Shutdown, SocketAddr, TcpListener, TcpStream};
 use std::test::Fail;
-use store::{OnceFailing, Store};
+use store::Store;
 use tenants::{Key, TenantName, digest};
 
 // The replies to batches of no transfers at these clocks, each behind a text. Before what a client

@@ -1,9 +1,9 @@
 //! The disks of tests: in memory, and they may stop, or fail once.
 
+use failing_disk::OnceFailing;
 use sqlite::Options;
 use sqlite_disk::{Crash, Fuse, Memory};
 use std::alloc::Global;
-use store::OnceFailing;
 
 /// Which calls come through to a disk.
 #[derive(Clone, Copy, Debug)]
