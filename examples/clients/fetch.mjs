@@ -1,7 +1,8 @@
 // Sends batches of none by node's fetch or http.request, and prints the status of each reply.
 //
-//     node fetch.mjs URL KEY WAY COUNT      WAY: turn, once, stream, end, write, length
+//     node fetch.mjs URL KEY WAY COUNT      WAY: turn, once, pause, stream, end, write, length
 import http from "node:http";
+import { setTimeout } from "node:timers/promises";
 
 const [url, key, way, count] = process.argv.slice(2);
 const headers = { "x-ledger-key": key };
@@ -12,6 +13,12 @@ async function byFetch(body) {
   const reply = await fetch(url, { method: "POST", headers, body, duplex: "half" });
   await reply.text();
   return reply.status;
+}
+
+// Behind a pause the service has ended the connection.
+async function behindPause() {
+  await setTimeout(3000);
+  return byFetch(none);
 }
 
 function pieces() {
@@ -45,6 +52,7 @@ function write(sent) {
 const ways = {
   turn: () => byFetch(none),
   once: () => byFetch(Buffer.from(none)),
+  pause: behindPause,
   stream: () => byFetch(pieces()),
   end: () => byRequest((sent) => sent.end(none)),
   write: () => byRequest(write),

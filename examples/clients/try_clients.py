@@ -5,7 +5,7 @@ than it should be.
     python3 examples/clients/try_clients.py LEDGERD [WORD]
 
 With WORD only the lines that have it are tried. Debian has the tools: apache2-utils (ab), curl,
-haproxy, nginx-light, nodejs, openjdk-17-jdk-headless (java), python3-requests, wrk."""
+golang-go, haproxy, nginx-light, nodejs, openjdk-17-jdk-headless (java), python3-requests, wrk."""
 
 import collections
 import importlib.util
@@ -13,14 +13,14 @@ import os
 import pathlib
 import re
 import shutil
-import socket
 import subprocess
 import sys
 import tempfile
 import time
 
 import ways
-from ways import BAD_HEAD, GOOD, HERE, KEY, TOO_LARGE, Place, curl, java, node
+from served import ended, free_port, served, wait_for
+from ways import BAD_HEAD, GOOD, HERE, TOO_LARGE, Place, curl, go, java, node
 
 PROXY = HERE.parent / "operating/haproxy.cfg"
 Case = collections.namedtuple("Case", "name tool way expected")
@@ -30,18 +30,24 @@ ALONE = [
     Case("curl, 1.5 MB and -H 'Expect:'", "curl", ways.curl_large, GOOD),
     Case("curl -0", "curl", curl("-0", "-d", "[]"), BAD_HEAD),
     Case("curl -T -", "curl", curl(*CHUNKS, fed="[]"), BAD_HEAD),
-    Case("http.client in turn", "python3", ways.in_turn, GOOD),
+    Case("http.client in turn", "python3", ways.kept(*[0] * 20), GOOD),
+    Case("http.client, a pause", "python3", ways.kept(0, ways.QUIET), GOOD),
     Case("http.client, an iterator", "python3", ways.in_pieces, BAD_HEAD),
     Case("requests, a pool of 10", "requests", ways.pool, GOOD),
+    Case("requests, a pause", "requests", ways.session_quiet, GOOD),
     Case("requests, an iterator", "requests", ways.generated, BAD_HEAD),
     Case("node, fetch in turn", "node", node("turn", 10), GOOD),
     Case("node, fetch at once", "node", node("once", 10), GOOD),
+    Case("node, fetch, a pause", "node", node("pause", 2), GOOD),
     Case("node, fetch of a stream", "node", node("stream", 1), BAD_HEAD),
     Case("node, http.request, end(body)", "node", node("end", 3), GOOD),
     Case("node, http.request, write(body)", "node", node("write", 1), BAD_HEAD),
     Case("node, write(body), content-length", "node", node("length", 1), GOOD),
     Case("java, ofByteArray", "java", java("bytes", 10), GOOD),
     Case("java, ofInputStream", "java", java("stream", 1), BAD_HEAD),
+    Case("go, a bytes.Reader in turn", "go", go("turn", 10), GOOD),
+    Case("go, a bytes.Reader at once", "go", go("once", 10), GOOD),
+    Case("go, another reader", "go", go("stream", 1), BAD_HEAD),
     Case("wrk", "wrk", ways.wrk, GOOD),
     Case("ab", "ab", ways.ab, BAD_HEAD),
 ]
@@ -67,31 +73,6 @@ BEHIND_HAPROXY = [
     Case("wrk", "wrk", ways.wrk, GOOD),
     Case("ab", "ab", ways.ab, BAD_HEAD),
 ]
-
-
-def free_port():
-    with socket.socket() as probe:
-        probe.bind(("127.0.0.1", 0))
-        return probe.getsockname()[1]
-
-
-def wait_for(port):
-    """Waits until something listens."""
-    for _ in range(600):
-        try:
-            socket.create_connection(("127.0.0.1", port)).close()
-            return
-        except ConnectionRefusedError:
-            time.sleep(0.1)
-    sys.exit(f"nothing listens on {port}")
-
-
-def serve(ledgerd, folder, port):
-    db = os.path.join(folder, "ledger.db")
-    subprocess.run([ledgerd, "tenant-add", "--db", db, "--name", "first", "--key", KEY], check=True,
-                   stdout=subprocess.DEVNULL)
-    return subprocess.Popen([ledgerd, "serve", "--db", db, "--port", str(port), "--requests",
-                             str(2**64 - 1)])
 
 
 def nginx(folder, port, front, is_bare):
@@ -142,12 +123,9 @@ def try_all(title, place, cases, word):
 
 def behind(proxy, title, front, cases, word):
     """The cases through a proxy, which is ended behind them."""
-    try:
-        wait_for(front)
+    with ended(proxy):
+        wait_for(front, proxy)
         return try_all(title, Place(front), cases, word)
-    finally:
-        proxy.terminate()
-        proxy.wait()
 
 
 def try_proxies(folder, port, word):
@@ -165,16 +143,9 @@ def try_proxies(folder, port, word):
 
 def main():
     ledgerd, word = os.path.abspath(sys.argv[1]), (sys.argv[2:] or [""])[0]
-    port = free_port()
-    with tempfile.TemporaryDirectory() as folder:
-        service = serve(ledgerd, folder, port)
-        try:
-            wait_for(port)
-            wrong = try_all("alone", Place(port), ALONE, word)
-            wrong += try_proxies(folder, port, word)
-        finally:
-            service.kill()
-            service.wait()
+    with tempfile.TemporaryDirectory() as folder, served(ledgerd, folder) as port:
+        wrong = try_all("alone", Place(port), ALONE, word)
+        wrong += try_proxies(folder, port, word)
     sys.exit(1 if wrong else 0)
 
 

@@ -5,16 +5,19 @@ import http.client
 import os
 import pathlib
 import re
-import secrets
 import subprocess
 import tempfile
+import time
+
+from served import KEY
 
 HERE = pathlib.Path(__file__).resolve().parent
-KEY = secrets.token_hex(32)
 NONE = b"[]"
 # More than curl sends without asking first, and more than nginx takes unless it is told so.
 LARGE = b"[" + b" " * 1_500_000 + b"]"
 PATIENCE = 120
+# For so many seconds a client is quiet, and loses its connection by that.
+QUIET = 3
 GOOD, BAD_HEAD, TOO_LARGE = "200", "400", "413"
 
 
@@ -50,36 +53,65 @@ def post(connection, body):
     return str(reply.status)
 
 
-def in_turn(place):
-    """Python's http.client, which keeps its connection."""
-    connection = http.client.HTTPConnection("127.0.0.1", place.port, timeout=PATIENCE)
-    return [post(connection, NONE) for _ in range(20)]
+def post_again(connection):
+    """The same, on a new connection where the service has ended the old one."""
+    try:
+        return post(connection, NONE)
+    except ConnectionError:
+        connection.close()
+        return post(connection, NONE)
+
+
+def kept(*pauses):
+    """Python's http.client, which keeps its connection, with a request behind each pause."""
+    def send(place):
+        connection = http.client.HTTPConnection("127.0.0.1", place.port, timeout=PATIENCE)
+        found = []
+        for pause in pauses:
+            time.sleep(pause)
+            found.append(post_again(connection))
+        return found
+    return send
 
 
 def in_pieces(place):
-    """The same with an iterator as the body."""
+    """http.client with an iterator as the body."""
     connection = http.client.HTTPConnection("127.0.0.1", place.port, timeout=PATIENCE)
     return [post(connection, iter([NONE]))]
 
 
 def generated(place):
-    """The same of requests."""
+    """requests with an iterator as the body."""
     import requests
     reply = requests.post(place.url, iter([NONE]), headers={"x-ledger-key": KEY}, timeout=PATIENCE)
     return [str(reply.status_code)]
 
 
-def pool(place):
-    """Ten threads that share the ten connections of a session."""
+def by_session():
+    """What sends by a session of requests, which keeps ten connections."""
     import requests
     session = requests.Session()
 
-    def send(_):
+    def send(place):
         reply = session.post(place.url, NONE, headers={"x-ledger-key": KEY}, timeout=PATIENCE)
         return str(reply.status_code)
 
+    return send
+
+
+def session_quiet(place):
+    """A session that is quiet for a while."""
+    send = by_session()
+    found = [send(place)]
+    time.sleep(QUIET)
+    return [*found, send(place)]
+
+
+def pool(place):
+    """Ten threads that share a session."""
+    send = by_session()
     with concurrent.futures.ThreadPoolExecutor(10) as threads:
-        return list(threads.map(send, range(100)))
+        return list(threads.map(send, [place] * 100))
 
 
 def node(way, count):
@@ -90,6 +122,11 @@ def node(way, count):
 def java(way, count):
     script = str(HERE / "Post.java")
     return lambda place: told("java", script, place.url, KEY, way, str(count)).split()
+
+
+def go(way, count):
+    script = str(HERE / "post.go")
+    return lambda place: told("go", "run", script, place.url, KEY, way, str(count)).split()
 
 
 def ab(place):
