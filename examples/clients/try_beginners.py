@@ -85,6 +85,8 @@ ROWS = [
         ask("/accounts", [{"id": "3", "ledger": 978, "code": 1, "credits_posted": "1000"}]),
         "credits_posted_must_be_zero",
         ask("/accounts", [{"id": "3", "ledger": 978, "code": 1}]), "ok"),
+    Row("a timeout in milliseconds", transfer(id="112", flags=2, timeout=60000), "ok",
+        transfer(id="113", flags=2, timeout=60), "ok"),
     Row("a filter without flags", ask(HISTORY, {"account_id": "1", "limit": 100}),
         '"transfers":[]', ask(HISTORY, FILTER), '"id":"100"'),
     Row("seconds as timestamp_max", ask(HISTORY, {**FILTER, "timestamp_max": "4102444800"}),
