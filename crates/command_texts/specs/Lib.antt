@@ -1,3 +1,4 @@
+pub mod Dates
 pub mod Faults
 pub mod Lines
 pub mod Words

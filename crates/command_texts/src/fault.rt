@@ -24,6 +24,10 @@ pub enum Fault {
     BadAccount,
     /// A version of the schema is canonical decimal from 1 to the current one.
     BadVersion,
+    /// A moment is a day, `YYYY-MM-DD` from 1970 on, or canonical decimal below 2^64.
+    BadTime,
+    /// A form of a statement is `csv`, `sheet` or `json`.
+    BadFormat,
     /// Memory ran out, or the store answers no calls.
     Unavailable,
     /// The port cannot be bound, or a connection not be accepted.
@@ -63,6 +67,8 @@ impl Fault {
             Fault::BadKey => line!("bad_key"),
             Fault::BadAccount => line!("bad_account"),
             Fault::BadVersion => line!("bad_version"),
+            Fault::BadTime => line!("bad_time"),
+            Fault::BadFormat => line!("bad_format"),
             Fault::Unavailable => line!("unavailable"),
             Fault::Socket => line!("socket"),
             Fault::Output => line!("output"),
@@ -80,7 +86,12 @@ impl Fault {
     {
         match self {
             Fault::NameTaken | Fault::DigestTaken | Fault::NoTenant | Fault::NoAccount => 1,
-            Fault::BadName | Fault::BadKey | Fault::BadAccount | Fault::BadVersion => 2,
+            Fault::BadName
+            | Fault::BadKey
+            | Fault::BadAccount
+            | Fault::BadVersion
+            | Fault::BadTime
+            | Fault::BadFormat => 2,
             Fault::Unavailable | Fault::Socket | Fault::Output => 3,
             Fault::Unreadable
             | Fault::NotALedger

@@ -8,3 +8,4 @@ mod lines;
 mod moments;
 mod program;
 mod serving;
+mod times;

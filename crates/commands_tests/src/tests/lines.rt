@@ -2,7 +2,7 @@
 use command_texts::{Fault, tell_fault};
 use records::Streamed;
 
-const FAULTS: [(Fault, &str, u8); 16] = [
+const FAULTS: [(Fault, &str, u8); 18] = [
     (Fault::NameTaken, "ledgerd: name_taken\n", 1),
     (Fault::DigestTaken, "ledgerd: digest_taken\n", 1),
     (Fault::NoTenant, "ledgerd: no_tenant\n", 1),
@@ -11,6 +11,8 @@ const FAULTS: [(Fault, &str, u8); 16] = [
     (Fault::BadKey, "ledgerd: bad_key\n", 2),
     (Fault::BadAccount, "ledgerd: bad_account\n", 2),
     (Fault::BadVersion, "ledgerd: bad_version\n", 2),
+    (Fault::BadTime, "ledgerd: bad_time\n", 2),
+    (Fault::BadFormat, "ledgerd: bad_format\n", 2),
     (Fault::Unavailable, "ledgerd: unavailable\n", 3),
     (Fault::Socket, "ledgerd: socket\n", 3),
     (Fault::Output, "ledgerd: output\n", 3),
