@@ -3,9 +3,14 @@ use Rattle.std.specs.Prelude.{◌≡◌, ◌∷◌, ◌++◌, ℕ, [], List, Opt
 use Rattle.std.specs.List.{join_with_byte}
 use Rattle.std.specs.Io.KnownBytes.{Appends}
 use Rattle.records.specs.Streams.{TakesRows}
+use Rattle.records.specs.declared.balances.Balances.{Balances}
 use Rattle.records.specs.declared.statement_row.StatementRow.{StatementRow}
+use Rattle.records.specs.declared.transfer.Transfer.{Transfer}
 use Rattle.statement.specs.Text.{fields_of, line_of, statement_text}
+use Rattle.statement.specs.Written.{extract_text}
 use Rattle.statement.specs.Writer.{TakesRow, drain_of, has_begun, header_left}
+use Rattle.statement.specs.declared.form.Form.TheVariants.{Csv}
+use Rattle.statement.specs.declared.layout.Layout.{Layout}
 use Rattle.statement.specs.declared.writer.StatementWriter.{StatementWriter}
 
 -- each line is its fields with commas (44) between them, and a line feed (10)
@@ -22,3 +27,13 @@ MakeRowsAStatement {W} written =
     → TakesRows (TakesRow written) new rows last
     → Appends (written (drain_of last)) end (header_left last)
     → Appends (written (drain_of new)) end (statement_text rows)
+
+-- lines of CSV as the service tells them, without sums
+abbrev pub plain_layout : Layout
+plain_layout = record { form = Csv; is_wide = false; with_sums = false }
+
+-- so written, entries of a period are the statement of these entries
+abbrev pub AreExtractsPlain : Type 0
+AreExtractsPlain =
+    (rows : List StatementRow) (transfers : List Transfer) (before behind : Balances)
+    → extract_text plain_layout before rows transfers behind ≡ statement_text rows

@@ -1,4 +1,10 @@
+pub mod Columns
+pub mod Extract
 pub mod Fault
+pub mod Form
 pub mod Laws
+pub mod Lines
+pub mod Period
 pub mod Text
 pub mod Writer
+pub mod Written

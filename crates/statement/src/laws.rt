@@ -1,5 +1,6 @@
 //! What the words of the contracts say, taken together.
-ghost use Rattle.statement.specs.Laws.{AreLinesPlain, MakeRowsAStatement};
+ghost use Rattle.statement.specs.Extract.{RowsMakeAnExtract};
+ghost use Rattle.statement.specs.Laws.{AreExtractsPlain, AreLinesPlain, MakeRowsAStatement};
 
 use records::Drain;
 
@@ -12,4 +13,16 @@ pub fn lines_are_plain()
 /// statement.
 pub fn rows_make_a_statement<W: Drain>()
     ensures { MakeRowsAStatement W.written }
+{}
+
+/// What a new `Extract` holds once it took a whole statement, oldest entry first, is what lies in
+/// its period.
+pub fn rows_make_an_extract()
+    ensures { RowsMakeAnExtract }
+{}
+
+/// Entries of a period, written as CSV without sums and not wide, are the statement of these
+/// entries: both ways of writing agree.
+pub fn narrow_extracts_are_plain()
+    ensures { AreExtractsPlain }
 {}

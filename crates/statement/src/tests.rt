@@ -1,9 +1,11 @@
 ghost use Rattle.std.specs.Prelude.{◌≡◌, false, OnOk};
 ghost use Rattle.records.specs.Streamed.{stream_failed};
 
-use crate::{StatementFault, StatementWriter, write_statement};
+use crate::{
+    Extract, Form, Layout, Period, StatementFault, StatementWriter, extract_text, write_statement,
+};
 use amount::Amount;
-use records::{Balances, Kind, RowSink, Side, SinkFault, StatementRow, Streamed, Sums};
+use records::{Balances, Kind, RowSink, Side, SinkFault, StatementRow, Streamed, Sums, Transfer};
 use std::alloc::Global;
 use std::io::{self, ErrorKind, Write};
 
@@ -130,6 +132,124 @@ fn writes_row_by_row(rt: HostRuntime) {
     assert_eq!(rt; text.as_slice(), PENDING_AND_POST.as_bytes());
     let none = row_by_row(rt.alloc(), &[]).expect(&rt, "a statement");
     assert_eq!(rt; none.as_slice(), HEADER.as_bytes());
+}
+
+// What lies in a period, of the rows of a pending transfer and its post.
+fn extract(alloc: Global, from: u64, to: u64) -> Option<Extract> {
+    let mut extract = Extract::new(alloc, Period { from, to });
+    hand(&mut extract, &pending_and_post()).ok()?;
+    Some(extract)
+}
+
+fn layout(form: Form, is_wide: bool, with_sums: bool) -> Layout {
+    Layout {
+        form,
+        is_wide,
+        with_sums,
+    }
+}
+
+// The sums of an account after a pending transfer of 100, and after its post of 40.
+fn held() -> Balances {
+    let [pending, _] = pending_and_post();
+    pending.balances
+}
+
+fn posted() -> Balances {
+    let [_, post] = pending_and_post();
+    post.balances
+}
+
+// Periods, the ids of the entries in each, and the sums before it and at its end.
+fn periods() -> [(u64, u64, &'static [u128], Balances, Balances); 5] {
+    [
+        (5, 6, &[100, 101], Balances::ZERO, posted()),
+        (6, u64::MAX, &[101], held(), posted()),
+        (0, 5, &[100], Balances::ZERO, held()),
+        (7, 8, &[], posted(), posted()),
+        (1, 4, &[], Balances::ZERO, Balances::ZERO),
+    ]
+}
+
+#[test]
+fn keeps_what_lies_in_a_period(rt: HostRuntime) {
+    for (from, to, want, before, behind) in periods() {
+        let kept = extract(rt.alloc(), from, to).expect(&rt, "an extract");
+        let ids = kept.ids(rt.alloc()).expect(&rt, "ids");
+        assert_eq!(rt; ids.as_slice(), want);
+        assert_eq!(rt; kept.opening(), before);
+        assert_eq!(rt; kept.closing(), behind);
+    }
+}
+
+const WITH_SUMS: &str = "timestamp,transfer_id,side,kind,amount,debits_pending,debits_posted,\
+    credits_pending,credits_posted\n\
+    0,0,,opening,0,0,0,0,0\n\
+    6,101,debit,post,40,0,40,0,0\n\
+    5,100,debit,pending,100,100,0,0,0\n\
+    0,0,,closing,0,0,40,0,0\n";
+
+#[test]
+fn writes_sums_first_and_last(rt: HostRuntime) {
+    let mut all = extract(rt.alloc(), 0, u64::MAX).expect(&rt, "an extract");
+    all.turn();
+    let text = extract_text(rt.alloc(), layout(Form::Csv, false, true), &all, &[]);
+    assert_eq!(rt; text.expect(&rt, "a text").as_slice(), WITH_SUMS.as_bytes());
+}
+
+// The widest numbers that a spreadsheet would cut.
+const WIDE_SHEET: &str = "timestamp,transfer_id,side,kind,amount,debits_pending,debits_posted,\
+    credits_pending,credits_posted,other_account,pending_id,code,user_data_128,user_data_64,\
+    user_data_32\n\
+    \"=\"\"6\"\"\",\"=\"\"101\"\"\",debit,post,\"=\"\"40\"\"\",\"=\"\"0\"\"\",\
+    \"=\"\"40\"\"\",\"=\"\"0\"\"\",\"=\"\"0\"\"\",\"=\"\"2\"\"\",\"=\"\"100\"\"\",\
+    \"=\"\"65535\"\"\",\"=\"\"340282366920938463463374607431768211455\"\"\",\
+    \"=\"\"18446744073709551615\"\"\",\"=\"\"4294967295\"\"\"\n";
+
+const WIDE_JSON: &str = "{\"timestamp\":\"6\",\"transfer_id\":\"101\",\"side\":\"debit\",\
+    \"kind\":\"post\",\"amount\":\"40\",\"debits_pending\":\"0\",\
+    \"debits_posted\":\"40\",\"credits_pending\":\"0\",\"credits_posted\":\"0\",\
+    \"other_account\":\"2\",\"pending_id\":\"100\",\"code\":\"65535\",\
+    \"user_data_128\":\"340282366920938463463374607431768211455\",\
+    \"user_data_64\":\"18446744073709551615\",\"user_data_32\":\"4294967295\"}\n";
+
+#[test]
+fn writes_wide_lines(rt: HostRuntime) {
+    let last = extract(rt.alloc(), 6, 6).expect(&rt, "an extract");
+    let post = Transfer {
+        id: 101,
+        debit_account_id: 1,
+        credit_account_id: 2,
+        pending_id: 100,
+        code: u16::MAX,
+        user_data_128: u128::MAX,
+        user_data_64: u64::MAX,
+        user_data_32: u32::MAX,
+        ..Transfer::default()
+    };
+    let posts = [post];
+    let sheet = extract_text(rt.alloc(), layout(Form::Sheet, true, false), &last, &posts);
+    assert_eq!(rt;
+        sheet.expect(&rt, "a text").as_slice(),
+        WIDE_SHEET.as_bytes()
+    );
+    let json = extract_text(rt.alloc(), layout(Form::Json, true, false), &last, &posts);
+    assert_eq!(rt; json.expect(&rt, "a text").as_slice(), WIDE_JSON.as_bytes());
+}
+
+#[test]
+fn reads_forms(rt: HostRuntime) {
+    let forms = [
+        ("csv", Form::Csv),
+        ("sheet", Form::Sheet),
+        ("json", Form::Json),
+    ];
+    for (name, form) in forms {
+        assert_eq!(rt; Form::read(name), Some(form));
+    }
+    for name in ["", "CSV", "csv ", "xml"] {
+        assert_eq!(rt; Form::read(name), None);
+    }
 }
 
 // Takes 200 bytes at most, 7 a call, and fails behind them. It needs no memory.
