@@ -1,4 +1,2 @@
 mod Isolation
-mod Lines
 mod Opened
-mod Responses

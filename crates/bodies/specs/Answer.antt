@@ -1,56 +1,54 @@
--- What a body of transfers is answered over one tenant's machine, and what it leaves.
-use Rattle.std.specs.Prelude.{◌≡◌, ℕ, List, Option, Some, None, Result, Ok, Err}
+-- What a body of transfers is answered, by what is served to its tenant.
+use Rattle.std.specs.Prelude.{◌≡◌, ◌≢◌, ℕ, List, [], Option, Some, Result, Ok, Err}
 use Rattle.serde_json.specs.Written.{compact_text}
-use Rattle.records.specs.declared.transfer.TransferEvent.{TransferEvent}
-use Rattle.records.specs.declared.transfer_result.TransferResult.{TransferResult}
 use Rattle.records.specs.Machine.{Machine}
-use Rattle.records.specs.Step.{Outcome, Answered, Exhausted, transfer_rules, step_outcome, step_machine}
 use Rattle.ledger_http.specs.declared.refusal.Refusal.{Refusal}
-use Rattle.ledger_http.specs.declared.refusal.Refusal.TheVariants.{UnknownKey, ClockExhausted}
+use Rattle.ledger_http.specs.declared.refusal.Refusal.TheVariants as refusal
+use Rattle.ledger_http.specs.declared.route.Route.TheVariants as route
 use Rattle.ledger_http.specs.RefusalTable.{name_of}
-use Rattle.wire.specs.Body.{transfers_in}
-use Rattle.wire.specs.Reply.{transfer_batch_data, refusal_data}
+use Rattle.wire.specs.declared.outcome.Outcome.{Outcome}
+use Rattle.wire.specs.declared.outcome.Outcome.TheVariants as told
+use Rattle.wire.specs.declared.request.Request.{Request}
+use Rattle.wire.specs.Meaning.{meaning_of}
+use Rattle.wire.specs.Reply.{account_batch_data, transfer_batch_data, accounts_data}
+use Rattle.wire.specs.Reply.{transfers_data, balances_data, refusal_data}
+use Rattle.service.specs.Served.{served_by, served_to}
 use Rattle.bodies.specs.declared.plain_reply.PlainReply.{PlainReply}
-use Rattle.bodies.specs.declared.plain_reply.PlainReply.TheVariants as reply
+use Rattle.bodies.specs.declared.plain_reply.PlainReply.TheVariants.{Body, Refused, Unavailable}
 
--- what a request is told: a reply's body, or why there is none
-pub data Told : Type 0 where
-  Text : List ℕ → Told
-  Refused : Refusal → Told
+-- what is asked with a body of transfers
+abbrev pub meant_by : List ℕ → Result Request Refusal
+meant_by body = meaning_of route.Transfers [] body
 
--- what the outcome of a batch is told as
-abbrev pub told_of : Outcome TransferResult → Told
-told_of (Answered clock results) = Text (compact_text (transfer_batch_data clock results))
-told_of Exhausted = Refused ClockExhausted
+-- the body that shows an outcome, or the refusal
+abbrev pub shown : Outcome → Result (List ℕ) Refusal
+shown (told.Refused refusal) = Err refusal
+shown (told.AccountResults clock results) = Ok (compact_text (account_batch_data clock results))
+shown (told.TransferResults clock results) = Ok (compact_text (transfer_batch_data clock results))
+shown (told.Accounts clock accounts) = Ok (compact_text (accounts_data clock accounts))
+shown (told.Transfers clock transfers) = Ok (compact_text (transfers_data clock transfers))
+shown (told.Balances clock balances) = Ok (compact_text (balances_data clock balances))
+shown (told.Statement text) = Ok text
 
--- the answer of one machine to what the body means
-abbrev pub told_by : Machine → ℕ → Result (List TransferEvent) Refusal → Told
-told_by m moment (Ok events) = told_of (step_outcome transfer_rules m events moment)
-told_by m moment (Err refusal) = Refused refusal
+-- what a tenant is told: the reply's body, or why there is none
+abbrev pub plain_answer : Option Machine → List ℕ → ℕ → Result (List ℕ) Refusal
+plain_answer tenant body moment = shown (served_to tenant (meant_by body) moment).told
 
--- and the machine after it
-abbrev pub left_by : Machine → ℕ → Result (List TransferEvent) Refusal → Machine
-left_by m moment (Ok events) = step_machine transfer_rules m events moment
-left_by m moment (Err refusal) = m
+-- what a reply says
+abbrev pub said : PlainReply → Result (List ℕ) Refusal
+said (Body bytes) = Ok bytes.items
+said (Refused refusal) = Err refusal
+said Unavailable = Err refusal.Unavailable
 
--- a tenant that has no machine is unknown
-abbrev pub plain_answer : Option Machine → List ℕ → ℕ → Told
-plain_answer None text moment = Refused UnknownKey
-plain_answer (Some m) text moment = told_by m moment (transfers_in text)
+-- what work on a tenant's tables gives for a body: the reply that says what its machine tells, and
+-- the machine after it
+pub record Gives (body : List ℕ) (moment : ℕ) (m : Machine) (reply : PlainReply)
+    (after : Machine) : Type 0 where
+  pub told : said reply ≡ plain_answer (Some m) body moment
+  pub left : after ≡ (served_by m (meant_by body) moment).left
+  pub available : reply ≢ Unavailable
 
--- the machine after a body
-abbrev pub machine_after : List ℕ → ℕ → Machine → Machine
-machine_after text moment m = left_by m moment (transfers_in text)
-
--- a reply that says what is told, or that the ledger was unavailable
-abbrev pub Says : PlainReply → Told → Type 0
-Says (reply.Body bytes) (Text text) = bytes.items ≡ text
-Says (reply.Body bytes) (Refused refusal) = ⊥
-Says (reply.Refused refusal) (Text text) = ⊥
-Says (reply.Refused refusal) (Refused told) = refusal ≡ told
-Says reply.Unavailable told = Unit {0}
-
--- what a reply is printed as: its body, or the refusal as an object
-abbrev pub text_of : Told → List ℕ
-text_of (Text text) = text
-text_of (Refused refusal) = compact_text (refusal_data (name_of refusal))
+-- what an answer is printed as: the body, or the refusal as an object
+abbrev pub text_of : Result (List ℕ) Refusal → List ℕ
+text_of (Ok text) = text
+text_of (Err refusal) = compact_text (refusal_data (name_of refusal))

@@ -1,4 +1,3 @@
 pub mod Answer
-pub mod FromBody
 pub mod Response
 pub mod SampleBook

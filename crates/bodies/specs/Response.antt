@@ -1,64 +1,51 @@
--- A request of one tenant in a book of several: what it is told, and what it leaves to each.
-use Rattle.std.specs.Prelude.{◌≡◌, ◌≢◌, ℕ, List, option_map}
-use Rattle.records.specs.Machine.{Machine}
+-- The response to a body of transfers as an event of a course, and what two books have in common
+-- that agree on its tenant.
+use Rattle.std.specs.Prelude.{◌≡◌, ◌≢◌, ℕ, List, [], ◌∷◌, ◌++◌}
+use Rattle.chain.specs.Ledgers.{Tenants, KeepsOthers}
 use Rattle.plain.specs.declared.book.Tenant.{Tenant}
 use Rattle.plain.specs.Book.{machine_with}
+use Rattle.plain.specs.BookLedgers.{machines_in}
+use Rattle.service.specs.Deeds.{Asked}
+use Rattle.service.specs.Courses as course
+use Rattle.service.specs.Courses.{Ending, Done, Event, Tried, Happens, Course}
 use Rattle.bodies.specs.declared.plain_reply.PlainReply.{PlainReply}
 use Rattle.bodies.specs.declared.plain_reply.PlainReply.TheVariants.{Body, Refused, Unavailable}
-use Rattle.bodies.specs.Answer.{plain_answer, machine_after, Says}
+use Rattle.bodies.specs.Answer.{meant_by, plain_answer, said}
 
--- every tenant's machine is as before
-abbrev pub KeepsAll : List Tenant → List Tenant → Type 0
-KeepsAll old new = (tenant : List ℕ) → machine_with tenant new ≡ machine_with tenant old
+-- how a request with this reply ended
+abbrev pub ending_of : PlainReply → Ending
+ending_of (Body bytes) = Done
+ending_of (Refused refusal) = Done
+ending_of Unavailable = course.Unavailable
 
--- the tenant is told what its own machine answers, its machine is the one after that, and all
--- others stay
-pub record Answers (digest body : List ℕ) (moment : ℕ) (old new : List Tenant)
+-- the event of a body that the tenant with this digest sends at a moment, with its reply
+abbrev pub event_of : List ℕ → List ℕ → ℕ → PlainReply → Event
+event_of digest body moment reply = Tried (Asked digest (meant_by body) moment) (ending_of reply)
+
+-- the response to a body: the tenant is told what is served to its own machine, its machine is the
+-- one after that, and all others stay; or the ledger was unavailable, which changes nothing
+pub record IsResponse (digest body : List ℕ) (moment : ℕ) (old new : List Tenant)
     (reply : PlainReply) : Type 0 where
-  pub told : Says reply (plain_answer (machine_with digest old) body moment)
-  pub own :
-      machine_with digest new ≡ option_map (machine_after body moment) (machine_with digest old)
-  pub others : (other : List ℕ) → other ≢ digest → machine_with other new ≡ machine_with other old
+  pub told : reply ≢ Unavailable → said reply ≡ plain_answer (machine_with digest old) body moment
+  pub happens : Happens (machines_in old) (event_of digest body moment reply) (machines_in new)
 
--- the response to a body of transfers: an answer, or that the ledger was unavailable, which changes
--- nothing
-abbrev pub IsResponse : List ℕ → List ℕ → ℕ → List Tenant → List Tenant → PlainReply → Type 0
-IsResponse digest body moment old new Unavailable = KeepsAll old new
-IsResponse digest body moment old new (Body bytes) = Answers digest body moment old new (Body bytes)
-IsResponse digest body moment old new (Refused refusal) =
-    Answers digest body moment old new (Refused refusal)
-
--- two replies that say the same
-abbrev pub SaysSame : PlainReply → PlainReply → Type 0
-SaysSame (Body bytes) (Body others) = bytes.items ≡ others.items
-SaysSame (Refused refusal) (Refused other) = refusal ≡ other
-SaysSame (Body bytes) (Refused other) = ⊥
-SaysSame (Refused refusal) (Body others) = ⊥
-SaysSame Unavailable other = Unit {0}
-SaysSame (Body bytes) Unavailable = Unit {0}
-SaysSame (Refused refusal) Unavailable = Unit {0}
-
--- a reply other than that the ledger was unavailable
-abbrev pub IsAnswered : PlainReply → Type 0
-IsAnswered Unavailable = ⊥
-IsAnswered (Body bytes) = Unit {0}
-IsAnswered (Refused refusal) = Unit {0}
-
--- what is left of one tenant's machine: the one after the request, or the old one where the ledger
--- was unavailable
-abbrev pub Leaves : PlainReply → Machine → Machine → Machine → Type 0
-Leaves Unavailable old after new = new ≡ old
-Leaves (Body bytes) old after new = new ≡ after
-Leaves (Refused refusal) old after new = new ≡ after
+-- a response leads every course on that has led to its book, so bodies, one after the other, are a
+-- course
+abbrev pub ResponsesLeadOn : Type 0
+ResponsesLeadOn =
+    (first : Tenants) (events : List Event) (digest body : List ℕ) (moment : ℕ)
+    (old new : List Tenant) (reply : PlainReply)
+    → IsResponse digest body moment old new reply
+    → Course first events (machines_in old)
+    → Course first (events ++ event_of digest body moment reply ∷ []) (machines_in new)
 
 -- two books that agree on a tenant answer it alike and leave it alike, and all other tenants stay
 pub record AgreesOn (digest : List ℕ) (old new old' new' : List Tenant)
     (reply reply' : PlainReply) : Type 0 where
-  pub same_reply : SaysSame reply reply'
+  pub same_reply : said reply ≡ said reply'
   pub same_machine : machine_with digest new ≡ machine_with digest new'
-  pub others : (other : List ℕ) → other ≢ digest → machine_with other new ≡ machine_with other old
-  pub others' :
-      (other : List ℕ) → other ≢ digest → machine_with other new' ≡ machine_with other old'
+  pub others : KeepsOthers digest (machines_in old) (machines_in new)
+  pub others' : KeepsOthers digest (machines_in old') (machines_in new')
 
 -- the law of isolation, for the definitions alone
 abbrev pub Isolates : Type 0
@@ -68,6 +55,6 @@ Isolates =
     → IsResponse digest body moment old new reply
     → IsResponse digest body moment old' new' reply'
     → machine_with digest old ≡ machine_with digest old'
-    → IsAnswered reply
-    → IsAnswered reply'
+    → reply ≢ Unavailable
+    → reply' ≢ Unavailable
     → AgreesOn digest old new old' new' reply reply'

@@ -11,4 +11,4 @@ mod tests;
 
 pub use plain_reply::PlainReply;
 pub use printing::printed;
-pub use responding::{isolates, respond_plain};
+pub use responding::{isolates, respond_plain, responses_lead_on};

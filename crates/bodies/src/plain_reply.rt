@@ -1,5 +1,3 @@
-ghost use Rattle.bodies.specs.FromBody.{IsRefused};
-
 use ledger_http::Refusal;
 
 /// What `respond_plain` answers.
@@ -10,15 +8,4 @@ pub enum PlainReply {
     Refused(Refusal),
     /// Memory ran out, and nothing has changed.
     Unavailable,
-}
-
-impl From<Refusal> for PlainReply {
-    ghost from_gives = { IsRefused };
-
-    fn from(refusal: Refusal) -> PlainReply {
-        match refusal {
-            Refusal::Unavailable => PlainReply::Unavailable,
-            refusal => PlainReply::Refused(refusal),
-        }
-    }
 }

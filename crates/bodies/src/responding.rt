@@ -1,13 +1,42 @@
-ghost use Rattle.std.specs.Prelude.{Some};
-ghost use Rattle.bodies.specs.Answer.{plain_answer, machine_after, Says};
-ghost use Rattle.bodies.specs.Response.{IsResponse, Leaves, Isolates};
+ghost use Rattle.bodies.specs.Answer.{Gives};
+ghost use Rattle.bodies.specs.Response.{IsResponse, ResponsesLeadOn, Isolates};
 
 use crate::plain_reply::PlainReply;
-use chain::{BatchReply, run_transfers};
+use chain::{BatchFault, BatchReply, Tables, Work, run_transfers};
 use ledger_http::Refusal;
-use plain::{Book, PlainTables};
+use plain::Book;
+use records::Unavailable;
+use service::each_tenant_sees_itself;
 use std::alloc::Global;
 use wire::{batch_text_transfers, read_transfers};
+
+/// A body of transfers, read and run at a moment in nanoseconds.
+#[derive(Drop)]
+struct Transfers<'a> {
+    alloc: Global,
+    body: &'a [u8],
+    moment: u64,
+}
+
+impl Work for Transfers<'_> {
+    type Output = PlainReply;
+
+    ghost gives = { λ work. Gives work.body.now work.moment };
+
+    fn run<T: Tables>(self, tables: &mut T) -> Result<PlainReply, Unavailable> {
+        let events = match read_transfers(self.alloc, self.body) {
+            Ok(events) => events,
+            Err(Refusal::Unavailable) => return Err(Unavailable::Memory),
+            Err(refusal) => return Ok(PlainReply::Refused(refusal)),
+        };
+        match run_transfers(self.alloc, tables, &events, self.moment)? {
+            BatchReply::ClockExhausted => Ok(PlainReply::Refused(Refusal::ClockExhausted)),
+            BatchReply::Done { clock, results } => {
+                Ok(PlainReply::Body(batch_text_transfers(self.alloc, clock, &results)?))
+            }
+        }
+    }
+}
 
 /// Answers a body of transfers for the tenant with this digest, at a moment in nanoseconds. Unless
 /// it is unavailable, the reply and the tenant's list after it depend on that tenant's list, the
@@ -21,37 +50,24 @@ pub fn respond_plain(
 ) -> PlainReply
     ensures { IsResponse digest.now body.now moment book.old book.new result }
 {
-    match book.tables(digest) {
-        None => PlainReply::Refused(Refusal::UnknownKey),
-        Some(tables) => answer(alloc, tables, body, moment),
+    let work = Transfers {
+        alloc,
+        body,
+        moment,
+    };
+    match book.batch(digest, work) {
+        Ok(reply) => reply,
+        Err(BatchFault::UnknownKey) => PlainReply::Refused(Refusal::UnknownKey),
+        Err(BatchFault::Unavailable(_)) => PlainReply::Unavailable,
     }
 }
 
-// Answers the body for the tenant of these tables.
-fn answer(alloc: Global, tables: &mut PlainTables, body: &[u8], moment: u64) -> PlainReply
-    ensures told { Says result (plain_answer (Some tables.old.now) body.now moment) }
-    ensures left { Leaves result tables.old.now (machine_after body.now moment tables.old.now)
-        tables.new.now }
-{
-    let events = match read_transfers(alloc, body) {
-        Ok(events) => events,
-        Err(refusal) => return PlainReply::from(refusal),
-    };
-    tables.begin();
-    match run_transfers(alloc, tables, &events, moment) {
-        Err(_) => PlainReply::Unavailable,
-        Ok(BatchReply::ClockExhausted) => PlainReply::Refused(Refusal::ClockExhausted),
-        Ok(BatchReply::Done { clock, results }) => match batch_text_transfers(
-            alloc, clock, &results,
-        ) {
-            Ok(text) => PlainReply::Body(text),
-            Err(_) => {
-                tables.abandon();
-                PlainReply::Unavailable
-            }
-        },
-    }
-}
+/// A response is an event of every course that has led to its book. So bodies, one after the other
+/// and of any tenants, are a course, of which each tenant sees its own alone. It does nothing:
+/// `respond_plain` gives its premises.
+pub fn responses_lead_on()
+    ensures { ResponsesLeadOn }
+{}
 
 /// The law of isolation: for any two books that agree on a digest's list and clock, the same body
 /// at the same moment gives the same answer and leaves the same list, and every other list stays,
@@ -59,4 +75,7 @@ fn answer(alloc: Global, tables: &mut PlainTables, body: &[u8], moment: u64) -> 
 /// premises.
 pub fn isolates()
     ensures { Isolates }
-{}
+{
+    responses_lead_on();
+    each_tenant_sees_itself();
+}

@@ -4,12 +4,13 @@ ghost use Rattle.std.specs.List.{position};
 ghost use Rattle.std.specs.Option.{option_copied_mut};
 ghost use Rattle.std.specs.Borrow.{sem};
 ghost use Rattle.records.specs.Valid.{IsValid};
-ghost use Rattle.chain.specs.Ledgers.{AreValid};
+ghost use Rattle.chain.specs.Ledgers.{AreValid, IsRun};
 ghost use Rattle.plain.specs.BookLedgers.{machines_in};
 ghost use Rattle.plain.specs.Book.{has_digest, state_with, machine_with, ChangesOne};
 ghost use Rattle.plain.specs.Lending.{LendsTables, LendsTablesOf};
 
 use crate::PlainTables;
+use chain::{BatchFault, Work};
 use records::Unavailable;
 use std::alloc::Global;
 use std::marker::Model;
@@ -91,6 +92,29 @@ impl Book {
         match place_of(&self.tenants, digest) {
             Some(place) => Some(self.tenants[place].tables()),
             None => None,
+        }
+    }
+
+    /// Runs a batch of work on one tenant's tables, and keeps all of it or nothing.
+    pub fn batch<W: Work + Drop>(
+        &mut self,
+        digest: &[u8; 32],
+        work: W,
+    ) -> Result<W::Output, BatchFault>
+        ensures run { IsRun (W.gives work) digest.now (machines_in self.old) (machines_in self.new)
+            result }
+        ensures usable { AreValid (machines_in self.old) → AreValid (machines_in self.new) }
+    {
+        let Some(tables) = self.tables(digest) else {
+            return Err(BatchFault::UnknownKey);
+        };
+        tables.begin();
+        match work.run(tables) {
+            Ok(output) => Ok(output),
+            Err(why) => {
+                tables.abandon();
+                Err(BatchFault::Unavailable(why))
+            }
         }
     }
 }

@@ -2,8 +2,8 @@ ghost use Rattle.std.specs.Prelude.{◌≡◌, ◌≢◌, Ok, Err, MatchResult};
 ghost use Rattle.plain.specs.Book.{state_with};
 ghost use Rattle.plain.specs.BookLedgers.{book_meaning};
 
+use crate::Book;
 use crate::hand_out::hand_out;
-use crate::{Book, PlainTables};
 use chain::{BatchFault, Ledgers, Listed, ReadFault, Work};
 use records::{
     AccountFilter, AccountWithBalances, BalanceAt, Order, RowSink, Transfer, Unavailable,
@@ -18,19 +18,7 @@ impl Ledgers for Book {
         digest: &[u8; 32],
         work: W,
     ) -> Result<W::Output, BatchFault> {
-        match self.tables(digest) {
-            None => Err(BatchFault::UnknownKey),
-            Some(tables) => {
-                tables.begin();
-                match work.run(tables) {
-                    Ok(output) => Ok(output),
-                    Err(why) => {
-                        tables.abandon();
-                        Err(BatchFault::Unavailable(why))
-                    }
-                }
-            }
-        }
+        self.batch(digest, work)
     }
 
     fn knows(&mut self, digest: &[u8; 32]) -> Result<bool, Unavailable> {
