@@ -38,13 +38,14 @@ def damage(program, db):
 
 
 def break_once(house, turn, kept, damaged):
-    """A batch that cannot be written, so that the file is opened again, damaged and then whole."""
+    """A batch that cannot be written, so that the file is opened again, damaged and then whole. It
+    is damaged before the batch is refused, since the file is opened again at once."""
     batch = [transfer(10**9 + turn, debit_account_id=1, credit_account_id=2, amount=5,
                       ledger=LEDGER, code=1)]
     desk, begun = house.take_turn(0), len(house.service.told())
     house.service.limit_files(0)
-    want(not desk.batch(batch), "answered, with nothing written")
     put(damaged, house.db)
+    want(not desk.batch(batch), "answered, with nothing written")
     house.service.limit_files(2**62)
     told = house.take_turn(1).ask("POST", "/accounts/lookup", b"[]")
     want(told is None, f"served, and damaged: {told}")

@@ -154,19 +154,27 @@ def failing_disk(trial):
     return f"{refused} batches with a failing call, {found} of them found done by the next opening"
 
 
-def refuse_opening(house, begun):
-    """The next connection is not served, and behind so many lines standard error tells why the file
-    could not be opened again: before that connection, when it is there, and behind it."""
+def refuse_openings(house, desk, begun):
+    """While the disk fails each call of each tenant is refused, and leaves nothing: two more on the
+    same connection, and one on the next. Behind so many lines standard error tells why the file
+    could not be opened again: before each of these messages, and behind either connection."""
+    late = [transfer(5, debit_account_id=1, credit_account_id=2, amount=1, ledger=LEDGER, code=1)]
+    again = desk.connected_again
+    for other in (house.desks[1], desk):
+        desk.stay_connected()
+        desk.connection.send(message("POST", "/transfers", other.key, body_of(late)))
+        told = desk.connection.reply()[2]
+        want(told == b'{"error":"unavailable"}', f"behind a failed call: {told!r}")
     told = house.take_turn(1).ask("POST", "/accounts/lookup", b"[]")
     want(told is None, f"served by a disk that fails: {told}")
     house.desks[1].leave()
-    end = time.monotonic() + PATIENCE
-    while len(house.service.told()) < begun + 3:
+    many, end = 5 + desk.connected_again - again, time.monotonic() + PATIENCE
+    while len(house.service.told()) < begun + many:
         want(time.monotonic() < end, f"standard error tells {house.service.told()[begun:]}")
         time.sleep(0.005)
     lines = house.service.told()[begun:]
     faults = {"ledgerd: unavailable", "ledgerd: unreadable"}
-    want(len(lines) == 3 and faults.issuperset(lines), f"standard error tells {lines}")
+    want(len(lines) == many and faults.issuperset(lines), f"standard error tells {lines}")
 
 
 def fail_disk(house, control, failing, batch):
@@ -176,18 +184,13 @@ def fail_disk(house, control, failing, batch):
     control.refuse(DISK, *failing)
     if desk.batch(*batch):
         return bool(control.end(DISK)), 0
-    # Until the next connection every call of every tenant is refused, and leaves nothing.
-    for other in (house.desks[1], desk):
-        late = [transfer(5, debit_account_id=1, credit_account_id=2, amount=1, ledger=LEDGER,
-                         code=1)]
-        desk.connection.send(message("POST", "/transfers", other.key, body_of(late)))
-        told = desk.connection.reply()[2]
-        want(told == b'{"error":"unavailable"}', f"behind a failed call at {failing}: {told!r}")
     if failing[1] == ALL:
-        refuse_opening(house, begun)
-    # Also where the last opening was refused, the next connection is served.
+        refuse_openings(house, desk, begun)
+        # Also where the last opening was refused, the next connection is served.
+        desk = house.take_turn(0)
+    # Where a call has failed alone, the next message of the same connection is.
     want(control.end(DISK), "unavailable, and no call has failed")
-    found = ready(house).settle(*batch)
+    found = desk.settle(*batch)
     house.compare()
     want(ready(house).batch(*batch), f"unavailable once more, at {failing}")
     return True, int(found)

@@ -17,6 +17,8 @@ from model import ACCOUNT_FIELDS, BALANCES, HISTORY, TRANSFER_FIELDS, Ledger
 
 TOP = pathlib.Path(__file__).resolve().parent.parent
 PATIENCE = 60
+# The service ends a connection behind so many replies, and one that is quiet for 0.05 seconds.
+TURN, MOST_QUIET = 64, 0.04
 STRINGS = {"id", "debit_account_id", "credit_account_id", "amount", "pending_id", "user_data_128",
            "user_data_64", "timestamp", *BALANCES}
 # What a command tells that memory or the disk has failed; a file whose first page cannot be read is
@@ -122,9 +124,16 @@ class Connection:
     """One connection, whose replies are read strictly."""
 
     def __init__(self, port):
+        self.port = port
         self.socket = socket.create_connection(("127.0.0.1", port), PATIENCE)
         self.socket.setsockopt(socket.IPPROTO_TCP, socket.TCP_NODELAY, 1)
-        self.read = b""
+        self.read, self.replies, self.quiet_since = b"", 0, None
+
+    def is_due(self):
+        """Whether the service has ended it, or is about to: behind 64 replies, or 50 milliseconds
+        behind one."""
+        quiet = self.quiet_since and time.monotonic() - self.quiet_since
+        return self.replies == TURN or bool(quiet and quiet > MOST_QUIET)
 
     def close(self):
         self.socket.close()
@@ -162,6 +171,7 @@ class Connection:
             if not self.more():
                 raise Lost("the connection ended inside a reply")
         body, self.read = self.read[len(head) + 4:end], self.read[end:]
+        self.replies, self.quiet_since = self.replies + 1, time.monotonic()
         return status, kind, body
 
     def is_over(self):
@@ -195,7 +205,7 @@ class Desk:
 
     def __init__(self, key):
         self.key, self.ledger, self.asked = key, Ledger(), set()
-        self.connection = None
+        self.connection, self.connected_again = None, 0
 
     def connect(self, service):
         self.leave()
@@ -206,8 +216,16 @@ class Desk:
             self.connection.close()
         self.connection = None
 
+    def stay_connected(self):
+        """Connects again where the service has ended the connection, or is about to."""
+        if self.connection.is_due():
+            port = self.connection.port
+            self.leave()
+            self.connection, self.connected_again = Connection(port), self.connected_again + 1
+
     def ask(self, method, path, body=b""):
         """The reply to a message: None where it is `unavailable`."""
+        self.stay_connected()
         self.connection.send(message(method, path, self.key, body))
         return self.answer(method, path)
 
@@ -269,7 +287,7 @@ class Desk:
 
     def compare(self, service):
         """Compares all that the tenant can see. What is expected is worked out before the service
-        is asked, which lets go of a client that is silent for 2 seconds."""
+        is asked, which lets go of a client whose first message does not begin in 2 seconds."""
         expected = list(self.expected())
         self.connect(service)
         for request, reply in expected:

@@ -73,7 +73,6 @@ class Fake:
     port: int = 0
     messages: list = field(default_factory=list)
     places: list = field(default_factory=list)
-    times: list = field(default_factory=list)
     connections: int = 0
 
     def __post_init__(self):
@@ -131,7 +130,6 @@ class Fake:
         with self.lock:
             self.messages.append(message)
             self.places.append(place)
-            self.times.append(time.monotonic())
             return self.script.pop(0) if self.script else cut()
 
 

@@ -149,15 +149,14 @@ class NotSentAgain(unittest.TestCase):
 class Deadlines(unittest.TestCase):
     def unanswered(self, script, call, **options):
         with Fake(script) as fake:
-            begin = time.monotonic()
             with self.assertRaises(Unanswered) as raised:
                 call(fake.ledger(deadline=0.6, **options))
-            self.assertLess(time.monotonic() - begin, 1.5)
             self.assertIsNotNone(raised.exception.__cause__)
             return raised.exception, fake
 
     def test_a_service_that_is_silent(self):
-        error, fake = self.unanswered([silence(5)], lambda each: each.create_transfers([PAID]))
+        """It is not waited for: it would be silent for an hour."""
+        error, fake = self.unanswered([silence(3600)], lambda each: each.create_transfers([PAID]))
         self.assertTrue(error.may_be_booked)
         self.assertEqual(len(fake.messages), 1)
 
@@ -194,10 +193,12 @@ class Pauses(unittest.TestCase):
             self.assertGreater(len(set(drawn)), 100)
 
     def test_they_are_kept(self):
-        with Fake([cut(), cut(), cut(), say(results(0))]) as fake:
+        with Fake([cut(), cut(), cut(), say(results(0))]) as fake, \
+                mock.patch.object(transport.time, "sleep", wraps=time.sleep) as slept:
             fake.ledger().create_transfers([PAID])
-        waits = [later - earlier for earlier, later in zip(fake.times, fake.times[1:])]
-        for wait, least in zip(waits, (0.025, 0.05, 0.1)):
+        mine = [call.args[0] for call in slept.call_args_list if call.args[0] > 0.02]
+        self.assertEqual(len(mine), 3)
+        for wait, least in zip(mine, (0.025, 0.05, 0.1)):
             self.assertGreaterEqual(wait, least)
 
 

@@ -1,2 +1,2 @@
-mod ServedConnections
+mod TalkLemmas
 mod AddLemmas

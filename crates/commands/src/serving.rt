@@ -1,78 +1,93 @@
-//! Serves a connection.
-ghost use Rattle.std.specs.Prelude.{◌≡◌, ◌≤◌, IfErr};
-ghost use Rattle.commands.specs.Connections.{Serves};
+//! Serves a connection over a store, which is opened again where its disk fails.
+ghost use Rattle.std.specs.Prelude.{◌≡◌, ◌≤◌, Bool, IfSome};
+ghost use Rattle.store.specs.Stores.{IsUsable};
+ghost use Rattle.commands.specs.Connections.{is_open};
+ghost use Rattle.commands.specs.Kept.{KeptOn, KeptTalks};
 
-use chain::Ledgers;
-use command_texts::Fault;
-use records::Streamed;
-use service::{Moments, ServeFault, serve};
+use crate::closed::Closed;
+use crate::line::{Answered, LAST_READS, Line, Next};
+use crate::renewing::{Home, renewed};
+use service::Moments;
+use sqlite_disk::Disk;
 use std::alloc::Global;
-use std::io::{self, BufReader, Read};
-use std::net::{Ipv4Addr, Shutdown, SocketAddr, TcpListener, TcpStream};
-use std::time::Duration;
+use std::net::TcpStream;
+use std::time::Clock;
+use store::Store;
 
-/// How many seconds a connection may wait for one read or one write.
-const PATIENCE: u64 = 2;
+/// How many milliseconds a new connection may take to its first message.
+const FIRST: u64 = 2_000;
 
-/// How many reads are made of what a client still sends once its connection is over.
-const LAST_READS: u32 = 1024;
+/// How many a connection may take from a reply to the next message.
+const BETWEEN: u64 = 50;
 
-/// Listens on a port of 127.0.0.1. `Socket` where it cannot be bound.
-pub(crate) fn listen(rt: &HostRuntime, port: u16) -> Result<TcpListener, Fault>
-    ensures { IfErr result (λ fault. fault ≡ Fault.Socket) }
-{
-    TcpListener::bind(rt, SocketAddr::from((Ipv4Addr::LOCALHOST, port))).map_err(|_| Fault::Socket)
+/// What a connection leaves.
+#[derive(Drop)]
+pub(crate) struct Served<D: Disk + Drop> {
+    pub(crate) kept: Option<Store<D>>,
+    pub(crate) replies: u64,
 }
 
-/// Serves a connection, and says how many replies were written whole.
-pub(crate) fn serve_connection<L: Ledgers, C: Moments>(
+/// Serves a connection, until `most` replies are written whole.
+///
+/// A store whose disk has failed is opened again once another message begins.
+pub(crate) fn serve_connection<D: Disk + Drop, H: Home<D>, C: Moments, K: Clock>(
     alloc: Global,
     stream: &TcpStream,
-    ledgers: &mut L,
+    home: &H,
+    mut kept: Option<Store<D>>,
     moments: &mut C,
+    clock: &K,
     most: u64,
-) -> u64
-    requires { L.means.is_usable ledgers.old }
-    ensures serves { Serves L.means C.gives ledgers.old moments.old most result
-        ledgers.new moments.new }
-    ensures few { result ≤ most }
-    ensures usable { L.means.is_usable ledgers.new }
-    ensures follows { L.means.follows ledgers.old ledgers.new }
+) -> Served<D>
+    requires { IfSome kept IsUsable }
+    ensures served { (goes_on : Bool) × KeptTalks _ C.gives kept moments.old result.replies goes_on
+        result.kept moments.new }
+    ensures few { result.replies ≤ most }
+    ensures usable { IfSome result.kept IsUsable }
 {
-    if set_up(stream).is_err() {
-        return 0;
-    }
-    let Ok(buffered) = BufReader::new(alloc, stream) else {
-        return 0;
+    let mut replies = 0;
+    let Ok(mut line) = Line::open(alloc, stream, clock) else {
+        return Served { kept, replies };
     };
-    let mut reader = Streamed::new(buffered);
-    let mut writer = Streamed::new(stream);
-    match serve(alloc, ledgers, &mut reader, &mut writer, moments, most) {
-        Ok(replies) => {
-            let _ = end(stream);
-            replies
-        }
-        Err(ServeFault::Read(replies) | ServeFault::Write(replies)) => replies,
-    }
-}
-
-// Bytes go out at once, and nothing waits for longer than `PATIENCE`.
-fn set_up(stream: &TcpStream) -> io::Result<()> {
-    let patience = Some(Duration::from_secs(PATIENCE));
-    stream.set_nodelay(true)?;
-    stream.set_read_timeout(patience)?;
-    stream.set_write_timeout(patience)
-}
-
-// Shuts the writing half, and reads what the client still sends, up to 16 megabytes: were it left
-// unread, the system would cut the client off before it has read its last reply.
-fn end(mut stream: &TcpStream) -> io::Result<()> {
-    stream.shutdown(Shutdown::Write)?;
-    let mut piece = [0; 16_384];
-    for _ in 0..LAST_READS {
-        if stream.read(&mut piece)? == 0 {
+    let mut next = Next::Open;
+    let mut patience = FIRST;
+    for _ in 0..most {
+        if replies == most {
             break;
         }
+        next = line.await_message(next, patience);
+        if !next.goes_on() {
+            break;
+        }
+        kept = renewed(home, kept);
+        let answered = answer_kept(alloc, &mut line, &mut kept, moments);
+        replies += answered.replies;
+        next = answered.next;
+        patience = BETWEEN;
     }
-    Ok(())
+    let _ = match next {
+        Next::Open => line.end(BETWEEN),
+        Next::Over => line.end(LAST_READS),
+        Next::Failed => Ok(()),
+    };
+    Served { kept, replies }
+}
+
+// Answers a message over the store, if it is there.
+fn answer_kept<D: Disk + Drop, C: Moments, K: Clock>(
+    alloc: Global,
+    line: &mut Line<'_, K>,
+    kept: &mut Option<Store<D>>,
+    moments: &mut C,
+) -> Answered
+    requires { IfSome kept.old IsUsable }
+    ensures talks { KeptOn C.gives kept.old moments.old result.replies (is_open result.next)
+        kept.new moments.new }
+    ensures few { result.replies ≤ 1 }
+    ensures usable { IfSome kept.new IsUsable }
+{
+    match kept {
+        Some(store) => line.answer(alloc, store, moments),
+        None => line.answer(alloc, &mut Closed, moments),
+    }
 }

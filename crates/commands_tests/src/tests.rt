@@ -9,3 +9,4 @@ mod moments;
 mod program;
 mod serving;
 mod times;
+mod turns;

@@ -13,9 +13,10 @@ use sqlite::{Files, Options};
 use sqlite_disk::{Disk, Fuse, Memory};
 use std::alloc::Global;
 use std::cell::{Cell, RefCell};
-use std::io::{Read, Write};
+use std::io::{self, ErrorKind, Read, Write};
 use std::net::{Ipv4Addr, Shutdown, SocketAddr, TcpListener, TcpStream};
 use std::test::Fail;
+use std::time::{Clock, Duration};
 use store::Store;
 use tenants::{Key, TenantName, digest};
 
@@ -39,7 +40,7 @@ pub const UNAVAILABLE: &str = concat!(
 
 // Gives its number, and from then on one thousand more each time.
 #[derive(Drop)]
-struct Thousands(u64);
+pub struct Thousands(pub u64);
 
 impl Moments for Thousands {
     ghost gives = { λ _ _ _. Unit {0} };
@@ -51,8 +52,22 @@ impl Moments for Thousands {
     }
 }
 
+// A clock that stands still, so that only a read that waits for too long ends.
+#[derive(Drop)]
+struct Still;
+
+impl Clock for Still {
+    fn monotonic(&self) -> io::Result<Duration> {
+        Ok(Duration::ZERO)
+    }
+
+    fn since_1970(&self) -> io::Result<Duration> {
+        Ok(Duration::ZERO)
+    }
+}
+
 // A disk in memory that fails behind so many calls.
-trait Faulty: Disk + Drop {
+pub trait Faulty: Disk + Drop {
     fn made(alloc: Global, calls: u64) -> Self;
 }
 
@@ -71,10 +86,10 @@ impl Faulty for Fuse<Memory> {
 }
 
 // No test makes so many calls.
-const NEVER: u64 = 1_000_000;
+pub const NEVER: u64 = 1_000_000;
 
 // The ledgers of a new firm, whose log fails behind so many calls.
-fn firm_store<D: Faulty>(alloc: Global, calls: u64) -> Option<Store<D>>
+pub fn firm_store<D: Faulty>(alloc: Global, calls: u64) -> Option<Store<D>>
     ensures { IfSome result IsUsable }
 {
     let files = Files {
@@ -169,7 +184,7 @@ impl<D: Faulty> Home<D> for Refusing {
     }
 }
 
-fn listen(rt: &HostRuntime) -> Result<TcpListener, Fail> {
+pub fn listen(rt: &HostRuntime) -> Result<TcpListener, Fail> {
     Ok(TcpListener::bind(rt, SocketAddr::from((Ipv4Addr::LOCALHOST, 0)))?)
 }
 
@@ -187,7 +202,7 @@ fn client(rt: &HostRuntime, listener: &TcpListener, messages: u64) -> Result<Tcp
 
 // What two clients that sent so many messages are told by the service of a firm, whose log fails
 // behind so many calls.
-fn exchange<D: Faulty, H: Home<D>>(
+pub fn exchange<D: Faulty, H: Home<D>>(
     rt: &HostRuntime,
     home: &H,
     calls: u64,
@@ -232,14 +247,18 @@ fn serve<D: Disk + Drop, H: Home<D>>(
     requires { IsUsable store }
 {
     let mut moments = Thousands(1000);
-    serve_store(alloc, listener, home, store, &mut moments, most)
+    serve_store(alloc, listener, home, store, &mut moments, &Still, most)
 }
 
-// All that a client is still told, behind a bar.
-fn hear(told: &mut Vec<u8>, mut client: TcpStream) -> Result<(), Fail> {
+// All that a client is still told, behind a bar. A connection that is ended before all that was
+// sent is read may be reset.
+pub fn hear(told: &mut Vec<u8>, mut client: TcpStream) -> Result<(), Fail> {
     told.push(b'|')?;
-    client.read_to_end(told)?;
-    Ok(())
+    match client.read_to_end(told) {
+        Ok(_) => Ok(()),
+        Err(fault) if fault.kind() == ErrorKind::ConnectionReset => Ok(()),
+        Err(fault) => Err(fault.into()),
+    }
 }
 
 // The messages of two clients, the replies, and what the clients are told.
@@ -290,20 +309,23 @@ fn takes_no_port_in_use(rt: HostRuntime) -> Result<(), Fail> {
     take_steps(&rt, "port.db", &steps)
 }
 
-// Whether the first of two clients is told at some call that fails that the service is unavailable,
-// and each time the second one is told this, and a home that refuses so many openings these faults.
-fn tells_next<D: Faulty>(
+// Whether the first of two clients that send so many messages is told at some call that fails that
+// the service is unavailable, and each time what is told behind that is this, and a home that
+// refuses so many openings is told these faults.
+pub fn tells_next<D: Faulty>(
     rt: &HostRuntime,
+    messages: (u64, u64),
     refusals: u64,
-    want: &str,
+    want: &[u8],
     faults: &[Fault],
 ) -> Result<bool, Fail> {
+    let most = messages.0.saturating_add(messages.1);
     let mut has_failed = false;
     for calls in 0..48 {
         let home = Refusing::new(rt.alloc(), refusals);
-        let told = exchange::<D, _>(rt, &home, calls, (1, 1), 2)?;
+        let told = exchange::<D, _>(rt, &home, calls, messages, most)?;
         if let Some(next) = told.as_slice().strip_prefix(UNAVAILABLE.as_bytes()) {
-            if next != want.as_bytes() || !home.told.are(faults) {
+            if next != want || !home.told.are(faults) {
                 return Ok(false);
             }
             has_failed = true;
@@ -315,14 +337,14 @@ fn tells_next<D: Faulty>(
 #[test]
 fn opens_a_store_again_over_its_files(rt: HostRuntime) -> Result<(), Fail> {
     let want = replies!("|" "2000");
-    assert!(rt; tells_next::<OnceFailing<Memory>>(&rt, 2, want, &[])?);
+    assert!(rt; tells_next::<OnceFailing<Memory>>(&rt, (1, 1), 2, want.as_bytes(), &[])?);
     Ok(())
 }
 
 #[test]
 fn opens_a_store_anew(rt: HostRuntime) -> Result<(), Fail> {
     let want = replies!("|" "2000");
-    assert!(rt; tells_next::<Fuse<Memory>>(&rt, 0, want, &[])?);
+    assert!(rt; tells_next::<Fuse<Memory>>(&rt, (1, 1), 0, want.as_bytes(), &[])?);
     Ok(())
 }
 
@@ -330,13 +352,13 @@ fn opens_a_store_anew(rt: HostRuntime) -> Result<(), Fail> {
 #[test]
 fn opens_a_store_once_a_client_is_there(rt: HostRuntime) -> Result<(), Fail> {
     let want = replies!("|" "2000");
-    assert!(rt; tells_next::<Fuse<Memory>>(&rt, 1, want, &[Fault::Damaged])?);
+    assert!(rt; tells_next::<Fuse<Memory>>(&rt, (1, 1), 1, want.as_bytes(), &[Fault::Damaged])?);
     Ok(())
 }
 
 #[test]
 fn answers_that_it_is_unavailable(rt: HostRuntime) -> Result<(), Fail> {
     let faults = [Fault::Damaged; 2];
-    assert!(rt; tells_next::<Fuse<Memory>>(&rt, 2, UNAVAILABLE, &faults)?);
+    assert!(rt; tells_next::<Fuse<Memory>>(&rt, (1, 1), 2, UNAVAILABLE.as_bytes(), &faults)?);
     Ok(())
 }

@@ -12,15 +12,15 @@ loop-init g c = record {
 
 pub loop-preserved : goal.loop-preserved
 loop-preserved g c = record {
-  number = c.loop.invariant.number + c.serve_kept-left.result;
+  number = c.loop.invariant.number + c.serve_connection-served.result.replies;
   served =
-      Another c.loop.invariant.number _ c.serve_kept-left.result _ _ _ _
-      (Again c.loop.invariant.number _ _ _
-      (Again c.loop.invariant.number _ _ _ c.loop.invariant.served c.renewed-waiting.ensures.same)
-      c.renewed-kept.ensures.same)
-      c.serve_kept-left.ensures.served;
+      Another c.loop.invariant.number c.serve_connection-served.result.replies
+      c.serve_connection-served.ensures.served.0 _ _ _ _
+      (Again c.loop.invariant.number _ _ _ c.loop.invariant.served
+      c.renewed-waiting.ensures.same)
+      c.serve_connection-served.ensures.served.1 (omega arith);
   left = omega arith;
-  usable = c.serve_kept-left.ensures.usable;
+  usable = c.serve_connection-served.ensures.usable;
 }
 
 pub returns-then-left-eq0-clause-served : goal.returns-then-left-eq0-clause-served
