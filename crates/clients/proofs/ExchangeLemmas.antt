@@ -1,0 +1,215 @@
+-- What stands first in what has come is answered, whatever comes later.
+use Rattle.std.proofs.Common.{◌≡◌, ◌≢◌, ◌⊎◌, ⊎_elim, inl, inr, refl, ap, sym, ◌∙◌, subst, ℕ, Bool, true, false, List, ◌++◌, take, drop, Some}
+use Rattle.std.proofs.lemmas.Bool.{and_parts}
+use Rattle.std.proofs.lemmas.List.{append-nil}
+use Rattle.chain.specs.Ledgers.{LedgersMeaning}
+use Rattle.ledger_http.specs.declared.refusal.Refusal.{Refusal}
+use Rattle.ledger_http.specs.declared.refusal.Refusal.TheVariants.{Truncated}
+use Rattle.ledger_http.specs.declared.reply.Reply.{Reply}
+use Rattle.ledger_http.specs.declared.reply.Reply.TheVariants.{Fixed}
+use Rattle.ledger_http.specs.ReplyText.{reply_text}
+use Rattle.ledger_http.specs.Message.{Begins, IsRefused, IsAnnounced}
+use Rattle.ledger_http.specs.Unread.{Unread, without, IsWhole}
+use Rattle.service.specs.Responds.{Responds, RefusesEarly}
+use Rattle.clients.specs.Talk.{Talk, may_answer, is_empty}
+use Rattle.clients.specs.Answering.{MayCome, IsExchange, IsUnmoved, HasReplied, GivesUp}
+
+-- what comes later changes nothing of the first message
+abbrev pub BeginsStay : Type 0
+BeginsStay =
+    (unread message rest later : List ℕ) → Begins unread message (Some rest)
+    → Begins (unread ++ later) message (Some (rest ++ later))
+
+-- nor of why it is refused
+abbrev pub RefusedStays : Type 0
+RefusedStays =
+    (unread later : List ℕ) (refusal : Refusal) → IsRefused unread refusal → refusal ≢ Truncated
+    → IsRefused (unread ++ later) refusal
+
+-- what is known of these bytes is known of the bytes that are unread
+at_known :
+    (A : List ℕ → Type 0) (bytes : List ℕ) → A bytes → (unread : List ℕ) →
+    Some bytes ≡ Some unread → A unread
+at_known A bytes here unread known = let same : bytes ≡ unread = cc in subst A same here
+
+answers_at :
+    {S C : Type 0} (t : LedgersMeaning S) (gives : C → ℕ → C → Type 0) (ledgers ledgers_now : S)
+    (moments moments_now : C) (old : Unread) (size moment : ℕ) (reply : Reply) →
+    BeginsStay → IsWhole old.bytes size → gives moments moment moments_now →
+    (t.is_live ledgers_now →
+    Responds (t.tenants ledgers) (t.tenants ledgers_now) (take size old.bytes) moment reply) →
+    RefusesEarly (take size old.bytes) reply → t.follows ledgers ledgers_now →
+    IsExchange t gives ledgers moments old reply ledgers_now moments_now (without size old) true
+answers_at t gives ledgers ledgers_now moments moments_now old size moment reply stays whole given responds early follows later may =
+    record {
+      open_before = refl;
+      by = inl (record {
+        message = take size old.bytes;
+        moment = moment;
+        first =
+            at_known (λ (unread : List ℕ). Begins unread (take size old.bytes) (Some (drop size old.bytes ++ later)))
+            (old.bytes ++ later)
+            (stays old.bytes (take size old.bytes) (drop size old.bytes) later whole.begins);
+        given = given;
+        responds = responds;
+        early = early;
+        follows = follows;
+        goes_on = refl;
+      });
+    }
+
+-- the first message is answered, and taken
+pub answers_whole :
+    {S C : Type 0} (t : LedgersMeaning S) (gives : C → ℕ → C → Type 0) (ledgers ledgers_now : S)
+    (moments moments_now : C) (old same now : Unread) (message : List ℕ) (size moment : ℕ)
+    (reply : Reply) →
+    BeginsStay → same ≡ old → now ≡ without size same → message ≡ take size same.bytes →
+    IsWhole old.bytes size → gives moments moment moments_now →
+    (t.is_live ledgers_now →
+    Responds (t.tenants ledgers) (t.tenants ledgers_now) message moment reply) →
+    RefusesEarly message reply → t.follows ledgers ledgers_now →
+    IsExchange t gives ledgers moments old reply ledgers_now moments_now now true
+    × (now.ended ≡ old.ended)
+answers_whole t gives ledgers ledgers_now moments moments_now old same now message size moment reply stays is taken front whole given responds early follows =
+    let first : message ≡ take size old.bytes =
+    front ∙ ap (λ (unread : Unread). take size unread.bytes) is in
+    let left : now ≡ without size old = taken ∙ ap (λ (unread : Unread). without size unread) is in (
+      subst
+          (λ (unread : Unread).
+          IsExchange t gives ledgers moments old reply ledgers_now moments_now unread true)
+          (sym left)
+          (answers_at t gives ledgers ledgers_now moments moments_now old size moment reply stays
+          whole given
+          (λ live.
+          subst
+          (λ (bytes : List ℕ).
+          Responds (t.tenants ledgers) (t.tenants ledgers_now) bytes moment reply)
+          first (responds live))
+          (subst (λ (bytes : List ℕ). RefusesEarly bytes reply) first early)
+          follows),
+      ap (λ (unread : Unread). unread.ended) left,
+    )
+
+is_cut_short : (refusal : Refusal) → (refusal ≡ Truncated) ⊎ (refusal ≢ Truncated)
+is_cut_short Truncated = inl refl
+is_cut_short refusal = inr (λ (same : refusal ≡ Truncated). cc)
+
+refused_with_later : (old : Unread) (refusal : Refusal) (later : List ℕ) → RefusedStays →
+    IsRefused old.bytes refusal → (refusal ≡ Truncated → old.ended ≡ true) → MayCome old later →
+    IsRefused (old.bytes ++ later) refusal
+refused_with_later old refusal later stays refused ended may =
+    ⊎_elim
+    (λ (cut : refusal ≡ Truncated).
+    subst (λ bytes. IsRefused bytes refusal)
+    (sym (ap (λ more. old.bytes ++ more) (may (ended cut)) ∙ append-nil old.bytes)) refused)
+    (λ (other : refusal ≢ Truncated). stays old.bytes later refusal refused other)
+    (is_cut_short refusal)
+
+refused_at :
+    {S C : Type 0} (t : LedgersMeaning S) (gives : C → ℕ → C → Type 0) (ledgers : S) (moments : C)
+    (old : Unread) (refusal : Refusal) →
+    RefusedStays → IsRefused old.bytes refusal → (refusal ≡ Truncated → old.ended ≡ true) →
+    IsExchange t gives ledgers moments old (Fixed refusal) ledgers moments old false
+refused_at t gives ledgers moments old refusal stays refused ended later may =
+    record {
+      open_before = refl;
+      by = inr (inl (record {
+        refusal = refusal;
+        told = refl;
+        first =
+            at_known (λ (unread : List ℕ). IsRefused unread refusal) (old.bytes ++ later)
+            (refused_with_later old refusal later stays refused ended may);
+        cut = record { ledgers = refl; moments = refl; ends = refl };
+      }));
+    }
+
+-- what stands first is refused, and nothing is taken
+pub answers_refused :
+    {S C : Type 0} (t : LedgersMeaning S) (gives : C → ℕ → C → Type 0) (ledgers : S) (moments : C)
+    (old now : Unread) (refusal : Refusal) →
+    RefusedStays → now ≡ old →
+    IsRefused old.bytes refusal × (refusal ≡ Truncated → old.ended ≡ true) →
+    IsExchange t gives ledgers moments old (Fixed refusal) ledgers moments now false
+    × (now.ended ≡ old.ended)
+answers_refused t gives ledgers moments old now refusal stays same refused = (
+  subst
+      (λ (unread : Unread).
+      IsExchange t gives ledgers moments old (Fixed refusal) ledgers moments unread false)
+      (sym same)
+      (refused_at t gives ledgers moments old refusal stays refused.0 refused.1),
+  ap (λ (unread : Unread). unread.ended) same,
+)
+
+-- the same as the client sees it, whose fields these are
+pub has_replied :
+    {S C : Type 0} (t : LedgersMeaning S) (gives : C → ℕ → C → Type 0) (ledgers ledgers_now : S)
+    (moments moments_now : C) (old : Talk) (inbox now : Unread) (outbox unsent : List ℕ)
+    (goes_on : Bool) (reply : Reply) (goes_on_now : Bool) →
+    ◌≡◌ {A = Talk} (record { unread = inbox; unsent = outbox; goes_on = goes_on }) old →
+    unsent ≡ reply_text reply →
+    IsExchange t gives ledgers moments inbox reply ledgers_now moments_now now goes_on_now
+    × (now.ended ≡ inbox.ended) →
+    HasReplied t gives ledgers moments old reply ledgers_now moments_now
+    (record { unread = now; unsent = unsent; goes_on = goes_on_now })
+has_replied t gives ledgers ledgers_now moments moments_now old inbox now outbox unsent goes_on reply goes_on_now is put exchanged =
+    let first : inbox ≡ old.unread = ap (λ (talk : Talk). talk.unread) is in
+    record {
+      exchange =
+          subst
+          (λ (unread : Unread).
+          IsExchange t gives ledgers moments unread reply ledgers_now moments_now now goes_on_now)
+          first exchanged.0;
+      unsent = put;
+      ended = exchanged.1 ∙ ap (λ (unread : Unread). unread.ended) first;
+    }
+
+abbrev pub new_fields : Unread → List ℕ → Bool → Talk
+new_fields unread unsent goes_on = record { unread = unread; unsent = unsent; goes_on = goes_on }
+
+-- a client that may be answered goes on
+pub goes_on_still :
+    (old : Talk) (inbox : Unread) (outbox : List ℕ) (goes_on : Bool) →
+    ◌≡◌ {A = Talk} (record { unread = inbox; unsent = outbox; goes_on = goes_on }) old →
+    may_answer old ≡ true → true ≡ goes_on
+goes_on_still old inbox outbox goes_on is may =
+    sym (ap (λ (talk : Talk). talk.goes_on) is ∙ (and_parts old.goes_on (is_empty old.unsent) may).0)
+
+pub is_unmoved :
+    {S C : Type 0} (P : Unread → Type 0) (ledgers ledgers_now : S) (moments moments_now : C)
+    (old : Talk) (inbox now : Unread) (outbox : List ℕ) (goes_on : Bool) →
+    ◌≡◌ {A = Talk} (record { unread = inbox; unsent = outbox; goes_on = goes_on }) old →
+    IsUnmoved ledgers moments inbox ledgers_now moments_now now × P inbox →
+    IsUnmoved {T = Talk} ledgers moments old ledgers_now moments_now
+    (record { unread = now; unsent = outbox; goes_on = goes_on })
+    × P old.unread
+is_unmoved P ledgers ledgers_now moments moments_now old inbox now outbox goes_on is unmoved = (
+  record {
+    ledgers_same = unmoved.0.ledgers_same;
+    moments_same = unmoved.0.moments_same;
+    same =
+        ap (λ (unread : Unread). new_fields unread outbox goes_on) unmoved.0.same ∙ is;
+  },
+  subst P (ap (λ (talk : Talk). talk.unread) is) unmoved.1,
+)
+
+-- a message that is announced is announced whatever comes later
+abbrev pub AnnouncedStays : Type 0
+AnnouncedStays = (unread later : List ℕ) → IsAnnounced unread → IsAnnounced (unread ++ later)
+
+pub gives_up :
+    {S C : Type 0} (t : LedgersMeaning S) (gives : C → ℕ → C → Type 0) → AnnouncedStays →
+    GivesUp t gives
+gives_up t gives stays ledgers moments talk announced = record {
+  exchange = λ later may. record {
+    open_before = refl;
+    by = inr (inr (record {
+      told = refl;
+      first =
+          at_known IsAnnounced (talk.unread.bytes ++ later)
+          (stays talk.unread.bytes later announced);
+      cut = record { ledgers = refl; moments = refl; ends = refl };
+    }));
+  };
+  unsent = refl;
+  ended = refl;
+}

@@ -1,0 +1,28 @@
+use Rattle.std.proofs.Common.{refl}
+use Rattle.clients.proofs.ExchangeLemmas.{answers_whole, answers_refused}
+use Rattle.clients.proofs.exchanging.exchange.Goals as goal
+
+pub returns-in-Whole-clause-exchanges : goal.returns-in-Whole-clause-exchanges
+returns-in-Whole-clause-exchanges g c =
+    answers_whole g.L.Ledgers.means g.C.Moments.gives _ _ _ _ c.args.inbox.now _ _ _ c.in-Whole.size _
+    c.respond-reply.result c.later_bytes_change_nothing.ensures.begins c.next.ensures.same
+    c.take.ensures c.front.ensures (rw c.in-Whole.is at c.next.ensures.next) c.moment-moment.ensures
+    c.respond-reply.ensures.responds c.respond-reply.ensures.early c.respond-reply.ensures.follows
+
+pub returns-in-Refused-clause-exchanges : goal.returns-in-Refused-clause-exchanges
+returns-in-Refused-clause-exchanges g c =
+    answers_refused g.L.Ledgers.means g.C.Moments.gives c.args.ledgers.now c.args.moments.now
+    c.args.inbox.now _ c.in-Refused.refusal c.later_bytes_change_nothing.ensures.refused
+    c.next.ensures.same (rw c.in-Refused.is at c.next.ensures.next)
+
+pub returns-in-Wanting-clause-exchanges : goal.returns-in-Wanting-clause-exchanges
+returns-in-Wanting-clause-exchanges g c = (
+  record { ledgers_same = refl; moments_same = refl; same = c.next.ensures.same },
+  rw c.in-Wanting.is at c.next.ensures.next,
+)
+
+pub returns-in-End-clause-exchanges : goal.returns-in-End-clause-exchanges
+returns-in-End-clause-exchanges g c = (
+  record { ledgers_same = refl; moments_same = refl; same = c.next.ensures.same },
+  rw c.in-End.is at c.next.ensures.next,
+)

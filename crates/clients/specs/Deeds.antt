@@ -1,0 +1,148 @@
+-- What happens to clients that are served at once, and what is written to each.
+use Rattle.std.specs.Prelude.{◌≡◌, ◌≢◌, ℕ, true, false, List, [], ◌∷◌, ◌++◌, nat_eq, if◌then◌else◌}
+use Rattle.std.specs.List.{flat_map}
+use Rattle.chain.specs.Ledgers.{LedgersMeaning}
+use Rattle.ledger_http.specs.declared.reply.Reply.{Reply}
+use Rattle.service.specs.Connections.{texts_of}
+use Rattle.clients.specs.Talk.{Talk, new_talk, received, input_ended, may_answer}
+use Rattle.clients.specs.Answering.{MayCome, IsUnmoved, HasReplied}
+use Rattle.clients.specs.Turns.{Sent, Clients, clients, Told, Turns, told_to, Hears}
+
+-- the ledgers, what gives the moments, and each client, by a number that is never used again
+pub record Room (S C : Type 0) : Type 0 where
+  pub ledgers : S
+  pub moments : C
+  pub talks : ℕ → Talk
+
+-- a piece came from a client; its input ended; a message of it was replied to; bytes of a reply
+-- were written to it
+pub data Deed : Type 0 where
+  Came : ℕ → List ℕ → Deed
+  Ended : ℕ → Deed
+  Replied : ℕ → Reply → Deed
+  Wrote : ℕ → List ℕ → Deed
+
+-- the one client that a deed is about
+abbrev pub client_of : Deed → ℕ
+client_of (Came client piece) = client
+client_of (Ended client) = client
+client_of (Replied client reply) = client
+client_of (Wrote client bytes) = client
+
+-- a deed, as its client sees it
+abbrev pub Does :
+    {S C : Type 0} → LedgersMeaning S → (C → ℕ → C → Type 0) → Deed → S → C → Talk → S → C → Talk
+    → Type 0
+Does t gives (Came client piece) ledgers moments old ledgers_now moments_now new =
+    IsUnmoved ledgers moments (received piece old) ledgers_now moments_now new
+    × (old.unread.ended ≡ false)
+Does t gives (Ended client) ledgers moments old ledgers_now moments_now new =
+    IsUnmoved ledgers moments (input_ended old) ledgers_now moments_now new
+Does t gives (Replied client reply) ledgers moments old ledgers_now moments_now new =
+    HasReplied t gives ledgers moments old reply ledgers_now moments_now new
+    × (may_answer old ≡ true)
+Does t gives (Wrote client bytes) ledgers moments old ledgers_now moments_now new =
+    IsUnmoved ledgers moments old ledgers_now moments_now
+    (record new { unsent = bytes ++ new.unsent })
+
+-- a deed, and nothing else
+pub record IsDone {S C : Type 0} (t : LedgersMeaning S) (gives : C → ℕ → C → Type 0)
+    (old : Room S C) (deed : Deed) (new : Room S C) : Type 0 where
+  pub does :
+      Does t gives deed old.ledgers old.moments (old.talks (client_of deed)) new.ledgers
+      new.moments (new.talks (client_of deed))
+  pub others : (other : ℕ) → other ≢ client_of deed → new.talks other ≡ old.talks other
+
+-- deeds, one after the other
+pub data Lives (S C : Type 0) (t : LedgersMeaning S) (gives : C → ℕ → C → Type 0)
+    (first : Room S C) : List Deed → Room S C → Type 0 where
+  Begin : Lives S C t gives first [] first
+  Then :
+      (deeds : List Deed) (last : Room S C) (deed : Deed) (next : Room S C) →
+      Lives S C t gives first deeds last → IsDone t gives last deed next →
+      Lives S C t gives first (deeds ++ deed ∷ []) next
+
+abbrev pub if_own : {A : Type 0} → ℕ → ℕ → List A → List A
+if_own client other items = if nat_eq other client then items else []
+
+-- what came from one client
+abbrev pub came_in : ℕ → Deed → List ℕ
+came_in client (Came other piece) = if_own client other piece
+came_in client (Ended other) = []
+came_in client (Replied other reply) = []
+came_in client (Wrote other bytes) = []
+
+abbrev pub come_from : ℕ → List Deed → List ℕ
+come_from client deeds = flat_map (came_in client) deeds
+
+-- what was written to it
+abbrev pub written_in : ℕ → Deed → List ℕ
+written_in client (Came other piece) = []
+written_in client (Ended other) = []
+written_in client (Replied other reply) = []
+written_in client (Wrote other bytes) = if_own client other bytes
+
+abbrev pub written_to : ℕ → List Deed → List ℕ
+written_to client deeds = flat_map (written_in client) deeds
+
+-- the replies, and to whom
+abbrev pub told_in : Deed → List Told
+told_in (Came client piece) = []
+told_in (Ended client) = []
+told_in (Replied client reply) = record { client = client; reply = reply } ∷ []
+told_in (Wrote client bytes) = []
+
+abbrev pub all_told : List Deed → List Told
+all_told deeds = flat_map told_in deeds
+
+-- a client, with bytes that are still to come
+abbrev pub sent_with : List ℕ → Talk → Sent
+sent_with later talk = record { unread = talk.unread.bytes ++ later; goes_on = talk.goes_on }
+
+-- the clients of a room, with bytes that are still to come from each
+abbrev pub sent_by : {S C : Type 0} → Room S C → (ℕ → List ℕ) → ℕ → Sent
+sent_by room later client = sent_with (later client) (room.talks client)
+
+abbrev pub clients_of : {S C : Type 0} → Room S C → (ℕ → List ℕ) → Clients S C
+clients_of room later = clients room.ledgers room.moments (sent_by room later)
+
+-- whatever came in whatever pieces, and whatever comes later, the replies are those of turns over
+-- all that came
+abbrev pub AreExchanges :
+    {S C : Type 0} → LedgersMeaning S → (C → ℕ → C → Type 0) → Type 0
+AreExchanges {S} {C} t gives =
+    (first last : Room S C) (deeds : List Deed)
+    → Lives S C t gives first deeds last
+    → (later : ℕ → List ℕ)
+    → ((client : ℕ) → MayCome (last.talks client).unread (later client))
+    → Turns S C t gives (clients_of first (λ client. come_from client deeds ++ later client))
+    (all_told deeds) (clients_of last later)
+
+-- what was written to a client, and what is to be, is what was to be and the replies to it, in order
+abbrev pub AreWritten :
+    {S C : Type 0} → LedgersMeaning S → (C → ℕ → C → Type 0) → Type 0
+AreWritten {S} {C} t gives =
+    (first last : Room S C) (deeds : List Deed)
+    → Lives S C t gives first deeds last
+    → (client : ℕ)
+    → written_to client deeds ++ (last.talks client).unsent
+    ≡ (first.talks client).unsent ++ texts_of (told_to client (all_told deeds))
+
+-- what is written to a new client is a beginning of the replies to its own messages, in order, one
+-- a message
+pub record IsServed {S C : Type 0} (t : LedgersMeaning S) (gives : C → ℕ → C → Type 0)
+    (came later written : List ℕ) (now : Talk) : Type 0 where
+  pub replies : List Reply
+  pub heard : Hears S C t gives (sent_with (came ++ later) new_talk) replies (sent_with later now)
+  pub begun : written ++ now.unsent ≡ texts_of replies
+
+abbrev pub AreServed : {S C : Type 0} → LedgersMeaning S → (C → ℕ → C → Type 0) → Type 0
+AreServed {S} {C} t gives =
+    (first last : Room S C) (deeds : List Deed)
+    → Lives S C t gives first deeds last
+    → (client : ℕ)
+    → first.talks client ≡ new_talk
+    → (later : List ℕ)
+    → MayCome (last.talks client).unread later
+    → IsServed t gives (come_from client deeds) later (written_to client deeds)
+    (last.talks client)

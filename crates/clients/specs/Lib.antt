@@ -1,0 +1,6 @@
+pub mod Talk
+pub mod Answering
+pub mod Turns
+pub mod Deeds
+pub mod Rounds
+pub mod Places

@@ -1,0 +1,162 @@
+//! One client.
+ghost use Rattle.std.specs.Prelude.{◌≡◌, ◌≤◌, true, false, length, OnOk, OnErr, IsTrue};
+ghost use Rattle.ledger_http.specs.Message.{IsAnnounced};
+ghost use Rattle.clients.specs.Talk.{new_talk, received, input_ended, written, may_answer, given_up};
+ghost use Rattle.clients.specs.Answering.{HasAnswered};
+
+use crate::exchanging::{Exchanged, exchange};
+use crate::outbox::Outbox;
+use chain::Ledgers;
+use ledger_http::{Inbox, Refusal, Reply};
+use service::Moments;
+use std::alloc::{AllocError, Global};
+use std::marker::Model;
+
+/// What came of answering a client.
+#[derive(Clone, Copy, Debug, PartialEq, Eq)]
+pub enum Answered {
+    /// The reply to its next message is to be written.
+    Replied,
+    /// Its next message is not whole: more has to come.
+    Wanting,
+    /// All its messages are answered, and no more can come.
+    Over,
+}
+
+/// One client: what came from it, and the one reply that is being written.
+///
+/// No further message is answered before that reply is written. So answering needs no memory that
+/// could be wanting once the ledgers have changed, and a client cannot pile up replies.
+#[derive(Drop)]
+pub struct Client {
+    inbox: Inbox,
+    outbox: Outbox,
+    // Whether another message is answered behind the reply.
+    goes_on: bool,
+}
+
+impl Model for Client {
+    ghost use Rattle.clients.specs.Talk.{Talk};
+
+    ghost Value = { Talk };
+
+    ghost view = { λ client. record {
+      unread = client.inbox;
+      unsent = client.outbox;
+      goes_on = client.goes_on;
+    } };
+}
+
+impl Client {
+    /// A client from which nothing has come.
+    pub fn new(alloc: Global) -> Client
+        ensures { result ≡ new_talk }
+    {
+        Client {
+            inbox: Inbox::new(alloc),
+            outbox: Outbox::new(),
+            goes_on: true,
+        }
+    }
+
+    /// Whether its input has ended.
+    pub fn has_ended(&self) -> bool
+        ensures { result ≡ self.now.unread.ended }
+    {
+        self.inbox.has_ended()
+    }
+
+    /// Puts a piece behind what has come.
+    pub fn receive(&mut self, piece: &[u8]) -> Result<(), AllocError>
+        requires { self.old.unread.ended ≡ false }
+        ensures ok { OnOk result (self.new ≡ received piece.now self.old) }
+        ensures err { OnErr result (self.new ≡ self.old) }
+    {
+        self.inbox.receive(piece)
+    }
+
+    /// Its input has ended.
+    pub fn end(&mut self)
+        ensures { self.new ≡ input_ended self.old }
+    {
+        self.inbox.end();
+    }
+
+    /// Whether its next message may be answered: the last reply is written, and was not the last
+    /// of all.
+    pub fn may_answer(&self) -> bool
+        ensures { result ≡ may_answer self.now }
+    {
+        self.goes_on && self.outbox.is_empty()
+    }
+
+    /// Answers its next message, if that is there. What is refused while it is read, as a message
+    /// that is cut short where the input ends, asks for no moment, and no message is answered
+    /// behind it.
+    pub fn answer<L: Ledgers, C: Moments>(
+        &mut self,
+        alloc: Global,
+        ledgers: &mut L,
+        moments: &mut C,
+    ) -> Answered
+        requires usable { L.means.is_usable ledgers.old }
+        requires open { may_answer self.old ≡ true }
+        ensures answers { HasAnswered L.means C.gives ledgers.old moments.old self.old
+            ledgers.new moments.new self.new result }
+        ensures usable { L.means.is_usable ledgers.new }
+        ensures follows { L.means.follows ledgers.old ledgers.new }
+    {
+        match exchange(alloc, ledgers, moments, &mut self.inbox) {
+            Exchanged::Answered(reply) => {
+                self.outbox.put(reply);
+                Answered::Replied
+            }
+            Exchanged::Refused(refusal) => {
+                self.outbox.put(Reply::Fixed(refusal));
+                self.goes_on = false;
+                Answered::Replied
+            }
+            Exchanged::Wanting => Answered::Wanting,
+            Exchanged::Over => Answered::Over,
+        }
+    }
+
+    /// Whether a good head was found first, behind which a body of allowed length is due.
+    pub fn is_announced(&self) -> bool
+        ensures { IsTrue result → IsAnnounced self.now.unread.bytes }
+    {
+        self.inbox.is_announced()
+    }
+
+    /// Memory is wanting for the body that is due: the last reply says so.
+    pub fn give_up(&mut self)
+        requires open { may_answer self.old ≡ true }
+        requires due { IsAnnounced self.old.unread.bytes }
+        ensures { self.new ≡ given_up self.old }
+    {
+        self.outbox.put(Reply::Fixed(Refusal::Unavailable));
+        self.goes_on = false;
+    }
+
+    /// The bytes of the reply that are not written.
+    pub fn unsent(&self) -> &[u8]
+        ensures { result.now ≡ self.now.unsent }
+    {
+        self.outbox.unsent()
+    }
+
+    /// So many of them are written.
+    pub fn wrote(&mut self, count: usize)
+        requires { count ≤ length self.old.unsent }
+        ensures { self.new ≡ written count self.old }
+    {
+        self.outbox.wrote(count);
+    }
+
+    /// Whether another message is answered behind the reply.
+    pub fn goes_on(&self) -> bool
+        ensures { result ≡ self.now.goes_on }
+    {
+        self.goes_on
+    }
+}

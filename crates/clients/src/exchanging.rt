@@ -1,0 +1,47 @@
+//! One message of what has come from a client, and its reply.
+ghost use Rattle.clients.specs.Answering.{Exchanges};
+
+use chain::Ledgers;
+use ledger_http::{Inbox, Next, Refusal, Reply, later_bytes_change_nothing};
+use service::{Moments, respond};
+use std::alloc::Global;
+
+/// What came of looking for a message.
+#[derive(Drop)]
+pub(crate) enum Exchanged {
+    /// The reply to a message that was taken.
+    Answered(Reply),
+    /// What comes next is no message that is taken: the last reply.
+    Refused(Refusal),
+    /// The next message is not whole.
+    Wanting,
+    /// The input has ended, and nothing is left of it.
+    Over,
+}
+
+/// Answers the next message, if it is there.
+pub(crate) fn exchange<L: Ledgers, C: Moments>(
+    alloc: Global,
+    ledgers: &mut L,
+    moments: &mut C,
+    inbox: &mut Inbox,
+) -> Exchanged
+    requires { L.means.is_usable ledgers.old }
+    ensures exchanges { Exchanges L.means C.gives ledgers.old moments.old inbox.old
+        ledgers.new moments.new inbox.new result }
+    ensures usable { L.means.is_usable ledgers.new }
+    ensures follows { L.means.follows ledgers.old ledgers.new }
+{
+    later_bytes_change_nothing();
+    match inbox.next() {
+        Next::Whole(size) => {
+            let moment = moments.moment();
+            let reply = respond(alloc, ledgers, inbox.front(size), moment);
+            inbox.take(size);
+            Exchanged::Answered(reply)
+        }
+        Next::Refused(refusal) => Exchanged::Refused(refusal),
+        Next::Wanting => Exchanged::Wanting,
+        Next::End => Exchanged::Over,
+    }
+}

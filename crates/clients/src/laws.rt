@@ -1,0 +1,56 @@
+//! Laws of many clients. The functions do nothing; their contracts are the laws.
+ghost use Rattle.clients.specs.Answering.{GivesUp};
+ghost use Rattle.clients.specs.Deeds.{AreExchanges, AreWritten, AreServed};
+ghost use Rattle.clients.specs.Rounds.{RoundsAreLives};
+ghost use Rattle.clients.specs.Turns.{TurnsLeadOn, ServeEachAlone, HearTheirOwn};
+
+use chain::Ledgers;
+use ledger_http::later_bytes_change_nothing;
+use service::{Moments, connections_are_courses, each_tenant_sees_itself};
+
+/// Turns of many clients are a course of the service, as long as the ledgers are live. They go on
+/// where any course has ended, so that reopenings may lie between turns.
+pub fn clients_are_courses<L: Ledgers, C: Moments>()
+    ensures { TurnsLeadOn L.means C.gives }
+{
+    connections_are_courses::<L, C>();
+}
+
+/// Whichever clients its requests come from, and whatever others ask between, what a tenant is told
+/// and the machine that it is left with are those of its own requests alone, as long as the ledgers
+/// are live.
+pub fn clients_serve_each_alone<L: Ledgers, C: Moments>()
+    ensures { ServeEachAlone L.means C.gives }
+{
+    clients_are_courses::<L, C>();
+    each_tenant_sees_itself();
+}
+
+/// Whatever others ask between, the messages of a client get one reply each, in order, and it gets
+/// no others.
+pub fn clients_hear_their_own<L: Ledgers, C: Moments>()
+    ensures { HearTheirOwn L.means C.gives }
+{}
+
+/// In whatever pieces messages come, their replies are those to all that came, one message at a
+/// time. What is written to a client is a beginning of the replies to its own messages, in order,
+/// one a message.
+pub fn clients_are_served<L: Ledgers, C: Moments>()
+    ensures exchanges { AreExchanges L.means C.gives }
+    ensures written { AreWritten L.means C.gives }
+    ensures served { AreServed L.means C.gives }
+{
+    clients_hear_their_own::<L, C>();
+}
+
+/// A client that gives up has replied to the message whose body is due, whatever comes later.
+pub fn giving_up_replies<L: Ledgers, C: Moments>()
+    ensures { GivesUp L.means C.gives }
+{
+    later_bytes_change_nothing();
+}
+
+/// Turns of all clients in a round are deeds, one after the other.
+pub fn rounds_are_deeds<L: Ledgers, C: Moments>()
+    ensures { RoundsAreLives L.means C.gives }
+{}

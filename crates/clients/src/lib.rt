@@ -1,0 +1,16 @@
+//! Many clients at once: what each has sent and is answered, in whatever order and whatever pieces
+//! it comes.
+#![tactic(auto)]
+
+mod client;
+mod exchanging;
+mod laws;
+mod outbox;
+mod room;
+
+pub use client::{Answered, Client};
+pub use laws::{
+    clients_are_courses, clients_are_served, clients_hear_their_own, clients_serve_each_alone,
+    giving_up_replies, rounds_are_deeds,
+};
+pub use room::{answer_each, answer_to, end_of, receive_from, wrote_to};
