@@ -16,7 +16,7 @@ use Rattle.clap.proofs.ValueTestLemmas.{accepts-Accepts}
 use Rattle.command_line.proofs.Uses.{Each, IsOwn, both_none, each_found, flag_sets, help_sets, option_sets}
 use Rattle.command_line.proofs.Walks.{walk_stops}
 use Rattle.command_line.proofs.Levels.{HasValue, Holds, level_holds}
-use Rattle.command_line.specs.Ledgerd.{check_shape, counts, flag_rule, ledgerd_app, migrate_shape, number_rule, ports, program, serve_shape, statement_shape, tenant_add_shape, text_rule}
+use Rattle.command_line.specs.Ledgerd.{check_shape, counts, flag_rule, ledgerd_app, migrate_shape, number_rule, option_rule, ports, program, serve_shape, statement_shape, tenant_add_shape, text_rule}
 use Rattle.command_line.specs.Values.{HasSomeText, IsFilled, IsFlag}
 use Rattle.command_line.proofs.NumberValues.{signed_number}
 
@@ -51,6 +51,9 @@ text_own c name own = record { own = own; sets = option_sets (filled (text_rule 
 number_own : (c : List Rule) (name : Text) (numbers : ValueParser) → arg_by_id c name ≡ Some (filled (number_rule name numbers))
     → IsOwn c (filled (number_rule name numbers))
 number_own c name numbers own = record { own = own; sets = option_sets (filled (number_rule name numbers)) refl (lit< tt) }
+
+option_own : (c : List Rule) (name : Text) → arg_by_id c name ≡ Some (filled (option_rule name)) → IsOwn c (filled (option_rule name))
+option_own c name own = record { own = own; sets = option_sets (filled (option_rule name)) refl (lit< tt) }
 
 flag_own : (c : List Rule) (name : Text) → arg_by_id c name ≡ Some (filled (flag_rule name)) → IsOwn c (filled (flag_rule name))
 flag_own c name own = record { own = own; sets = flag_sets (filled (flag_rule name)) (codes "true") refl refl }
@@ -118,8 +121,31 @@ statement_met : (words : List Text) → level_fault (ready statement_shape) [] n
 statement_met words e =
     let c = (ready statement_shape).rules in
     let rows = rows_after c [] words in
-    let own : Each (IsOwn c) c =
-    (text_own c (codes "db") refl, (text_own c (codes "tenant") refl, (text_own c (codes "account") refl, (flag_own c (codes "reversed") refl, (help_own c refl, tt))))) in
+    let own : Each (IsOwn c) c = (
+      text_own c (codes "db") refl,
+      (
+        text_own c (codes "tenant") refl,
+        (
+          text_own c (codes "account") refl,
+          (
+            flag_own c (codes "reversed") refl,
+            (
+              option_own c (codes "from") refl,
+              (
+                option_own c (codes "to") refl,
+                (
+                  flag_own c (codes "balances") refl,
+                  (
+                    flag_own c (codes "wide") refl,
+                    (option_own c (codes "format") refl, (help_own c refl, tt)),
+                  ),
+                ),
+              ),
+            ),
+          ),
+        ),
+      ),
+    ) in
     let holds = level_holds (ready statement_shape) words own refl e in
     inr (inr (inl (
       refl,
@@ -128,6 +154,8 @@ statement_met words e =
         tenant = text_at rows (codes "tenant") holds.1.0;
         account = text_at rows (codes "account") holds.1.1.0;
         reversed = flag_at rows (codes "reversed") holds.1.1.1.0;
+        balances = flag_at rows (codes "balances") holds.1.1.1.1.1.1.0;
+        wide = flag_at rows (codes "wide") holds.1.1.1.1.1.1.1.0;
       },
     )))
 

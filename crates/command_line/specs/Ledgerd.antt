@@ -25,6 +25,10 @@ counts = Unsigned 0 18446744073709551615
 abbrev pub flag_rule : Text → Rule
 flag_rule name = record (new_rule name) { long = Some name; action = Some SetTrue }
 
+-- `--name VALUE`, which may be left out
+abbrev pub option_rule : Text → Rule
+option_rule name = record (new_rule name) { long = Some name; value_names = 1 }
+
 -- the option that names the file of the store
 abbrev pub db_rule : Rule
 db_rule = text_rule (codes "db")
@@ -48,9 +52,19 @@ tenant_add_shape = over_store (codes "tenant-add")
     (text_rule (codes "name") ∷ text_rule (codes "key") ∷ [])
 
 -- statement: a tenant, its account, and whether the newest come first
+abbrev pub whole_statement_app : App
+whole_statement_app = record (new_app (codes "statement")) {
+  top = over_store (codes "statement")
+      (text_rule (codes "tenant") ∷ text_rule (codes "account") ∷ flag_rule (codes "reversed") ∷ []);
+}
+
+-- and then the bounds of a period, what else is told, and in which form
 abbrev pub statement_shape : Shape
 statement_shape = over_store (codes "statement")
-    (text_rule (codes "tenant") ∷ text_rule (codes "account") ∷ flag_rule (codes "reversed") ∷ [])
+    (text_rule (codes "tenant") ∷ text_rule (codes "account") ∷ flag_rule (codes "reversed")
+    ∷ option_rule (codes "from") ∷ option_rule (codes "to")
+    ∷ flag_rule (codes "balances") ∷ flag_rule (codes "wide")
+    ∷ option_rule (codes "format") ∷ [])
 
 -- check: nothing but the file
 abbrev pub check_shape : Shape

@@ -2,11 +2,21 @@
 use Rattle.std.specs.Prelude.{List, [], Option, Some, None, ◌≡◌, codes}
 use Rattle.clap.specs.Words.{IsAmong, Row, Text, fault_of, kind_of, subcommand_of}
 use Rattle.command_line.specs.Ledgerd.{ledgerd_app}
-use Rattle.command_line.specs.Values.{HasNumber, HasText, has_flag}
+use Rattle.command_line.specs.Values.{HasFreeText, HasNumber, HasText, has_flag, text_in}
 use Rattle.command_line.specs.declared.commands.Command.{Command}
+use Rattle.command_line.specs.declared.commands.StatementWords.{StatementWords}
 use Rattle.command_line.specs.declared.commands.Command.TheVariants as command
 use Rattle.command_line.specs.declared.fault.LineFault.{LineFault}
 use Rattle.command_line.specs.declared.fault.LineFault.TheVariants.{Refused, Memory}
+
+-- what is asked of a statement, each from the option of its own name
+pub record SpellsStatement (rows : List Row) (asked : StatementWords) : Type 0 where
+  pub reversed : asked.reversed ≡ has_flag rows (codes "reversed")
+  pub from : HasFreeText rows (codes "from") (text_in asked.from)
+  pub to : HasFreeText rows (codes "to") (text_in asked.to)
+  pub balances : asked.balances ≡ has_flag rows (codes "balances")
+  pub wide : asked.wide ≡ has_flag rows (codes "wide")
+  pub format : HasFreeText rows (codes "format") (text_in asked.format)
 
 -- the command has the subcommand's name, and each value from the option of its own name
 abbrev pub Spells : Text → List Row → Command → Type 0
@@ -19,11 +29,11 @@ Spells name rows (command.AddTenant db tenant key) = (name ≡ codes "tenant-add
     × HasText rows (codes "db") db.now
     × HasText rows (codes "name") tenant.now
     × HasText rows (codes "key") key.now
-Spells name rows (command.Statement db tenant account reversed) = (name ≡ codes "statement")
+Spells name rows (command.Statement db tenant account asked) = (name ≡ codes "statement")
     × HasText rows (codes "db") db.now
     × HasText rows (codes "tenant") tenant.now
     × HasText rows (codes "account") account.now
-    × (reversed ≡ has_flag rows (codes "reversed"))
+    × SpellsStatement rows asked
 Spells name rows (command.Check db) = (name ≡ codes "check")
     × HasText rows (codes "db") db.now
 Spells name rows (command.Migrate db to) = (name ≡ codes "migrate")

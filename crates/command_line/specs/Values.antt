@@ -1,6 +1,7 @@
 -- What the matches of a command hold.
 use Rattle.std.specs.Prelude.{ℕ, Bool, List, None, Some, ◌≡◌, ◌⊎◌, ◌<◌, ◌^◌, IsSome, codes, false}
-use Rattle.std.specs.Prelude.{option_map}
+use Rattle.std.specs.Prelude.{Option, option_map}
+use Rattle.std.specs.Borrow.{Bor}
 use Rattle.std.specs.Option.{option_map_or}
 use Rattle.std.specs.Str.{bytes_eq}
 use Rattle.std.specs.Str.Parse.{IsNumeral, digits_value, without_leading_plus}
@@ -13,6 +14,14 @@ HasText rows name text = first_of name rows ≡ Some text
 -- an option has a text
 abbrev pub HasSomeText : List Row → Text → Type 0
 HasSomeText rows name = IsSome (first_of name rows)
+
+-- a text, if there is one
+abbrev pub text_in : Option (Bor Text) → Option Text
+text_in found = option_map (λ text. text.now) found
+
+-- the value of an option that may be left out
+abbrev pub HasFreeText : List Row → Text → Option Text → Type 0
+HasFreeText rows name text = text ≡ first_of name rows
 
 -- the number that a text is read as, which may have a plus before it
 abbrev pub number_of : Text → ℕ
@@ -56,6 +65,8 @@ pub record FillsStatement (rows : List Row) : Type 0 where
   pub tenant : HasSomeText rows (codes "tenant")
   pub account : HasSomeText rows (codes "account")
   pub reversed : IsFlag rows (codes "reversed")
+  pub balances : IsFlag rows (codes "balances")
+  pub wide : IsFlag rows (codes "wide")
 
 -- the value of check is there
 pub record FillsCheck (rows : List Row) : Type 0 where

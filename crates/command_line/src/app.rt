@@ -1,8 +1,10 @@
 //! `ledgerd` as `clap` sees it: the subcommands, their options and their help.
-ghost use Rattle.std.specs.Prelude.{IfOk, codes};
+ghost use Rattle.std.specs.Prelude.{IfOk};
 ghost use Rattle.command_line.specs.Ledgerd.{check_shape, db_rule, flag_rule, ledgerd_app};
-ghost use Rattle.command_line.specs.Ledgerd.{migrate_shape, number_rule, program, serve_shape};
+ghost use Rattle.command_line.specs.Ledgerd.{migrate_shape, number_rule, option_rule, program};
+ghost use Rattle.command_line.specs.Ledgerd.{serve_shape};
 ghost use Rattle.command_line.specs.Ledgerd.{statement_shape, store_app, tenant_add_shape, text_rule};
+ghost use Rattle.command_line.specs.Ledgerd.{whole_statement_app};
 ghost use Rattle.command_line.specs.Built.{IsLeaf, IsLocalArg, IsProgram};
 
 use clap::builder::ValueParser;
@@ -42,14 +44,24 @@ fn db_option<'a>(alloc: Global) -> Arg<'a>
     text_option(alloc, "db", "FILE", "The store's file, e.g. ledger.db")
 }
 
-// `--reversed`, which may be left out.
-fn reversed_flag<'a>(alloc: Global) -> Arg<'a>
-    ensures { IsLocalArg (flag_rule (codes "reversed")) result }
+// `--name`, which may be left out.
+fn flag<'a>(alloc: Global, name: &'a str, help: &'a str) -> Arg<'a>
+    ensures { IsLocalArg (flag_rule name.entry.now) result }
 {
-    Arg::new(alloc, "reversed")
-        .long("reversed")
+    Arg::new(alloc, name)
+        .long(name)
         .action(ArgAction::SetTrue)
-        .help("Newest entry first, in place of oldest first")
+        .help(help)
+}
+
+// `--name VALUE`, which may be left out.
+fn free_option<'a>(alloc: Global, name: &'a str, value: &'a str, help: &'a str) -> Arg<'a>
+    ensures { IsLocalArg (option_rule name.entry.now) result }
+{
+    Arg::new(alloc, name)
+        .long(name)
+        .value_name(value)
+        .help(help)
 }
 
 // The program without its subcommands. Its name is told to `clap`, since the words are without it.
@@ -116,8 +128,9 @@ fn tenant_add_command<'a>(alloc: Global) -> Result<clap::Command<'a>, AllocError
         ))
 }
 
-fn statement_command<'a>(alloc: Global) -> Result<clap::Command<'a>, AllocError>
-    ensures { IfOk result (IsLeaf statement_shape) }
+// A statement's command with what it must have, and the order of its entries.
+fn whole_statement_command<'a>(alloc: Global) -> Result<clap::Command<'a>, AllocError>
+    ensures { IfOk result (IsProgram whole_statement_app) }
 {
     let about = "Write an account's statement as CSV, one line an entry";
     store_command(alloc, "statement", about)?
@@ -133,7 +146,45 @@ fn statement_command<'a>(alloc: Global) -> Result<clap::Command<'a>, AllocError>
             "ID",
             "The account's id in decimal, below 2^128, e.g. 1001",
         ))?
-        .arg(reversed_flag(alloc))
+        .arg(flag(
+            alloc,
+            "reversed",
+            "Newest entry first, in place of oldest first",
+        ))
+}
+
+fn statement_command<'a>(alloc: Global) -> Result<clap::Command<'a>, AllocError>
+    ensures { IfOk result (IsLeaf statement_shape) }
+{
+    whole_statement_command(alloc)?
+        .arg(free_option(
+            alloc,
+            "from",
+            "TIME",
+            "Entries from this on: a day of UTC, e.g. 2026-11-24, or nanoseconds since 1970",
+        ))?
+        .arg(free_option(
+            alloc,
+            "to",
+            "TIME",
+            "Entries up to this: the end of a day of UTC, or nanoseconds since 1970",
+        ))?
+        .arg(flag(
+            alloc,
+            "balances",
+            "The sums before the entries first, and those after them last",
+        ))?
+        .arg(flag(
+            alloc,
+            "wide",
+            "The other account, pending id, code and user data of each entry, too",
+        ))?
+        .arg(free_option(
+            alloc,
+            "format",
+            "FORM",
+            "csv, sheet (CSV whose digits a spreadsheet keeps) or json, one object a line",
+        ))
 }
 
 fn check_command<'a>(alloc: Global) -> Result<clap::Command<'a>, AllocError>

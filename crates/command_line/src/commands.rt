@@ -1,3 +1,20 @@
+/// What of a statement is asked for, and how it is to be written.
+#[derive(Clone, Copy, Debug, PartialEq, Eq, Default, Drop)]
+pub struct StatementWords<'a> {
+    /// Newest entry first, in place of oldest first.
+    pub reversed: bool,
+    /// The first moment of the entries, where it was given.
+    pub from: Option<&'a str>,
+    /// Their last, likewise.
+    pub to: Option<&'a str>,
+    /// With the sums before the entries and behind them.
+    pub balances: bool,
+    /// With more of each entry's transfer.
+    pub wide: bool,
+    /// The form of the lines, where it was given.
+    pub format: Option<&'a str>,
+}
+
 /// What a command line asks of `ledgerd`. Texts stand as they were written: programs read names,
 /// keys, ids and versions from them.
 #[derive(Clone, Copy, Debug, PartialEq, Eq, Drop)]
@@ -16,12 +33,12 @@ pub enum Command<'a> {
         name: &'a str,
         key: &'a str,
     },
-    /// Write an account's statement, oldest entry first, or newest first where it is reversed.
+    /// Write an account's statement.
     Statement {
         db: &'a str,
         tenant: &'a str,
         account: &'a str,
-        reversed: bool,
+        asked: StatementWords<'a>,
     },
     /// Audit a store.
     Check {

@@ -6,6 +6,6 @@ mod commands;
 mod fault;
 mod read;
 
-pub use commands::Command;
+pub use commands::{Command, StatementWords};
 pub use fault::LineFault;
 pub use read::command;

@@ -1,13 +1,14 @@
 ghost use Rattle.std.specs.Prelude.{◌≡◌, ◌^◌, IfErr, IfOk, codes, map, true};
 ghost use Rattle.clap.specs.Words.{found_of, rows_of, takes};
 ghost use Rattle.command_line.specs.Ledgerd.{ledgerd_app};
-ghost use Rattle.command_line.specs.Line.{IsCommandOf, IsFaultOf, Spells};
+ghost use Rattle.command_line.specs.Line.{IsCommandOf, IsFaultOf, Spells, SpellsStatement};
 ghost use Rattle.command_line.specs.Values.{FillsCheck, FillsMigrate, FillsServe, FillsStatement};
 ghost use Rattle.command_line.specs.Values.{FillsTenantAdd, HasNumber, HasNumberBelow};
-ghost use Rattle.command_line.specs.Values.{HasSomeText, HasText, IsFilled, IsFlag, has_flag};
+ghost use Rattle.command_line.specs.Values.{HasFreeText, HasSomeText, HasText, IsFilled, IsFlag};
+ghost use Rattle.command_line.specs.Values.{has_flag, text_in};
 
 use crate::app::ledgerd_command;
-use crate::{Command, LineFault};
+use crate::{Command, LineFault, StatementWords};
 use clap::ArgMatches;
 use std::alloc::Global;
 use std::convert::AsStr;
@@ -33,11 +34,17 @@ fn requests(values: &ArgMatches<'_>) -> u64
     values.get_one::<u64>("requests").unwrap()
 }
 
-fn is_reversed(values: &ArgMatches<'_>) -> bool
-    requires { IsFlag (rows_of (found_of values.now)) (codes "reversed") }
-    ensures { result ≡ has_flag (rows_of (found_of values.now)) (codes "reversed") }
+fn is_set(values: &ArgMatches<'_>, name: &str) -> bool
+    requires { IsFlag (rows_of (found_of values.now)) name.now }
+    ensures { result ≡ has_flag (rows_of (found_of values.now)) name.now }
 {
-    values.get_flag("reversed")
+    values.get_flag(name)
+}
+
+fn free_text<'a>(values: &ArgMatches<'a>, name: &str) -> Option<&'a str>
+    ensures { HasFreeText (rows_of (found_of values.now)) name.now (text_in result) }
+{
+    values.get_str(name)
 }
 
 fn serve<'a>(values: &ArgMatches<'a>) -> Command<'a>
@@ -62,6 +69,22 @@ fn add_tenant<'a>(values: &ArgMatches<'a>) -> Command<'a>
     }
 }
 
+fn statement_words<'a>(values: &ArgMatches<'a>) -> StatementWords<'a>
+    requires reversed { IsFlag (rows_of (found_of values.now)) (codes "reversed") }
+    requires balances { IsFlag (rows_of (found_of values.now)) (codes "balances") }
+    requires wide { IsFlag (rows_of (found_of values.now)) (codes "wide") }
+    ensures { SpellsStatement (rows_of (found_of values.now)) result }
+{
+    StatementWords {
+        reversed: is_set(values, "reversed"),
+        from: free_text(values, "from"),
+        to: free_text(values, "to"),
+        balances: is_set(values, "balances"),
+        wide: is_set(values, "wide"),
+        format: free_text(values, "format"),
+    }
+}
+
 fn statement<'a>(values: &ArgMatches<'a>) -> Command<'a>
     requires { FillsStatement (rows_of (found_of values.now)) }
     ensures { Spells (codes "statement") (rows_of (found_of values.now)) result }
@@ -70,7 +93,7 @@ fn statement<'a>(values: &ArgMatches<'a>) -> Command<'a>
         db: text(values, "db"),
         tenant: text(values, "tenant"),
         account: text(values, "account"),
-        reversed: is_reversed(values),
+        asked: statement_words(values),
     }
 }
 
