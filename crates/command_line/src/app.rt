@@ -132,7 +132,7 @@ fn tenant_add_command<'a>(alloc: Global) -> Result<clap::Command<'a>, AllocError
 fn whole_statement_command<'a>(alloc: Global) -> Result<clap::Command<'a>, AllocError>
     ensures { IfOk result (IsProgram whole_statement_app) }
 {
-    let about = "Write an account's statement as CSV, one line an entry";
+    let about = "Write an account's statement, one line an entry";
     store_command(alloc, "statement", about)?
         .arg(text_option(
             alloc,
@@ -161,13 +161,13 @@ fn statement_command<'a>(alloc: Global) -> Result<clap::Command<'a>, AllocError>
             alloc,
             "from",
             "TIME",
-            "Entries from this on: a day of UTC, e.g. 2026-11-24, or nanoseconds since 1970",
+            "The first moment: a day of UTC, e.g. 2026-11-24, or nanoseconds since 1970",
         ))?
         .arg(free_option(
             alloc,
             "to",
             "TIME",
-            "Entries up to this: the end of a day of UTC, or nanoseconds since 1970",
+            "The last moment: the end of a day of UTC, or nanoseconds since 1970",
         ))?
         .arg(flag(
             alloc,

@@ -1,2 +1,4 @@
 mod TalkLemmas
 mod AddLemmas
+pub mod ExtractLemmas
+mod AskLemmas

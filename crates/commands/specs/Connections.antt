@@ -1,5 +1,5 @@
 -- Connections over ledgers.
-use Rattle.std.specs.Prelude.{◌≡◌, ◌+◌, ℕ, Bool, true, false, None}
+use Rattle.std.specs.Prelude.{◌+◌, ℕ, Bool, true, false, None}
 use Rattle.chain.specs.Ledgers.{LedgersMeaning}
 use Rattle.ledger_http.specs.declared.reply.Reply.{Reply}
 use Rattle.service.specs.Connections.{connection, Exchange}

@@ -6,3 +6,5 @@ pub mod Adding
 pub mod Openings
 pub mod Migrating
 pub mod Program
+pub mod Asking
+pub mod Extracts

@@ -10,16 +10,20 @@ use Rattle.tenants.specs.NameText.{IsTenantName}
 use Rattle.audit.specs.declared.damage.Damage.{Damage}
 use Rattle.command_line.specs.Ledgerd.{ledgerd_app}
 use Rattle.command_line.specs.Line.{IsCommandOf}
+use Rattle.command_line.specs.Values.{text_in}
 use Rattle.command_line.specs.declared.commands.Command.{Command}
 use Rattle.command_line.specs.declared.commands.Command.TheVariants as command
 use Rattle.command_line.specs.declared.fault.LineFault.{LineFault}
 use Rattle.command_line.specs.declared.fault.LineFault.TheVariants.{Refused, Memory}
 use Rattle.command_texts.specs.Faults.{status_of}
 use Rattle.command_texts.specs.Lines.{IsWritten, added_line, damage_line, fault_line, schema_line}
+use Rattle.command_line.specs.declared.commands.StatementWords.{StatementWords}
+use Rattle.commands.specs.Asking.{MeansPeriod, read_form}
+use Rattle.statement.specs.declared.period.Period.{Period}
 use Rattle.commands.specs.declared.ended.Ended.{Ended}
 use Rattle.command_texts.specs.declared.fault.Fault.{Fault}
 use Rattle.command_texts.specs.declared.fault.Fault.TheVariants.{BadName, BadKey, BadAccount}
-use Rattle.command_texts.specs.declared.fault.Fault.TheVariants.{BadVersion}
+use Rattle.command_texts.specs.declared.fault.Fault.TheVariants.{BadVersion, BadTime, BadFormat}
 use Rattle.command_texts.specs.declared.fault.Fault.TheVariants.{Unavailable}
 
 -- an account's id, in canonical decimal
@@ -39,11 +43,17 @@ pub record AddsTenant {O : Type 0} (written : O → Option (List ℕ)) (name key
   pub line : IfOk result (λ ended. Appends (written out) (written ended.out) (added_line name))
   pub calm : IfOk result (λ ended. ended.is_damaged ≡ false)
 
--- a statement is written; before the file is opened the name is judged, then the account's id
-pub record WritesStatement {O : Type 0} (name account : List ℕ) (result : Result (Ended O) Fault) :
-    Type 0 where
+-- a statement is written; before the file is opened the name is judged, then the account's id, then
+-- the period's bounds, and then the form
+pub record WritesStatement {O : Type 0} (name account : List ℕ) (words : StatementWords)
+    (result : Result (Ended O) Fault) : Type 0 where
   pub name_first : ¬ IsTenantName name → result ≡ Err BadName
   pub account_next : IsTenantName name → ¬ IsAccountId account → result ≡ Err BadAccount
+  pub period_next : IsTenantName name → IsAccountId account
+      → ((period : Period) → ¬ MeansPeriod words period) → result ≡ Err BadTime
+  pub form_last : (period : Period) → IsTenantName name → IsAccountId account
+      → MeansPeriod words period → read_form (text_in words.format) ≡ Err BadFormat
+      → result ≡ Err BadFormat
   pub calm : IfOk result (λ ended. ended.is_damaged ≡ false)
 
 -- a file is audited, and a line tells what was found
@@ -73,8 +83,8 @@ Does written command.Lists out result = DoesNothing out result
 Does written (command.Serve db port requests) out result = DoesNothing out result
 Does written (command.AddTenant db name key) out result =
     AddsTenant written name.now key.now out result
-Does written (command.Statement db tenant account reversed) out result =
-    WritesStatement tenant.now account.now result
+Does written (command.Statement db tenant account asked) out result =
+    WritesStatement tenant.now account.now asked result
 Does written (command.Check db) out result = Checks written out result
 Does written (command.Migrate db to) out result = Migrates written to.now out result
 

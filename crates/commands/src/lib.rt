@@ -3,8 +3,10 @@
 #![tactic(auto)]
 
 mod adding;
+mod asked;
 mod closed;
 mod ended;
+mod extracts;
 mod file_serving;
 mod line;
 mod moments;

@@ -4,14 +4,16 @@ ghost use Rattle.commands.specs.Migrating.{migrate_fault};
 ghost use Rattle.commands.specs.Program.{AddsTenant, Checks, Migrates, WritesStatement};
 
 use crate::adding::add_tenant;
+use crate::asked::Asked;
 use crate::ended::Ended;
 use crate::opening::{examine, open_file, open_or_make, open_to_migrate};
-use crate::statements::write_statement;
+use crate::statements::write_asked;
+use command_line::StatementWords;
 use command_texts::{
     Fault, account_id, damage_line, key_digest, name, put_schema, put_text, version,
 };
 use migrate::{MigrateFault, migrate};
-use records::{Drain, Order};
+use records::Drain;
 
 /// Adds a tenant to a file, which is made where there is none.
 pub(crate) fn run_add_tenant<O: Drain + Drop>(
@@ -40,21 +42,22 @@ pub(crate) fn run_statement<O: Drain + Drop>(
     db: &str,
     tenant: &str,
     account: &str,
-    order: Order,
+    words: &StatementWords<'_>,
     out: O,
 ) -> Result<Ended<O>, Fault>
     requires { O.failed out ≡ false }
-    ensures { WritesStatement tenant.now account.now result }
+    ensures { WritesStatement tenant.now account.now words.now result }
 {
     let tenant = name(tenant)?;
     let account = account_id(account)?;
+    let asked = Asked::read(words)?;
     let mut store = open_file(rt, db)?;
     let Ok(found) = store.digest_of(&tenant) else {
         return Err(Fault::Unavailable);
     };
     let digest = found.ok_or(Fault::NoTenant)?;
     Ok(Ended {
-        out: write_statement(rt.alloc(), &mut store, &digest, account, order, out)?,
+        out: write_asked(rt.alloc(), &mut store, &digest, account, &asked, out)?,
         is_damaged: false,
     })
 }

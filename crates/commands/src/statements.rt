@@ -1,8 +1,11 @@
 //! Statements written to standard output.
 ghost use Rattle.std.specs.Prelude.{◌≡◌, false};
 ghost use Rattle.chain.specs.LedgerReads.{Reads};
+ghost use Rattle.commands.specs.Extracts.{IsAskedTold};
 ghost use Rattle.commands.specs.Statements.{IsStatementTold, statement_fault, answer_in};
 
+use crate::asked::Asked;
+use crate::extracts::write_extract;
 use chain::{Ledgers, ReadFault};
 use command_texts::Fault;
 use records::{Drain, Order, SinkFault};
@@ -37,8 +40,29 @@ pub(crate) fn write_statement<L: Ledgers, O: Drain + Drop>(
     }
 }
 
-// What the program tells where a statement is not read, or not to its end.
-fn statement_fault(why: ReadFault) -> Fault
+/// Writes what is asked for of the statement of a tenant's account, and gives the writer back.
+pub(crate) fn write_asked<L: Ledgers, O: Drain + Drop>(
+    alloc: Global,
+    ledgers: &mut L,
+    digest: &[u8; 32],
+    account: u128,
+    asked: &Asked,
+    out: O,
+) -> Result<O, Fault>
+    requires usable { L.means.is_usable ledgers.old }
+    requires open { O.failed out ≡ false }
+    ensures told { L.means.is_live ledgers.new → IsAskedTold O.written
+        (L.means.tenants ledgers.old digest.now) account asked.now out result }
+    ensures reads { Reads L.means ledgers.old ledgers.new }
+{
+    if asked.is_whole() {
+        return write_statement(alloc, ledgers, digest, account, asked.order, out);
+    }
+    write_extract(alloc, ledgers, digest, account, asked, out)
+}
+
+/// What the program tells where a statement is not read, or not to its end.
+pub(crate) fn statement_fault(why: ReadFault) -> Fault
     ensures { result ≡ statement_fault why }
 {
     match why {

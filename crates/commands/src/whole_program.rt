@@ -6,7 +6,7 @@ use crate::ended::Ended;
 use crate::over_files::{run_add_tenant, run_check, run_migrate, run_statement};
 use command_line::{Command, LineFault, command};
 use command_texts::{Fault, tell_fault};
-use records::{Drain, Order, put_all};
+use records::{Drain, put_all};
 use std::alloc::Global;
 use std::convert::AsStr;
 use std::fmt::Display;
@@ -79,15 +79,8 @@ fn run<O: Drain + Drop>(rt: &HostRuntime, asked: Command<'_>, out: O) -> Result<
             db,
             tenant,
             account,
-            reversed,
-        } => {
-            let order = if reversed {
-                Order::Newest
-            } else {
-                Order::Oldest
-            };
-            run_statement(rt, db, tenant, account, order, out)
-        }
+            asked: words,
+        } => run_statement(rt, db, tenant, account, &words, out),
         Command::Check { db } => run_check(rt, db, out),
         Command::Migrate { db, to } => run_migrate(rt, db, to, out),
     }

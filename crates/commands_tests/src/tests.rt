@@ -6,6 +6,7 @@ mod files;
 mod firms;
 mod lines;
 mod moments;
+mod periods;
 mod program;
 mod serving;
 mod times;

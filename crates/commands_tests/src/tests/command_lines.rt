@@ -1,11 +1,21 @@
 //! The words of the command line, read as commands.
 
 use clap::error::ErrorKind;
-use command_line::{Command, LineFault, command};
+use command_line::{Command, LineFault, StatementWords, command};
 use std::test::Fail;
 
+// Nothing but the whole statement.
+const WHOLE: StatementWords<'static> = StatementWords {
+    reversed: false,
+    from: None,
+    to: None,
+    balances: false,
+    wide: false,
+    format: None,
+};
+
 // Lines, and the commands that they are.
-const READ: [(&str, Command<'static>); 8] = [
+const READ: [(&str, Command<'static>); 10] = [
     ("", Command::Lists),
     (
         "serve --db l.db --port 8080 --requests 1000",
@@ -37,7 +47,7 @@ const READ: [(&str, Command<'static>); 8] = [
             db: "l.db",
             tenant: "north",
             account: "1",
-            reversed: false,
+            asked: WHOLE,
         },
     ),
     (
@@ -46,7 +56,39 @@ const READ: [(&str, Command<'static>); 8] = [
             db: "",
             tenant: "-a",
             account: "01",
-            reversed: true,
+            asked: StatementWords {
+                reversed: true,
+                ..WHOLE
+            },
+        },
+    ),
+    (
+        "statement --db d --tenant n --account 1 --wide --from 2026-11-24 --format=sheet --to 7",
+        Command::Statement {
+            db: "d",
+            tenant: "n",
+            account: "1",
+            asked: StatementWords {
+                from: Some("2026-11-24"),
+                to: Some("7"),
+                wide: true,
+                format: Some("sheet"),
+                ..WHOLE
+            },
+        },
+    ),
+    (
+        "statement --db d --tenant n --account 1 --balances --from= --reversed",
+        Command::Statement {
+            db: "d",
+            tenant: "n",
+            account: "1",
+            asked: StatementWords {
+                reversed: true,
+                from: Some(""),
+                balances: true,
+                ..WHOLE
+            },
         },
     ),
     ("check --db l.db", Command::Check { db: "l.db" }),
@@ -100,6 +142,11 @@ const REFUSED: [(ErrorKind, &[&str]); 7] = [
             "statement --db d --tenant n --tenant n --account 1",
             "statement --db d --tenant n --account 1 --account 1",
             "statement --db d --tenant n --account 1 --reversed --reversed",
+            "statement --db d --tenant n --account 1 --from 1 --from 1",
+            "statement --db d --tenant n --account 1 --to 1 --to=2",
+            "statement --db d --tenant n --account 1 --balances --balances",
+            "statement --db d --tenant n --account 1 --wide --wide",
+            "statement --db d --tenant n --account 1 --format csv --format csv",
             "check --db d --db d",
             "migrate --db d --db d --to 3",
             "migrate --db d --to 3 --to 3",
@@ -116,9 +163,22 @@ const REFUSED: [(ErrorKind, &[&str]); 7] = [
     (ErrorKind::InvalidSubcommand, &["audit --db d"]),
     (
         ErrorKind::UnknownArgument,
-        &["--db d", "check --db d --reversed", "check --db d e"],
+        &[
+            "--db d",
+            "check --db d --reversed",
+            "check --db d --from 1",
+            "check --db d e",
+            "statement --db d --tenant n --account 1 --until 1",
+        ],
     ),
-    (ErrorKind::InvalidValue, &["check --db"]),
+    (
+        ErrorKind::InvalidValue,
+        &[
+            "check --db",
+            "statement --db d --tenant n --account 1 --from",
+            "statement --db d --tenant n --account 1 --format",
+        ],
+    ),
     (
         ErrorKind::DisplayHelp,
         &[
@@ -166,7 +226,7 @@ Usage: ledgerd [COMMAND]
 Commands:
   serve       Answer requests over HTTP until a number of replies was written
   tenant-add  Add a tenant; an absent or empty file becomes a new store
-  statement   Write an account's statement as CSV, one line an entry
+  statement   Write an account's statement, one line an entry
   check       Audit a store: print ok, or the kind, tenant and place of the first damage
   migrate     Bring a store to a newer schema version
   help        Print this message or the help of the given subcommand(s)
@@ -190,9 +250,32 @@ Options:
   -h, --help          Print help
 ";
 
+static STATEMENT_HELP: &str = "\
+Write an account's statement, one line an entry
+
+Usage: ledgerd statement [OPTIONS] --db <FILE> --tenant <NAME> --account <ID>
+
+Options:
+      --db <FILE>      The store's file, e.g. ledger.db
+      --tenant <NAME>  The tenant's name, e.g. north-desk
+      --account <ID>   The account's id in decimal, below 2^128, e.g. 1001
+      --reversed       Newest entry first, in place of oldest first
+      --from <TIME>    The first moment: a day of UTC, e.g. 2026-11-24, or nanoseconds since 1970
+      --to <TIME>      The last moment: the end of a day of UTC, or nanoseconds since 1970
+      --balances       The sums before the entries first, and those after them last
+      --wide           The other account, pending id, code and user data of each entry, too
+      --format <FORM>  csv, sheet (CSV whose digits a spreadsheet keeps) or json, one object a line
+  -h, --help           Print help
+";
+
 #[test]
 fn prints_faults(rt: HostRuntime) -> Result<(), Fail> {
-    for (line, help) in [("--help", TOP_HELP), ("serve --help", SERVE_HELP)] {
+    let helps = [
+        ("--help", TOP_HELP),
+        ("serve --help", SERVE_HELP),
+        ("statement --help", STATEMENT_HELP),
+    ];
+    for (line, help) in helps {
         let fault = LineFault::Refused(refused(&rt, line)?);
         assert_eq!(rt; format!(in rt.alloc(); "{fault}")?.as_str(), help);
     }

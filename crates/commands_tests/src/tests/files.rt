@@ -2,7 +2,7 @@
 ghost use Rattle.std.specs.Prelude.{◌≡◌, false};
 
 use super::broken::breaks;
-use super::firms::{ADDING, post_in_part};
+use super::firms::{ADDING, post_in_part, send_back};
 use command_texts::Fault;
 use commands::{program, serve_file};
 use records::{Drain, Streamed};
@@ -26,6 +26,8 @@ pub enum Step {
     Fills(&'static str, &'static str),
     /// The ledger of 'posted in part' is made; its tenant is `a`.
     Posts,
+    /// The firm's transfer of 7 back is sent at this moment.
+    SendsBack(u64),
     /// A port on which the file is served, for no replies, and the fault with which that ends.
     Serves(u16, Option<Fault>),
     /// These bytes are written over the file while it is served, and this fault is told at each
@@ -58,6 +60,7 @@ fn take_step(rt: &HostRuntime, db: &str, step: Step) -> Result<(), Fail> {
             tells(rt, &line(rt, ADDING, db)?, 0, "added a\n", "")?;
             post(rt, db)
         }
+        Step::SendsBack(moment) => post_back(rt, db, moment),
         Step::Serves(port, fault) => serves(rt, db, port, fault),
         Step::Breaks(bytes, fault) => breaks(rt, db, bytes, fault),
         Step::Changes(sql) => change(rt, db, sql),
@@ -123,6 +126,13 @@ pub fn remove(rt: &HostRuntime, paths: [&str; 2]) {
 fn post(rt: &HostRuntime, db: &str) -> Result<(), Fail> {
     let mut store = Store::open_at(rt, db, Unknown, Options::new(7), &FullAudit)?;
     post_in_part(rt.alloc(), &mut store);
+    Ok(())
+}
+
+// Sends the firm's transfer back.
+fn post_back(rt: &HostRuntime, db: &str, moment: u64) -> Result<(), Fail> {
+    let mut store = Store::open_at(rt, db, Unknown, Options::new(7), &FullAudit)?;
+    send_back(rt.alloc(), &mut store, moment);
     Ok(())
 }
 

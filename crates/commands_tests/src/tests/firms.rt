@@ -44,10 +44,27 @@ const TRANSFERS: &str = message!(
     "{\"id\":\"101\",\"pending_id\":\"100\",\"amount\":\"40\",\"flags\":4}]"
 );
 
+// A transfer of 7 back, with user data of its own.
+const BACK: &str = message!(
+    "/transfers",
+    "243",
+    "[{\"id\":\"340282366920938463463374607431768211454\",\"debit_account_id\":\"2\",",
+    "\"credit_account_id\":\"1\",\"amount\":\"7\",\"ledger\":7,\"code\":3,",
+    "\"user_data_128\":\"340282366920938463463374607431768211453\",",
+    "\"user_data_64\":\"18446744073709551615\",\"user_data_32\":9}]"
+);
+
 /// Sends the firm's messages of 'posted in part': its accounts, a pending transfer, and its post.
 pub fn post_in_part<L: Ledgers>(alloc: Global, ledgers: &mut L)
     requires { L.means.is_usable ledgers.old }
 {
     let _reply = respond(alloc, ledgers, ACCOUNTS.as_bytes(), 0);
     let _reply = respond(alloc, ledgers, TRANSFERS.as_bytes(), 0);
+}
+
+/// Sends the firm's transfer of 7 back, which takes the nanosecond behind the moment.
+pub fn send_back<L: Ledgers>(alloc: Global, ledgers: &mut L, moment: u64)
+    requires { L.means.is_usable ledgers.old }
+{
+    let _reply = respond(alloc, ledgers, BACK.as_bytes(), moment);
 }

@@ -28,7 +28,7 @@ macro_rules! statement_text {
 }
 
 // Of a file that is absent, and that no command makes.
-const WORDS: [Step; 19] = [
+const WORDS: [Step; 23] = [
     Tells("serve --port=1 --requests=1", 0, ""),
     Refuses("check", 4, "unreadable"),
     Refuses("tenant-add --name=n_o --key=00", 2, "bad_name"),
@@ -48,6 +48,26 @@ const WORDS: [Step; 19] = [
         "unreadable",
     ),
     Refuses("statement --tenant=a --account=1", 4, "unreadable"),
+    Refuses(
+        "statement --tenant=a --account=01 --from=1x",
+        2,
+        "bad_account",
+    ),
+    Refuses(
+        "statement --tenant=a --account=1 --from=2023-02-29 --format=no",
+        2,
+        "bad_time",
+    ),
+    Refuses(
+        "statement --tenant=a --account=1 --to=18446744073709551616",
+        2,
+        "bad_time",
+    ),
+    Refuses(
+        "statement --tenant=a --account=1 --format=CSV",
+        2,
+        "bad_format",
+    ),
     Refuses("migrate --to=", 2, "bad_version"),
     Refuses("migrate --to=0", 2, "bad_version"),
     Refuses("migrate --to=4", 2, "bad_version"),
@@ -151,12 +171,13 @@ fn writes_statements(rt: HostRuntime) -> Result<(), Fail> {
 }
 
 // The tenant that cannot be told is added all the same.
-const FULL: [Step; 9] = [
+const FULL: [Step; 10] = [
     Posts,
     Fills("check", "o"),
     Fills("statement --tenant=a --account=1", "ti"),
     Fills("statement --tenant=a --account=1", statement_text!()),
     Fills("statement --tenant=a --account=3", "ti"),
+    Fills("statement --tenant=a --account=1 --wide", "ti"),
     Fills("migrate --to=3", "schema "),
     Fills(tenant_add!("b", "01010101"), "added b"),
     Refuses(tenant_add!("b", "02020202"), 1, "name_taken"),

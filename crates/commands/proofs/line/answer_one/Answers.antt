@@ -1,6 +1,4 @@
-use Rattle.std.proofs.Common.{rules, ◌≡◌, refl, ◌∙◌}
-use Rattle.service.specs.Connections.{replies_in}
-use Rattle.commands.specs.Connections.{Talks, is_open}
+use Rattle.std.proofs.Common.{rules}
 use Rattle.commands.specs.declared.noted.Noted.{Noted}
 use Rattle.commands.proofs.TalkLemmas.{answered, keeps}
 use Rattle.commands.proofs.line.answer_one.Goals as goal

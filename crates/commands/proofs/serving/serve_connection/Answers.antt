@@ -1,4 +1,4 @@
-use Rattle.std.proofs.Common.{rules, ◌≡◌, ◌+◌, Bool, true, refl, subst, arith}
+use Rattle.std.proofs.Common.{rules, ◌≡◌, Bool, true, refl, subst, arith}
 use Rattle.commands.specs.Connections.{is_open}
 use Rattle.commands.specs.Kept.{KeptTalks, Accepted, Answered}
 use Rattle.commands.proofs.serving.serve_connection.Goals as goal
