@@ -54,7 +54,7 @@ may_come_own t gives old new (Replied client reply) later done may =
 may_come_own t gives old new (Wrote client bytes) later done may =
     λ ended. may (ap (λ (talk : Talk). talk.unread.ended) done.does.same ∙ ended)
 
-may_come_before :
+pub may_come_before :
     {S C : Type 0} (t : LedgersMeaning S) (gives : C → ℕ → C → Type 0) (old new : Room S C)
     (deed : Deed) (later : ℕ → List ℕ) → IsDone t gives old deed new →
     ((client : ℕ) → MayCome (new.talks client).unread (later client)) →

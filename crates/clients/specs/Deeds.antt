@@ -106,6 +106,16 @@ sent_by room later client = sent_with (later client) (room.talks client)
 abbrev pub clients_of : {S C : Type 0} → Room S C → (ℕ → List ℕ) → Clients S C
 clients_of room later = clients room.ledgers room.moments (sent_by room later)
 
+-- what may come from each behind a deed, and what came by it, might come before it
+abbrev pub MightCome : {S C : Type 0} → LedgersMeaning S → (C → ℕ → C → Type 0) → Type 0
+MightCome {S} {C} t gives =
+    (old new : Room S C) (deed : Deed)
+    → IsDone t gives old deed new
+    → (later : ℕ → List ℕ)
+    → ((client : ℕ) → MayCome (new.talks client).unread (later client))
+    → (client : ℕ)
+    → MayCome (old.talks client).unread (came_in client deed ++ later client)
+
 -- whatever came in whatever pieces, and whatever comes later, the replies are those of turns over
 -- all that came
 abbrev pub AreExchanges :

@@ -1,6 +1,6 @@
 //! Laws of many clients. The functions do nothing; their contracts are the laws.
 ghost use Rattle.clients.specs.Answering.{GivesUp};
-ghost use Rattle.clients.specs.Deeds.{AreExchanges, AreWritten, AreServed};
+ghost use Rattle.clients.specs.Deeds.{MightCome, AreExchanges, AreWritten, AreServed};
 ghost use Rattle.clients.specs.Rounds.{RoundsAreLives};
 ghost use Rattle.clients.specs.Turns.{TurnsLeadOn, ServeEachAlone, HearTheirOwn};
 
@@ -36,6 +36,7 @@ pub fn clients_hear_their_own<L: Ledgers, C: Moments>()
 /// time. What is written to a client is a beginning of the replies to its own messages, in order,
 /// one a message.
 pub fn clients_are_served<L: Ledgers, C: Moments>()
+    ensures come { MightCome L.means C.gives }
     ensures exchanges { AreExchanges L.means C.gives }
     ensures written { AreWritten L.means C.gives }
     ensures served { AreServed L.means C.gives }
