@@ -1,0 +1,212 @@
+-- What one client hears while all are served.
+use Rattle.std.proofs.Common.{◌≡◌, ◌≢◌, ⊎_elim, refl, ap, sym, ◌∙◌, subst, ℕ, List, [], ◌∷◌, ◌++◌, append_assoc, if◌then◌else◌}
+use Rattle.std.proofs.lemmas.Bool.{cases_eq, eq-eqb, ne_eqb}
+use Rattle.std.proofs.lemmas.Grind.{flat_map-append}
+use Rattle.std.proofs.lemmas.List.{append-nil}
+use Rattle.chain.specs.Ledgers.{LedgersMeaning}
+use Rattle.ledger_http.specs.declared.reply.Reply.{Reply}
+use Rattle.ledger_http.specs.ReplyText.{reply_text}
+use Rattle.service.specs.Connections.{texts_of}
+use Rattle.clients.specs.Talk.{Talk}
+use Rattle.clients.specs.Answering.{MayCome}
+use Rattle.clients.specs.Turns.{Sent, Told, if_told, told_to, Hears, Nothing_yet, One_more, HearTheirOwn}
+use Rattle.clients.specs.Deeds.{Room, Deed, IsDone, Lives, if_own, come_from, written_in, written_to, told_in, all_told, came_in, sent_with, clients_of, MightCome, AreExchanges, AreWritten}
+use Rattle.clients.specs.Deeds as life
+use Rattle.polling.specs.Serving.{Hall, Rules, Happens, Did, Stirs, Goes, Loses, Again, Serves, Begin, Then}
+use Rattle.polling.specs.Laws.{EachIsServed}
+
+-- what is heard behind what was heard
+hears_on :
+    {S C : Type 0} (t : LedgersMeaning S) (gives : C → ℕ → C → Type 0) (first mid last : Sent)
+    (before more : List Reply) → Hears S C t gives first before mid → Hears S C t gives mid more last →
+    Hears S C t gives first (before ++ more) last
+hears_on {S} {C} t gives first mid last before more heard Nothing_yet =
+    subst (λ (all : List Reply). Hears S C t gives first all mid) (sym (append-nil before)) heard
+hears_on {S} {C} t gives first mid last before more heard (One_more replies behind reply next rest one) =
+    subst (λ (all : List Reply). Hears S C t gives first all next)
+    (append_assoc before replies (reply ∷ []))
+    (One_more (before ++ replies) behind reply next
+    (hears_on t gives first mid behind before replies heard rest) one)
+
+texts-append : (front back : List Reply) → texts_of (front ++ back) ≡ texts_of front ++ texts_of back
+texts-append [] back = refl
+texts-append (reply ∷ front) back =
+    ap (λ (rest : List ℕ). reply_text reply ++ rest) (texts-append front back)
+    ∙ sym (append_assoc (reply_text reply) (texts_of front) (texts_of back))
+
+told_to-append :
+    (client : ℕ) (before more : List Deed) →
+    told_to client (all_told (before ++ more))
+    ≡ told_to client (all_told before) ++ told_to client (all_told more)
+told_to-append client before more =
+    ap (λ (told : List Told). told_to client told) (flat_map-append told_in before more)
+    ∙ flat_map-append (if_told client) (all_told before) (all_told more)
+
+own : (client : ℕ) (items : List ℕ) → if_own client client items ≡ items
+own client items = ap (λ b. if b then items else []) (eq-eqb client client refl)
+
+of_other : (client other : ℕ) (items : List ℕ) → other ≢ client → if_own other client items ≡ []
+of_other client other items differ =
+    ap (λ b. if b then items else [])
+    (ne_eqb client other (λ (same : client ≡ other). differ (sym same)))
+
+-- only this client sends something later
+only :
+    (talks : ℕ → Talk) (client : ℕ) (later : List ℕ) → MayCome (talks client).unread later →
+    (each : ℕ) → MayCome (talks each).unread (if_own each client later)
+only talks client later may each =
+    ⊎_elim
+    (λ (same : each ≡ client).
+    subst (λ (i : ℕ). MayCome (talks i).unread (if_own i client later)) (sym same)
+    (subst (λ (bytes : List ℕ). MayCome (talks client).unread bytes) (sym (own client later)) may))
+    (λ (differ : each ≢ client). λ ended. of_other client each later differ)
+    (cases_eq each client)
+
+module _ {S C P : Type 0} (r : Rules S C P) where
+  one_deed :
+      (old new : Room S C) (deed : Deed) → IsDone r.means r.gives old deed new →
+      Lives S C r.means r.gives old (deed ∷ []) new
+  one_deed old new deed done = life.Then [] old deed new life.Begin done
+
+  -- what one client hears by what happens
+  abbrev pub HearsBy : Room S C → List Deed → Room S C → ℕ → List ℕ → Type 0
+  HearsBy first deeds last client later =
+      Hears S C r.means r.gives (sent_with (come_from client deeds ++ later) (first.talks client))
+      (told_to client (all_told deeds)) (sent_with later (last.talks client))
+
+  deed_heard :
+      HearTheirOwn r.means r.gives → AreExchanges r.means r.gives → (old new : Room S C)
+      (deed : Deed) → IsDone r.means r.gives old deed new → (client : ℕ) (later : List ℕ) →
+      MayCome (new.talks client).unread later → HearsBy old (deed ∷ []) new client later
+  deed_heard hear exchanges old new deed done client later may =
+      subst
+      (λ (bytes : List ℕ).
+      Hears S C r.means r.gives
+      (sent_with (come_from client (deed ∷ []) ++ bytes) (old.talks client))
+      (told_to client (all_told (deed ∷ []))) (sent_with bytes (new.talks client)))
+      (own client later)
+      (hear
+      (clients_of old (λ (i : ℕ). come_from i (deed ∷ []) ++ if_own i client later))
+      (clients_of new (λ (i : ℕ). if_own i client later)) (all_told (deed ∷ []))
+      (exchanges old new (deed ∷ []) (one_deed old new deed done)
+      (λ (i : ℕ). if_own i client later) (only new.talks client later may))
+      client)
+
+  step_heard :
+      HearTheirOwn r.means r.gives → AreExchanges r.means r.gives → (last next : Hall S C P)
+      (more : List Deed) → Happens S C P r last more next → (client : ℕ) (later : List ℕ) →
+      MayCome (next.room.talks client).unread later → HearsBy last.room more next.room client later
+  step_heard hear exchanges last next more (Did deed room peers live done hands) client later may =
+      deed_heard hear exchanges last.room room deed done client later may
+  step_heard hear exchanges last next more (Stirs peers does) client later may = Nothing_yet
+  step_heard hear exchanges last next more (Goes who) client later may = Nothing_yet
+  step_heard hear exchanges last next more (Loses who piece peers does) client later may = Nothing_yet
+  step_heard hear exchanges last next more (Again ledgers renews) client later may = Nothing_yet
+
+  step_may :
+      MightCome r.means r.gives → (last next : Hall S C P) (more : List Deed) →
+      Happens S C P r last more next → (client : ℕ) (later : List ℕ) →
+      MayCome (next.room.talks client).unread later →
+      MayCome (last.room.talks client).unread (come_from client more ++ later)
+  step_may might last next more (Did deed room peers live done hands) client later may =
+      subst
+      (λ (bytes : List ℕ). MayCome (last.room.talks client).unread (bytes ++ later))
+      (sym (append-nil (came_in client deed)))
+      (subst
+      (λ (bytes : List ℕ). MayCome (last.room.talks client).unread (came_in client deed ++ bytes))
+      (own client later)
+      (might last.room room deed done (λ (i : ℕ). if_own i client later)
+      (only room.talks client later may) client))
+  step_may might last next more (Stirs peers does) client later may = may
+  step_may might last next more (Goes who) client later may = may
+  step_may might last next more (Loses who piece peers does) client later may = may
+  step_may might last next more (Again ledgers renews) client later may = may
+
+  all_heard :
+      MightCome r.means r.gives → HearTheirOwn r.means r.gives → AreExchanges r.means r.gives →
+      (first last : Hall S C P) (deeds : List Deed) → Serves S C P r first deeds last →
+      (client : ℕ) (later : List ℕ) → MayCome (last.room.talks client).unread later →
+      HearsBy first.room deeds last.room client later
+  all_heard might hear exchanges first last deeds Begin client later may = Nothing_yet
+  all_heard might hear exchanges first last deeds (Then before mid more next serves happens) client
+      later may =
+      let came = come_from client more ++ later in
+      let earlier =
+      all_heard might hear exchanges first mid before serves client came
+      (step_may might mid next more happens client later may) in
+      subst
+      (λ (bytes : List ℕ).
+      Hears S C r.means r.gives (sent_with bytes (first.room.talks client))
+      (told_to client (all_told (before ++ more))) (sent_with later (next.room.talks client)))
+      (sym (append_assoc (come_from client before) (come_from client more) later)
+      ∙ ap (λ (bytes : List ℕ). bytes ++ later) (sym (flat_map-append (came_in client) before more)))
+      (subst
+      (λ (replies : List Reply).
+      Hears S C r.means r.gives
+      (sent_with (come_from client before ++ came) (first.room.talks client)) replies
+      (sent_with later (next.room.talks client)))
+      (sym (told_to-append client before more))
+      (hears_on r.means r.gives
+      (sent_with (come_from client before ++ came) (first.room.talks client))
+      (sent_with came (mid.room.talks client)) (sent_with later (next.room.talks client))
+      (told_to client (all_told before)) (told_to client (all_told more)) earlier
+      (step_heard hear exchanges mid next more happens client later may)))
+
+  -- what was written, and what is to be, is what was to be and the replies
+  abbrev pub WritesBy : Room S C → List Deed → Room S C → ℕ → Type 0
+  WritesBy first deeds last client =
+      written_to client deeds ++ (last.talks client).unsent
+      ≡ (first.talks client).unsent ++ texts_of (told_to client (all_told deeds))
+
+  step_written :
+      AreWritten r.means r.gives → (last next : Hall S C P) (more : List Deed) →
+      Happens S C P r last more next → (client : ℕ) → WritesBy last.room more next.room client
+  step_written written last next more (Did deed room peers live done hands) client =
+      written last.room room (deed ∷ []) (one_deed last.room room deed done) client
+  step_written written last next more (Stirs peers does) client =
+      sym (append-nil (last.room.talks client).unsent)
+  step_written written last next more (Goes who) client =
+      sym (append-nil (last.room.talks client).unsent)
+  step_written written last next more (Loses who piece peers does) client =
+      sym (append-nil (last.room.talks client).unsent)
+  step_written written last next more (Again ledgers renews) client =
+      sym (append-nil (last.room.talks client).unsent)
+
+  all_written :
+      AreWritten r.means r.gives → (first last : Hall S C P) (deeds : List Deed) →
+      Serves S C P r first deeds last → (client : ℕ) → WritesBy first.room deeds last.room client
+  all_written written first last deeds Begin client = sym (append-nil (last.room.talks client).unsent)
+  all_written written first last deeds (Then before mid more next serves happens) client =
+      let to_be = (first.room.talks client).unsent in
+      let texts_before = texts_of (told_to client (all_told before)) in
+      let texts_more = texts_of (told_to client (all_told more)) in
+      ap (λ (front : List ℕ). front ++ (next.room.talks client).unsent)
+      (flat_map-append (written_in client) before more)
+      ∙ append_assoc (written_to client before) (written_to client more)
+      (next.room.talks client).unsent
+      ∙ ap (λ (rest : List ℕ). written_to client before ++ rest)
+      (step_written written mid next more happens client)
+      ∙ sym (append_assoc (written_to client before) (mid.room.talks client).unsent texts_more)
+      ∙ ap (λ (front : List ℕ). front ++ texts_more)
+      (all_written written first mid before serves client)
+      ∙ append_assoc to_be texts_before texts_more
+      ∙ ap (λ (rest : List ℕ). to_be ++ rest)
+      (sym (texts-append (told_to client (all_told before)) (told_to client (all_told more))))
+      ∙ ap (λ (replies : List Reply). to_be ++ texts_of replies)
+      (sym (told_to-append client before more))
+
+  pub each_is_served :
+      MightCome r.means r.gives → HearTheirOwn r.means r.gives → AreExchanges r.means r.gives →
+      AreWritten r.means r.gives → EachIsServed r
+  each_is_served might hear exchanges written first last deeds serves client new later may = record {
+    replies = told_to client (all_told deeds);
+    heard =
+        subst
+        (λ (talk : Talk).
+        Hears S C r.means r.gives (sent_with (come_from client deeds ++ later) talk)
+        (told_to client (all_told deeds)) (sent_with later (last.room.talks client)))
+        new (all_heard might hear exchanges first last deeds serves client later may);
+    begun =
+        all_written written first last deeds serves client
+        ∙ ap (λ (talk : Talk). talk.unsent ++ texts_of (told_to client (all_told deeds))) new;
+  }

@@ -1,0 +1,4 @@
+pub mod OneLemmas
+pub mod AllLemmas
+pub mod LifeLemmas
+pub mod HeardLemmas

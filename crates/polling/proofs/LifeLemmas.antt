@@ -1,0 +1,56 @@
+-- Serving as a run of deeds.
+use Rattle.std.proofs.Common.{◌≡◌, refl, sym, ap, ◌∙◌, subst, ℕ, List, [], ◌++◌, Some, is_some}
+use Rattle.std.proofs.lemmas.Bool.{false≢true}
+use Rattle.std.proofs.lemmas.List.{append-nil}
+use Rattle.clients.specs.Deeds.{Room, Deed, Lives}
+use Rattle.clients.specs.Deeds as life
+use Rattle.clients.specs.Talk.{Talk}
+use Rattle.polling.specs.Serving.{Hall, Rules, Happens, Did, Stirs, Goes, Loses, Again, Begin, Then}
+use Rattle.polling.specs.Laws.{AreLives, BeginsEmpty}
+use Rattle.polling.specs.Seating.{seats_in}
+
+-- the same room, and no deed more
+stays :
+    {S C P : Type 0} (r : Rules S C P) (first last : Room S C) (deeds : List Deed) →
+    Lives S C r.means r.gives first deeds last →
+    Lives S C r.means r.gives first (deeds ++ []) last
+stays {S} {C} r first last deeds lives =
+    subst (λ (all : List Deed). Lives S C r.means r.gives first all last) (sym (append-nil deeds)) lives
+
+one_more :
+    {S C P : Type 0} (r : Rules S C P) → ((old new : S) → r.renews old new → new ≡ old) →
+    (first : Room S C) (last next : Hall S C P) (deeds more : List Deed) →
+    Lives S C r.means r.gives first deeds last.room → Happens S C P r last more next →
+    Lives S C r.means r.gives first (deeds ++ more) next.room
+one_more r same first last next deeds more lives (Did deed room peers live done hands) =
+    life.Then deeds last.room deed room lives done
+one_more r same first last next deeds more lives (Stirs peers does) =
+    stays r first last.room deeds lives
+one_more r same first last next deeds more lives (Goes client) = stays r first last.room deeds lives
+one_more r same first last next deeds more lives (Loses client piece peers does) =
+    stays r first last.room deeds lives
+one_more {S} {C} r same first last next deeds more lives (Again ledgers renews) =
+    subst
+    (λ (l : S).
+    Lives S C r.means r.gives first (deeds ++ []) (record last.room { ledgers = l }))
+    (sym (same last.room.ledgers ledgers renews)) (stays r first last.room deeds lives)
+
+pub are_lives : {S C P : Type 0} (r : Rules S C P) → AreLives r
+are_lives r same first last deeds Begin = life.Begin
+are_lives r same first last deeds (Then before mid more next serves happens) =
+    one_more r same first.room mid next before more (are_lives r same first mid before serves) happens
+
+pub begins_empty : {S C P : Type 0} → BeginsEmpty S C P
+begins_empty ledgers moments peers seats empty =
+    let nobody : (client : ℕ) (talk : Talk) → seats_in seats.clients client ≡ Some talk → ⊥ =
+    λ client talk is. false≢true (ap is_some (sym (empty.0 client) ∙ is)) in
+    record {
+      ledgers = refl;
+      moments = refl;
+      peers = refl;
+      seated = λ client talk is. absurd (nobody client talk is);
+      there = λ client talk is. refl;
+      below = λ client talk is. absurd (nobody client talk is);
+      unused = λ client beyond. refl;
+      not_gone = λ client beyond. refl;
+    }

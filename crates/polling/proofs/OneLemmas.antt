@@ -1,0 +1,247 @@
+-- One client among all: what is done for it is done in a hall.
+use Rattle.std.proofs.Common.{◌≡◌, ◌≢◌, refl, ap, sym, ◌∙◌, subst, ℕ, Bool, true, false, List, [], ◌∷◌, ◌++◌, append_assoc, length, ◌+◌, take, if◌then◌else◌}
+use Rattle.std.proofs.lemmas.Bool.{eq-eqb, ne_eqb}
+use Rattle.std.proofs.lemmas.List.{append-nil, take-append-drop, length-append}
+use Rattle.std.proofs.lemmas.Grind.{flat_map-append}
+use Rattle.ledger_http.specs.declared.reply.Reply.{Reply}
+use Rattle.clients.specs.Talk.{Talk, received, input_ended, written, may_answer}
+use Rattle.clients.specs.Answering.{IsUnmoved, HasReplied}
+use Rattle.clients.specs.Deeds.{Deed, Came, Replied, Wrote, client_of, Does, told_in, all_told}
+use Rattle.clients.specs.Deeds as deed
+use Rattle.polling.specs.Peers.{Gave, Ended, Took, Stirred, Hands}
+use Rattle.polling.specs.Serving.{Hall, hall, Rules, gone_with, Happens, Did, Stirs, Goes, Loses, Serves, Begin, Then}
+use Rattle.polling.specs.Seating.{with_talk, ServesOne, gone_by, replies_in}
+use Rattle.polling.specs.declared.step.Step.{Step}
+use Rattle.polling.specs.declared.step.Step.TheVariants as step
+
+-- what follows is done behind what was done
+pub serves_on :
+    {S C P : Type 0} (r : Rules S C P) (first mid last : Hall S C P) (before more : List Deed) →
+    Serves S C P r first before mid → Serves S C P r mid more last →
+    Serves S C P r first (before ++ more) last
+serves_on {S} {C} {P} r first mid last before more did Begin =
+    subst (λ (all : List Deed). Serves S C P r first all mid) (sym (append-nil before)) did
+serves_on {S} {C} {P} r first mid last before more did (Then deeds then_hall next_deeds next rest happens) =
+    subst (λ (all : List Deed). Serves S C P r first all next) (append_assoc before deeds next_deeds)
+    (Then (before ++ deeds) then_hall next_deeds next
+    (serves_on r first mid then_hall before deeds did rest) happens)
+
+-- the replies of both
+pub replies_both :
+    (before more : List Deed) (first second all : ℕ) → replies_in before ≡ first →
+    replies_in more ≡ second → first + second ≡ all → replies_in (before ++ more) ≡ all
+replies_both before more first second all of_first of_second sum =
+    ap (λ told. length told) (flat_map-append told_in before more)
+    ∙ length-append (all_told before) (all_told more)
+    ∙ ap (λ n. n + replies_in more) of_first
+    ∙ ap (λ n. first + n) of_second
+    ∙ sum
+
+pub once :
+    {S C P : Type 0} (r : Rules S C P) (first last : Hall S C P) (deeds : List Deed) →
+    Happens S C P r first deeds last → Serves S C P r first deeds last
+once r first last deeds happens = Then [] first deeds last Begin happens
+
+pub with_talk-own : (client : ℕ) (talk : Talk) (talks : ℕ → Talk) → with_talk client talk talks client ≡ talk
+with_talk-own client talk talks = ap (λ b. if b then talk else talks client) (eq-eqb client client refl)
+
+pub with_talk-other :
+    (client other : ℕ) (talk : Talk) (talks : ℕ → Talk) → other ≢ client →
+    with_talk client talk talks other ≡ talks other
+with_talk-other client other talk talks differ =
+    ap (λ b. if b then talk else talks other)
+    (ne_eqb client other (λ (same : client ≡ other). differ (sym same)))
+
+-- a deed of one client
+pub did_one :
+    {S C P : Type 0} (r : Rules S C P) (deed : Deed) (ledgers ledgers_now : S) (moments moments_now : C)
+    (peers peers_now : P) (talk talk_now : Talk) (talks : ℕ → Talk) (gone : ℕ → Bool) →
+    gone (client_of deed) ≡ false →
+    Does r.means r.gives deed ledgers moments talk ledgers_now moments_now talk_now →
+    Hands r.does deed peers peers_now →
+    Serves S C P r (hall ledgers moments peers (with_talk (client_of deed) talk talks) gone) (deed ∷ [])
+    (hall ledgers_now moments_now peers_now (with_talk (client_of deed) talk_now talks) gone)
+did_one {S} {C} {P} r deed ledgers ledgers_now moments moments_now peers peers_now talk talk_now talks
+    gone stays does hands =
+    let client = client_of deed in
+    once r (hall ledgers moments peers (with_talk client talk talks) gone)
+    (hall ledgers_now moments_now peers_now (with_talk client talk_now talks) gone) (deed ∷ [])
+    (Did deed
+    (record {
+      ledgers = ledgers_now;
+      moments = moments_now;
+      talks = with_talk client talk_now talks;
+    })
+    peers_now stays
+    (record {
+      does =
+          subst
+          (λ (old : Talk).
+          Does r.means r.gives deed ledgers moments old ledgers_now moments_now
+          (with_talk client talk_now talks client))
+          (sym (with_talk-own client talk talks))
+          (subst
+          (λ (new : Talk).
+          Does r.means r.gives deed ledgers moments talk ledgers_now moments_now new)
+          (sym (with_talk-own client talk_now talks)) does);
+      others =
+          λ other differ.
+          with_talk-other client other talk_now talks differ
+          ∙ sym (with_talk-other client other talk talks differ);
+    })
+    hands)
+
+-- one client was served, and stays
+abbrev pub Stays :
+    {S C P : Type 0} → Rules S C P → ℕ → S → C → P → Talk → S → C → P → Talk → ℕ → Type 0
+Stays r client ledgers moments peers talk ledgers_now moments_now peers_now talk_now replies =
+    ServesOne r client ledgers moments peers talk ledgers_now moments_now peers_now talk_now step.Waits
+    replies
+
+module _ {S C P : Type 0} (r : Rules S C P) (client : ℕ) where
+  -- nothing is done
+  pub nothing :
+      (ledgers : S) (moments : C) (peers : P) (talk : Talk) →
+      Stays r client ledgers moments peers talk ledgers moments peers talk 0
+  nothing ledgers moments peers talk talks gone stays = ([], Begin, refl)
+
+  -- nothing has changed
+  pub unmoved :
+      (ledgers ledgers_now : S) (moments moments_now : C) (peers : P) (talk talk_now : Talk) →
+      IsUnmoved ledgers moments talk ledgers_now moments_now talk_now →
+      Stays r client ledgers moments peers talk ledgers_now moments_now peers talk_now 0
+  unmoved ledgers ledgers_now moments moments_now peers talk talk_now same =
+      subst
+      (λ (l : S). Stays r client ledgers moments peers talk l moments_now peers talk_now 0)
+      (sym same.ledgers_same)
+      (subst
+      (λ (m : C). Stays r client ledgers moments peers talk ledgers m peers talk_now 0)
+      (sym same.moments_same)
+      (subst
+      (λ (now : Talk). Stays r client ledgers moments peers talk ledgers moments peers now 0)
+      (sym same.same) (nothing ledgers moments peers talk)))
+
+  -- a client goes
+  pub goes :
+      (ledgers : S) (moments : C) (peers : P) (talk : Talk) →
+      ServesOne r client ledgers moments peers talk ledgers moments peers talk step.Goes 0
+  goes ledgers moments peers talk talks gone stays = (
+    [],
+    once r (hall ledgers moments peers (with_talk client talk talks) gone)
+        (hall ledgers moments peers (with_talk client talk talks) (gone_with client gone)) []
+        (Goes client),
+    refl,
+  )
+
+  -- a client goes, and what was read of it is lost
+  pub loses :
+      (ledgers : S) (moments : C) (peers peers_now : P) (talk talk_now : Talk) (piece : List ℕ) →
+      talk_now ≡ talk → r.does peers (Gave client piece) peers_now →
+      ServesOne r client ledgers moments peers talk ledgers moments peers_now talk_now step.Goes 0
+  loses ledgers moments peers peers_now talk talk_now piece same does =
+      subst
+      (λ (now : Talk).
+      ServesOne r client ledgers moments peers talk ledgers moments peers_now now step.Goes 0)
+      (sym same)
+      (λ talks gone stays. (
+        [],
+        once r (hall ledgers moments peers (with_talk client talk talks) gone)
+            (hall ledgers moments peers_now (with_talk client talk talks) (gone_with client gone)) []
+            (Loses client piece peers_now does),
+        refl,
+      ))
+
+  -- something else happens among peers
+  pub stirred :
+      (ledgers : S) (moments : C) (peers peers_now : P) (talk : Talk) →
+      r.does peers Stirred peers_now →
+      Stays r client ledgers moments peers talk ledgers moments peers_now talk 0
+  stirred ledgers moments peers peers_now talk does talks gone stays = (
+    [],
+    once r (hall ledgers moments peers (with_talk client talk talks) gone)
+        (hall ledgers moments peers_now (with_talk client talk talks) gone) []
+        (Stirs peers_now does),
+    refl,
+  )
+
+  -- a piece came
+  pub came :
+      (ledgers : S) (moments : C) (peers peers_now : P) (talk talk_now : Talk) (piece : List ℕ) →
+      talk.unread.ended ≡ false → talk_now ≡ received piece talk →
+      r.does peers (Gave client piece) peers_now →
+      Stays r client ledgers moments peers talk ledgers moments peers_now talk_now 0
+  came ledgers moments peers peers_now talk talk_now piece more is does talks gone stays = (
+    Came client piece ∷ [],
+    did_one r (Came client piece) ledgers ledgers moments moments peers peers_now talk talk_now talks
+        gone stays (record { ledgers_same = refl; moments_same = refl; same = is }, more) does,
+    refl,
+  )
+
+  -- the input ended
+  pub ended :
+      (ledgers : S) (moments : C) (peers peers_now : P) (talk talk_now : Talk) →
+      talk_now ≡ input_ended talk → r.does peers (Ended client) peers_now →
+      Stays r client ledgers moments peers talk ledgers moments peers_now talk_now 0
+  ended ledgers moments peers peers_now talk talk_now is does talks gone stays = (
+    deed.Ended client ∷ [],
+    did_one r (deed.Ended client) ledgers ledgers moments moments peers peers_now talk talk_now talks
+        gone stays (record { ledgers_same = refl; moments_same = refl; same = is }) does,
+    refl,
+  )
+
+  -- bytes were taken
+  pub taken :
+      (ledgers : S) (moments : C) (peers peers_now : P) (talk talk_now : Talk) (count : ℕ) →
+      talk_now ≡ written count talk → r.does peers (Took client (take count talk.unsent)) peers_now →
+      Stays r client ledgers moments peers talk ledgers moments peers_now talk_now 0
+  taken ledgers moments peers peers_now talk talk_now count is does talks gone stays =
+      let bytes = take count talk.unsent in (
+        Wrote client bytes ∷ [],
+        did_one r (Wrote client bytes) ledgers ledgers moments moments peers peers_now talk talk_now
+            talks gone stays
+            (record {
+              ledgers_same = refl;
+              moments_same = refl;
+              same =
+                  ap (λ (now : Talk). record now { unsent = bytes ++ now.unsent }) is
+                  ∙ ap (λ (all : List ℕ). record talk { unsent = all })
+                  (take-append-drop count talk.unsent);
+            })
+            does,
+        refl,
+      )
+
+  -- a message was replied to
+  pub replied :
+      (ledgers ledgers_now : S) (moments moments_now : C) (peers : P) (talk talk_now : Talk)
+      (reply : Reply) → may_answer talk ≡ true →
+      HasReplied r.means r.gives ledgers moments talk reply ledgers_now moments_now talk_now →
+      Stays r client ledgers moments peers talk ledgers_now moments_now peers talk_now 1
+  replied ledgers ledgers_now moments moments_now peers talk talk_now reply may has talks gone stays = (
+    Replied client reply ∷ [],
+    did_one r (Replied client reply) ledgers ledgers_now moments moments_now peers peers talk
+        talk_now talks gone stays (has, may) refl,
+    refl,
+  )
+
+  -- one step behind another
+  pub then_one :
+      (ledgers ledgers_then ledgers_now : S) (moments moments_then moments_now : C)
+      (peers peers_then peers_now : P) (talk talk_then talk_now : Talk) (last : Step)
+      (before behind all : ℕ) → before + behind ≡ all →
+      Stays r client ledgers moments peers talk ledgers_then moments_then peers_then talk_then before →
+      ServesOne r client ledgers_then moments_then peers_then talk_then ledgers_now moments_now
+      peers_now talk_now last behind →
+      ServesOne r client ledgers moments peers talk ledgers_now moments_now peers_now talk_now last all
+  then_one ledgers ledgers_then ledgers_now moments moments_then moments_now peers peers_then
+      peers_now talk talk_then talk_now last before behind all sum first second talks gone stays =
+      let did = first talks gone stays in
+      let does = second talks gone stays in (
+        did.0 ++ does.0,
+        serves_on r (hall ledgers moments peers (with_talk client talk talks) gone)
+            (hall ledgers_then moments_then peers_then (with_talk client talk_then talks) gone)
+            (hall ledgers_now moments_now peers_now (with_talk client talk_now talks)
+            (gone_by last client gone))
+            did.0 does.0 did.1 does.1,
+        replies_both did.0 does.0 before behind all did.2 does.2 sum,
+      )

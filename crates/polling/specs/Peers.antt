@@ -1,0 +1,39 @@
+-- What those who are connected do.
+use Rattle.std.specs.Prelude.{◌≡◌, ◌≤◌, ℕ, List, length, take}
+use Rattle.clients.specs.Deeds.{Deed, Came, Replied, Wrote}
+use Rattle.clients.specs.Deeds as deed
+use Rattle.polling.specs.declared.peers.Read.{Read}
+use Rattle.polling.specs.declared.peers.Read.TheVariants as read
+use Rattle.polling.specs.declared.peers.Written.{Written}
+use Rattle.polling.specs.declared.peers.Written.TheVariants as written
+
+-- bytes of a client were read; its input ended; bytes to it were taken; or anything else
+pub data Doing : Type 0 where
+  Gave : ℕ → List ℕ → Doing
+  Ended : ℕ → Doing
+  Took : ℕ → List ℕ → Doing
+  Stirred : Doing
+
+-- what peers did of a deed
+abbrev pub Hands : {P : Type 0} → (P → Doing → P → Type 0) → Deed → P → P → Type 0
+Hands does (Came client piece) old new = does old (Gave client piece) new
+Hands does (deed.Ended client) old new = does old (Ended client) new
+Hands does (Replied client reply) old new = new ≡ old
+Hands does (Wrote client bytes) old new = does old (Took client bytes) new
+
+-- what reading from a client gave
+abbrev pub HasRead :
+    {P : Type 0} → (P → Doing → P → Type 0) → ℕ → P → List ℕ → P → Read → Type 0
+HasRead does client old piece new (read.Gave count) =
+    (count ≤ length piece) × does old (Gave client (take count piece)) new
+HasRead does client old piece new read.Ended = does old (Ended client) new
+HasRead does client old piece new read.Waits = does old Stirred new
+HasRead does client old piece new read.Broken = does old Stirred new
+
+-- what writing to a client gave
+abbrev pub HasWritten :
+    {P : Type 0} → (P → Doing → P → Type 0) → ℕ → List ℕ → P → P → Written → Type 0
+HasWritten does client bytes old new (written.Took count) =
+    (count ≤ length bytes) × does old (Took client (take count bytes)) new
+HasWritten does client bytes old new written.Waits = does old Stirred new
+HasWritten does client bytes old new written.Broken = does old Stirred new

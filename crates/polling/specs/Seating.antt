@@ -1,0 +1,132 @@
+-- Who is seated, and what one client and all of them were served.
+use Rattle.std.specs.Prelude.{◌≡◌, ◌≢◌, ◌≤◌, ◌<◌, ℕ, Bool, false, List, length, Option, Some, None, nat_eq, if◌then◌else◌}
+use Rattle.std.specs.BTreeMap.{BTreeMap, get}
+use Rattle.std.specs.Ordering.{nat_cmp}
+use Rattle.clients.specs.Talk.{Talk, new_talk}
+use Rattle.clients.specs.Deeds.{Deed, all_told}
+use Rattle.polling.specs.Serving.{Hall, hall, Rules, Serves, gone_with}
+use Rattle.polling.specs.declared.seats.Seats.{Seats}
+use Rattle.polling.specs.declared.step.Step.{Step}
+use Rattle.polling.specs.declared.step.Step.TheVariants.{More, Waits, Goes}
+
+-- all talks, with this one of one client
+abbrev pub with_talk : ℕ → Talk → (ℕ → Talk) → ℕ → Talk
+with_talk client talk talks other = if nat_eq client other then talk else talks other
+
+-- who has gone behind a step of one client
+abbrev pub gone_by : Step → ℕ → (ℕ → Bool) → ℕ → Bool
+gone_by More client gone = gone
+gone_by Waits client gone = gone
+gone_by Goes client gone = gone_with client gone
+
+-- how many messages were replied to
+abbrev pub replies_in : List Deed → ℕ
+replies_in deeds = length (all_told deeds)
+
+-- one, or none
+abbrev pub count_of : Bool → ℕ
+count_of replied = if replied then 1 else 0
+
+-- one client was served, whichever others there are, and nothing else was done
+abbrev pub ServesOne :
+    {S C P : Type 0} → Rules S C P → ℕ → S → C → P → Talk → S → C → P → Talk → Step → ℕ
+    → Type 0
+ServesOne {S} {C} {P} r client ledgers moments peers talk ledgers_now moments_now peers_now talk_now
+    step replies =
+    (talks : ℕ → Talk) (gone : ℕ → Bool)
+    → gone client ≡ false
+    → (deeds : List Deed)
+    × Serves S C P r (hall ledgers moments peers (with_talk client talk talks) gone) deeds
+    (hall ledgers_now moments_now peers_now (with_talk client talk_now talks)
+    (gone_by step client gone))
+    × (replies_in deeds ≡ replies)
+
+-- one seat is this now, and every other as it was
+abbrev pub SeatsNow : ℕ → Option Talk → (ℕ → Option Talk) → (ℕ → Option Talk) → Type 0
+SeatsNow client seat old new =
+    (new client ≡ seat) × ((other : ℕ) → other ≢ client → new other ≡ old other)
+
+-- every seat is as it was
+abbrev pub AreSame : (ℕ → Option Talk) → (ℕ → Option Talk) → Type 0
+AreSame old new = (client : ℕ) → new client ≡ old client
+
+-- somebody is in that seat
+abbrev pub IsSeated : ℕ → (ℕ → Option Talk) → Type 0
+IsSeated client seats = (talk : Talk) × (seats client ≡ Some talk)
+
+-- the talks of a map's clients
+abbrev pub seats_in : BTreeMap ℕ Talk → ℕ → Option Talk
+seats_in map client = get nat_cmp map client
+
+-- nobody is seated, and no number was used
+abbrev pub AreEmpty : Seats → Type 0
+AreEmpty seats =
+    ((client : ℕ) → seats_in seats.clients client ≡ None) × (seats.next ≡ 0)
+
+-- the client in one seat was served
+pub record HadTurn {S C P : Type 0} (r : Rules S C P) (client : ℕ) (ledgers : S) (moments : C)
+    (peers : P) (seats : ℕ → Option Talk) (ledgers_now : S) (moments_now : C) (peers_now : P)
+    (seats_now : ℕ → Option Talk) (step : Step) (replies : ℕ) : Type 0 where
+  pub talk : Talk
+  pub talk_now : Talk
+  pub was : seats client ≡ Some talk
+  pub now : SeatsNow client (Some talk_now) seats seats_now
+  pub served :
+      ServesOne r client ledgers moments peers talk ledgers_now moments_now peers_now talk_now step
+      replies
+
+-- nobody is in that seat, and nothing was done
+pub record HadNone {S C P : Type 0} (ledgers : S) (moments : C) (peers : P)
+    (seats : ℕ → Option Talk) (ledgers_now : S) (moments_now : C) (peers_now : P)
+    (seats_now : ℕ → Option Talk) : Type 0 where
+  pub ledgers_same : ledgers_now ≡ ledgers
+  pub moments_same : moments_now ≡ moments
+  pub peers_same : peers_now ≡ peers
+  pub seats_same : AreSame seats seats_now
+
+-- what is held: the ledgers, what gives the moments, those who are connected, the talks of those
+-- who are seated, and the next number, which was never used
+pub record Held (S C P : Type 0) : Type 0 where
+  pub ledgers : S
+  pub moments : C
+  pub peers : P
+  pub seats : ℕ → Option Talk
+  pub next : ℕ
+
+abbrev pub held : {S C P : Type 0} → S → C → P → (ℕ → Option Talk) → ℕ → Held S C P
+held ledgers moments peers seats next = record {
+  ledgers = ledgers;
+  moments = moments;
+  peers = peers;
+  seats = seats;
+  next = next;
+}
+
+abbrev pub held_by : {S C P : Type 0} → S → C → P → Seats → Held S C P
+held_by ledgers moments peers seats =
+    held ledgers moments peers (seats_in seats.clients) seats.next
+
+-- what is held is of this hall: whoever is seated has its talk there and has not gone, and of
+-- numbers that were not used nothing has come
+pub record Keeps {S C P : Type 0} (held : Held S C P) (all : Hall S C P) : Type 0 where
+  pub ledgers : all.room.ledgers ≡ held.ledgers
+  pub moments : all.room.moments ≡ held.moments
+  pub peers : all.peers ≡ held.peers
+  pub seated :
+      (client : ℕ) (talk : Talk) → held.seats client ≡ Some talk
+      → all.room.talks client ≡ talk
+  pub there : (client : ℕ) (talk : Talk) → held.seats client ≡ Some talk → all.gone client ≡ false
+  pub below : (client : ℕ) (talk : Talk) → held.seats client ≡ Some talk → client < held.next
+  pub unused : (client : ℕ) → held.next ≤ client → all.room.talks client ≡ new_talk
+  pub not_gone : (client : ℕ) → held.next ≤ client → all.gone client ≡ false
+
+-- clients were served: deeds lead from any hall of what was held to one of what is
+abbrev pub ServesAll : {S C P : Type 0} → Rules S C P → Held S C P → Held S C P → ℕ → Type 0
+ServesAll {S} {C} {P} r old new replies =
+    (first : Hall S C P)
+    → Keeps old first
+    → (deeds : List Deed)
+    × (last : Hall S C P)
+    × Serves S C P r first deeds last
+    × Keeps new last
+    × (replies_in deeds ≡ replies)

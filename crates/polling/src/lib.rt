@@ -1,0 +1,16 @@
+//! Many clients served at once, by what peers tell: who is connected, what came, what was taken.
+#![tactic(auto)]
+
+mod laws;
+mod peers;
+mod reopen;
+mod seats;
+mod serving;
+mod step;
+mod turn;
+
+pub use laws::{each_is_served, serving_begins_empty, serving_is_a_run};
+pub use peers::{Peers, Read, Told, Written};
+pub use reopen::Reopen;
+pub use seats::Seats;
+pub use serving::serve_ready;

@@ -1,0 +1,67 @@
+//! Those who are connected, and what they do.
+ghost use Rattle.std.specs.Prelude.{◌≡◌, length};
+ghost use Rattle.polling.specs.Peers.{Doing, Stirred, HasRead, HasWritten};
+
+/// What waiting told.
+#[derive(Clone, Copy, Debug, PartialEq, Eq)]
+pub enum Told {
+    /// A new client is connected, and has the number that was handed in.
+    Joined,
+    /// A client may have sent something, or may take something, or asked for another turn.
+    Ready(u64),
+    /// A client has had its time.
+    Late(u64),
+    /// Nothing more for now.
+    Nothing,
+}
+
+/// What reading from a client gave.
+#[derive(Clone, Copy, Debug, PartialEq, Eq)]
+pub enum Read {
+    /// So many bytes.
+    Gave(usize),
+    /// The end of its input.
+    Ended,
+    /// Nothing for now.
+    Waits,
+    /// The connection is broken.
+    Broken,
+}
+
+/// What writing to a client gave.
+#[derive(Clone, Copy, Debug, PartialEq, Eq)]
+pub enum Written {
+    /// So many bytes were taken.
+    Took(usize),
+    /// None for now.
+    Waits,
+    /// The connection is broken.
+    Broken,
+}
+
+/// Those who are connected, each by a number that is never used again.
+pub trait Peers {
+    // What each doing makes of them.
+    ghost does: { Self → Doing → Self → Type 0 };
+
+    /// The next thing that has happened. A new client gets the number `fresh`.
+    fn told(&mut self, fresh: u64) -> Told
+        ensures { does self.old Stirred self.new };
+
+    /// Reads from a client.
+    fn read(&mut self, client: u64, piece: &mut [u8]) -> Read
+        ensures read { HasRead does client self.old piece.new self.new result }
+        ensures size { length piece.new ≡ length piece.old };
+
+    /// Writes to a client.
+    fn write(&mut self, client: u64, bytes: &[u8]) -> Written
+        ensures { HasWritten does client bytes.now self.old self.new result };
+
+    /// A client has more to do: it is told as ready again, behind those that are.
+    fn again(&mut self, client: u64)
+        ensures { does self.old Stirred self.new };
+
+    /// Lets a client go.
+    fn close(&mut self, client: u64)
+        ensures { does self.old Stirred self.new };
+}

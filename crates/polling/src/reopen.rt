@@ -1,0 +1,15 @@
+//! Where ledgers come from.
+
+use chain::Ledgers;
+
+/// What opens ledgers again where they have failed.
+pub trait Reopen<L: Ledgers> {
+    // What opening again may make of ledgers.
+    ghost renews: { L → L → Type 0 };
+
+    /// Opens again what has failed, where it is time to.
+    fn reopen(&mut self, ledgers: &mut L)
+        requires { L.means.is_usable ledgers.old }
+        ensures renewed { renews ledgers.old ledgers.new }
+        ensures usable { L.means.is_usable ledgers.new };
+}

@@ -1,0 +1,213 @@
+//! Serving all who are ready.
+ghost use Rattle.std.specs.Prelude.{◌≡◌, ◌≤◌, IfSome, IfNone};
+ghost use Rattle.polling.specs.Serving.{rules};
+ghost use Rattle.polling.specs.Seating.{HadTurn, HadNone, ServesAll, count_of, seats_in, held_by};
+ghost use Rattle.polling.specs.Counting.{count_in};
+
+use crate::seats::{Seats, seat, unseat};
+use crate::step::Step;
+use crate::turn::{Turned, turn};
+use crate::{Peers, Reopen, Told};
+use chain::Ledgers;
+use clients::Client;
+use service::Moments;
+use std::alloc::Global;
+use std::collections::BTreeMap;
+
+/// Gives the client with a number its turn, where it is seated.
+fn turn_in<L: Ledgers, H: Reopen<L>, C: Moments, P: Peers>(
+    alloc: Global,
+    peers: &mut P,
+    clients: &mut BTreeMap<u64, Client>,
+    number: u64,
+    ledgers: &mut L,
+    moments: &mut C,
+    piece: &mut [u8],
+) -> Option<Turned>
+    requires usable { L.means.is_usable ledgers.old }
+    ensures turn { IfSome result (λ turned. HadTurn (rules L.means C.gives H.renews P.does) number
+        ledgers.old moments.old peers.old (seats_in clients.old)
+        ledgers.new moments.new peers.new (seats_in clients.new)
+        turned.step (count_of turned.replied)) }
+    ensures none { IfNone result (HadNone
+        ledgers.old moments.old peers.old (seats_in clients.old)
+        ledgers.new moments.new peers.new (seats_in clients.new)) }
+    ensures usable { L.means.is_usable ledgers.new }
+{
+    match clients.get_mut(&number) {
+        Some(client) => Some(turn::<L, H, C, P>(
+            alloc, peers, number, client, ledgers, moments, piece,
+        )),
+        None => None,
+    }
+}
+
+/// Gives a client its turn, and lets it go where it is to. Says whether a message was replied to.
+fn serve_one<L: Ledgers, H: Reopen<L>, C: Moments, P: Peers>(
+    alloc: Global,
+    peers: &mut P,
+    seats: &mut Seats,
+    number: u64,
+    ledgers: &mut L,
+    moments: &mut C,
+    piece: &mut [u8],
+) -> bool
+    requires { L.means.is_usable ledgers.old }
+    ensures serves { ServesAll (rules L.means C.gives H.renews P.does)
+        (held_by ledgers.old moments.old peers.old seats.old)
+        (held_by ledgers.new moments.new peers.new seats.new) (count_of result) }
+    ensures usable { L.means.is_usable ledgers.new }
+{
+    match turn_in::<L, H, C, P>(
+        alloc,
+        peers,
+        &mut seats.clients,
+        number,
+        ledgers,
+        moments,
+        piece,
+    ) {
+        Some(turned) => {
+            match turned.step {
+                Step::More => peers.again(number),
+                Step::Waits => {}
+                Step::Goes => {
+                    let _ = unseat(&mut seats.clients, number);
+                    peers.close(number);
+                }
+            }
+            turned.replied
+        }
+        None => false,
+    }
+}
+
+/// Gives a new client a seat. Where memory is wanting for it, the client is let go.
+fn join<L: Ledgers, H: Reopen<L>, C: Moments, P: Peers>(
+    alloc: Global,
+    peers: &mut P,
+    seats: &mut Seats,
+)
+    ensures { (ledgers : L) → (moments : C) →
+        ServesAll (rules L.means C.gives H.renews P.does)
+        (held_by ledgers moments peers.old seats.old)
+        (held_by ledgers moments peers.new seats.new) 0 }
+{
+    let number = seats.next;
+    if number == u64::MAX {
+        peers.close(number);
+        return;
+    }
+    seats.next += 1;
+    match seat(alloc, &mut seats.clients, number) {
+        Ok(()) => {}
+        Err(_) => peers.close(number),
+    }
+}
+
+/// Lets a client go.
+fn let_go<L: Ledgers, H: Reopen<L>, C: Moments, P: Peers>(
+    peers: &mut P,
+    seats: &mut Seats,
+    number: u64,
+)
+    ensures { (ledgers : L) → (moments : C) →
+        ServesAll (rules L.means C.gives H.renews P.does)
+        (held_by ledgers moments peers.old seats.old)
+        (held_by ledgers moments peers.new seats.new) 0 }
+{
+    if unseat(&mut seats.clients, number) {
+        peers.close(number);
+    }
+}
+
+/// What was done of what has happened.
+#[derive(Clone, Copy, Debug, PartialEq, Eq)]
+enum Done {
+    /// Nothing had happened.
+    Nothing,
+    /// Something was done.
+    Something,
+    /// A message was replied to.
+    Reply,
+}
+
+/// Does what the next thing that has happened asks for.
+fn serve_next<L: Ledgers, H: Reopen<L>, C: Moments, P: Peers>(
+    alloc: Global,
+    peers: &mut P,
+    seats: &mut Seats,
+    ledgers: &mut L,
+    moments: &mut C,
+    piece: &mut [u8],
+) -> Done
+    requires { L.means.is_usable ledgers.old }
+    ensures serves { ServesAll (rules L.means C.gives H.renews P.does)
+        (held_by ledgers.old moments.old peers.old seats.old)
+        (held_by ledgers.new moments.new peers.new seats.new) (count_in result) }
+    ensures usable { L.means.is_usable ledgers.new }
+{
+    match peers.told(seats.next) {
+        Told::Joined => {
+            join::<L, H, C, P>(alloc, peers, seats);
+            Done::Something
+        }
+        Told::Ready(number) => {
+            if serve_one::<L, H, C, P>(alloc, peers, seats, number, ledgers, moments, piece) {
+                Done::Reply
+            } else {
+                Done::Something
+            }
+        }
+        Told::Late(number) => {
+            let_go::<L, H, C, P>(peers, seats, number);
+            Done::Something
+        }
+        Told::Nothing => Done::Nothing,
+    }
+}
+
+fn replies_of(done: Done) -> u64
+    ensures is { result ≡ count_in done }
+    ensures few { result ≤ 1 }
+{
+    match done {
+        Done::Nothing | Done::Something => 0,
+        Done::Reply => 1,
+    }
+}
+
+/// Serves all who are ready, one turn after the other, until nothing more has happened or so many
+/// messages were replied to, and says how many were. Before each turn the ledgers are opened again,
+/// where they have failed.
+pub fn serve_ready<L: Ledgers, H: Reopen<L>, C: Moments, P: Peers>(
+    alloc: Global,
+    peers: &mut P,
+    seats: &mut Seats,
+    ledgers: &mut L,
+    home: &mut H,
+    moments: &mut C,
+    piece: &mut [u8],
+    most: u64,
+) -> u64
+    requires { L.means.is_usable ledgers.old }
+    ensures serves { ServesAll (rules L.means C.gives H.renews P.does)
+        (held_by ledgers.old moments.old peers.old seats.old)
+        (held_by ledgers.new moments.new peers.new seats.new) result }
+    ensures few { result ≤ most }
+    ensures usable { L.means.is_usable ledgers.new }
+{
+    let mut replies = 0;
+    for _ in 0..u64::MAX {
+        if replies == most {
+            return replies;
+        }
+        home.reopen(ledgers);
+        let done = serve_next::<L, H, C, P>(alloc, peers, seats, ledgers, moments, piece);
+        replies += replies_of(done);
+        if done == Done::Nothing {
+            return replies;
+        }
+    }
+    replies
+}

@@ -1,0 +1,126 @@
+//! A client's turn.
+ghost use Rattle.std.specs.Prelude.{◌≡◌, true};
+ghost use Rattle.clients.specs.Talk.{may_answer};
+ghost use Rattle.polling.specs.Serving.{rules};
+ghost use Rattle.polling.specs.Seating.{ServesOne, count_of};
+
+use crate::step::{Step, read_some, write_some};
+use crate::{Peers, Reopen};
+use chain::Ledgers;
+use clients::{Answered, Client};
+use service::Moments;
+use std::alloc::Global;
+
+/// How often in one turn a client is written to.
+const MOST_WRITES: u64 = 64;
+
+/// What a turn came to.
+#[derive(Clone, Copy, Debug, PartialEq, Eq)]
+pub(crate) struct Turned {
+    pub(crate) step: Step,
+    /// Whether a message was replied to.
+    pub(crate) replied: bool,
+}
+
+/// Writes until nothing is left of the reply, or it would wait, or it was written to often enough.
+pub(crate) fn write_all<L: Ledgers, H: Reopen<L>, C: Moments, P: Peers>(
+    peers: &mut P,
+    number: u64,
+    client: &mut Client,
+) -> Step
+    ensures { (ledgers : L) → (moments : C) →
+        ServesOne (rules L.means C.gives H.renews P.does) number
+        ledgers moments peers.old client.old ledgers moments peers.new client.new result 0 }
+{
+    for _ in 0..MOST_WRITES {
+        if client.unsent().is_empty() {
+            return Step::More;
+        }
+        match write_some::<L, H, C, P>(peers, number, client) {
+            Step::More => {}
+            Step::Waits => return Step::Waits,
+            Step::Goes => return Step::Goes,
+        }
+    }
+    Step::More
+}
+
+/// Answers the next message of a client, or reads more of it where that has not come.
+pub(crate) fn answer_or_read<L: Ledgers, H: Reopen<L>, C: Moments, P: Peers>(
+    alloc: Global,
+    peers: &mut P,
+    number: u64,
+    client: &mut Client,
+    ledgers: &mut L,
+    moments: &mut C,
+    piece: &mut [u8],
+) -> Turned
+    requires usable { L.means.is_usable ledgers.old }
+    requires open { may_answer client.old ≡ true }
+    ensures serves { ServesOne (rules L.means C.gives H.renews P.does) number
+        ledgers.old moments.old peers.old client.old
+        ledgers.new moments.new peers.new client.new result.step (count_of result.replied) }
+    ensures usable { L.means.is_usable ledgers.new }
+{
+    match client.answer(alloc, ledgers, moments) {
+        Answered::Replied => Turned {
+            step: write_all::<L, H, C, P>(peers, number, client),
+            replied: true,
+        },
+        Answered::Wanting => Turned {
+            step: read_some::<L, H, C, P>(peers, number, client, piece),
+            replied: false,
+        },
+        Answered::Over => Turned {
+            step: Step::Goes,
+            replied: false,
+        },
+    }
+}
+
+/// A client's turn: what is left of the last reply is written, and one message at most answered, or
+/// a piece read of it. Behind the last reply of all it goes.
+pub(crate) fn turn<L: Ledgers, H: Reopen<L>, C: Moments, P: Peers>(
+    alloc: Global,
+    peers: &mut P,
+    number: u64,
+    client: &mut Client,
+    ledgers: &mut L,
+    moments: &mut C,
+    piece: &mut [u8],
+) -> Turned
+    requires usable { L.means.is_usable ledgers.old }
+    ensures serves { ServesOne (rules L.means C.gives H.renews P.does) number
+        ledgers.old moments.old peers.old client.old
+        ledgers.new moments.new peers.new client.new result.step (count_of result.replied) }
+    ensures usable { L.means.is_usable ledgers.new }
+{
+    match write_all::<L, H, C, P>(peers, number, client) {
+        Step::More => {}
+        Step::Waits => {
+            return Turned {
+                step: Step::Waits,
+                replied: false,
+            };
+        }
+        Step::Goes => {
+            return Turned {
+                step: Step::Goes,
+                replied: false,
+            };
+        }
+    }
+    if client.may_answer() {
+        return answer_or_read::<L, H, C, P>(alloc, peers, number, client, ledgers, moments, piece);
+    }
+    if client.goes_on() || !client.unsent().is_empty() {
+        return Turned {
+            step: Step::More,
+            replied: false,
+        };
+    }
+    Turned {
+        step: Step::Goes,
+        replied: false,
+    }
+}
