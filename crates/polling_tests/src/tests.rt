@@ -1,0 +1,4 @@
+mod firms;
+mod messages;
+mod scripted;
+mod serving;

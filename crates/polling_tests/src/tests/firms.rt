@@ -1,0 +1,109 @@
+//! Firms whose ledgers are kept in memory.
+ghost use Rattle.std.specs.Prelude.{◌≡◌};
+
+use super::scripted::Scripted;
+use plain::{Book, PlainTables};
+use polling::{Reopen, Seats, serve_ready};
+use records::Streamed;
+use service::{Moments, serve};
+use std::alloc::Global;
+use std::marker::Model;
+use std::test::Fail;
+use tenants::{Key, digest};
+
+/// Gives the same moment again and again.
+#[derive(Drop)]
+struct Always(u64);
+
+impl Moments for Always {
+    ghost gives = { λ old moment new. moment ≡ old.0 };
+
+    fn moment(&mut self) -> u64 {
+        self.0
+    }
+}
+
+/// Ledgers in memory do not fail.
+#[derive(Drop)]
+struct Never;
+
+impl Reopen<Book> for Never {
+    ghost renews = { λ old new. new ≡ old };
+
+    fn reopen(&mut self, _ledgers: &mut Book) {}
+}
+
+/// The ledgers of several firms.
+#[derive(Drop)]
+pub(crate) struct Firms {
+    alloc: Global,
+    book: Book,
+}
+
+impl Model for Firms {
+    ghost use Rattle.std.specs.Prelude.{List};
+    ghost use Rattle.chain.specs.Ledgers.{AreValid};
+    ghost use Rattle.plain.specs.BookLedgers.{machines_in};
+    ghost use Rattle.plain.specs.declared.book.Tenant.{Tenant};
+
+    ghost Value = { List Tenant };
+
+    ghost view = { λ firms. firms.book };
+
+    ghost invariant = { λ firms. AreValid (machines_in firms.book) };
+}
+
+impl Firms {
+    /// Firms with these keys.
+    pub(crate) fn with(alloc: Global, keys: &[&str]) -> Result<Firms, Fail> {
+        let mut firms = Firms {
+            alloc,
+            book: Book::new(alloc),
+        };
+        for key in keys {
+            firms.add(key)?;
+        }
+        Ok(firms)
+    }
+
+    fn add(&mut self, key: &str) -> Result<(), &'static str> {
+        let digest = digest(&Key::read(key.as_bytes()).ok_or("no key")?);
+        if self.book.holds(&digest) {
+            return Ok(());
+        }
+        self.book
+            .add(digest, PlainTables::new(self.alloc))
+            .map_err(|_| "no memory")
+    }
+
+    /// Serves clients until nothing more happens, or so many messages were replied to.
+    pub(crate) fn serve_ready(&mut self, peers: &mut Scripted, most: u64) -> u64 {
+        let mut seats = Seats::new(self.alloc);
+        let mut piece = [0; 100];
+        serve_ready(
+            self.alloc,
+            peers,
+            &mut seats,
+            &mut self.book,
+            &mut Never,
+            &mut Always(1000),
+            &mut piece,
+            most,
+        )
+    }
+
+    /// What a connection is written that sends this and nothing else.
+    pub(crate) fn serve(&mut self, sent: &[u8]) -> Vec<u8> {
+        let mut reader = Streamed::new(sent);
+        let mut writer = Streamed::new(Vec::new(self.alloc));
+        let _ = serve(
+            self.alloc,
+            &mut self.book,
+            &mut reader,
+            &mut writer,
+            &mut Always(1000),
+            99,
+        );
+        writer.into_inner()
+    }
+}

@@ -1,0 +1,43 @@
+//! Messages and replies as bytes.
+
+/// The key of the first firm.
+pub(crate) const FIRST: &str = "0000000000000000000000000000000000000000000000000000000000000000";
+
+/// The key of another firm.
+pub(crate) const SECOND: &str = "abababababababababababababababababababababababababababababababab";
+
+/// Three messages of the first firm: accounts, transfers between them, and a path that leads
+/// nowhere.
+pub(crate) const OF_FIRST: &str = concat!(
+    "POST /accounts HTTP/1.1\r\nx-ledger-key: ",
+    "0000000000000000000000000000000000000000000000000000000000000000",
+    "\r\ncontent-length: 63\r\n\r\n",
+    "[{\"id\":\"1\",\"ledger\":7,\"code\":1},{\"id\":\"2\",\"ledger\":7,\"code\":1}]",
+    "POST /transfers HTTP/1.1\r\nx-ledger-key: ",
+    "0000000000000000000000000000000000000000000000000000000000000000",
+    "\r\ncontent-length: 2\r\n\r\n[]",
+    "POST /x HTTP/1.1\r\nx-ledger-key: ",
+    "0000000000000000000000000000000000000000000000000000000000000000",
+    "\r\ncontent-length: 0\r\n\r\n"
+);
+
+/// Two messages of the second firm, and one that is cut short.
+pub(crate) const OF_SECOND: &str = concat!(
+    "POST /transfers HTTP/1.1\r\nx-ledger-key: ",
+    "abababababababababababababababababababababababababababababababab",
+    "\r\ncontent-length: 2\r\n\r\n[]",
+    "POST /transfers HTTP/1.1\r\nx-ledger-key: ",
+    "abababababababababababababababababababababababababababababababab",
+    "\r\ncontent-length: 2\r\n\r\n{}",
+    "POST /transfers HTTP/1.1\r\nx-led"
+);
+
+/// What the second firm is written.
+pub(crate) const TO_SECOND: &str = concat!(
+    "HTTP/1.1 200 OK\r\ncontent-length: 29\r\ncontent-type: application/json\r\n\r\n",
+    "{\"clock\":\"1000\",\"results\":[]}",
+    "HTTP/1.1 400 Bad Request\r\ncontent-length: 21\r\ncontent-type: application/json\r\n\r\n",
+    "{\"error\":\"bad_field\"}",
+    "HTTP/1.1 400 Bad Request\r\ncontent-length: 21\r\ncontent-type: application/json\r\n\r\n",
+    "{\"error\":\"truncated\"}"
+);

@@ -1,0 +1,168 @@
+//! Clients by a script of readiness.
+
+ghost use Rattle.std.specs.Prelude.{⊤};
+
+use polling::{Peers, Read, Told, Written};
+use std::alloc::Global;
+
+/// One client: what it still sends, and what it was written.
+#[derive(Drop)]
+pub(crate) struct Peer<'a> {
+    sends: &'a [u8],
+    heard: Vec<u8>,
+    is_open: bool,
+    /// Whether its next reading or writing would wait.
+    waits: bool,
+    /// How many bytes more it takes before it breaks.
+    takes: usize,
+}
+
+impl<'a> Peer<'a> {
+    /// A client that sends this, and breaks behind so many bytes that it was written.
+    pub(crate) fn new(alloc: Global, sends: &'a [u8], takes: usize) -> Peer<'a> {
+        Peer {
+            sends,
+            heard: Vec::new(alloc),
+            is_open: true,
+            waits: false,
+            takes,
+        }
+    }
+
+    /// What it was written.
+    pub(crate) fn heard(&self) -> &[u8] {
+        &self.heard
+    }
+
+    /// Whether it was not let go.
+    pub(crate) fn is_open(&self) -> bool {
+        self.is_open
+    }
+
+    /// Every other time it waits.
+    fn has_to_wait(&mut self) -> bool {
+        self.waits = !self.waits;
+        self.waits
+    }
+}
+
+/// Clients that join one after the other, and of whom each is ready in turn.
+#[derive(Drop)]
+pub(crate) struct Scripted<'a> {
+    peers: Vec<Peer<'a>>,
+    next: u64,
+    /// How many bytes are read or taken at once.
+    piece: usize,
+    /// Who is told to have had its time, once all have joined.
+    late: Option<u64>,
+}
+
+impl<'a> Scripted<'a> {
+    pub(crate) fn new(peers: Vec<Peer<'a>>, piece: usize) -> Scripted<'a> {
+        Scripted {
+            peers,
+            next: 0,
+            piece,
+            late: None,
+        }
+    }
+
+    /// This client has had its time.
+    pub(crate) fn is_late(&mut self, number: u64) {
+        self.late = Some(number);
+    }
+
+    /// The client with a number.
+    pub(crate) fn peer(&self, number: usize) -> Option<&Peer<'a>> {
+        self.peers.get(number)
+    }
+
+    fn peer_mut(&mut self, number: u64) -> Option<&mut Peer<'a>> {
+        let Ok(at) = usize::try_from(number) else {
+            return None;
+        };
+        self.peers.get_mut(at)
+    }
+
+    fn is_ready(&self, number: u64) -> bool {
+        let Ok(at) = usize::try_from(number) else {
+            return false;
+        };
+        match self.peers.get(at) {
+            Some(peer) => peer.is_open,
+            None => false,
+        }
+    }
+}
+
+impl Peers for Scripted<'_> {
+    ghost does = { λ _ _ _. ⊤ };
+
+    fn told(&mut self, fresh: u64) -> Told {
+        let count = self.peers.len() as u64;
+        if fresh < count {
+            return Told::Joined;
+        }
+        if let Some(number) = self.late {
+            self.late = None;
+            return Told::Late(number);
+        }
+        for _ in 0..count {
+            let number = self.next;
+            self.next = if number.saturating_add(1) < count {
+                number.saturating_add(1)
+            } else {
+                0
+            };
+            if self.is_ready(number) {
+                return Told::Ready(number);
+            }
+        }
+        Told::Nothing
+    }
+
+    fn read(&mut self, client: u64, piece: &mut [u8]) -> Read {
+        let most = self.piece.min(piece.len());
+        let Some(peer) = self.peer_mut(client) else {
+            return Read::Broken;
+        };
+        if peer.has_to_wait() {
+            return Read::Waits;
+        }
+        if peer.sends.is_empty() {
+            return Read::Ended;
+        }
+        let count = most.min(peer.sends.len());
+        let (front, rest) = peer.sends.split_at(count);
+        piece[..count].copy_from_slice(front);
+        peer.sends = rest;
+        Read::Gave(count)
+    }
+
+    fn write(&mut self, client: u64, bytes: &[u8]) -> Written {
+        let most = self.piece.min(bytes.len());
+        let Some(peer) = self.peer_mut(client) else {
+            return Written::Broken;
+        };
+        if peer.has_to_wait() {
+            return Written::Waits;
+        }
+        let count = most.min(peer.takes);
+        if count == 0 {
+            return Written::Broken;
+        }
+        if peer.heard.extend_from_slice(&bytes[..count]).is_err() {
+            return Written::Broken;
+        }
+        peer.takes -= count;
+        Written::Took(count)
+    }
+
+    fn again(&mut self, _client: u64) {}
+
+    fn close(&mut self, client: u64) {
+        if let Some(peer) = self.peer_mut(client) {
+            peer.is_open = false;
+        }
+    }
+}
