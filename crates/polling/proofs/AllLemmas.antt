@@ -4,8 +4,9 @@ use Rattle.std.specs.Option.{unwrap_or}
 use Rattle.std.proofs.lemmas.Bool.{cases_eq, ne_eqb, false≢true}
 use Rattle.std.proofs.Math.Path.{fun_ext}
 use Rattle.clients.specs.Talk.{Talk, new_talk}
-use Rattle.polling.specs.Peers.{Stirred}
-use Rattle.polling.specs.Serving.{Hall, hall, Rules, gone_with, Stirs, Again, Serves, Begin}
+use Rattle.polling.specs.Peers.{Said, Stirred}
+use Rattle.polling.specs.declared.peers.Told.{Told}
+use Rattle.polling.specs.Serving.{Hall, hall, Rules, gone_with, Happens, Tells, Stirs, Again, Serves, Begin}
 use Rattle.polling.specs.Seating.{with_talk, ServesOne, SeatsNow, AreSame, HadNone, held, Held, ServesAll}
 use Rattle.polling.specs.declared.step.Step.TheVariants as step
 use Rattle.polling.proofs.OneLemmas.{Stays, goes, once, serves_on, replies_both, with_talk-own, with_talk-other}
@@ -109,16 +110,17 @@ module _ {S C P : Type 0} where
       had_none r ledgers ledgers moments moments peers peers seats seats_now next
       (record { ledgers_same = refl; moments_same = refl; peers_same = refl; seats_same = same })
 
-  -- something else happens among peers
-  pub stirs_all :
+  -- something happens among peers alone
+  among_peers :
       (r : Rules S C P) (ledgers : S) (moments : C) (peers peers_now : P)
-      (seats : ℕ → Option Talk) (next : ℕ) → r.does peers Stirred peers_now →
+      (seats : ℕ → Option Talk) (next : ℕ) →
+      ((all : Hall S C P) → all.peers ≡ peers →
+      Happens S C P r all [] (record all { peers = peers_now })) →
       ServesAll r (held ledgers moments peers seats next) (held ledgers moments peers_now seats next) 0
-  stirs_all r ledgers moments peers peers_now seats next does first keeps = (
+  among_peers r ledgers moments peers peers_now seats next happens first keeps = (
     [],
     record first { peers = peers_now },
-    once r first (record first { peers = peers_now }) []
-        (Stirs peers_now (subst (λ (p : P). r.does p Stirred peers_now) (sym keeps.peers) does)),
+    once r first (record first { peers = peers_now }) [] (happens first keeps.peers),
     record {
       ledgers = keeps.ledgers;
       moments = keeps.moments;
@@ -131,6 +133,25 @@ module _ {S C P : Type 0} where
     },
     refl,
   )
+
+  -- something else happens among peers
+  pub stirs_all :
+      (r : Rules S C P) (ledgers : S) (moments : C) (peers peers_now : P)
+      (seats : ℕ → Option Talk) (next : ℕ) → r.does peers Stirred peers_now →
+      ServesAll r (held ledgers moments peers seats next) (held ledgers moments peers_now seats next) 0
+  stirs_all r ledgers moments peers peers_now seats next does =
+      among_peers r ledgers moments peers peers_now seats next
+      (λ all are. Stirs peers_now (subst (λ (p : P). r.does p Stirred peers_now) (sym are) does))
+
+  -- peers tell something
+  pub tells_all :
+      (r : Rules S C P) (ledgers : S) (moments : C) (peers peers_now : P)
+      (seats : ℕ → Option Talk) (next : ℕ) (told : Told) → r.does peers (Said told) peers_now →
+      ServesAll r (held ledgers moments peers seats next) (held ledgers moments peers_now seats next) 0
+  tells_all r ledgers moments peers peers_now seats next told does =
+      among_peers r ledgers moments peers peers_now seats next
+      (λ all are.
+      Tells told peers_now (subst (λ (p : P). r.does p (Said told) peers_now) (sym are) does))
 
   -- the ledgers are opened again
   pub again_all :

@@ -12,7 +12,7 @@ use Rattle.clients.specs.Answering.{MayCome}
 use Rattle.clients.specs.Turns.{Sent, Told, if_told, told_to, Hears, Nothing_yet, One_more, HearTheirOwn}
 use Rattle.clients.specs.Deeds.{Room, Deed, IsDone, Lives, if_own, come_from, written_in, written_to, told_in, all_told, came_in, sent_with, clients_of, MightCome, AreExchanges, AreWritten}
 use Rattle.clients.specs.Deeds as life
-use Rattle.polling.specs.Serving.{Hall, Rules, Happens, Did, Stirs, Goes, Loses, Again, Serves, Begin, Then}
+use Rattle.polling.specs.Serving.{Hall, Rules, Happens, Did, Tells, Stirs, Goes, Loses, Again, Serves, Begin, Then}
 use Rattle.polling.specs.Laws.{EachIsServed}
 
 -- what is heard behind what was heard
@@ -98,6 +98,7 @@ module _ {S C P : Type 0} (r : Rules S C P) where
       MayCome (next.room.talks client).unread later → HearsBy last.room more next.room client later
   step_heard hear exchanges last next more (Did deed room peers live done hands) client later may =
       deed_heard hear exchanges last.room room deed done client later may
+  step_heard hear exchanges last next more (Tells told peers does) client later may = Nothing_yet
   step_heard hear exchanges last next more (Stirs peers does) client later may = Nothing_yet
   step_heard hear exchanges last next more (Goes who) client later may = Nothing_yet
   step_heard hear exchanges last next more (Loses who piece peers does) client later may = Nothing_yet
@@ -117,6 +118,7 @@ module _ {S C P : Type 0} (r : Rules S C P) where
       (own client later)
       (might last.room room deed done (λ (i : ℕ). if_own i client later)
       (only room.talks client later may) client))
+  step_may might last next more (Tells told peers does) client later may = may
   step_may might last next more (Stirs peers does) client later may = may
   step_may might last next more (Goes who) client later may = may
   step_may might last next more (Loses who piece peers does) client later may = may
@@ -163,6 +165,8 @@ module _ {S C P : Type 0} (r : Rules S C P) where
       Happens S C P r last more next → (client : ℕ) → WritesBy last.room more next.room client
   step_written written last next more (Did deed room peers live done hands) client =
       written last.room room (deed ∷ []) (one_deed last.room room deed done) client
+  step_written written last next more (Tells told peers does) client =
+      sym (append-nil (last.room.talks client).unsent)
   step_written written last next more (Stirs peers does) client =
       sym (append-nil (last.room.talks client).unsent)
   step_written written last next more (Goes who) client =

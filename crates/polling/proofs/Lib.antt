@@ -1,4 +1,5 @@
 pub mod OneLemmas
 pub mod AllLemmas
+pub mod TurnLemmas
 pub mod LifeLemmas
 pub mod HeardLemmas

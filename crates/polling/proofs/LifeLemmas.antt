@@ -5,7 +5,7 @@ use Rattle.std.proofs.lemmas.List.{append-nil}
 use Rattle.clients.specs.Deeds.{Room, Deed, Lives}
 use Rattle.clients.specs.Deeds as life
 use Rattle.clients.specs.Talk.{Talk}
-use Rattle.polling.specs.Serving.{Hall, Rules, Happens, Did, Stirs, Goes, Loses, Again, Begin, Then}
+use Rattle.polling.specs.Serving.{Hall, Rules, Happens, Did, Tells, Stirs, Goes, Loses, Again, Begin, Then}
 use Rattle.polling.specs.Laws.{AreLives, BeginsEmpty}
 use Rattle.polling.specs.Seating.{seats_in}
 
@@ -24,6 +24,8 @@ one_more :
     Lives S C r.means r.gives first (deeds ++ more) next.room
 one_more r same first last next deeds more lives (Did deed room peers live done hands) =
     life.Then deeds last.room deed room lives done
+one_more r same first last next deeds more lives (Tells told peers does) =
+    stays r first last.room deeds lives
 one_more r same first last next deeds more lives (Stirs peers does) =
     stays r first last.room deeds lives
 one_more r same first last next deeds more lives (Goes client) = stays r first last.room deeds lives

@@ -1,5 +1,5 @@
 pub mod Peers
 pub mod Serving
 pub mod Seating
-pub mod Counting
+pub mod Ending
 pub mod Laws

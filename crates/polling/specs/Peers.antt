@@ -2,16 +2,19 @@
 use Rattle.std.specs.Prelude.{◌≡◌, ◌≤◌, ℕ, List, length, take}
 use Rattle.clients.specs.Deeds.{Deed, Came, Replied, Wrote}
 use Rattle.clients.specs.Deeds as deed
+use Rattle.polling.specs.declared.peers.Told.{Told}
 use Rattle.polling.specs.declared.peers.Read.{Read}
 use Rattle.polling.specs.declared.peers.Read.TheVariants as read
 use Rattle.polling.specs.declared.peers.Written.{Written}
 use Rattle.polling.specs.declared.peers.Written.TheVariants as written
 
--- bytes of a client were read; its input ended; bytes to it were taken; or anything else
+-- bytes of a client were read; its input ended; bytes to it were taken; waiting told this; or
+-- anything else
 pub data Doing : Type 0 where
   Gave : ℕ → List ℕ → Doing
   Ended : ℕ → Doing
   Took : ℕ → List ℕ → Doing
+  Said : Told → Doing
   Stirred : Doing
 
 -- what peers did of a deed

@@ -130,3 +130,15 @@ ServesAll {S} {C} {P} r old new replies =
     × Serves S C P r first deeds last
     × Keeps new last
     × (replies_in deeds ≡ replies)
+
+-- behind a turn of one client, what its step asks for was done
+abbrev pub IsFollowed :
+    {S C P : Type 0} → Rules S C P → ℕ → Step → P → (ℕ → Option Talk) → P → (ℕ → Option Talk)
+    → Type 0
+IsFollowed {S} {C} {P} r client step peers_then seats_then peers_now seats_now =
+    (ledgers ledgers_now : S) (moments moments_now : C) (peers : P) (seats : ℕ → Option Talk)
+    (next replies : ℕ)
+    → HadTurn r client ledgers moments peers seats ledgers_now moments_now peers_then seats_then step
+    replies
+    → ServesAll r (held ledgers moments peers seats next)
+    (held ledgers_now moments_now peers_now seats_now next) replies

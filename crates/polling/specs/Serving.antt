@@ -3,7 +3,8 @@ use Rattle.std.specs.Prelude.{◌≡◌, ℕ, Bool, true, false, List, [], ◌�
 use Rattle.chain.specs.Ledgers.{LedgersMeaning}
 use Rattle.clients.specs.Talk.{Talk}
 use Rattle.clients.specs.Deeds.{Room, Deed, client_of, IsDone}
-use Rattle.polling.specs.Peers.{Doing, Gave, Stirred, Hands}
+use Rattle.polling.specs.Peers.{Doing, Gave, Said, Stirred, Hands}
+use Rattle.polling.specs.declared.peers.Told.{Told}
 
 -- a room of clients, those who are connected, and which clients have gone for good
 pub record Hall (S C P : Type 0) : Type 0 where
@@ -36,8 +37,9 @@ rules means gives renews does =
 abbrev pub gone_with : ℕ → (ℕ → Bool) → ℕ → Bool
 gone_with client gone other = if nat_eq client other then true else gone other
 
--- a deed of a client that has not gone, with what peers did of it; anything else among peers; a
--- client goes; it goes, and what was read of it last is lost; or the ledgers are opened again
+-- a deed of a client that has not gone, with what peers did of it; peers tell something; anything
+-- else among them; a client goes; it goes, and what was read of it last is lost; or the ledgers are
+-- opened again
 pub data Happens (S C P : Type 0) (r : Rules S C P) (old : Hall S C P) :
     List Deed → Hall S C P → Type 0 where
   Did :
@@ -45,6 +47,9 @@ pub data Happens (S C P : Type 0) (r : Rules S C P) (old : Hall S C P) :
       old.gone (client_of deed) ≡ false → IsDone r.means r.gives old.room deed room →
       Hands r.does deed old.peers peers →
       Happens S C P r old (deed ∷ []) (record old { room = room; peers = peers })
+  Tells :
+      (told : Told) (peers : P) → r.does old.peers (Said told) peers →
+      Happens S C P r old [] (record old { peers = peers })
   Stirs :
       (peers : P) → r.does old.peers Stirred peers →
       Happens S C P r old [] (record old { peers = peers })

@@ -1,6 +1,7 @@
 //! Many clients served at once, by what peers tell: who is connected, what came, what was taken.
 #![tactic(auto)]
 
+mod finishing;
 mod laws;
 mod peers;
 mod reopen;
@@ -9,6 +10,7 @@ mod serving;
 mod step;
 mod turn;
 
+pub use finishing::write_rest;
 pub use laws::{each_is_served, serving_begins_empty, serving_is_a_run};
 pub use peers::{Peers, Read, Told, Written};
 pub use reopen::Reopen;

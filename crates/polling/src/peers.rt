@@ -1,6 +1,6 @@
 //! Those who are connected, and what they do.
 ghost use Rattle.std.specs.Prelude.{◌≡◌, length};
-ghost use Rattle.polling.specs.Peers.{Doing, Stirred, HasRead, HasWritten};
+ghost use Rattle.polling.specs.Peers.{Doing, Said, Stirred, HasRead, HasWritten};
 
 /// What waiting told.
 #[derive(Clone, Copy, Debug, PartialEq, Eq)]
@@ -46,7 +46,7 @@ pub trait Peers {
 
     /// The next thing that has happened. A new client gets the number `fresh`.
     fn told(&mut self, fresh: u64) -> Told
-        ensures { does self.old Stirred self.new };
+        ensures { does self.old (Said result) self.new };
 
     /// Reads from a client.
     fn read(&mut self, client: u64, piece: &mut [u8]) -> Read

@@ -1,8 +1,8 @@
 //! Serving all who are ready.
 ghost use Rattle.std.specs.Prelude.{◌≡◌, ◌≤◌, IfSome, IfNone};
 ghost use Rattle.polling.specs.Serving.{rules};
-ghost use Rattle.polling.specs.Seating.{HadTurn, HadNone, ServesAll, count_of, seats_in, held_by};
-ghost use Rattle.polling.specs.Counting.{count_in};
+ghost use Rattle.polling.specs.Seating.{HadTurn, HadNone, IsFollowed, ServesAll, count_of, seats_in, held_by};
+ghost use Rattle.polling.specs.Ending.{HasDone, Ends};
 
 use crate::seats::{Seats, seat, unseat};
 use crate::step::Step;
@@ -42,6 +42,26 @@ fn turn_in<L: Ledgers, H: Reopen<L>, C: Moments, P: Peers>(
     }
 }
 
+/// Does what a client's step asks for: it is told as ready again, or goes.
+pub(crate) fn follow<L: Ledgers, H: Reopen<L>, C: Moments, P: Peers>(
+    peers: &mut P,
+    clients: &mut BTreeMap<u64, Client>,
+    number: u64,
+    step: Step,
+)
+    ensures { IsFollowed (rules L.means C.gives H.renews P.does) number step
+        peers.old (seats_in clients.old) peers.new (seats_in clients.new) }
+{
+    match step {
+        Step::More => peers.again(number),
+        Step::Waits => {}
+        Step::Goes => {
+            let _ = unseat(clients, number);
+            peers.close(number);
+        }
+    }
+}
+
 /// Gives a client its turn, and lets it go where it is to. Says whether a message was replied to.
 fn serve_one<L: Ledgers, H: Reopen<L>, C: Moments, P: Peers>(
     alloc: Global,
@@ -68,14 +88,7 @@ fn serve_one<L: Ledgers, H: Reopen<L>, C: Moments, P: Peers>(
         piece,
     ) {
         Some(turned) => {
-            match turned.step {
-                Step::More => peers.again(number),
-                Step::Waits => {}
-                Step::Goes => {
-                    let _ = unseat(&mut seats.clients, number);
-                    peers.close(number);
-                }
-            }
+            follow::<L, H, C, P>(peers, &mut seats.clients, number, turned.step);
             turned.replied
         }
         None => false,
@@ -106,7 +119,7 @@ fn join<L: Ledgers, H: Reopen<L>, C: Moments, P: Peers>(
 }
 
 /// Lets a client go.
-fn let_go<L: Ledgers, H: Reopen<L>, C: Moments, P: Peers>(
+pub(crate) fn let_go<L: Ledgers, H: Reopen<L>, C: Moments, P: Peers>(
     peers: &mut P,
     seats: &mut Seats,
     number: u64,
@@ -132,21 +145,24 @@ enum Done {
     Reply,
 }
 
-/// Does what the next thing that has happened asks for.
+/// Does what the next thing that has happened asks for. Before that the ledgers are opened again,
+/// where they have failed.
 fn serve_next<L: Ledgers, H: Reopen<L>, C: Moments, P: Peers>(
     alloc: Global,
     peers: &mut P,
     seats: &mut Seats,
     ledgers: &mut L,
+    home: &mut H,
     moments: &mut C,
     piece: &mut [u8],
 ) -> Done
     requires { L.means.is_usable ledgers.old }
-    ensures serves { ServesAll (rules L.means C.gives H.renews P.does)
+    ensures does { HasDone (rules L.means C.gives H.renews P.does)
         (held_by ledgers.old moments.old peers.old seats.old)
-        (held_by ledgers.new moments.new peers.new seats.new) (count_in result) }
+        (held_by ledgers.new moments.new peers.new seats.new) result }
     ensures usable { L.means.is_usable ledgers.new }
 {
+    home.reopen(ledgers);
     match peers.told(seats.next) {
         Told::Joined => {
             join::<L, H, C, P>(alloc, peers, seats);
@@ -167,16 +183,6 @@ fn serve_next<L: Ledgers, H: Reopen<L>, C: Moments, P: Peers>(
     }
 }
 
-fn replies_of(done: Done) -> u64
-    ensures is { result ≡ count_in done }
-    ensures few { result ≤ 1 }
-{
-    match done {
-        Done::Nothing | Done::Something => 0,
-        Done::Reply => 1,
-    }
-}
-
 /// Serves all who are ready, one turn after the other, until nothing more has happened or so many
 /// messages were replied to, and says how many were. Before each turn the ledgers are opened again,
 /// where they have failed.
@@ -194,6 +200,9 @@ pub fn serve_ready<L: Ledgers, H: Reopen<L>, C: Moments, P: Peers>(
     ensures serves { ServesAll (rules L.means C.gives H.renews P.does)
         (held_by ledgers.old moments.old peers.old seats.old)
         (held_by ledgers.new moments.new peers.new seats.new) result }
+    ensures ends { Ends L C P (rules L.means C.gives H.renews P.does) (result ≡ most)
+        (held_by ledgers.old moments.old peers.old seats.old)
+        (held_by ledgers.new moments.new peers.new seats.new) result }
     ensures few { result ≤ most }
     ensures usable { L.means.is_usable ledgers.new }
 {
@@ -202,11 +211,10 @@ pub fn serve_ready<L: Ledgers, H: Reopen<L>, C: Moments, P: Peers>(
         if replies == most {
             return replies;
         }
-        home.reopen(ledgers);
-        let done = serve_next::<L, H, C, P>(alloc, peers, seats, ledgers, moments, piece);
-        replies += replies_of(done);
-        if done == Done::Nothing {
-            return replies;
+        match serve_next(alloc, peers, seats, ledgers, home, moments, piece) {
+            Done::Nothing => return replies,
+            Done::Something => {}
+            Done::Reply => replies += 1,
         }
     }
     replies

@@ -1,9 +1,9 @@
 //! Firms whose ledgers are kept in memory.
 ghost use Rattle.std.specs.Prelude.{◌≡◌};
 
-use super::scripted::Scripted;
+use super::scripted::{Peer, Scripted};
 use plain::{Book, PlainTables};
-use polling::{Reopen, Seats, serve_ready};
+use polling::{Reopen, Seats, serve_ready, write_rest};
 use records::Streamed;
 use service::{Moments, serve};
 use std::alloc::Global;
@@ -79,11 +79,30 @@ impl Firms {
     /// Serves clients until nothing more happens, or so many messages were replied to.
     pub(crate) fn serve_ready(&mut self, peers: &mut Scripted, most: u64) -> u64 {
         let mut seats = Seats::new(self.alloc);
+        self.serve_seated(peers, &mut seats, most)
+    }
+
+    /// Serves clients until so many messages were replied to. Then another one comes, and what is
+    /// left of the replies is written.
+    pub(crate) fn serve_and_finish<'a>(
+        &mut self,
+        peers: &mut Scripted<'a>,
+        most: u64,
+        another: Peer<'a>,
+    ) -> Result<u64, Fail> {
+        let mut seats = Seats::new(self.alloc);
+        let replies = self.serve_seated(peers, &mut seats, most);
+        peers.joins(another)?;
+        write_rest::<Book, Never, Always, Scripted<'a>>(peers, &mut seats);
+        Ok(replies)
+    }
+
+    fn serve_seated(&mut self, peers: &mut Scripted, seats: &mut Seats, most: u64) -> u64 {
         let mut piece = [0; 100];
         serve_ready(
             self.alloc,
             peers,
-            &mut seats,
+            seats,
             &mut self.book,
             &mut Never,
             &mut Always(1000),

@@ -4,6 +4,7 @@ ghost use Rattle.std.specs.Prelude.{⊤};
 
 use polling::{Peers, Read, Told, Written};
 use std::alloc::Global;
+use std::test::Fail;
 
 /// One client: what it still sends, and what it was written.
 #[derive(Drop)]
@@ -70,6 +71,12 @@ impl<'a> Scripted<'a> {
     /// This client has had its time.
     pub(crate) fn is_late(&mut self, number: u64) {
         self.late = Some(number);
+    }
+
+    /// Another client comes.
+    pub(crate) fn joins(&mut self, peer: Peer<'a>) -> Result<(), Fail> {
+        self.peers.push(peer)?;
+        Ok(())
     }
 
     /// The client with a number.

@@ -20,6 +20,14 @@ fn has_heard(peers: &Scripted, number: usize, text: &[u8]) -> bool {
     }
 }
 
+// What a client was written that was not let go.
+fn has_heard_so_far(peers: &Scripted, number: usize, text: &[u8]) -> bool {
+    match peers.peer(number) {
+        Some(peer) => peer.heard() == text && peer.is_open(),
+        None => false,
+    }
+}
+
 #[test]
 fn each_client_hears_its_own_whatever_the_pieces(rt: HostRuntime) -> Result<(), Fail> {
     let to_first = Firms::with(rt.alloc(), &KEYS)?.serve(OF_FIRST.as_bytes());
@@ -64,5 +72,20 @@ fn a_client_that_is_late_is_let_go_and_the_other_served(rt: HostRuntime) -> Resu
     assert!(rt; replies == 3);
     assert!(rt; has_heard(&peers, 0, &[]));
     assert!(rt; has_heard(&peers, 1, TO_SECOND.as_bytes()));
+    Ok(())
+}
+
+#[test]
+fn what_is_left_of_replies_is_written_and_who_comes_is_let_go(rt: HostRuntime) -> Result<(), Fail> {
+    let first = OF_FIRST.as_bytes().get(..190).unwrap_or(&[]);
+    let to_first = Firms::with(rt.alloc(), &KEYS)?.serve(first);
+    let mut firms = Firms::with(rt.alloc(), &KEYS)?;
+    let mut peers = two(&rt, 64, 10000)?;
+    let another = Peer::new(rt.alloc(), first, 10000);
+    let replies = firms.serve_and_finish(&mut peers, 2, another)?;
+    assert!(rt; replies == 2);
+    assert!(rt; has_heard_so_far(&peers, 0, to_first.as_slice()));
+    assert!(rt; has_heard_so_far(&peers, 1, TO_SECOND.as_bytes().get(..100).unwrap_or(&[])));
+    assert!(rt; has_heard(&peers, 2, &[]));
     Ok(())
 }

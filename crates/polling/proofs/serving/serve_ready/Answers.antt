@@ -1,62 +1,90 @@
-use Rattle.std.proofs.Common.{ap, sym, ◌+◌, arith}
+use Rattle.std.proofs.Common.{◌≡◌, arith}
 use Rattle.polling.specs.Serving.{rules}
-use Rattle.polling.specs.Seating.{held_by, seats_in}
-use Rattle.polling.specs.Counting.{count_in}
-use Rattle.polling.proofs.AllLemmas.{none_served, then_all, again_all}
+use Rattle.polling.specs.Seating.{held_by}
+use Rattle.polling.specs.Ending.{Start, Enough, Quiet}
+use Rattle.polling.proofs.TurnLemmas.{turns_serve, next_turn, too_long, quiet_serves, quiet_then}
 use Rattle.polling.proofs.serving.serve_ready.Goals as goal
+use Rattle.polling.proofs.serving.serve_ready.Goals.{in-Something, in-Reply}
 
 pub loop-init : goal.loop-init
-loop-init g c = record {
-  serves =
-      none_served (rules g.L.Ledgers.means g.C.Moments.gives g.H.Reopen.renews g.P.Peers.does)
-      (held_by c.args.ledgers.now c.args.moments.now c.args.peers.now c.args.seats.now);
-  few = omega arith;
-  usable = c.requires;
-}
+loop-init g c = record { turns = Start; few = omega arith; usable = c.requires }
 
-pub returns-then-eq-clause-serves : goal.returns-then-eq-clause-serves
-returns-then-eq-clause-serves g c =
+pub returns-then-replies-most-clause-serves : goal.returns-then-replies-most-clause-serves
+returns-then-replies-most-clause-serves g c =
+    turns_serve (rules g.L.Ledgers.means g.C.Moments.gives g.H.Reopen.renews g.P.Peers.does)
+    (held_by c.args.ledgers.now c.args.moments.now c.args.peers.now c.args.seats.now)
+    (held_by c.loop.ledgers c.loop.moments c.loop.peers c.loop.seats) c.loop.counter
+    c.loop.replies c.loop.invariant.turns
+
+pub returns-then-replies-most-clause-ends : goal.returns-then-replies-most-clause-ends
+returns-then-replies-most-clause-ends g c = Enough c.if-replies-most.true
+
+pub returns-in-Nothing-clause-ends : goal.returns-in-Nothing-clause-ends
+returns-in-Nothing-clause-ends g c =
     let r = rules g.L.Ledgers.means g.C.Moments.gives g.H.Reopen.renews g.P.Peers.does in
     let first = held_by c.args.ledgers.now c.args.moments.now c.args.peers.now c.args.seats.now in
     let old = held_by c.loop.ledgers c.loop.moments c.loop.peers c.loop.seats in
-    let mid = held_by c.reopen.new.ledgers c.loop.moments c.loop.peers c.loop.seats in
     let new =
-    held_by c.serve_next-done.new.ledgers c.serve_next-done.new.moments c.serve_next-done.new.peers
-    c.serve_next-done.new.seats in
-    let count = count_in c.serve_next-done.result in
-    let turn =
-    then_all r old mid new 0 count count (omega arith)
-    (again_all r c.loop.ledgers c.reopen.new.ledgers c.loop.moments c.loop.peers
-    (seats_in c.loop.seats.clients) c.loop.seats.next c.reopen.ensures.renewed)
-    c.serve_next-done.ensures.serves in
-    let served =
-    then_all r first old new c.loop.replies count (c.loop.replies + c.replies_of-replies.result)
-    (ap (λ n. c.loop.replies + n) (sym c.replies_of-replies.ensures.is)) c.loop.invariant.serves turn in
-    served
+    held_by c.serve_next.new.ledgers c.serve_next.new.moments c.serve_next.new.peers
+    c.serve_next.new.seats in
+    Quiet
+    (quiet_then r first old new c.loop.replies
+    (turns_serve r first old c.loop.counter c.loop.replies c.loop.invariant.turns)
+    c.in-Nothing.ensures.does)
+
+pub returns-in-Nothing-clause-serves : goal.returns-in-Nothing-clause-serves
+returns-in-Nothing-clause-serves g c =
+    let r = rules g.L.Ledgers.means g.C.Moments.gives g.H.Reopen.renews g.P.Peers.does in
+    let first = held_by c.args.ledgers.now c.args.moments.now c.args.peers.now c.args.seats.now in
+    let old = held_by c.loop.ledgers c.loop.moments c.loop.peers c.loop.seats in
+    let new =
+    held_by c.serve_next.new.ledgers c.serve_next.new.moments c.serve_next.new.peers
+    c.serve_next.new.seats in
+    quiet_serves r first new c.loop.replies
+    (quiet_then r first old new c.loop.replies
+    (turns_serve r first old c.loop.counter c.loop.replies c.loop.invariant.turns)
+    c.in-Nothing.ensures.does)
+
+pub returns-clause-serves : goal.returns-clause-serves
+returns-clause-serves g c =
+    turns_serve (rules g.L.Ledgers.means g.C.Moments.gives g.H.Reopen.renews g.P.Peers.does)
+    (held_by c.args.ledgers.now c.args.moments.now c.args.peers.now c.args.seats.now)
+    (held_by c.loop.ledgers c.loop.moments c.loop.peers c.loop.seats) c.loop.counter
+    c.loop.replies c.loop.invariant.turns
+
+pub returns-clause-ends : goal.returns-clause-ends
+returns-clause-ends g c =
+    too_long (rules g.L.Ledgers.means g.C.Moments.gives g.H.Reopen.renews g.P.Peers.does)
+    (c.loop.replies ≡ c.args.most)
+    (held_by c.args.ledgers.now c.args.moments.now c.args.peers.now c.args.seats.now)
+    (held_by c.loop.ledgers c.loop.moments c.loop.peers c.loop.seats) c.loop.counter
+    c.loop.replies c.loop.auto.counter-end c.loop-test.false c.loop.invariant.turns
 
 pub loop-preserved : goal.loop-preserved
 loop-preserved g c =
     let r = rules g.L.Ledgers.means g.C.Moments.gives g.H.Reopen.renews g.P.Peers.does in
     let first = held_by c.args.ledgers.now c.args.moments.now c.args.peers.now c.args.seats.now in
     let old = held_by c.loop.ledgers c.loop.moments c.loop.peers c.loop.seats in
-    let mid = held_by c.reopen.new.ledgers c.loop.moments c.loop.peers c.loop.seats in
     let new =
-    held_by c.serve_next-done.new.ledgers c.serve_next-done.new.moments c.serve_next-done.new.peers
-    c.serve_next-done.new.seats in
-    let count = count_in c.serve_next-done.result in
-    let turn =
-    then_all r old mid new 0 count count (omega arith)
-    (again_all r c.loop.ledgers c.reopen.new.ledgers c.loop.moments c.loop.peers
-    (seats_in c.loop.seats.clients) c.loop.seats.next c.reopen.ensures.renewed)
-    c.serve_next-done.ensures.serves in
-    let served =
-    then_all r first old new c.loop.replies count (c.loop.replies + c.replies_of-replies.result)
-    (ap (λ n. c.loop.replies + n) (sym c.replies_of-replies.ensures.is)) c.loop.invariant.serves turn in
-    record {
-      serves = served;
-      few =
-          let before = c.loop.invariant.few in
-          let differ = c.if-replies-most.false in
-          let one = c.replies_of-replies.ensures.few in grind arith;
-      usable = c.serve_next-done.ensures.usable;
-    }
+    held_by c.serve_next.new.ledgers c.serve_next.new.moments c.serve_next.new.peers
+    c.serve_next.new.seats in
+    let few = c.loop.invariant.few in
+    let differ = c.if-replies-most.false in
+    elim c.match-serve_next.branch [
+      | in-Something w ↦ record {
+        turns =
+            next_turn r first old new c.loop.counter c.loop.replies 0 c.match-serve_next.replies
+            (let is = w.replies-is in omega arith) c.loop.invariant.turns
+            w.in-Something.ensures.does;
+        few = let is = w.replies-is in grind arith;
+        usable = c.serve_next.ensures.usable;
+      }
+      | in-Reply w ↦ record {
+        turns =
+            next_turn r first old new c.loop.counter c.loop.replies 1 c.match-serve_next.replies
+            (let is = w.replies-is in omega arith) c.loop.invariant.turns
+            w.in-Reply.ensures.does;
+        few = let is = w.replies-is in grind arith;
+        usable = c.serve_next.ensures.usable;
+      }
+    ]

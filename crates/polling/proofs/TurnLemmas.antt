@@ -1,0 +1,65 @@
+-- Turns, one after the other, as serving.
+use Rattle.std.proofs.Common.{◌≡◌, ◌≤◌, refl, sym, subst, ℕ, ◌+◌, arith}
+use Rattle.polling.specs.Serving.{Rules}
+use Rattle.polling.specs.Seating.{Held, ServesAll}
+use Rattle.polling.specs.Ending.{HasTurn, IsQuiet, Turns, Start, Turn, most_turns, Ends, Long}
+use Rattle.polling.specs.declared.peers.Told.TheVariants as told
+use Rattle.polling.proofs.AllLemmas.{none_served, then_all, tells_all}
+
+module _ {S C P : Type 0} (r : Rules S C P) where
+  pub turn_serves :
+      (old new : Held S C P) (replies : ℕ) → HasTurn r old new replies → ServesAll r old new replies
+  turn_serves old new replies turn =
+      let before = turn.before in
+      let told = record before { peers = turn.peers } in
+      then_all r old told new 0 replies replies (omega arith)
+      (then_all r old before told 0 0 0 refl turn.first
+      (tells_all r before.ledgers before.moments before.peers turn.peers before.seats before.next
+      turn.told turn.said))
+      turn.served
+
+  pub turns_serve :
+      (first last : Held S C P) (turns replies : ℕ) → Turns S C P r first turns replies last →
+      ServesAll r first last replies
+  turns_serve first last turns replies Start = none_served r first
+  turns_serve first last turns replies (Turn count so_far mid more next before turn) =
+      then_all r first mid next so_far more (so_far + more) refl
+      (turns_serve first mid count so_far before) (turn_serves mid next more turn)
+
+  pub next_turn :
+      (first old new : Held S C P) (turns replies more all : ℕ) → all ≡ replies + more →
+      Turns S C P r first turns replies old → HasTurn r old new more →
+      Turns S C P r first (turns + 1) all new
+  next_turn first old new turns replies more all sum before turn =
+      subst (λ (n : ℕ). Turns S C P r first (turns + 1) n new) (sym sum)
+      (Turn turns replies old more new before turn)
+
+  pub too_long :
+      (is_enough : Type 0) (old new : Held S C P) (turns replies : ℕ) → turns ≤ most_turns →
+      most_turns ≤ turns → Turns S C P r old turns replies new →
+      Ends S C P r is_enough old new replies
+  too_long is_enough old new turns replies within beyond all =
+      Long
+      (subst (λ (n : ℕ). Turns S C P r old n replies new)
+      (let is : turns ≡ most_turns = grind arith in is) all)
+
+  pub quiet_serves :
+      (old new : Held S C P) (replies : ℕ) → IsQuiet r old new replies → ServesAll r old new replies
+  quiet_serves old new replies quiet =
+      let before = quiet.before in
+      subst (λ (now : Held S C P). ServesAll r old now replies) (sym quiet.same)
+      (then_all r old before (record before { peers = new.peers }) replies 0 replies (omega arith)
+      quiet.served
+      (tells_all r before.ledgers before.moments before.peers new.peers before.seats before.next
+      told.Nothing quiet.said))
+
+  -- quiet behind what was done
+  pub quiet_then :
+      (first old new : Held S C P) (replies : ℕ) → ServesAll r first old replies →
+      IsQuiet r old new 0 → IsQuiet r first new replies
+  quiet_then first old new replies served quiet = record {
+    before = quiet.before;
+    served = then_all r first old quiet.before replies 0 replies (omega arith) served quiet.served;
+    said = quiet.said;
+    same = quiet.same;
+  }

@@ -1,0 +1,51 @@
+use Rattle.std.proofs.Common.{refl}
+use Rattle.polling.specs.Serving.{rules}
+use Rattle.polling.specs.Seating.{held_by}
+use Rattle.polling.proofs.AllLemmas.{none_served}
+use Rattle.polling.proofs.finishing.write_next.Goals as goal
+
+pub returns-in-Joined-clause-turn : goal.returns-in-Joined-clause-turn
+returns-in-Joined-clause-turn g c is ledgers moments =
+    let r = rules g.L.Ledgers.means g.C.Moments.gives g.H.Reopen.renews g.P.Peers.does in
+    record {
+      before = held_by ledgers moments c.args.peers.now c.args.seats.now;
+      told = c.told.result;
+      peers = c.told.new.self;
+      first = none_served r (held_by ledgers moments c.args.peers.now c.args.seats.now);
+      said = c.told.ensures;
+      served = c.turn_away.ensures ledgers moments;
+    }
+
+pub returns-in-Ready-clause-turn : goal.returns-in-Ready-clause-turn
+returns-in-Ready-clause-turn g c is ledgers moments =
+    let r = rules g.L.Ledgers.means g.C.Moments.gives g.H.Reopen.renews g.P.Peers.does in
+    record {
+      before = held_by ledgers moments c.args.peers.now c.args.seats.now;
+      told = c.told.result;
+      peers = c.told.new.self;
+      first = none_served r (held_by ledgers moments c.args.peers.now c.args.seats.now);
+      said = c.told.ensures;
+      served = c.write_one.ensures ledgers moments;
+    }
+
+pub returns-in-Late-clause-turn : goal.returns-in-Late-clause-turn
+returns-in-Late-clause-turn g c is ledgers moments =
+    let r = rules g.L.Ledgers.means g.C.Moments.gives g.H.Reopen.renews g.P.Peers.does in
+    record {
+      before = held_by ledgers moments c.args.peers.now c.args.seats.now;
+      told = c.told.result;
+      peers = c.told.new.self;
+      first = none_served r (held_by ledgers moments c.args.peers.now c.args.seats.now);
+      said = c.told.ensures;
+      served = c.let_go.ensures ledgers moments;
+    }
+
+pub returns-in-Nothing-clause-quiet : goal.returns-in-Nothing-clause-quiet
+returns-in-Nothing-clause-quiet g c is ledgers moments =
+    let r = rules g.L.Ledgers.means g.C.Moments.gives g.H.Reopen.renews g.P.Peers.does in
+    record {
+      before = held_by ledgers moments c.args.peers.now c.args.seats.now;
+      served = none_served r (held_by ledgers moments c.args.peers.now c.args.seats.now);
+      said = c.in-Nothing.ensures;
+      same = refl {a = held_by ledgers moments c.told.new.self c.args.seats.now};
+    }

@@ -1,0 +1,54 @@
+use Rattle.std.proofs.Common.{refl}
+use Rattle.polling.specs.Serving.{rules}
+use Rattle.polling.specs.Seating.{held_by}
+use Rattle.polling.specs.Ending.{Start, Quiet}
+use Rattle.polling.proofs.TurnLemmas.{turns_serve, next_turn, quiet_serves, quiet_then}
+use Rattle.polling.proofs.finishing.write_rest.Goals as goal
+
+pub loop-init : goal.loop-init
+loop-init g c ledgers moments = Start
+
+pub returns-then-are_written-clause-serves : goal.returns-then-are_written-clause-serves
+returns-then-are_written-clause-serves g c ledgers moments =
+    turns_serve (rules g.L.Ledgers.means g.C.Moments.gives g.H.Reopen.renews g.P.Peers.does)
+    (held_by ledgers moments c.args.peers.now c.args.seats.now)
+    (held_by ledgers moments c.loop.peers c.loop.seats) c.loop.counter 0
+    (c.loop.invariant ledgers moments)
+
+pub returns-then-not-write_next-clause-serves : goal.returns-then-not-write_next-clause-serves
+returns-then-not-write_next-clause-serves g c ledgers moments =
+    let r = rules g.L.Ledgers.means g.C.Moments.gives g.H.Reopen.renews g.P.Peers.does in
+    let first = held_by ledgers moments c.args.peers.now c.args.seats.now in
+    let old = held_by ledgers moments c.loop.peers c.loop.seats in
+    let new = held_by ledgers moments c.write_next.new.peers c.write_next.new.seats in
+    quiet_serves r first new 0
+    (quiet_then r first old new 0
+    (turns_serve r first old c.loop.counter 0 (c.loop.invariant ledgers moments))
+    (c.if-not-write_next.ensures.quiet refl ledgers moments))
+
+pub returns-then-not-write_next-clause-ends : goal.returns-then-not-write_next-clause-ends
+returns-then-not-write_next-clause-ends g c ledgers moments =
+    let r = rules g.L.Ledgers.means g.C.Moments.gives g.H.Reopen.renews g.P.Peers.does in
+    let first = held_by ledgers moments c.args.peers.now c.args.seats.now in
+    let old = held_by ledgers moments c.loop.peers c.loop.seats in
+    let new = held_by ledgers moments c.write_next.new.peers c.write_next.new.seats in
+    Quiet
+    (quiet_then r first old new 0
+    (turns_serve r first old c.loop.counter 0 (c.loop.invariant ledgers moments))
+    (c.if-not-write_next.ensures.quiet refl ledgers moments))
+
+pub loop-preserved : goal.loop-preserved
+loop-preserved g c ledgers moments =
+    let r = rules g.L.Ledgers.means g.C.Moments.gives g.H.Reopen.renews g.P.Peers.does in
+    next_turn r (held_by ledgers moments c.args.peers.now c.args.seats.now)
+    (held_by ledgers moments c.loop.peers c.loop.seats)
+    (held_by ledgers moments c.write_next.new.peers c.write_next.new.seats) c.loop.counter 0 0 0 refl
+    (c.loop.invariant ledgers moments)
+    (c.if-not-write_next.ensures.turn refl ledgers moments)
+
+pub returns-clause-serves : goal.returns-clause-serves
+returns-clause-serves g c ledgers moments =
+    turns_serve (rules g.L.Ledgers.means g.C.Moments.gives g.H.Reopen.renews g.P.Peers.does)
+    (held_by ledgers moments c.args.peers.now c.args.seats.now)
+    (held_by ledgers moments c.loop.peers c.loop.seats) c.loop.counter 0
+    (c.loop.invariant ledgers moments)

@@ -1,0 +1,59 @@
+-- The turns of serving clients, and when it ends.
+use Rattle.std.specs.Prelude.{◌≡◌, ℕ, ◌+◌, ◌-◌, ◌^◌, [], IfSome}
+use Rattle.std.specs.BTreeMap.{BTreeMap}
+use Rattle.clients.specs.Talk.{Talk}
+use Rattle.polling.specs.Peers.{Said}
+use Rattle.polling.specs.Serving.{Rules}
+use Rattle.polling.specs.Seating.{Held, ServesAll, seats_in}
+use Rattle.polling.specs.declared.peers.Told.{Told}
+use Rattle.polling.specs.declared.peers.Told.TheVariants as told
+use Rattle.polling.specs.declared.serving.Done.{Done}
+use Rattle.polling.specs.declared.serving.Done.TheVariants.{Nothing, Something, Reply}
+
+-- a turn: nobody is replied to before peers tell something, and then what it asks for is done
+pub record HasTurn {S C P : Type 0} (r : Rules S C P) (old new : Held S C P) (replies : ℕ) :
+    Type 0 where
+  pub before : Held S C P
+  pub told : Told
+  pub peers : P
+  pub first : ServesAll r old before 0
+  pub said : r.does before.peers (Said told) peers
+  pub served : ServesAll r (record before { peers = peers }) new replies
+
+-- clients were served, and the last that happened is that peers told that nothing more had
+pub record IsQuiet {S C P : Type 0} (r : Rules S C P) (old new : Held S C P) (replies : ℕ) :
+    Type 0 where
+  pub before : Held S C P
+  pub served : ServesAll r old before replies
+  pub said : r.does before.peers (Said told.Nothing) new.peers
+  pub same : new ≡ record before { peers = new.peers }
+
+-- turns, one after the other, and how many messages were replied to in them
+pub data Turns (S C P : Type 0) (r : Rules S C P) (first : Held S C P) :
+    ℕ → ℕ → Held S C P → Type 0 where
+  Start : Turns S C P r first 0 0 first
+  Turn :
+      (turns replies : ℕ) (last : Held S C P) (more : ℕ) (next : Held S C P) →
+      Turns S C P r first turns replies last → HasTurn r last next more →
+      Turns S C P r first (turns + 1) (replies + more) next
+
+abbrev pub most_turns : ℕ
+most_turns = 2 ^ 64 - 1
+
+-- why serving ended: enough was done, or nothing more had happened, or no more turns are made
+pub data Ends (S C P : Type 0) (r : Rules S C P) (is_enough : Type 0) (old new : Held S C P)
+    (replies : ℕ) : Type 0 where
+  Enough : is_enough → Ends S C P r is_enough old new replies
+  Quiet : IsQuiet r old new replies → Ends S C P r is_enough old new replies
+  Long : Turns S C P r old most_turns replies new → Ends S C P r is_enough old new replies
+
+-- nothing is left of any reply
+abbrev pub AreWritten : BTreeMap ℕ Talk → Type 0
+AreWritten clients = (client : ℕ) → IfSome (seats_in clients client) (λ talk. talk.unsent ≡ [])
+
+-- what was done of what had happened
+abbrev pub HasDone :
+    {S C P : Type 0} → Rules S C P → Held S C P → Held S C P → Done → Type 0
+HasDone r old new Nothing = IsQuiet r old new 0
+HasDone r old new Something = HasTurn r old new 0
+HasDone r old new Reply = HasTurn r old new 1
