@@ -1,4 +1,4 @@
-mod TalkLemmas
+mod ServingLemmas
 mod AddLemmas
 pub mod ExtractLemmas
 mod AskLemmas

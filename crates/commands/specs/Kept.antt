@@ -1,67 +1,90 @@
--- A store that is served, and opened again where its disk fails.
-use Rattle.std.specs.Prelude.{◌≡◌, ◌+◌, ◌≤◌, ℕ, Bool, true, ⊤, Option, Some, None, Result, OnOk}
+-- Ledgers that may not be there, and a store that is opened again where its disk fails.
+use Rattle.std.specs.Prelude.{◌≡◌, Bool, false, None, IsTrue}
 use Rattle.sqlite_disk.specs.declared.Disk as disk
+use Rattle.chain.specs.Ledgers.{LedgersMeaning, Tenants, AreValid}
 use Rattle.store.specs.StoreLaws.{store_meaning}
-use Rattle.store.specs.Stores.{IsReady}
 use Rattle.store.specs.declared.store.Store.{Store}
-use Rattle.commands.specs.Closed.{closed_meaning}
-use Rattle.commands.specs.Connections.{Talks}
-use Rattle.commands.specs.declared.closed.Closed.{Closed}
-use Rattle.command_texts.specs.declared.fault.Fault.{Fault}
+use Rattle.commands.specs.declared.kept.Kept.{Kept}
+use Rattle.commands.specs.declared.kept.Kept.TheVariants.{Open, Closed}
 
--- behind so many replies a connection is ended, so that others have their turn
-abbrev pub turn : ℕ
-turn = 64
+module _ {S : Type 0} (t : LedgersMeaning S) where
+  -- where there are no ledgers there is no tenant
+  abbrev pub tenants_kept : Kept S → Tenants
+  tenants_kept (Open ledgers) = t.tenants ledgers
+  tenants_kept Closed = λ digest. None
+
+  -- that there are none may be told at any time
+  abbrev pub IsUsableKept : Kept S → Type 0
+  IsUsableKept (Open ledgers) = t.is_usable ledgers
+  IsUsableKept Closed = Unit {0}
+
+  -- and it says nothing of any tenant
+  abbrev pub IsLiveKept : Kept S → Type 0
+  IsLiveKept (Open ledgers) = t.is_live ledgers
+  IsLiveKept Closed = ⊥
+
+  -- no call opens ledgers, and none takes them away
+  abbrev pub FollowsKept : Kept S → Kept S → Type 0
+  FollowsKept (Open old) (Open new) = t.follows old new
+  FollowsKept Closed Closed = Unit {0}
+  FollowsKept (Open old) Closed = ⊥
+  FollowsKept Closed (Open new) = ⊥
+
+  abbrev pub MayFindKept : Kept S → Tenants → Type 0
+  MayFindKept (Open ledgers) found = t.may_find ledgers found
+  MayFindKept Closed found = ⊥
+
+  -- ledgers that are there mean what they mean
+  abbrev pub kept_meaning : LedgersMeaning (Kept S)
+  kept_meaning = record {
+    tenants = λ kept. tenants_kept kept;
+    is_usable = λ kept. IsUsableKept kept;
+    is_live = λ kept. IsLiveKept kept;
+    follows = λ old new. FollowsKept old new;
+    may_find = λ kept found. MayFindKept kept found;
+  }
+
+  pub kept_stays : ((a : S) → t.follows a a) → (a : Kept S) → FollowsKept a a
+  kept_stays stays (Open ledgers) = stays ledgers
+  kept_stays stays Closed = tt
+
+  pub kept_then :
+      ((a b c : S) → t.follows a b → t.follows b c → t.follows a c)
+      → (a b c : Kept S) → FollowsKept a b → FollowsKept b c → FollowsKept a c
+  kept_then then (Open a) (Open b) (Open c) first second = then a b c first second
+  kept_then then (Open a) (Open b) Closed first second = absurd second
+  kept_then then (Open a) Closed c first second = absurd first
+  kept_then then Closed (Open b) c first second = absurd first
+  kept_then then Closed Closed (Open c) first second = absurd second
+  kept_then then Closed Closed Closed first second = tt
+
+  pub kept_lived :
+      ((a b : S) → t.follows a b → t.is_live b → t.is_live a)
+      → (a b : Kept S) → FollowsKept a b → IsLiveKept b → IsLiveKept a
+  kept_lived lived (Open a) (Open b) follows live = lived a b follows live
+  kept_lived lived (Open a) Closed follows live = absurd live
+  kept_lived lived Closed b follows live = absurd (closed_follows b follows live)
+    where
+      closed_follows : (b : Kept S) → FollowsKept Closed b → IsLiveKept b → ⊥
+      closed_follows (Open b) follows live = follows
+      closed_follows Closed follows live = live
+
+  pub kept_valid :
+      ((a : S) → t.is_live a → t.is_usable a → AreValid (t.tenants a))
+      → (a : Kept S) → IsLiveKept a → IsUsableKept a → AreValid (tenants_kept a)
+  kept_valid valid (Open a) live usable = valid a live usable
+  kept_valid valid Closed live usable = absurd live
 
 module _ {D : Type 0} {g : disk.Ghosts D} where
-  -- a store that answers calls stays as it is
-  abbrev pub Renews : Option (Store D g) → Option (Store D g) → Type 0
-  Renews None kept = Unit {0}
-  Renews (Some store) kept = IsReady store → kept ≡ Some store
+  -- whether a store is there that answers calls
+  abbrev pub answers : Kept (Store D g) → Bool
+  answers (Open store) = store.ready
+  answers Closed = false
 
-  -- messages of a connection are answered, over the store or over ledgers that are not there
-  abbrev pub KeptOn :
-      {C : Type 0} → (C → ℕ → C → Type 0) → Option (Store D g) → C → ℕ → Bool
-      → Option (Store D g) → C → Type 0
-  KeptOn {C} gives (Some store) moments number goes_on (Some store_now) moments_now =
-      Talks (Store D g) C store_meaning gives store moments number goes_on store_now moments_now
-  KeptOn {C} gives None moments number goes_on None moments_now =
-      (closed closed_now : Closed)
-      × Talks Closed C closed_meaning gives closed moments number goes_on closed_now moments_now
-  KeptOn gives (Some store) moments number goes_on None moments_now = ⊥
-  KeptOn gives None moments number goes_on (Some store) moments_now = ⊥
+  -- such a store stays as it is
+  abbrev pub Renews : Kept (Store D g) → Kept (Store D g) → Type 0
+  Renews old new = IsTrue (answers old) → new ≡ old
 
-  -- a connection with so many replies is served; before each of its messages the store may be
-  -- opened again, unless it answers calls
-  pub data KeptTalks (C : Type 0) (gives : C → ℕ → C → Type 0) (first : Option (Store D g))
-      (moments : C) : ℕ → Bool → Option (Store D g) → C → Type 0 where
-    Accepted : KeptTalks C gives first moments 0 true first moments
-    Answered :
-        (before number : ℕ) (goes_on : Bool) (last between next : Option (Store D g))
-        (asked given : C) →
-        KeptTalks C gives first moments before true last asked → Renews last between →
-        KeptOn gives between asked number goes_on next given →
-        KeptTalks C gives first moments (before + number) goes_on next given
-
-  -- connections with so many replies together are served, each with few; between two of them the
-  -- store may be opened again, unless it answers calls
-  pub data KeptInTurn (C : Type 0) (gives : C → ℕ → C → Type 0) (first : Option (Store D g))
-      (moments : C) : ℕ → Option (Store D g) → C → Type 0 where
-    NotAny : KeptInTurn C gives first moments 0 first moments
-    Again :
-        (number : ℕ) (last next : Option (Store D g)) (asked : C) →
-        KeptInTurn C gives first moments number last asked → Renews last next →
-        KeptInTurn C gives first moments number next asked
-    Another :
-        (before number : ℕ) (goes_on : Bool) (last next : Option (Store D g)) (asked given : C) →
-        KeptInTurn C gives first moments before last asked →
-        KeptTalks C gives last asked number goes_on next given → number ≤ turn →
-        KeptInTurn C gives first moments (before + number) next given
-
-  -- connections are served until so many replies are written, and no more, unless there is a fault
-  pub record ServesStore {C : Type 0} (gives : C → ℕ → C → Type 0) (store : Store D g)
-      (moments : C) (most : ℕ) (moments_now : C) (result : Result ⊤ Fault) : Type 0 where
-    pub number : ℕ
-    pub last : Option (Store D g)
-    pub served : KeptInTurn C gives (Some store) moments number last moments_now
-    pub enough : OnOk result (number ≡ most)
+  -- the store, if it is there, may be called
+  abbrev pub MayBeCalled : Kept (Store D g) → Type 0
+  MayBeCalled kept = IsUsableKept store_meaning kept

@@ -1,6 +1,5 @@
-pub mod Connections
-pub mod Closed
 pub mod Kept
+pub mod Serving
 pub mod Statements
 pub mod Adding
 pub mod Openings

@@ -1,27 +1,28 @@
-//! Serves a store on a port, one connection after the other.
-ghost use Rattle.std.specs.Prelude.{◌≡◌, ◌≤◌, ◌⊎◌, IfErr};
+//! Serves a store to many clients at once.
+ghost use Rattle.std.specs.Prelude.{◌≡◌, ◌⊎◌, IfErr};
 ghost use Rattle.store.specs.Stores.{IsUsable};
-ghost use Rattle.commands.specs.Kept.{ServesStore, turn};
 ghost use Rattle.commands.specs.Openings.{IsOpeningFault};
+ghost use Rattle.commands.specs.Serving.{ServesStore};
 
 use crate::SystemMoments;
+use crate::kept::Kept;
 use crate::opening::open_served;
-use crate::renewing::{Home, renewed};
-use crate::serving::serve_connection;
+use crate::renewing::{Home, Renewing};
+use crate::serving::serve_clients;
 use command_texts::{Fault, tell_fault};
+use polling::Peers;
 use records::Streamed;
 use service::Moments;
+use sockets::{Limits, Sockets};
 use sqlite_disk::Disk;
 use sqlite_std_file::File;
 use std::alloc::Global;
-use std::net::{Ipv4Addr, SocketAddr, TcpListener};
-use std::time::Clock;
+use std::io;
+use std::net::{Ipv4Addr, SocketAddr};
+use std::time::{Clock, Duration};
 use store::Store;
 
-/// Behind how many replies a connection is ended.
-const TURN: u64 = 64;
-
-/// A file of this machine.
+/// A file of this machine. The service goes on where nobody reads what it tells on standard error.
 #[derive(Drop)]
 struct HostFile<'a> {
     rt: &'a HostRuntime,
@@ -33,48 +34,77 @@ impl Home<File> for HostFile<'_> {
         open_served(self.rt, self.path)
     }
 
-    // The service goes on where nobody reads standard error.
     fn tell(&self, fault: Fault) {
         let _ = tell_fault(&mut Streamed::new(self.rt.stderr()), fault);
+    }
+
+    fn tell_answers(&self, _store: &Store<File>) {
+        let path = self.path;
+        let _ = self.rt.eprintln(format_args!("serving {path} again"));
+    }
+}
+
+impl HostFile<'_> {
+    // Tells that the file is served, and how long it has been opened for.
+    fn tell_serving(&self, port: u16, began: io::Result<Duration>) {
+        let path = self.path;
+        let millis = match (began, self.rt.monotonic()) {
+            (Ok(began), Ok(now)) => now.saturating_sub(began).as_millis(),
+            _ => 0,
+        };
+        let seconds = millis / 1000;
+        let tenths = millis % 1000 / 100;
+        let _ = self.rt.eprintln(format_args!(
+            "serving {path} on 127.0.0.1:{port}, opened in {seconds}.{tenths} s"
+        ));
     }
 }
 
 /// Serves the ledger in a file on a port of 127.0.0.1, at the moments of the machine's clock, until
-/// `most` replies are written. The file is opened first, then the port.
+/// `most` replies are written. The port is bound first, so that clients wait while the file is
+/// opened, and are served once it is.
 pub fn serve_file(rt: &HostRuntime, db: &str, port: u16, most: u64) -> Result<(), Fault>
     ensures { IfErr result (λ fault. IsOpeningFault fault ⊎ (fault ≡ Fault.Socket)) }
 {
-    let home = HostFile { rt, path: db };
-    let store = home.open_store()?;
-    let listener = listen(rt, port)?;
-    let mut moments = SystemMoments::new(rt);
-    serve_store(rt.alloc(), &listener, &home, store, &mut moments, rt, most)
+    let address = SocketAddr::from((Ipv4Addr::LOCALHOST, port));
+    let Ok(mut peers) = Sockets::listen(rt, rt, address, Limits::usual()) else {
+        return Err(Fault::Socket);
+    };
+    let port = match peers.local_addr() {
+        Ok(address) => address.port(),
+        Err(_) => port,
+    };
+    serve_to(rt, &mut peers, db, port, most)
 }
 
-/// Listens on a port of 127.0.0.1. `Socket` where it cannot be bound.
-fn listen(rt: &HostRuntime, port: u16) -> Result<TcpListener, Fault>
-    ensures { IfErr result (λ fault. fault ≡ Fault.Socket) }
+// Serves the ledger in a file to those who are connected on a port.
+fn serve_to<P: Peers>(
+    rt: &HostRuntime,
+    peers: &mut P,
+    db: &str,
+    port: u16,
+    most: u64,
+) -> Result<(), Fault>
+    ensures { IfErr result (λ fault. IsOpeningFault fault ⊎ (fault ≡ Fault.Socket)) }
 {
-    TcpListener::bind(rt, SocketAddr::from((Ipv4Addr::LOCALHOST, port))).map_err(|_| Fault::Socket)
+    let home = HostFile { rt, path: db };
+    let began = rt.monotonic();
+    let store = home.open_store()?;
+    home.tell_serving(port, began);
+    let mut moments = SystemMoments::new(rt);
+    serve_store(rt.alloc(), peers, &home, store, &mut moments, rt, most)
 }
 
-/// Serves one connection after the other, until `most` replies are written.
+/// Serves a store to those who are connected, until `most` messages were replied to.
 ///
-/// A connection is ended behind 64 replies, so that others have their turn. It is ended too where
-/// its first message does not begin within 2 seconds, or another one within 50 milliseconds of a
-/// reply; where a message takes 10 seconds from its first byte; and where one read or write fails
-/// or takes 2 seconds. Behind its last reply the client is read for a second at most. So nobody
-/// waits long for a client that is silent, or slow, or busy. `Socket` where a connection cannot be
-/// accepted.
-///
-/// Where the store's disk has failed, the store is opened again, over the same files or else anew:
-/// before the next message is answered, on the same connection or on another one, and also before
-/// another connection is waited for, so that its client does not wait for the audit. While that is
-/// refused, each message is answered that the service is unavailable. `home` is told why, each
-/// time.
-pub fn serve_store<D: Disk + Drop, H: Home<D>, C: Moments, K: Clock>(
+/// Where the store's disk has failed, the store is opened again, over the same files or else anew,
+/// before anything else is done: at once, and while that is refused, after a second, and then after
+/// twice the time that was waited for, up to a minute. Between these attempts each message is
+/// answered that the service is unavailable. `home` is told why, the first time, and that the store
+/// answers again, once it does.
+pub fn serve_store<D: Disk + Drop, P: Peers, H: Home<D>, C: Moments, K: Clock>(
     alloc: Global,
-    listener: &TcpListener,
+    peers: &mut P,
     home: &H,
     store: Store<D>,
     moments: &mut C,
@@ -82,31 +112,11 @@ pub fn serve_store<D: Disk + Drop, H: Home<D>, C: Moments, K: Clock>(
     most: u64,
 ) -> Result<(), Fault>
     requires { IsUsable store }
-    ensures served { ServesStore C.gives store moments.old most moments.new result }
+    ensures served { ServesStore C.gives P.does store moments.old peers.old most moments.new
+        peers.new result }
     ensures fault { IfErr result (λ fault. fault ≡ Fault.Socket) }
 {
-    let mut left = most;
-    let mut kept = Some(store);
-    for _ in 0..u64::MAX {
-        if left == 0 {
-            return Ok(());
-        }
-        let waiting = renewed(home, kept);
-        let Ok((stream, _)) = listener.accept() else {
-            return Err(Fault::Socket);
-        };
-        let share = one_turn(left);
-        let served = serve_connection(alloc, &stream, home, waiting, moments, clock, share);
-        kept = served.kept;
-        left -= served.replies;
-    }
-    Err(Fault::Socket)
-}
-
-// How many of the replies that are left a connection may have.
-fn one_turn(left: u64) -> u64
-    ensures within { result ≤ left }
-    ensures few { result ≤ turn }
-{
-    if left < TURN { left } else { TURN }
+    let mut kept = Kept::Open(store);
+    let mut renewing = Renewing::new(home, clock);
+    serve_clients(alloc, peers, &mut kept, &mut renewing, moments, most)
 }

@@ -4,19 +4,16 @@
 
 mod adding;
 mod asked;
-mod closed;
 mod ended;
 mod extracts;
 mod file_serving;
-mod line;
+mod kept;
 mod moments;
-mod noted;
 mod opening;
 mod over_files;
 mod renewing;
 mod serving;
 mod statements;
-mod timed;
 mod whole_program;
 
 pub use file_serving::{serve_file, serve_store};

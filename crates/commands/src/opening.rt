@@ -1,7 +1,7 @@
 //! The ledger in a file.
 ghost use Rattle.std.specs.Prelude.{◌≡◌, IfErr, IfOk};
 ghost use Rattle.migrate.specs.Ledgers.{IsMigratable};
-ghost use Rattle.store.specs.Stores.{IsUsable};
+ghost use Rattle.store.specs.Stores.{IsReady, IsUsable};
 ghost use Rattle.commands.specs.Openings.{IsOpeningFault, open_fault};
 
 use audit::Damage;
@@ -42,6 +42,7 @@ pub(crate) fn open_file(rt: &HostRuntime, path: &str) -> Result<Store<File>, Fau
 /// The same, to be served.
 pub(crate) fn open_served(rt: &HostRuntime, path: &str) -> Result<Store<File>, Fault>
     ensures usable { IfOk result IsUsable }
+    ensures ready { IfOk result IsReady }
     ensures fault { IfErr result IsOpeningFault }
 {
     open_with(rt, path, SERVED_PAGES)
@@ -49,6 +50,7 @@ pub(crate) fn open_served(rt: &HostRuntime, path: &str) -> Result<Store<File>, F
 
 fn open_with(rt: &HostRuntime, path: &str, pages: usize) -> Result<Store<File>, Fault>
     ensures usable { IfOk result IsUsable }
+    ensures ready { IfOk result IsReady }
     ensures fault { IfErr result IsOpeningFault }
 {
     match open_at(rt, path, pages) {
@@ -99,7 +101,8 @@ pub(crate) fn examine(rt: &HostRuntime, path: &str) -> Result<Option<Damage>, Fa
 }
 
 fn open_at(rt: &HostRuntime, path: &str, pages: usize) -> Result<Store<File>, OpenFault>
-    ensures { IfOk result IsUsable }
+    ensures usable { IfOk result IsUsable }
+    ensures ready { IfOk result IsReady }
 {
     find(rt, path)?;
     Store::open_at(rt, path, Unknown, options(rt, pages)?, &FullAudit)

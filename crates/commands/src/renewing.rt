@@ -1,76 +1,162 @@
 //! A store that is opened again where its disk fails.
-ghost use Rattle.std.specs.Prelude.{IfErr, IfOk, IfSome};
-ghost use Rattle.store.specs.Stores.{IsUsable};
-ghost use Rattle.commands.specs.Kept.{Renews};
+ghost use Rattle.std.specs.Prelude.{◌≡◌, ◌≤◌, ◌*◌, min, IfErr, IfOk, IsTrue, OnOk};
+ghost use Rattle.store.specs.Stores.{IsReady, IsUsable};
+ghost use Rattle.commands.specs.Kept.{answers, MayBeCalled, Renews};
 ghost use Rattle.commands.specs.Openings.{IsOpeningFault};
 
+use crate::kept::Kept;
 use crate::opening::open_fault;
 use command_texts::Fault;
+use polling::Reopen;
 use records::Unavailable;
 use sqlite_disk::Disk;
+use std::time::{Clock, Duration};
 use store::{FullAudit, OpenFault, Store};
+
+/// For how many seconds a store that is refused is not opened, the first time.
+const FIRST_PAUSE: u64 = 1;
+
+/// For how many at most.
+const LONGEST_PAUSE: u64 = 60;
 
 /// Where a store is opened anew.
 pub trait Home<D: Disk + Drop> {
     /// Opens the store. The one before has let go of its files.
     fn open_store(&self) -> Result<Store<D>, Fault>
         ensures usable { IfOk result IsUsable }
+        ensures ready { IfOk result IsReady }
         ensures fault { IfErr result IsOpeningFault };
 
-    /// Is told why a store could not be opened again.
+    /// Is told why a store could not be opened again: once, until it is told that a store answers.
     fn tell(&self, fault: Fault)
         requires { IsOpeningFault fault };
+
+    /// Is told that a store answers calls again.
+    fn tell_answers(&self, store: &Store<D>)
+        requires { IsReady store.now };
 }
 
-/// The store itself where it answers calls, or else what is opened in its place.
-pub(crate) fn renewed<D: Disk + Drop, H: Home<D>>(
-    home: &H,
-    kept: Option<Store<D>>,
-) -> Option<Store<D>>
-    requires { IfSome kept IsUsable }
-    ensures usable { IfSome result IsUsable }
-    ensures same { Renews kept result }
+/// A time in which a store that was refused is not opened.
+#[derive(Clone, Copy)]
+struct Pause {
+    /// The moment of the clock at which it is over.
+    until: Duration,
+    /// How many seconds it lasts.
+    seconds: u64,
+}
+
+/// Opens a store again where its disk has failed: at once, and then, while that is refused, after a
+/// second, and after twice the time that was waited for, up to a minute.
+#[derive(Drop)]
+pub(crate) struct Renewing<'a, H, K: Clock> {
+    home: &'a H,
+    clock: &'a K,
+    /// Since the last attempt, where that was refused.
+    pause: Option<Pause>,
+}
+
+impl<'a, H, K: Clock> Renewing<'a, H, K> {
+    pub(crate) fn new(home: &'a H, clock: &'a K) -> Self {
+        Renewing {
+            home,
+            clock,
+            pause: None,
+        }
+    }
+
+    // Where the clock cannot be read it is time.
+    fn is_time(&self) -> bool {
+        match (self.pause, self.clock.monotonic()) {
+            (Some(pause), Ok(now)) => now >= pause.until,
+            _ => true,
+        }
+    }
+
+    // The next attempt is made behind a pause.
+    fn put_off(&mut self) {
+        let seconds = match self.pause {
+            Some(pause) => twice(pause.seconds),
+            None => FIRST_PAUSE,
+        };
+        let now = self.clock.monotonic().unwrap_or(Duration::ZERO);
+        let until = now.saturating_add(Duration::from_secs(seconds));
+        self.pause = Some(Pause { until, seconds });
+    }
+}
+
+// How long the next pause is.
+fn twice(seconds: u64) -> u64
+    ensures { result ≡ min (2 * seconds) 60 }
 {
-    match kept {
-        None => opened(home),
-        Some(store) => {
-            if store.is_ready() {
-                Some(store)
-            } else {
-                reopened(home, store)
+    seconds.saturating_mul(2).min(LONGEST_PAUSE)
+}
+
+impl<D: Disk + Drop, H: Home<D>, K: Clock> Reopen<Kept<Store<D>>> for Renewing<'_, H, K> {
+    ghost renews = { λ old new. Renews old new };
+
+    fn reopen(&mut self, kept: &mut Kept<Store<D>>) {
+        if is_answering(kept) || !self.is_time() {
+            return;
+        }
+        match opened_again(self.home, kept) {
+            Ok(()) => {
+                if self.pause.is_some() {
+                    tell_answers(self.home, kept);
+                }
+                self.pause = None;
+            }
+            Err(fault) => {
+                if self.pause.is_none() {
+                    self.home.tell(fault);
+                }
+                self.put_off();
             }
         }
     }
 }
 
-// The store opened again over its files. Where their disk fails that too, it lets go of them, and
-// the store is opened anew; any other refusal is told, and leaves it to be tried again.
-fn reopened<D: Disk + Drop, H: Home<D>>(home: &H, mut store: Store<D>) -> Option<Store<D>>
-    requires { IsUsable store }
-    ensures { IfSome result IsUsable }
+// Whether a store is there that answers calls.
+fn is_answering<D: Disk + Drop>(kept: &Kept<Store<D>>) -> bool
+    ensures { result ≡ answers kept.now }
 {
-    match store.reopen(&FullAudit) {
-        Ok(()) => Some(store),
-        Err(OpenFault::Unavailable(Unavailable::Disk)) => {
-            drop(store);
-            opened(home)
-        }
-        Err(fault) => {
-            home.tell(open_fault(fault));
-            Some(store)
-        }
+    match kept {
+        Kept::Open(store) => store.is_ready(),
+        Kept::Closed => false,
     }
 }
 
-// The store opened anew, if it can be; else the home is told why not.
-fn opened<D: Disk + Drop, H: Home<D>>(home: &H) -> Option<Store<D>>
-    ensures { IfSome result IsUsable }
+fn tell_answers<D: Disk + Drop, H: Home<D>>(home: &H, kept: &Kept<Store<D>>)
+    requires { IsTrue (answers kept.now) }
 {
-    match home.open_store() {
-        Ok(store) => Some(store),
-        Err(fault) => {
-            home.tell(fault);
-            None
+    if let Kept::Open(store) = kept {
+        home.tell_answers(store);
+    }
+}
+
+// Opens the store again over its files. Where their disk fails that too, it lets go of them, and
+// the store is opened anew; any other refusal leaves it to be tried again.
+fn opened_again<D: Disk + Drop, H: Home<D>>(
+    home: &H,
+    kept: &mut Kept<Store<D>>,
+) -> Result<(), Fault>
+    requires { MayBeCalled kept.old }
+    ensures usable { MayBeCalled kept.new }
+    ensures answers { OnOk result (IsTrue (answers kept.new)) }
+    ensures fault { IfErr result IsOpeningFault }
+{
+    if let Kept::Open(store) = kept {
+        match store.reopen(&FullAudit) {
+            Ok(()) => return Ok(()),
+            Err(OpenFault::Unavailable(Unavailable::Disk)) => {}
+            Err(fault) => return Err(open_fault(fault)),
         }
+    }
+    *kept = Kept::Closed;
+    match home.open_store() {
+        Ok(store) => {
+            *kept = Kept::Open(store);
+            Ok(())
+        }
+        Err(fault) => Err(fault),
     }
 }

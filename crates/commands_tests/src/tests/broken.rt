@@ -3,7 +3,10 @@ ghost use Rattle.store.specs.Stores.{IsUsable};
 
 use super::files::Step::{Breaks, Posts};
 use super::files::take_steps;
-use super::serving::{Nowhere, Told, UNAVAILABLE, exchange_over};
+use super::homes::Notice::Refused;
+use super::homes::{Notes, Nowhere};
+use super::scripted::Hand;
+use super::serving::{UNAVAILABLE, exchange_over};
 use command_texts::Fault;
 use sqlite::Options;
 use sqlite_disk::{Disk, Unknown};
@@ -19,26 +22,27 @@ const SMALL: Options = Options {
     seed: 7,
 };
 
-/// Serves the ledger in a file to two clients, once these bytes are written over the file and its
-/// log is emptied. Both are told that the service is unavailable, and this fault is told once
-/// before the second one comes and once when it is there.
+/// Serves the ledger in a file to a client, once these bytes are written over the file and its log
+/// is emptied. It is told twice that the service is unavailable, and this fault is told once.
 pub fn breaks(rt: &HostRuntime, db: &str, bytes: &[u8], fault: Fault) -> Result<(), Fail> {
     let store = Store::open_at(rt, db, Unknown, SMALL, &FullAudit)?;
-    let home = Nowhere(Told::new(rt.alloc()));
-    let told = broken(rt, db, bytes, &home, store)?;
-    let want = format!(in rt.alloc(); "{UNAVAILABLE}{UNAVAILABLE}")?;
-    if told.as_slice() == want.as_bytes() && home.0.are(&[fault, fault]) {
+    let clock = Hand::new();
+    let home = Nowhere(Notes::new(rt.alloc(), &clock));
+    let told = broken(rt, db, bytes, &home, &clock, store)?;
+    let want = format!(in rt.alloc(); "|{UNAVAILABLE}{UNAVAILABLE}|")?;
+    if told.as_slice() == want.as_bytes() && home.0.are(&[Refused(fault)]) {
         return Ok(());
     }
     Err(Fail::new(format_args!("broken: {told:?}")))
 }
 
-// What two clients are told.
+// What two clients are told, one of which sends two messages and the other none.
 fn broken<D: Disk + Drop>(
     rt: &HostRuntime,
     db: &str,
     bytes: &[u8],
     home: &Nowhere,
+    clock: &Hand,
     store: Store<D>,
 ) -> Result<Vec<u8>, Fail>
     requires { IsUsable store }
@@ -46,7 +50,7 @@ fn broken<D: Disk + Drop>(
     let log = format!(in rt.alloc(); "{db}-wal")?;
     fs::write(rt, db, bytes)?;
     fs::write(rt, log.as_str(), "")?;
-    exchange_over(rt, home, store, (1, 1), 2)
+    Ok(exchange_over(rt.alloc(), home, store, clock, 1, (2, 0))?)
 }
 
 #[test]

@@ -30,8 +30,8 @@ pub enum Step {
     SendsBack(u64),
     /// A port on which the file is served, for no replies, and the fault with which that ends.
     Serves(u16, Option<Fault>),
-    /// These bytes are written over the file while it is served, and this fault is told at each
-    /// attempt to open it again.
+    /// These bytes are written over the file while it is served, and this fault is told of the
+    /// attempts to open it again.
     Breaks(&'static [u8], Fault),
     /// A statement of SQL is run.
     Changes(&'static str),

@@ -1,0 +1,20 @@
+use Rattle.std.proofs.Common.{◌≡◌, ◌+◌, List}
+use Rattle.clients.specs.Deeds.{Deed}
+use Rattle.polling.specs.Laws.{empty_hall}
+use Rattle.polling.specs.Seating.{Keeps, held_by, replies_in}
+use Rattle.polling.specs.Serving.{Hall, Serves, rules}
+use Rattle.commands.proofs.serving.serve_clients.Given as goal
+
+-- Clients were served, and the replies that are left are to come.
+abbrev pub invariant-loop : goal.invariant-loop
+invariant-loop g l = record {
+  deeds : List Deed;
+  last : Hall _ _ _;
+  served :
+      Serves _ _ _
+      (rules g.L.Ledgers.means g.C.Moments.gives g.H.Reopen.renews g.P.Peers.does)
+      (empty_hall l.fn.ledgers l.fn.moments l.fn.peers) deeds last;
+  keeps : Keeps (held_by l.ledgers l.moments l.peers l.seats) last;
+  left : replies_in deeds + l.left ≡ l.most;
+  usable : g.L.Ledgers.means.is_usable l.ledgers;
+}

@@ -1,0 +1,176 @@
+//! Stores in memory whose disks fail, and homes that open others in their place.
+ghost use Rattle.std.specs.Prelude.{IfSome};
+ghost use Rattle.store.specs.Stores.{IsReady, IsUsable};
+
+use super::firms::KEY;
+use super::scripted::Hand;
+use command_texts::Fault;
+use commands::Home;
+use failing_disk::OnceFailing;
+use sqlite::{Files, Options};
+use sqlite_disk::{Disk, Fuse, Memory};
+use std::alloc::Global;
+use std::cell::{Cell, RefCell};
+use store::Store;
+use tenants::{Key, TenantName, digest};
+
+/// A disk in memory that fails behind so many calls.
+pub trait Faulty: Disk + Drop {
+    fn made(alloc: Global, calls: u64) -> Self;
+}
+
+// Fails once.
+impl Faulty for OnceFailing<Memory> {
+    fn made(alloc: Global, calls: u64) -> OnceFailing<Memory> {
+        OnceFailing::new(Memory::new(alloc), calls)
+    }
+}
+
+// Fails from then on.
+impl Faulty for Fuse<Memory> {
+    fn made(alloc: Global, calls: u64) -> Fuse<Memory> {
+        Fuse::new(Memory::new(alloc), calls)
+    }
+}
+
+/// No test makes so many calls.
+pub const NEVER: u64 = 1_000_000;
+
+/// The ledgers of a new firm, whose log fails behind so many calls.
+pub fn firm_store<D: Faulty>(alloc: Global, calls: u64) -> Option<Store<D>>
+    ensures usable { IfSome result IsUsable }
+    ensures ready { IfSome result IsReady }
+{
+    let files = Files {
+        log: D::made(alloc, calls),
+        db: D::made(alloc, NEVER),
+    };
+    if !(files.log.may_be_used() && files.db.may_be_used()) {
+        return None;
+    }
+    let name = TenantName::read("firm")?;
+    let key = Key::read(KEY.as_bytes())?;
+    let Ok(mut store) = Store::create(alloc, files, Options::new(7)) else {
+        return None;
+    };
+    let joined = store.add_tenant(&name, &digest(&key));
+    if joined.is_err() || !store.is_ready() {
+        return None;
+    }
+    Some(store)
+}
+
+/// What a home is told.
+#[derive(Clone, Copy, Debug, PartialEq, Eq)]
+pub enum Notice {
+    /// A store is not opened, for this reason.
+    Refused(Fault),
+    /// A store answers calls again.
+    Answers,
+}
+
+/// What a home was told, and at which seconds it was asked for a store.
+#[derive(Drop)]
+pub struct Notes<'a> {
+    clock: &'a Hand,
+    told: RefCell<Vec<Notice>>,
+    asked: RefCell<Vec<u64>>,
+}
+
+impl<'a> Notes<'a> {
+    pub fn new(alloc: Global, clock: &'a Hand) -> Notes<'a> {
+        Notes {
+            clock,
+            told: RefCell::new(Vec::new(alloc)),
+            asked: RefCell::new(Vec::new(alloc)),
+        }
+    }
+
+    fn add(&self, notice: Notice) {
+        if let Ok(mut told) = self.told.try_borrow_mut() {
+            let _ = told.push(notice);
+        }
+    }
+
+    fn ask(&self) {
+        if let Ok(mut asked) = self.asked.try_borrow_mut() {
+            let _ = asked.push(self.clock.seconds());
+        }
+    }
+
+    /// Whether it was told these, in this order.
+    pub fn are(&self, want: &[Notice]) -> bool {
+        match self.told.try_borrow() {
+            Ok(told) => told.as_slice() == want,
+            Err(_) => false,
+        }
+    }
+
+    /// Whether it was asked at these seconds.
+    pub fn were_asked(&self, want: &[u64]) -> bool {
+        match self.asked.try_borrow() {
+            Ok(asked) => asked.as_slice() == want,
+            Err(_) => false,
+        }
+    }
+}
+
+/// Opens no store.
+#[derive(Drop)]
+pub struct Nowhere<'a>(pub Notes<'a>);
+
+impl<D: Disk + Drop> Home<D> for Nowhere<'_> {
+    fn open_store(&self) -> Result<Store<D>, Fault> {
+        self.0.ask();
+        Err(Fault::NotALedger)
+    }
+
+    fn tell(&self, fault: Fault) {
+        self.0.add(Notice::Refused(fault));
+    }
+
+    fn tell_answers(&self, _store: &Store<D>) {
+        self.0.add(Notice::Answers);
+    }
+}
+
+/// Refuses so many openings. Then it opens another new store.
+#[derive(Drop)]
+pub struct Refusing<'a> {
+    alloc: Global,
+    left: Cell<u64>,
+    pub notes: Notes<'a>,
+}
+
+impl<'a> Refusing<'a> {
+    pub fn new(alloc: Global, clock: &'a Hand, refusals: u64) -> Refusing<'a> {
+        Refusing {
+            alloc,
+            left: Cell::new(refusals),
+            notes: Notes::new(alloc, clock),
+        }
+    }
+}
+
+impl<D: Faulty> Home<D> for Refusing<'_> {
+    fn open_store(&self) -> Result<Store<D>, Fault> {
+        self.notes.ask();
+        let left = self.left.get();
+        if left != 0 {
+            self.left.set(left - 1);
+            return Err(Fault::Damaged);
+        }
+        match firm_store(self.alloc, NEVER) {
+            Some(store) => Ok(store),
+            None => Err(Fault::Unreadable),
+        }
+    }
+
+    fn tell(&self, fault: Fault) {
+        self.notes.add(Notice::Refused(fault));
+    }
+
+    fn tell_answers(&self, _store: &Store<D>) {
+        self.notes.add(Notice::Answers);
+    }
+}

@@ -1,0 +1,4 @@
+pub mod Limits
+pub mod Time
+pub mod Counts
+pub mod Stages

@@ -1,0 +1,240 @@
+//! All who are connected, and the queue of those who are ready.
+use crate::limits::Limits;
+use crate::lingering::Lingering;
+use crate::peer::Peer;
+use crate::places::Places;
+use crate::stages::{Stage, Stages};
+use mio::net::TcpStream;
+use std::alloc::{AllocError, Global};
+use std::collections::{BTreeMap, VecDeque};
+use std::time::Duration;
+
+/// All who are connected.
+#[derive(Drop)]
+pub(crate) struct Guests {
+    pub(crate) limits: Limits,
+    pub(crate) peers: BTreeMap<u64, Peer>,
+    pub(crate) stages: Stages,
+    pub(crate) places: Places,
+    pub(crate) lingering: Lingering,
+    /// Those who are ready, each once.
+    queue: VecDeque<u64>,
+    /// How many of them stood there when it was last waited.
+    left: usize,
+    /// Whether all that had happened was seen when it was last waited. Else somebody may be ready
+    /// who is not in the queue, and nobody is judged.
+    has_seen_all: bool,
+    /// Whether it is still to be looked for those who have had their time.
+    is_judging: bool,
+}
+
+impl Guests {
+    pub(crate) fn new(alloc: Global, limits: Limits) -> Result<Guests, AllocError> {
+        Ok(Guests {
+            limits,
+            peers: BTreeMap::new(alloc),
+            stages: Stages::new(alloc),
+            places: Places::new(limits.places),
+            lingering: Lingering::new(alloc)?,
+            queue: VecDeque::new(alloc),
+            left: 0,
+            has_seen_all: false,
+            is_judging: false,
+        })
+    }
+
+    /// Whether there are as many as there may be.
+    pub(crate) fn are_many(&self) -> bool {
+        self.peers.len() >= self.limits.clients
+    }
+
+    pub(crate) fn is_anybody_ready(&self) -> bool {
+        !self.queue.is_empty()
+    }
+
+    // Who cannot be queued for want of memory is let go when it has had its time.
+    fn put_in_queue(&mut self, number: u64) {
+        let _ = self.queue.push_back(number);
+    }
+
+    /// Takes in a new client.
+    pub(crate) fn join(
+        &mut self,
+        number: u64,
+        stream: TcpStream,
+        now: Duration,
+    ) -> Result<(), AllocError> {
+        let all = self.peers.len().saturating_add(self.lingering.len());
+        self.queue.reserve(all.saturating_add(1))?;
+        let stage = Stage::idle(&self.limits, now);
+        self.stages.enter(number, stage)?;
+        match self.peers.insert(number, Peer::new(stream, stage)) {
+            Ok(_) => {
+                self.again(number);
+                Ok(())
+            }
+            Err(_) => {
+                self.stages.leave(number, stage);
+                Err(AllocError)
+            }
+        }
+    }
+
+    /// Something has come of a client, or may be taken by it, or its input ends.
+    pub(crate) fn wake(&mut self, number: u64, is_ending: bool) {
+        if let Some(peer) = self.peers.get_mut(&number) {
+            peer.can_read = true;
+            peer.is_ending = peer.is_ending || is_ending;
+        }
+        self.again(number);
+    }
+
+    /// A client stands in the queue, behind all who do.
+    pub(crate) fn again(&mut self, number: u64) {
+        let is_new = match self.peers.get_mut(&number) {
+            Some(peer) => {
+                let is_new = !peer.is_queued;
+                peer.is_queued = true;
+                is_new
+            }
+            None => self.lingering.wake(number),
+        };
+        if is_new {
+            self.put_in_queue(number);
+        }
+    }
+
+    /// All who are ready now have their turn once, and those are told who have had their time.
+    pub(crate) fn begin_turns(&mut self, has_seen_all: bool) {
+        self.left = self.queue.len();
+        self.has_seen_all = has_seen_all;
+        self.is_judging = has_seen_all;
+    }
+
+    /// The next whose turn it is.
+    pub(crate) fn next_ready(&mut self) -> Option<u64> {
+        for _ in 0..self.left {
+            self.left = self.left.saturating_sub(1);
+            let number = match self.queue.pop_front() {
+                Some(number) => number,
+                None => return None,
+            };
+            if self.takes_turn(number) {
+                return Some(number);
+            }
+        }
+        None
+    }
+
+    // Whether somebody who is served stood in the queue.
+    fn takes_turn(&mut self, number: u64) -> bool {
+        match self.peers.get_mut(&number) {
+            Some(peer) => {
+                peer.is_queued = false;
+                true
+            }
+            None => {
+                if self.lingering.drain(number) {
+                    self.put_in_queue(number);
+                }
+                false
+            }
+        }
+    }
+
+    /// Who is not ready and has had its time, if anybody.
+    pub(crate) fn late(&mut self, now: Duration) -> Option<u64> {
+        if !self.is_judging {
+            return None;
+        }
+        if let Some(number) = self.stages.busy.due(now) {
+            if self.is_let_go(number) {
+                return Some(number);
+            }
+        }
+        if let Some(number) = self.stages.idle.due(now) {
+            if self.is_let_go(number) {
+                return Some(number);
+            }
+        }
+        self.is_judging = false;
+        None
+    }
+
+    /// Who is not ready and has been silent for longest, if anybody.
+    pub(crate) fn longest_idle(&mut self) -> Option<u64> {
+        if !self.has_seen_all {
+            return None;
+        }
+        match self.stages.idle.first() {
+            Some((_, number)) => {
+                if self.is_let_go(number) {
+                    Some(number)
+                } else {
+                    None
+                }
+            }
+            None => None,
+        }
+    }
+
+    // Whether a client is not ready. Then nothing more is waited for of it.
+    fn is_let_go(&mut self, number: u64) -> bool {
+        match self.peers.get_mut(&number) {
+            Some(peer) => {
+                if peer.is_queued {
+                    return false;
+                }
+                peer.is_over = true;
+                self.stages.leave(number, peer.stage);
+                true
+            }
+            None => false,
+        }
+    }
+
+    /// A client goes.
+    pub(crate) fn close(&mut self, number: u64, now: Duration) {
+        let Some(peer) = self.peers.remove(&number) else {
+            return;
+        };
+        self.stages.leave(number, peer.stage);
+        if peer.has_place {
+            self.places.give_back();
+            self.hand_on_place(now);
+        }
+        if peer.is_over {
+            return;
+        }
+        let most = self.limits.clients;
+        let is_queued = peer.is_queued;
+        if self
+            .lingering
+            .begin(number, peer.stream, is_queued, now, most)
+        {
+            self.put_in_queue(number);
+        }
+    }
+
+    // Whoever waited for a place first has it from now on, where there is one.
+    pub(crate) fn hand_on_place(&mut self, now: Duration) {
+        let Some((since, number)) = self.stages.waiting.first() else {
+            return;
+        };
+        if !self.places.take() {
+            return;
+        }
+        match self.peers.get_mut(&number) {
+            Some(peer) => {
+                peer.has_place = true;
+                let stage = Stage::in_place(&self.limits, now);
+                let _ = peer.change(&mut self.stages, number, stage);
+            }
+            None => {
+                self.stages.waiting.remove(since, number);
+                self.places.give_back();
+            }
+        }
+        self.again(number);
+    }
+}

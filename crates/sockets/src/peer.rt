@@ -1,0 +1,177 @@
+//! One client's connection.
+ghost use Rattle.std.specs.Prelude.{◌≡◌, ℕ, List, length};
+ghost use Rattle.sockets.specs.Counts.{IsReadOf, IsWrittenOf};
+
+use crate::limits::Limits;
+use crate::stages::{Stage, Stages};
+use mio::net::TcpStream;
+use polling::Written;
+use std::io::{ErrorKind, Read, Write};
+use std::time::Duration;
+
+/// A client that is connected.
+#[derive(Drop)]
+pub(crate) struct Peer {
+    pub(crate) stream: TcpStream,
+    /// Whether it stands in the queue of those who are ready.
+    pub(crate) is_queued: bool,
+    /// Whether something may have come that was not read.
+    pub(crate) can_read: bool,
+    /// Whether its input ends, so that something is left to read whatever was read before.
+    pub(crate) is_ending: bool,
+    /// How many bytes were read since its last whole reply.
+    pub(crate) read: usize,
+    pub(crate) has_place: bool,
+    pub(crate) stage: Stage,
+    /// Whether nothing more can come of it, so that it need not be lingered for.
+    pub(crate) is_over: bool,
+}
+
+impl Peer {
+    pub(crate) fn new(stream: TcpStream, stage: Stage) -> Peer {
+        Peer {
+            stream,
+            is_queued: false,
+            can_read: true,
+            is_ending: false,
+            read: 0,
+            has_place: false,
+            stage,
+            is_over: false,
+        }
+    }
+
+    /// From now on it is waited for this. Says whether there was memory for it; else nothing more
+    /// can come of the client.
+    pub(crate) fn change(&mut self, stages: &mut Stages, number: u64, stage: Stage) -> bool {
+        if self.stage == stage {
+            return true;
+        }
+        stages.leave(number, self.stage);
+        self.stage = stage;
+        let is_done = stages.enter(number, stage).is_ok();
+        if !is_done {
+            self.is_over = true;
+        }
+        is_done
+    }
+
+    /// Reads what has come, where something may have. A piece that is not filled took all of it, and
+    /// what comes later is told of anew, as is an end that comes later.
+    pub(crate) fn receive(&mut self, piece: &mut [u8]) -> polling::Read
+        ensures count { IsReadOf result piece.new }
+        ensures size { length piece.new ≡ length piece.old }
+    {
+        if !self.can_read {
+            return polling::Read::Waits;
+        }
+        let size = piece.len();
+        let read = read_from(&mut self.stream, piece);
+        self.can_read = match read {
+            polling::Read::Gave(count) => count == size || self.is_ending,
+            polling::Read::Waits => false,
+            polling::Read::Ended | polling::Read::Broken => true,
+        };
+        read
+    }
+
+    /// Something was read of it, or nothing.
+    pub(crate) fn has_read(
+        &mut self,
+        stages: &mut Stages,
+        number: u64,
+        read: polling::Read,
+        limits: &Limits,
+        now: Duration,
+    ) -> polling::Read
+        ensures { (piece : List ℕ) → IsReadOf read piece → IsReadOf result piece }
+    {
+        let goes_on = match read {
+            polling::Read::Gave(count) => {
+                self.read = self.read.saturating_add(count);
+                self.change(stages, number, self.stage.behind_bytes(limits, now))
+            }
+            polling::Read::Waits => !self.stage.is_over(now),
+            polling::Read::Ended => {
+                self.is_over = true;
+                true
+            }
+            polling::Read::Broken => false,
+        };
+        if goes_on {
+            return read;
+        }
+        self.is_over = true;
+        polling::Read::Broken
+    }
+
+    /// Something was written to it of so many bytes, or nothing.
+    pub(crate) fn has_written(
+        &mut self,
+        stages: &mut Stages,
+        number: u64,
+        written: Written,
+        size: usize,
+        limits: &Limits,
+        now: Duration,
+    ) -> Written
+        ensures { (bytes : List ℕ) → IsWrittenOf written bytes → IsWrittenOf result bytes }
+    {
+        let part = self.stage.behind_part(limits, now, size);
+        let goes_on = match written {
+            Written::Took(count) => {
+                if count == size {
+                    self.read = 0;
+                    self.change(stages, number, Stage::idle(limits, now))
+                } else {
+                    self.change(stages, number, part)
+                }
+            }
+            Written::Waits => self.change(stages, number, part) && !part.is_over(now),
+            Written::Broken => false,
+        };
+        if goes_on {
+            return written;
+        }
+        self.is_over = true;
+        Written::Broken
+    }
+}
+
+/// Reads what has come, as much as there is room for in a piece that is not empty.
+pub(crate) fn read_from(stream: &mut TcpStream, piece: &mut [u8]) -> polling::Read
+    ensures count { IsReadOf result piece.new }
+    ensures size { length piece.new ≡ length piece.old }
+{
+    // A signal breaks a call off.
+    for _ in 0..u32::MAX {
+        match stream.read(piece) {
+            Ok(0) => return polling::Read::Ended,
+            Ok(count) => return polling::Read::Gave(count),
+            Err(e) => match e.kind() {
+                ErrorKind::Interrupted => {}
+                ErrorKind::WouldBlock => return polling::Read::Waits,
+                _ => return polling::Read::Broken,
+            },
+        }
+    }
+    polling::Read::Broken
+}
+
+/// Writes as much of some bytes as is taken. They are not none.
+pub(crate) fn write_to(stream: &mut TcpStream, bytes: &[u8]) -> Written
+    ensures { IsWrittenOf result bytes.now }
+{
+    for _ in 0..u32::MAX {
+        match stream.write(bytes) {
+            Ok(0) => return Written::Broken,
+            Ok(count) => return Written::Took(count),
+            Err(e) => match e.kind() {
+                ErrorKind::Interrupted => {}
+                ErrorKind::WouldBlock => return Written::Waits,
+                _ => return Written::Broken,
+            },
+        }
+    }
+    Written::Broken
+}

@@ -1,0 +1,60 @@
+//! Clients over sockets.
+use crate::door::Door;
+use crate::guests::Guests;
+use crate::limits::Limits;
+use crate::own_time::OwnTime;
+use mio::net::TcpListener;
+use mio::{Events, Poll, Token};
+use std::alloc::{AllocGlobal, Global};
+use std::io;
+use std::net::{Net, SocketAddr};
+use std::time::{Clock, Duration};
+
+/// How many events are taken at once.
+pub(crate) const EVENTS: usize = 1_024;
+
+/// The listening socket's.
+pub(crate) const DOOR: Token = Token(0);
+
+/// Those who are connected to a socket of the machine. Who takes too long, by a clock, is let go.
+#[derive(Drop)]
+pub struct Sockets<'a, K: Clock> {
+    pub(crate) clock: &'a K,
+    pub(crate) time: OwnTime,
+    pub(crate) poll: Poll,
+    pub(crate) events: Events<Global>,
+    pub(crate) door: Door,
+    pub(crate) guests: Guests,
+}
+
+impl<'a, K: Clock> Sockets<'a, K> {
+    /// Listens at an address.
+    pub fn listen<R: Net + AllocGlobal>(
+        rt: &R,
+        clock: &'a K,
+        address: SocketAddr,
+        limits: Limits,
+    ) -> io::Result<Self> {
+        let poll = Poll::new(rt)?;
+        let mut door = Door::new(TcpListener::bind(rt, address)?);
+        door.register(poll.registry(), DOOR)?;
+        Ok(Sockets {
+            clock,
+            time: OwnTime::new(clock.monotonic().unwrap_or(Duration::ZERO)),
+            poll,
+            events: Events::with_capacity(rt.alloc(), EVENTS)?,
+            door,
+            guests: Guests::new(rt.alloc(), limits)?,
+        })
+    }
+
+    /// Where it listens.
+    pub fn local_addr(&self) -> io::Result<SocketAddr> {
+        self.door.local_addr()
+    }
+
+    /// Whether nobody is accepted for the moment, since descriptors or memory are wanting.
+    pub fn is_short(&self) -> bool {
+        self.door.is_closed()
+    }
+}

@@ -1,0 +1,173 @@
+//! What happens to clients.
+ghost use Rattle.std.specs.Prelude.{⊤};
+
+use crate::sockets::{DOOR, EVENTS, Sockets};
+use mio::net::TcpStream;
+use mio::{Interest, Token};
+use polling::{Peers, Read, Told, Written};
+use std::io;
+use std::time::{Clock, Duration};
+
+/// For how many seconds it is waited at most.
+const LONGEST: u64 = 1;
+
+/// For how many milliseconds it is waited where waiting for all fails.
+const PAUSE: u64 = 100;
+
+// Registers a client's connection. Its events are told under its number and 1.
+fn register(poll: &mio::Registry, stream: &mut TcpStream, number: u64) -> io::Result<()> {
+    let Some(token) = number.checked_add(1) else {
+        return Err(io::Error::from(io::ErrorKind::InvalidInput));
+    };
+    // A connection that is gone already is found out by reading.
+    let _ = stream.set_nodelay(true);
+    let both = Interest::READABLE | Interest::WRITABLE;
+    poll.register(stream, Token(token as usize), both)
+}
+
+// The earlier one, where both are.
+fn earlier(one: Option<Duration>, other: Option<Duration>) -> Option<Duration> {
+    match (one, other) {
+        (Some(one), Some(other)) => Some(one.min(other)),
+        (Some(one), None) => Some(one),
+        (None, other) => other,
+    }
+}
+
+impl<K: Clock> Sockets<'_, K> {
+    // The moment of the machine's clock, or where it cannot be read the last one.
+    fn seen(&self) -> Duration {
+        self.clock.monotonic().unwrap_or(self.time.seen)
+    }
+
+    // How long it may be waited.
+    fn patience(&self) -> Duration {
+        if self.guests.is_anybody_ready() || self.door.is_open() {
+            return Duration::ZERO;
+        }
+        let due = earlier(
+            earlier(
+                self.guests.stages.next_due(),
+                self.guests.lingering.next_due(),
+            ),
+            self.door.closed_until(),
+        );
+        match due {
+            Some(due) => due
+                .saturating_sub(self.time.now)
+                .min(Duration::from_secs(LONGEST)),
+            None => Duration::from_secs(LONGEST),
+        }
+    }
+
+    // Waits until something happens. All to whom it did are queued.
+    fn wait(&mut self) {
+        let most = self.patience();
+        if self.poll.poll(&mut self.events, Some(most)).is_err() {
+            self.clock.sleep(Duration::from_millis(PAUSE));
+        }
+        let seen = self.seen();
+        self.time.waited(seen, most);
+        let mut left = EVENTS;
+        for event in &self.events {
+            left = left.saturating_sub(1);
+            let token = event.token();
+            if token == DOOR {
+                self.door.knock();
+            } else {
+                let number = (token.0 as u64).saturating_sub(1);
+                let is_ending = event.is_read_closed() || event.is_error();
+                self.guests.wake(number, is_ending);
+            }
+        }
+        self.guests.lingering.drop_due(self.time.now);
+        self.guests.begin_turns(left > 0);
+        self.door.begin_turns(self.time.now);
+    }
+
+    // Takes in who was accepted. Where descriptors or memory are wanting it is dropped.
+    fn join(&mut self, fresh: u64) -> bool {
+        let now = self.time.now;
+        let Some(mut stream) = self.door.take() else {
+            return false;
+        };
+        if register(self.poll.registry(), &mut stream, fresh).is_err()
+            || self.guests.join(fresh, stream, now).is_err()
+        {
+            self.door.pause(now);
+            return false;
+        }
+        true
+    }
+
+    // Somebody new, where there is one. Where there are as many as there may be, who has been silent
+    // for longest is late.
+    fn greeted(&mut self, fresh: u64) -> Told {
+        if !self.door.is_anybody_there(self.time.now) {
+            return Told::Nothing;
+        }
+        if self.guests.are_many() {
+            return match self.guests.longest_idle() {
+                Some(number) => Told::Late(number),
+                None => Told::Nothing,
+            };
+        }
+        if self.join(fresh) {
+            Told::Joined
+        } else {
+            Told::Nothing
+        }
+    }
+
+    // What has happened and was not told.
+    fn next(&mut self, fresh: u64) -> Told {
+        if let Some(number) = self.guests.late(self.time.now) {
+            return Told::Late(number);
+        }
+        let greeted = self.greeted(fresh);
+        if greeted != Told::Nothing {
+            return greeted;
+        }
+        match self.guests.next_ready() {
+            Some(number) => Told::Ready(number),
+            None => Told::Nothing,
+        }
+    }
+
+    // What has happened since it was told last, or what happens now.
+    fn told_next(&mut self, fresh: u64) -> Told {
+        let seen = self.seen();
+        self.time.turned(seen);
+        let told = self.next(fresh);
+        if told != Told::Nothing {
+            return told;
+        }
+        self.wait();
+        self.next(fresh)
+    }
+}
+
+impl<K: Clock> Peers for Sockets<'_, K> {
+    // Nothing is known of what a client does, nor of what the system does of it.
+    ghost does = { λ _ _ _. ⊤ };
+
+    fn told(&mut self, fresh: u64) -> Told {
+        self.told_next(fresh)
+    }
+
+    fn read(&mut self, client: u64, piece: &mut [u8]) -> Read {
+        self.guests.read(client, piece, self.time.now)
+    }
+
+    fn write(&mut self, client: u64, bytes: &[u8]) -> Written {
+        self.guests.write(client, bytes, self.time.now)
+    }
+
+    fn again(&mut self, client: u64) {
+        self.guests.again(client);
+    }
+
+    fn close(&mut self, client: u64) {
+        self.guests.close(client, self.time.now);
+    }
+}

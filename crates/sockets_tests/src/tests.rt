@@ -1,0 +1,7 @@
+mod exchanging;
+mod leaving;
+mod limits;
+mod other_end;
+mod pouring;
+mod scene;
+mod steps;

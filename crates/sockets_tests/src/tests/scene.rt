@@ -1,0 +1,96 @@
+//! A service of this machine, and its clients, in one thread.
+use polling::{Peers, Read, Told};
+use sockets::{Limits, Sockets};
+use std::cell::Cell;
+use std::io;
+use std::net::{Ipv4Addr, SocketAddr, TcpStream};
+use std::test::Fail;
+use std::time::{Clock, Duration};
+
+/// A clock that goes on by so many milliseconds each time that it is asked.
+#[derive(Drop)]
+pub struct Ticking {
+    milliseconds: Cell<u64>,
+    step: u64,
+}
+
+impl Ticking {
+    pub fn new(step: u64) -> Ticking {
+        Ticking {
+            milliseconds: Cell::new(0),
+            step,
+        }
+    }
+
+    /// It goes on by so many milliseconds.
+    pub fn pass(&self, milliseconds: u64) {
+        self.milliseconds
+            .set(self.milliseconds.get().saturating_add(milliseconds));
+    }
+}
+
+impl Clock for Ticking {
+    fn monotonic(&self) -> io::Result<Duration> {
+        self.pass(self.step);
+        Ok(Duration::from_millis(self.milliseconds.get()))
+    }
+
+    fn since_1970(&self) -> io::Result<Duration> {
+        self.monotonic()
+    }
+}
+
+/// What is allowed: so many clients, so many places, and so many milliseconds silent, in a message
+/// and in a reply.
+#[derive(Clone, Copy, Debug)]
+pub struct Allowed(pub usize, pub usize, pub u64, pub u64, pub u64);
+
+/// Those who are connected, and the clients at the other end.
+#[derive(Drop)]
+pub struct Scene<'a> {
+    pub sockets: Sockets<'a, Ticking>,
+    pub clients: Vec<TcpStream>,
+    pub piece: Vec<u8>,
+}
+
+impl<'a> Scene<'a> {
+    pub fn new(rt: &HostRuntime, clock: &'a Ticking, allowed: Allowed) -> Result<Self, Fail> {
+        let Allowed(clients, places, idle, message, reply) = allowed;
+        let limits = Limits {
+            clients,
+            places,
+            idle: Duration::from_millis(idle),
+            message: Duration::from_millis(message),
+            reply: Duration::from_millis(reply),
+        };
+        let here = SocketAddr::from((Ipv4Addr::LOCALHOST, 0));
+        Ok(Scene {
+            sockets: Sockets::listen(rt, clock, here, limits)?,
+            clients: Vec::new(rt.alloc()),
+            piece: Vec::from_elem(rt.alloc(), 0, 65_536)?,
+        })
+    }
+
+    /// What is told next, where anything is in so many waits.
+    pub fn told(&mut self, fresh: u64, waits: u64) -> Told {
+        for _ in 0..waits {
+            let told = self.sockets.told(fresh);
+            if told != Told::Nothing {
+                return told;
+            }
+        }
+        Told::Nothing
+    }
+
+    /// How many bytes are read of a client until none is given, and what is given then.
+    pub fn read_all(&mut self, client: u64) -> (usize, Read) {
+        let mut all = 0usize;
+        for _ in 0..1000 {
+            match self.sockets.read(client, &mut self.piece) {
+                Read::Gave(count) => all = all.saturating_add(count),
+                end => return (all, end),
+            }
+        }
+        (all, Read::Broken)
+    }
+}
