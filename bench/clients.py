@@ -227,10 +227,14 @@ def serve(program, db):
     for _ in range(600):
         try:
             socket.create_connection(("127.0.0.1", port)).close()
-            return served, port
+            break
         except ConnectionRefusedError:
             time.sleep(0.05)
-    raise SystemExit("nothing is served")
+    else:
+        raise SystemExit("nothing is served")
+    # The port may be bound before the file is open.
+    Client(port).ask()
+    return served, port
 
 
 def line(name, found):
@@ -261,4 +265,5 @@ def main():
                 served.wait()
 
 
-main()
+if __name__ == "__main__":
+    main()

@@ -40,20 +40,13 @@ class Ledger:
             except ConnectionRefusedError:
                 time.sleep(0.05)
         self.connection = http.client.HTTPConnection("127.0.0.1", port)
-        self.asked, self.last = 0, time.monotonic()
         self.place = 0
 
     def ask(self, method, route, body=None):
-        """The reply's status and body. The service ends a connection behind 64 replies, and one
-        that is quiet for 0.05 seconds."""
-        if self.asked == 64 or time.monotonic() - self.last > 0.04:
-            self.connection.close()
-            self.asked = 0
+        """The reply's status and body."""
         self.connection.request(method, route, body, {"x-ledger-key": self.key})
         reply = self.connection.getresponse()
-        text = reply.read()
-        self.asked, self.last = self.asked + 1, time.monotonic()
-        return reply, text
+        return reply, reply.read()
 
     def post(self, route, body):
         """The reply's body."""

@@ -50,8 +50,11 @@ def break_once(house, turn, kept, damaged):
     told = house.take_turn(1).ask("POST", "/accounts/lookup", b"[]")
     want(told is None, f"served, and damaged: {told}")
     lines = house.service.told()[begun:]
-    want(lines == ["ledgerd: damaged"] * 2, f"standard error tells {lines}")
+    want(lines == ["ledgerd: damaged"], f"standard error tells {lines}")
     put(kept, house.db)
+    house.desks[0].until_well()
+    lines = house.service.told()[begun + 1:]
+    want(lines == [house.well()], f"standard error tells {lines} behind it")
     want(not house.take_turn(0).settle(batch), "kept by a file that was put back")
     house.compare()
     want(house.take_turn(0).batch(batch), "unavailable, and the file is put back")

@@ -19,8 +19,11 @@ import broken
 import chosen
 import commands
 import damaged
+import limits
+import many
 import refused
 import refusing
+import reopened
 import runs
 import stream
 import use
@@ -29,6 +32,9 @@ import worked
 TRIALS = {
     "model": lambda trial: f"{worked.check()} worked examples are as docs/MODEL.md has them",
     "runs": runs.long_runs,
+    "many": many.many,
+    "limits": limits.limits,
+    "reopened": reopened.reopened,
     "chosen": chosen.chosen,
     "killed": runs.killed,
     "full": runs.full,

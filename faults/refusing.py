@@ -1,11 +1,9 @@
 """Memory and calls of the disk, refused one by one to the running service."""
 
-import time
-
 from control import ALL, DISK, MEMORY, Control, places
 from drawn import LEDGER, account, transfer
 from runs import House
-from service import PATIENCE, Lost, body_of, message, want
+from service import Lost, body_of, message, want
 
 
 class Cases:
@@ -71,7 +69,7 @@ def refused_memory(trial):
     refused += refuse_connections(trial, house, control)
     house.compare()
     house.stop()
-    return f"{refused} allocations refused: answered as ever, or unavailable and nothing changed"
+    return f"{refused} allocations refused: answered as ever, or not done and nothing changed"
 
 
 def ready(house, place=0):
@@ -85,9 +83,13 @@ def refuse_memory_of_batch(house, control, place, batch):
     """Whether an allocation was refused. The batch is answered in any case, now or then."""
     desk = ready(house)
     control.refuse(MEMORY, place)
-    answered = desk.batch(*batch)
+    try:
+        answered = desk.batch(*batch)
+    except Lost:
+        # Memory was wanting for what had come, and the client was let go.
+        answered = False
     refused = control.end(MEMORY)
-    want(answered or refused, "unavailable, and nothing was refused")
+    want(answered or refused, "no answer, and nothing was refused")
     if not answered:
         desk = ready(house)
         clock = int(desk.ask("POST", "/accounts/lookup", b"[]")["clock"])
@@ -101,7 +103,10 @@ def refuse_memory_of_read(trial, house, control, read):
     for place in places(trial):
         desk = ready(house)
         control.refuse(MEMORY, place)
-        told = desk.ask(*read)
+        try:
+            told = desk.ask(*read)
+        except Lost:
+            told = None
         was_refused = control.end(MEMORY)
         want(told == ample or (told is None and was_refused), f"{read} at {place}: {told}")
         want(ready(house).ask(*read) == ample, f"{read} behind {place}")
@@ -156,25 +161,18 @@ def failing_disk(trial):
 
 def refuse_openings(house, desk, begun):
     """While the disk fails each call of each tenant is refused, and leaves nothing: two more on the
-    same connection, and one on the next. Behind so many lines standard error tells why the file
-    could not be opened again: before each of these messages, and behind either connection."""
+    same connection, one on another that was there before, and one on a new one. Standard error
+    tells once why the file could not be opened again."""
     late = [transfer(5, debit_account_id=1, credit_account_id=2, amount=1, ledger=LEDGER, code=1)]
-    again = desk.connected_again
+    want(house.desks[1].ask("POST", "/accounts/lookup", b"[]") is None, "served by a kept connection")
     for other in (house.desks[1], desk):
-        desk.stay_connected()
         desk.connection.send(message("POST", "/transfers", other.key, body_of(late)))
         told = desk.connection.reply()[2]
         want(told == b'{"error":"unavailable"}', f"behind a failed call: {told!r}")
     told = house.take_turn(1).ask("POST", "/accounts/lookup", b"[]")
     want(told is None, f"served by a disk that fails: {told}")
-    house.desks[1].leave()
-    many, end = 5 + desk.connected_again - again, time.monotonic() + PATIENCE
-    while len(house.service.told()) < begun + many:
-        want(time.monotonic() < end, f"standard error tells {house.service.told()[begun:]}")
-        time.sleep(0.005)
     lines = house.service.told()[begun:]
-    faults = {"ledgerd: unavailable", "ledgerd: unreadable"}
-    want(len(lines) == many and faults.issuperset(lines), f"standard error tells {lines}")
+    want(lines in (["ledgerd: unavailable"], ["ledgerd: unreadable"]), f"standard error: {lines}")
 
 
 def fail_disk(house, control, failing, batch):
@@ -186,11 +184,15 @@ def fail_disk(house, control, failing, batch):
         return bool(control.end(DISK)), 0
     if failing[1] == ALL:
         refuse_openings(house, desk, begun)
-        # Also where the last opening was refused, the next connection is served.
-        desk = house.take_turn(0)
-    # Where a call has failed alone, the next message of the same connection is.
     want(control.end(DISK), "unavailable, and no call has failed")
+    if failing[1] != ALL:
+        # Where a call has failed alone, the next message of the same connection is answered.
+        want(desk.ask("POST", "/accounts/lookup", b"[]") is not None, "unavailable once more")
+    # Else it is, once the file is opened again.
     found = desk.settle(*batch)
+    if failing[1] == ALL:
+        lines = house.service.told()[begun + 1:]
+        want(lines == [house.well()], f"standard error tells {lines} behind it")
     house.compare()
     want(ready(house).batch(*batch), f"unavailable once more, at {failing}")
     return True, int(found)

@@ -7,7 +7,8 @@ import threading
 from drawn import Requests
 from service import Desk, Lost, Service, add_tenant, check, want
 
-NAMES = ("north-desk", "south-hall", "east-club")
+NAMES = ("north-desk", "south-hall", "east-club", "west-pier", "old-mill", "new-port", "high-gate",
+         "low-moor")
 
 
 class House:
@@ -32,10 +33,12 @@ class House:
         self.service.kill()
         self.service = None
 
+    def well(self):
+        """What standard error tells once a fault of the disk is over."""
+        return f"serving {self.db} again"
+
     def take_turn(self, place):
-        """The desk, which has the service's one connection from now on."""
-        for each in self.desks:
-            each.leave()
+        """The desk, on a new connection. The others keep theirs."""
         self.desks[place].connect(self.service)
         return self.desks[place]
 
@@ -53,8 +56,6 @@ class House:
     def compare(self):
         """Debits equal credits by the plain ledgers' sums, and each tenant sees its own."""
         for desk in self.desks:
-            for each in self.desks:
-                each.leave()
             desk.compare(self.service)
 
 

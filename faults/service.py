@@ -10,15 +10,12 @@ import resource
 import signal
 import socket
 import subprocess
-import tempfile
 import time
 
 from model import ACCOUNT_FIELDS, BALANCES, HISTORY, TRANSFER_FIELDS, Ledger
 
 TOP = pathlib.Path(__file__).resolve().parent.parent
 PATIENCE = 60
-# The service ends a connection behind so many replies, and one that is quiet for 0.05 seconds.
-TURN, MOST_QUIET = 64, 0.04
 STRINGS = {"id", "debit_account_id", "credit_account_id", "amount", "pending_id", "user_data_128",
            "user_data_64", "timestamp", *BALANCES}
 # What a command tells that memory or the disk has failed; a file whose first page cannot be read is
@@ -77,30 +74,47 @@ class Service:
     """A running service over a file."""
 
     def __init__(self, program, db, env=None):
-        self.port, self.errors = free_port(), tempfile.TemporaryFile()
+        self.port, self.text = free_port(), b""
+        self.errors, errors = os.pipe()
+        os.set_blocking(self.errors, False)
         self.served = subprocess.Popen(
             [program, "serve", "--db", db, "--port", str(self.port), "--requests", str(2**64 - 1)],
-            env=env, stderr=self.errors,
+            env=env, stderr=errors,
             preexec_fn=lambda: signal.signal(signal.SIGXFSZ, signal.SIG_IGN))
+        os.close(errors)
         atexit.register(self.served.kill)
+        self.wait_for_lines(1)
+        want(self.lines()[0].startswith(f"serving {db} on 127.0.0.1:{self.port}"),
+             f"serve tells {self.lines()}")
+
+    def wait_for_lines(self, many):
+        """Until so many lines stand on its standard error."""
         end = time.monotonic() + PATIENCE
-        while True:
-            want(self.served.poll() is None, f"serve ended: {self.served.poll()}")
-            try:
-                socket.create_connection(("127.0.0.1", self.port)).close()
-                return
-            except ConnectionRefusedError:
-                want(time.monotonic() < end, "serve does not listen")
-                time.sleep(0.01)
+        while len(self.lines()) < many:
+            want(self.served.poll() is None, f"serve ended: {self.served.poll()} {self.lines()}")
+            want(time.monotonic() < end, f"serve tells no more than {self.lines()}")
+            time.sleep(0.01)
 
     def limit_files(self, most):
         """No file grows beyond so many bytes from now on."""
         resource.prlimit(self.served.pid, resource.RLIMIT_FSIZE, (most, resource.RLIM_INFINITY))
 
+    def limit_connections(self, most):
+        """It has no more than so many descriptors from now on."""
+        hard = resource.prlimit(self.served.pid, resource.RLIMIT_NOFILE)[1]
+        resource.prlimit(self.served.pid, resource.RLIMIT_NOFILE, (most, hard))
+
+    def lines(self):
+        """The whole lines of its standard error so far."""
+        try:
+            self.text += os.read(self.errors, 1 << 20)
+        except BlockingIOError:
+            pass
+        return self.text.decode().split("\n")[:-1]
+
     def told(self):
-        """The lines of its standard error so far. They are read by place, since it writes to the
-        same file."""
-        return os.pread(self.errors.fileno(), 1 << 20, 0).decode().splitlines()
+        """Those behind the first, which says that it serves."""
+        return self.lines()[1:]
 
     def memory(self):
         """The bytes that the process has in memory."""
@@ -116,24 +130,22 @@ class Service:
         """It is not there any more."""
         self.served.kill()
         self.served.wait()
-        self.errors.close()
+        os.close(self.errors)
         atexit.unregister(self.served.kill)
 
 
 class Connection:
     """One connection, whose replies are read strictly."""
 
-    def __init__(self, port):
-        self.port = port
-        self.socket = socket.create_connection(("127.0.0.1", port), PATIENCE)
+    def __init__(self, port, room=None):
+        """With no more than so much room for what was not read, if that is told."""
+        self.socket = socket.socket()
+        self.socket.settimeout(PATIENCE)
+        if room:
+            self.socket.setsockopt(socket.SOL_SOCKET, socket.SO_RCVBUF, room)
+        self.socket.connect(("127.0.0.1", port))
         self.socket.setsockopt(socket.IPPROTO_TCP, socket.TCP_NODELAY, 1)
-        self.read, self.replies, self.quiet_since = b"", 0, None
-
-    def is_due(self):
-        """Whether the service has ended it, or is about to: behind 64 replies, or 50 milliseconds
-        behind one."""
-        quiet = self.quiet_since and time.monotonic() - self.quiet_since
-        return self.replies == TURN or bool(quiet and quiet > MOST_QUIET)
+        self.read = b""
 
     def close(self):
         self.socket.close()
@@ -171,7 +183,6 @@ class Connection:
             if not self.more():
                 raise Lost("the connection ended inside a reply")
         body, self.read = self.read[len(head) + 4:end], self.read[end:]
-        self.replies, self.quiet_since = self.replies + 1, time.monotonic()
         return status, kind, body
 
     def is_over(self):
@@ -205,7 +216,7 @@ class Desk:
 
     def __init__(self, key):
         self.key, self.ledger, self.asked = key, Ledger(), set()
-        self.connection, self.connected_again = None, 0
+        self.connection = None
 
     def connect(self, service):
         self.leave()
@@ -216,16 +227,8 @@ class Desk:
             self.connection.close()
         self.connection = None
 
-    def stay_connected(self):
-        """Connects again where the service has ended the connection, or is about to."""
-        if self.connection.is_due():
-            port = self.connection.port
-            self.leave()
-            self.connection, self.connected_again = Connection(port), self.connected_again + 1
-
     def ask(self, method, path, body=b""):
         """The reply to a message: None where it is `unavailable`."""
-        self.stay_connected()
         self.connection.send(message(method, path, self.key, body))
         return self.answer(method, path)
 
@@ -256,9 +259,18 @@ class Desk:
         want(told["results"] == expected,
              f"{body_of(events).decode()} is answered {told}, not {expected}")
 
+    def until_well(self):
+        """Asks until it is answered: a file that could not be opened again is tried anew, and then
+        after a second, two, four and so on."""
+        end = time.monotonic() + PATIENCE
+        while (told := self.ask("POST", "/accounts/lookup", b"[]")) is None:
+            want(time.monotonic() < end, "unavailable for a minute")
+            time.sleep(0.02)
+        return told
+
     def settle(self, events, transfers=True):
-        """After a lost reply the ledger's clock tells whether the batch was kept."""
-        clock = int(self.ask("POST", "/accounts/lookup", b"[]")["clock"])
+        """After a lost reply, or a refusal, the ledger's clock tells whether the batch was kept."""
+        clock = int(self.until_well()["clock"])
         if clock != self.ledger.clock:
             want(clock >= self.ledger.clock + len(events), f"the clock is {clock}")
             self.ledger.batch(events, clock, transfers)
@@ -286,11 +298,9 @@ class Desk:
                 yield newest(number), [line.split(",") for line in lines[:-11:-1]]
 
     def compare(self, service):
-        """Compares all that the tenant can see. What is expected is worked out before the service
-        is asked, which lets go of a client whose first message does not begin in 2 seconds."""
-        expected = list(self.expected())
+        """Compares all that the tenant can see."""
         self.connect(service)
-        for request, reply in expected:
+        for request, reply in self.expected():
             look_at(request, self.ask(*request), reply)
 
 

@@ -89,7 +89,7 @@ def nginx(folder, port, front, is_bare):
 def haproxy(folder, port, front):
     """haproxy by the configuration for operators, with the one instance that there is."""
     text = re.sub(r"bind 127\.0\.0\.1:\d+", f"bind 127.0.0.1:{front}", PROXY.read_text())
-    text = re.sub(r"server north .*", f"server north 127.0.0.1:{port} maxconn 1", text)
+    text = re.sub(r"server north .*", f"server north 127.0.0.1:{port} maxconn 900", text)
     path = pathlib.Path(folder, "haproxy.cfg")
     path.write_text(re.sub(r"server south .*", "", text))
     return subprocess.Popen(["haproxy", "-db", "-f", str(path)])

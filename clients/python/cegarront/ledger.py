@@ -66,7 +66,7 @@ class Ledger:
         timeout: float = 10.0,
         deadline: float = 60.0,
         connections: int = 4,
-        max_idle: float = 0.03,
+        max_idle: float = 60,
         context: Optional[ssl.SSLContext] = None,
     ) -> None:
         if not re.fullmatch("[0-9A-Fa-f]{64}", key):

@@ -1,0 +1,207 @@
+"""Each limit of the service for its clients, met once, beside a client that is served all the
+while."""
+
+import json
+import resource
+import socket
+import threading
+import time
+
+from drawn import LEDGER, transfer
+from runs import House
+from service import Connection, Lost, body_of, message, want
+
+# So many clients are served at once, and so many large bodies are read at once.
+MOST_CLIENTS, MOST_BODIES = 1000, 128
+# The seconds that a message has, and a quiet client; what a busy machine adds is not the service's.
+MESSAGE, IDLE, ADDED = 10, 75, 20
+
+
+def limits(trial):
+    """Clients that are slow, silent, too many, or do not read."""
+    soft, hard = resource.getrlimit(resource.RLIMIT_NOFILE)
+    resource.setrlimit(resource.RLIMIT_NOFILE, (min(hard, 4096), hard))
+    house = House(trial.fresh(), 3)
+    house.begin()
+    fill(house)
+    waits = [slow_message, unread_replies, many_bodies, *([idle] if trial.is_long else [])]
+    told = [Limit(wait, house) for wait in waits]
+    beside = Beside(house)
+    for each in (*told, beside):
+        each.start()
+    for each in told:
+        each.join()
+    worst = beside.end()
+    for each in (*told, beside):
+        if each.surprise:
+            raise each.surprise
+    too_many(house)
+    few_descriptors(house)
+    house.compare()
+    house.stop()
+    resource.setrlimit(resource.RLIMIT_NOFILE, (soft, hard))
+    seconds = ", ".join(f"{each.wait.__name__} {each.took:.1f} s" for each in told)
+    return f"each limit held ({seconds}); a client beside them waited for {worst:.2f} s at most"
+
+
+class Limit(threading.Thread):
+    """A limit that is met in a thread of its own."""
+
+    def __init__(self, wait, house):
+        super().__init__(daemon=True)
+        self.wait, self.house, self.took, self.surprise = wait, house, 0.0, None
+
+    def run(self):
+        start = time.monotonic()
+        try:
+            self.wait(self.house)
+        except Exception as surprise:
+            self.surprise = surprise
+        self.took = time.monotonic() - start
+
+
+class Beside(Limit):
+    """A tenant that asks again and again on one connection, and is answered each time."""
+
+    def __init__(self, house):
+        super().__init__(self.ask, house)
+        self.is_over, self.worst = threading.Event(), 0.0
+
+    def ask(self, house):
+        desk = house.take_turn(2)
+        while not self.is_over.is_set():
+            start = time.monotonic()
+            want(desk.batch([]), "unavailable, beside others")
+            self.worst = max(self.worst, time.monotonic() - start)
+            time.sleep(0.02)
+
+    def end(self):
+        """The seconds of the longest wait."""
+        self.is_over.set()
+        self.join()
+        return self.worst
+
+
+def ends(connection, least, most):
+    """The connection ends, with no byte more, within these seconds from now."""
+    start = time.monotonic()
+    connection.socket.settimeout(most + ADDED)
+    want(connection.is_over(), "a byte, where the connection should end")
+    took = time.monotonic() - start
+    want(least <= took <= most + ADDED, f"ended after {took:.1f} s, not {least} to {most}")
+
+
+def fill(house):
+    """Transfers of the second tenant, so that a page of its history is long."""
+    desk = house.take_turn(1)
+    for first in range(10**9, 10**9 + 1000, 500):
+        moved = [transfer(first + place, debit_account_id=1, credit_account_id=2, amount=1,
+                          ledger=LEDGER, code=1) for place in range(500)]
+        want(desk.batch(moved), "unavailable, with all at hand")
+
+
+def slow_message(house):
+    """A byte a second of a message: ended 10 seconds behind its first byte, and not answered."""
+    connection = Connection(house.service.port)
+    sent = message("POST", "/transfers", house.desks[0].key, b"[]")
+    start = time.monotonic()
+    for place in range(len(sent)):
+        try:
+            connection.send(sent[place:place + 1])
+            connection.socket.settimeout(1)
+            if not connection.socket.recv(1):
+                break
+        except socket.timeout:
+            continue
+        except (OSError, Lost):
+            break
+    took = time.monotonic() - start
+    want(MESSAGE - 1 <= took <= MESSAGE + ADDED, f"a slow message ended after {took:.1f} s")
+
+
+def unread_replies(house):
+    """A client that reads none of its replies is let go. On a busy machine that takes longer, since
+    what the service takes itself counts for nobody."""
+    want(any(is_let_go(house, pause) for pause in (6, ADDED, 3 * ADDED)),
+         "a client that reads nothing is kept")
+
+
+def is_let_go(house, pause):
+    """Forty pages of a history are asked for at once, and read behind a pause: not all of them."""
+    page = json.dumps({"account_id": "1", "limit": 1000, "flags": 3}).encode()
+    asked = message("POST", "/history/transfers", house.desks[1].key, page)
+    connection = Connection(house.service.port, room=1 << 16)
+    connection.send(asked * 40)
+    time.sleep(MESSAGE + pause)
+    connection.socket.settimeout(5)
+    read = 0
+    try:
+        while piece := connection.socket.recv(1 << 16):
+            read += len(piece)
+    except socket.timeout:
+        return False
+    except OSError:
+        pass
+    return read < 40 * 200_000
+
+
+def many_bodies(house):
+    """As many begun bodies as are read at once: a large batch waits until they have had their
+    time."""
+    key = house.desks[0].key
+    begun = message("POST", "/transfers", key, b" " * 2_000_000)[:100_000 + 200]
+    held = [Connection(house.service.port) for _ in range(MOST_BODIES)]
+    for each in held:
+        each.send(begun)
+    time.sleep(1)
+    moved = [transfer(2 * 10**9 + place, debit_account_id=1, credit_account_id=2, amount=1,
+                      ledger=LEDGER, code=1, user_data_128=10**38) for place in range(1000)]
+    want(len(body_of(moved)) > 1 << 16, "a small batch")
+    start = time.monotonic()
+    want(house.take_turn(0).batch(moved), "unavailable, beside bodies that have begun")
+    took = time.monotonic() - start
+    want(took < MESSAGE + ADDED, f"a large batch waited for {took:.1f} s")
+    for each in held:
+        ends(each, 0, MESSAGE)
+        each.close()
+
+
+def idle(house):
+    """A client that says nothing more is let go after 75 seconds."""
+    connection = Connection(house.service.port)
+    connection.send(message("POST", "/transfers", house.desks[0].key, b"[]"))
+    connection.reply()
+    ends(connection, IDLE - 1, IDLE)
+
+
+def too_many(house):
+    """As many clients as are served at once, and ten more: those that were idle for longest go."""
+    held = [Connection(house.service.port) for _ in range(MOST_CLIENTS)]
+    time.sleep(1)
+    want(house.take_turn(0).batch([]), "unavailable, beside a thousand")
+    more = [Connection(house.service.port) for _ in range(10)]
+    for each in more:
+        each.send(message("POST", "/x", house.desks[0].key))
+        want(each.reply()[0] == "404 Not Found", "no reply to one client more")
+    ends(held[0], 0, 1)
+    held[-1].send(message("POST", "/x", house.desks[0].key))
+    want(held[-1].reply()[0] == "404 Not Found", "the last of the thousand is not served")
+    for each in (*held, *more):
+        each.close()
+
+
+def few_descriptors(house):
+    """With no descriptor left the service goes on with whom it has, and takes others later."""
+    desk = house.take_turn(0)
+    want(desk.batch([]), "unavailable, with all at hand")
+    house.service.limit_connections(24)
+    held = [Connection(house.service.port) for _ in range(40)]
+    for _ in range(5):
+        want(desk.batch([]), "unavailable, with no descriptor left")
+        time.sleep(0.1)
+    house.service.limit_connections(1024)
+    for each in held:
+        each.send(message("POST", "/x", desk.key))
+    for each in held:
+        want(each.reply()[0] == "404 Not Found", "not served, with descriptors again")
+        each.close()
