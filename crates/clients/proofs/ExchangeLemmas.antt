@@ -2,7 +2,7 @@
 use Rattle.std.proofs.Common.{◌≡◌, ◌≢◌, ◌⊎◌, ⊎_elim, inl, inr, refl, ap, sym, ◌∙◌, subst, ℕ, Bool, true, false, List, ◌++◌, take, drop, Some}
 use Rattle.std.proofs.lemmas.Bool.{and_parts}
 use Rattle.std.proofs.lemmas.List.{append-nil}
-use Rattle.chain.specs.Ledgers.{LedgersMeaning}
+use Rattle.chain.specs.Ledgers.{LedgersMeaning, Finds}
 use Rattle.ledger_http.specs.declared.refusal.Refusal.{Refusal}
 use Rattle.ledger_http.specs.declared.refusal.Refusal.TheVariants.{Truncated}
 use Rattle.ledger_http.specs.declared.reply.Reply.{Reply}
@@ -10,7 +10,7 @@ use Rattle.ledger_http.specs.declared.reply.Reply.TheVariants.{Fixed}
 use Rattle.ledger_http.specs.ReplyText.{reply_text}
 use Rattle.ledger_http.specs.Message.{Begins, IsRefused, IsAnnounced}
 use Rattle.ledger_http.specs.Unread.{Unread, without, IsWhole}
-use Rattle.service.specs.Responds.{Responds, RefusesEarly}
+use Rattle.service.specs.Responds.{Responds, RefusesEarly, IsAnswered, IsLeftBy}
 use Rattle.clients.specs.Talk.{Talk, may_answer, is_empty}
 use Rattle.clients.specs.Answering.{MayCome, IsExchange, IsUnmoved, HasReplied, GivesUp}
 
@@ -38,9 +38,12 @@ answers_at :
     BeginsStay → IsWhole old.bytes size → gives moments moment moments_now →
     (t.is_live ledgers_now →
     Responds (t.tenants ledgers) (t.tenants ledgers_now) (take size old.bytes) moment reply) →
-    RefusesEarly (take size old.bytes) reply → t.follows ledgers ledgers_now →
+    RefusesEarly (take size old.bytes) reply →
+    Finds t (IsAnswered (take size old.bytes) reply) (IsLeftBy (take size old.bytes) moment) ledgers
+    ledgers_now →
+    t.follows ledgers ledgers_now →
     IsExchange t gives ledgers moments old reply ledgers_now moments_now (without size old) true
-answers_at t gives ledgers ledgers_now moments moments_now old size moment reply stays whole given responds early follows later may =
+answers_at t gives ledgers ledgers_now moments moments_now old size moment reply stays whole given responds early finds follows later may =
     record {
       open_before = refl;
       by = inl (record {
@@ -53,6 +56,7 @@ answers_at t gives ledgers ledgers_now moments moments_now old size moment reply
         given = given;
         responds = responds;
         early = early;
+        finds = finds;
         follows = follows;
         goes_on = refl;
       });
@@ -67,10 +71,12 @@ pub answers_whole :
     IsWhole old.bytes size → gives moments moment moments_now →
     (t.is_live ledgers_now →
     Responds (t.tenants ledgers) (t.tenants ledgers_now) message moment reply) →
-    RefusesEarly message reply → t.follows ledgers ledgers_now →
+    RefusesEarly message reply →
+    Finds t (IsAnswered message reply) (IsLeftBy message moment) ledgers ledgers_now →
+    t.follows ledgers ledgers_now →
     IsExchange t gives ledgers moments old reply ledgers_now moments_now now true
     × (now.ended ≡ old.ended)
-answers_whole t gives ledgers ledgers_now moments moments_now old same now message size moment reply stays is taken front whole given responds early follows =
+answers_whole t gives ledgers ledgers_now moments moments_now old same now message size moment reply stays is taken front whole given responds early finds follows =
     let first : message ≡ take size old.bytes =
     front ∙ ap (λ (unread : Unread). take size unread.bytes) is in
     let left : now ≡ without size old = taken ∙ ap (λ (unread : Unread). without size unread) is in (
@@ -86,6 +92,10 @@ answers_whole t gives ledgers ledgers_now moments moments_now old same now messa
           Responds (t.tenants ledgers) (t.tenants ledgers_now) bytes moment reply)
           first (responds live))
           (subst (λ (bytes : List ℕ). RefusesEarly bytes reply) first early)
+          (subst
+          (λ (bytes : List ℕ).
+          Finds t (IsAnswered bytes reply) (IsLeftBy bytes moment) ledgers ledgers_now)
+          first finds)
           follows),
       ap (λ (unread : Unread). unread.ended) left,
     )

@@ -2,3 +2,4 @@ mod ServingLemmas
 mod AddLemmas
 pub mod ExtractLemmas
 mod AskLemmas
+pub mod RenewLemmas

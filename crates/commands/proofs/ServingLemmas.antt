@@ -1,37 +1,48 @@
 -- What was done behind what was done before.
-use Rattle.std.proofs.Common.{◌≡◌, ◌+◌, refl, sym, ap, ◌∙◌, subst, ℕ, List, ◌++◌, append_assoc, length}
-use Rattle.std.proofs.lemmas.List.{append-nil, length-append}
-use Rattle.std.proofs.lemmas.Grind.{flat_map-append}
-use Rattle.clients.specs.Answering.{MayCome}
-use Rattle.clients.specs.Deeds.{Deed, IsServed, come_from, told_in, all_told, written_to}
+use Rattle.std.specs.Prelude.{⊤}
+use Rattle.std.proofs.Common.{◌≡◌, ◌≤◌, ◌<◌, refl, ℕ, List, Result, OnOk, OnErr}
+use Rattle.service.specs.Openings.{run_meaning, IsSettled}
+use Rattle.clients.specs.Deeds.{Deed}
+use Rattle.polling.specs.Courses.{IsCourse, ServesEachAlone}
+use Rattle.polling.specs.Ending.{Ends, Enough, Quiet, Long, most_turns}
 use Rattle.polling.specs.Laws.{EachIsServed, empty_hall}
-use Rattle.polling.specs.Seating.{replies_in}
-use Rattle.polling.specs.Serving.{Hall, Rules, Serves, Begin, Then}
+use Rattle.polling.specs.Seating.{Held, Keeps, replies_in}
+use Rattle.polling.specs.Serving.{Hall, Rules, Serves, tellings}
+use Rattle.command_texts.specs.declared.fault.Fault.{Fault}
+use Rattle.commands.specs.Serving.{ServesClients}
 
-pub serves_on :
-    {S C P : Type 0} (r : Rules S C P) (first mid last : Hall S C P) (before more : List Deed) →
-    Serves S C P r first before mid → Serves S C P r mid more last →
-    Serves S C P r first (before ++ more) last
-serves_on {S} {C} {P} r first mid last before more did Begin =
-    subst (λ (all : List Deed). Serves S C P r first all mid) (sym (append-nil before)) did
-serves_on {S} {C} {P} r first mid last before more did (Then deeds between next_deeds next rest happens) =
-    subst (λ (all : List Deed). Serves S C P r first all next) (append_assoc before deeds next_deeds)
-    (Then (before ++ deeds) between next_deeds next
-    (serves_on r first mid between before deeds did rest) happens)
+module _ {S C P : Type 0} (r : Rules S C P) where
+  -- serving that ended otherwise than by enough
+  pub ended_short :
+      (is_enough : Type 0) (old new : Held S C P) (replies : ℕ) → (is_enough → ⊥) →
+      Ends S C P r is_enough old new replies → Ends S C P r ⊥ old new replies
+  ended_short is_enough old new replies short (Enough enough) = absurd (short enough)
+  ended_short is_enough old new replies short (Quiet quiet) = Quiet quiet
+  ended_short is_enough old new replies short (Long turns) = Long turns
 
-pub replies_on :
-    (before more : List Deed) → replies_in (before ++ more) ≡ replies_in before + replies_in more
-replies_on before more =
-    ap (λ told. length told) (flat_map-append told_in before more)
-    ∙ length-append (all_told before) (all_told more)
-
--- what each client was written of whom nothing had come
-pub each_written :
-    {S C P : Type 0} {r : Rules S C P} → EachIsServed r →
-    (ledgers : S) (moments : C) (peers : P) (last : Hall S C P) (deeds : List Deed) →
-    Serves S C P r (empty_hall ledgers moments peers) deeds last →
-    (client : ℕ) (later : List ℕ) → MayCome (last.room.talks client).unread later →
-    IsServed r.means r.gives (come_from client deeds) later (written_to client deeds)
-    (last.room.talks client)
-each_written law ledgers moments peers last deeds served client later may =
-    law (empty_hall ledgers moments peers) last deeds served client refl later may
+  -- what was served of whom nothing had come
+  pub serves_so :
+      EachIsServed r → IsCourse r → ServesEachAlone r →
+      (ledgers : S) (moments : C) (peers : P) → IsSettled (run_meaning r.means) ledgers →
+      (last : Hall S C P) (deeds : List Deed)
+      (served : Serves S C P r (empty_hall ledgers moments peers) deeds last) (now : Held S C P) →
+      Keeps now last → (most : ℕ) (result : Result ⊤ Fault) → OnOk result (replies_in deeds ≡ most) →
+      OnErr result (replies_in deeds < most) → OnErr result (most_turns ≤ tellings served) →
+      ServesClients r ledgers moments peers most now.ledgers now.moments now.peers result
+  serves_so each course alone ledgers moments peers settled last deeds served now keeps most result
+      enough few asked =
+      let first = empty_hall ledgers moments peers in
+      record {
+        deeds = deeds;
+        last = last;
+        served = served;
+        ledgers_left = keeps.ledgers;
+        moments_left = keeps.moments;
+        peers_left = keeps.peers;
+        each = λ client later may. each first last deeds served client refl later may;
+        course = λ renewals live. course renewals first last deeds served live settled;
+        alone = λ renewals events began end is. alone renewals first last deeds served events began end is;
+        enough = enough;
+        few = few;
+        asked = asked;
+      }

@@ -2,7 +2,11 @@
 use Rattle.std.specs.Prelude.{◌≡◌, Bool, false, None, IsTrue}
 use Rattle.sqlite_disk.specs.declared.Disk as disk
 use Rattle.chain.specs.Ledgers.{LedgersMeaning, Tenants, AreValid}
+use Rattle.service.specs.Openings.{RunMeaning, run_meaning, IsSettled, IsOpened}
+use Rattle.polling.specs.Courses.{Renewed, Stayed, Opened, Refused}
+use Rattle.polling.specs.Courses as renewed
 use Rattle.store.specs.StoreLaws.{store_meaning}
+use Rattle.store.specs.Stores.{IsLive}
 use Rattle.store.specs.declared.store.Store.{Store}
 use Rattle.commands.specs.declared.kept.Kept.{Kept}
 use Rattle.commands.specs.declared.kept.Kept.TheVariants.{Open, Closed}
@@ -81,9 +85,38 @@ module _ {D : Type 0} {g : disk.Ghosts D} where
   answers (Open store) = store.ready
   answers Closed = false
 
-  -- such a store stays as it is
-  abbrev pub Renews : Kept (Store D g) → Kept (Store D g) → Type 0
-  Renews old new = IsTrue (answers old) → new ≡ old
+  -- what a store that may not be there means, where it is opened again
+  abbrev pub kept_store : RunMeaning (Kept (Store D g))
+  kept_store = run_meaning (kept_meaning store_meaning)
+
+  -- opening a store again over its own files was refused, and what is left of it answers no calls and
+  -- is not live; or there was none
+  abbrev pub WasRefused : (old left : Kept (Store D g)) → Type 0
+  WasRefused (Open old) (Open left) = (left.ready ≡ false) × (IsLive left → ⊥)
+  WasRefused (Open old) Closed = ⊥
+  WasRefused Closed (Open left) = ⊥
+  WasRefused Closed Closed = Unit {0}
+
+  -- what opening again makes of a store: one that answers calls stays as it is; any other may stay,
+  -- or is opened again over its own files, and is what was to be found there; or that is refused, and
+  -- a store is opened anew in its place; or that is refused too, and none answers
+  pub data Renews (old new : Kept (Store D g)) : Type 0 where
+    Stays : new ≡ old → Renews old new
+    Again :
+        answers old ≡ false → IsTrue (answers new) → IsOpened kept_store old new → Renews old new
+    Anew :
+        (left : Kept (Store D g)) → answers old ≡ false → WasRefused old left →
+        IsTrue (answers new) → IsSettled kept_store new → Renews old new
+    Refuses :
+        answers old ≡ false → answers new ≡ false → (IsLiveKept store_meaning new → ⊥)
+        → Renews old new
+
+  -- the same as it is told of any ledgers
+  abbrev pub renewal_of : (old new : Kept (Store D g)) → Renews old new → Renewed kept_store old new
+  renewal_of old new (Stays same) = Stayed same
+  renewal_of old new (Again silent answering opened) = Opened opened
+  renewal_of old new (Anew left silent refused answering settled) = renewed.Anew settled
+  renewal_of old new (Refuses silent none dead) = Refused dead
 
   -- the store, if it is there, may be called
   abbrev pub MayBeCalled : Kept (Store D g) → Type 0

@@ -1,22 +1,30 @@
 -- What serving many clients comes to, until so many messages were replied to.
-use Rattle.std.specs.Prelude.{◌≡◌, ℕ, List, ⊤, Result, OnOk}
+use Rattle.std.specs.Prelude.{◌≡◌, ◌≤◌, ◌<◌, ℕ, List, ⊤, Result, OnOk, OnErr}
 use Rattle.sqlite_disk.specs.declared.Disk as disk
+use Rattle.chain.specs.Ledgers.{Tenants}
+use Rattle.service.specs.Courses.{Event}
+use Rattle.service.specs.Openings.{run_meaning, CourseSince, HasLed}
+use Rattle.service.specs.OwnDeeds.{SeesItself}
 use Rattle.clients.specs.Answering.{MayCome}
 use Rattle.clients.specs.Deeds.{Deed, IsServed, come_from, written_to}
+use Rattle.polling.specs.Courses.{AreRenewals, IsSince}
+use Rattle.polling.specs.Ending.{most_turns}
 use Rattle.polling.specs.Laws.{empty_hall}
 use Rattle.polling.specs.Peers.{Doing}
 use Rattle.polling.specs.Seating.{replies_in}
-use Rattle.polling.specs.Serving.{Hall, Rules, Serves, rules}
+use Rattle.polling.specs.Serving.{Hall, Rules, Serves, rules, tellings}
 use Rattle.store.specs.StoreLaws.{store_meaning}
+use Rattle.store.specs.Stores.{IsLive}
 use Rattle.store.specs.declared.store.Store.{Store}
-use Rattle.commands.specs.Kept.{kept_meaning, Renews}
+use Rattle.commands.specs.Kept.{kept_meaning, kept_store, Renews, renewal_of}
 use Rattle.commands.specs.declared.kept.Kept.{Kept}
 use Rattle.commands.specs.declared.kept.Kept.TheVariants.{Open}
 use Rattle.command_texts.specs.declared.fault.Fault.{Fault}
 
 -- clients were served from the first that came, until so many messages were replied to, and no
--- more, unless there is a fault; each was written a beginning of the replies to its own messages, in
--- order, one a message
+-- more; or, with a fault, fewer were, and peers told 2^64 - 1 times at least what had happened; each
+-- was written a beginning of the replies to its own messages, in order, one a message; and over live
+-- ledgers all that was done is a course, in which each tenant sees its own deeds alone
 pub record ServesClients {S C P : Type 0} (r : Rules S C P) (ledgers : S) (moments : C) (peers : P)
     (most : ℕ) (ledgers_now : S) (moments_now : C) (peers_now : P) (result : Result ⊤ Fault) :
     Type 0 where
@@ -31,7 +39,19 @@ pub record ServesClients {S C P : Type 0} (r : Rules S C P) (ledgers : S) (momen
       → MayCome (last.room.talks client).unread later
       → IsServed r.means r.gives (come_from client deeds) later (written_to client deeds)
       (last.room.talks client)
+  pub course :
+      (renewals : AreRenewals r)
+      → r.means.is_live ledgers
+      → HasLed (run_meaning r.means)
+      (IsSince renewals (empty_hall ledgers moments peers) deeds last served) last.room.ledgers
+  pub alone :
+      (renewals : AreRenewals r) (events : List Event) (began now : Tenants)
+      → CourseSince (IsSince renewals (empty_hall ledgers moments peers) deeds last served) events
+      began now
+      → (digest : List ℕ) → SeesItself began events now digest
   pub enough : OnOk result (replies_in deeds ≡ most)
+  pub few : OnErr result (replies_in deeds < most)
+  pub asked : OnErr result (most_turns ≤ tellings served)
 
 module _ {D : Type 0} {g : disk.Ghosts D} {C P : Type 0} (gives : C → ℕ → C → Type 0)
     (does : P → Doing → P → Type 0) where
@@ -40,8 +60,16 @@ module _ {D : Type 0} {g : disk.Ghosts D} {C P : Type 0} (gives : C → ℕ → 
   abbrev pub store_rules : Rules (Kept (Store D g)) C P
   store_rules = rules (kept_meaning store_meaning) gives Renews does
 
-  -- clients were served by a store, whenever it was opened again, or by what stood in its place
-  abbrev pub ServesStore : Store D g → C → P → ℕ → C → P → Result ⊤ Fault → Type 0
-  ServesStore store moments peers most moments_now peers_now result =
-      (kept : Kept (Store D g))
-      × ServesClients store_rules (Open store) moments peers most kept moments_now peers_now result
+  -- clients were served by a store, whenever it was opened again, or by what stood in its place; and
+  -- if it was live when this began, all that was done is a course of what happened to it, begun anew
+  -- only where an opening was refused or a store opened anew
+  pub record ServesStore (store : Store D g) (moments : C) (peers : P) (most : ℕ) (moments_now : C)
+      (peers_now : P) (result : Result ⊤ Fault) : Type 0 where
+    pub kept : Kept (Store D g)
+    pub served :
+        ServesClients store_rules (Open store) moments peers most kept moments_now peers_now result
+    pub course :
+        IsLive store
+        → HasLed kept_store
+        (IsSince renewal_of (empty_hall (Open store) moments peers) served.deeds served.last
+        served.served) kept

@@ -61,7 +61,7 @@ impl HostFile<'_> {
 }
 
 /// Serves the ledger in a file on a port of 127.0.0.1, at the moments of the machine's clock, until
-/// `most` replies are written. The port is bound first, so that clients wait while the file is
+/// `most` messages were replied to. The port is bound first, so that clients wait while the file is
 /// opened, and are served once it is.
 pub fn serve_file(rt: &HostRuntime, db: &str, port: u16, most: u64) -> Result<(), Fault>
     ensures { IfErr result (λ fault. IsOpeningFault fault ⊎ (fault ≡ Fault.Socket)) }

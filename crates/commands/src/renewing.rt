@@ -1,7 +1,9 @@
 //! A store that is opened again where its disk fails.
-ghost use Rattle.std.specs.Prelude.{◌≡◌, ◌≤◌, ◌*◌, min, IfErr, IfOk, IsTrue, OnOk};
-ghost use Rattle.store.specs.Stores.{IsReady, IsUsable};
-ghost use Rattle.commands.specs.Kept.{answers, MayBeCalled, Renews};
+ghost use Rattle.std.specs.Prelude.{◌≡◌, ◌≤◌, ◌*◌, min, false, IfErr, IfOk, IsTrue, OnErr, OnOk};
+ghost use Rattle.service.specs.Openings.{run_meaning, IsSettled, IsOpened};
+ghost use Rattle.store.specs.Stores.{IsLive, IsReady, IsUsable};
+ghost use Rattle.store.specs.StoreLaws.{store_meaning};
+ghost use Rattle.commands.specs.Kept.{answers, kept_store, IsLiveKept, MayBeCalled, Renews};
 ghost use Rattle.commands.specs.Openings.{IsOpeningFault};
 
 use crate::kept::Kept;
@@ -94,6 +96,13 @@ fn twice(seconds: u64) -> u64
 impl<D: Disk + Drop, H: Home<D>, K: Clock> Reopen<Kept<Store<D>>> for Renewing<'_, H, K> {
     ghost renews = { λ old new. Renews old new };
 
+    fn is_settled(kept: &Kept<Store<D>>) {
+        match kept {
+            Kept::Open(store) => store.is_settled(),
+            Kept::Closed => {}
+        }
+    }
+
     fn reopen(&mut self, kept: &mut Kept<Store<D>>) {
         if is_answering(kept) || !self.is_time() {
             return;
@@ -133,30 +142,58 @@ fn tell_answers<D: Disk + Drop, H: Home<D>>(home: &H, kept: &Kept<Store<D>>)
     }
 }
 
-// Opens the store again over its files. Where their disk fails that too, it lets go of them, and
-// the store is opened anew; any other refusal leaves it to be tried again.
-fn opened_again<D: Disk + Drop, H: Home<D>>(
-    home: &H,
-    kept: &mut Kept<Store<D>>,
-) -> Result<(), Fault>
-    requires { MayBeCalled kept.old }
+// Opens a store again over its own files.
+fn reopened<D: Disk + Drop>(store: &mut Store<D>) -> Result<(), OpenFault>
+    ensures usable { IsUsable store.new }
+    ensures ready { OnOk result (IsReady store.new) }
+    ensures opened { OnOk result (IsOpened (run_meaning store_meaning) store.old store.new) }
+    ensures refused { OnErr result (store.new.ready ≡ false) }
+    ensures shut { OnErr result (IsLive store.new → ⊥) }
+{
+    let opened = store.reopen(&FullAudit);
+    store.is_settled();
+    opened
+}
+
+// Opens a store anew, where there is none or its files were refused: it lets go of them first.
+fn open_anew<D: Disk + Drop, H: Home<D>>(home: &H, kept: &mut Kept<Store<D>>) -> Result<(), Fault>
+    requires { IsLiveKept store_meaning kept.old → ⊥ }
     ensures usable { MayBeCalled kept.new }
     ensures answers { OnOk result (IsTrue (answers kept.new)) }
+    ensures settled { OnOk result (IsSettled kept_store kept.new) }
+    ensures refused { OnErr result (kept.new ≡ Kept.Closed) }
     ensures fault { IfErr result IsOpeningFault }
 {
-    if let Kept::Open(store) = kept {
-        match store.reopen(&FullAudit) {
-            Ok(()) => return Ok(()),
-            Err(OpenFault::Unavailable(Unavailable::Disk)) => {}
-            Err(fault) => return Err(open_fault(fault)),
-        }
-    }
     *kept = Kept::Closed;
     match home.open_store() {
         Ok(store) => {
+            store.is_settled();
             *kept = Kept::Open(store);
             Ok(())
         }
         Err(fault) => Err(fault),
+    }
+}
+
+// Opens the store again over its files. Where their disk fails that too, the store is opened anew;
+// any other refusal leaves it to be tried again.
+fn opened_again<D: Disk + Drop, H: Home<D>>(
+    home: &H,
+    kept: &mut Kept<Store<D>>,
+) -> Result<(), Fault>
+    requires usable { MayBeCalled kept.old }
+    requires silent { answers kept.old ≡ false }
+    ensures usable { MayBeCalled kept.new }
+    ensures answers { OnOk result (IsTrue (answers kept.new)) }
+    ensures renews { Renews kept.old kept.new }
+    ensures fault { IfErr result IsOpeningFault }
+{
+    match kept {
+        Kept::Open(store) => match reopened(store) {
+            Ok(()) => Ok(()),
+            Err(OpenFault::Unavailable(Unavailable::Disk)) => open_anew(home, kept),
+            Err(fault) => Err(open_fault(fault)),
+        },
+        Kept::Closed => open_anew(home, kept),
     }
 }

@@ -6,7 +6,8 @@ ghost use Rattle.commands.specs.Serving.{ServesClients};
 use chain::Ledgers;
 use command_texts::Fault;
 use polling::{
-    Peers, Reopen, Seats, each_is_served, serve_ready, serving_begins_empty, write_rest,
+    Peers, Reopen, Seats, each_is_served, serve_ready, serving_begins_empty, serving_goes_on,
+    serving_is_a_course, write_rest,
 };
 use service::Moments;
 use std::alloc::Global;
@@ -15,7 +16,7 @@ use std::alloc::Global;
 const PIECE: usize = 65_536;
 
 /// Serves those who are connected, until `most` messages were replied to; then what is left of
-/// replies is written. `Socket` where that does not come about in 2^64 rounds.
+/// replies is written. `Socket` where fewer were in 2^64 - 1 rounds.
 pub(crate) fn serve_clients<L: Ledgers, H: Reopen<L>, C: Moments, P: Peers>(
     alloc: Global,
     peers: &mut P,
@@ -31,17 +32,20 @@ pub(crate) fn serve_clients<L: Ledgers, H: Reopen<L>, C: Moments, P: Peers>(
 {
     serving_begins_empty::<L, C, P>();
     each_is_served::<L, H, C, P>();
+    serving_is_a_course::<L, H, C, P>();
+    serving_goes_on::<L, H, C, P>();
+    H::is_settled(ledgers);
     let mut seats = Seats::new(alloc);
     let mut piece = [0; PIECE];
     let mut left = most;
     for _ in 0..u64::MAX {
+        left -= serve_ready(
+            alloc, peers, &mut seats, ledgers, home, moments, &mut piece, left,
+        );
         if left == 0 {
             write_rest::<L, H, C, P>(peers, &mut seats);
             return Ok(());
         }
-        left -= serve_ready(
-            alloc, peers, &mut seats, ledgers, home, moments, &mut piece, left,
-        );
     }
     Err(Fault::Socket)
 }

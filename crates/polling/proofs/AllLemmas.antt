@@ -7,7 +7,7 @@ use Rattle.clients.specs.Talk.{Talk, new_talk}
 use Rattle.polling.specs.Peers.{Said, Stirred}
 use Rattle.polling.specs.declared.peers.Told.{Told}
 use Rattle.polling.specs.Serving.{Hall, hall, Rules, gone_with, Happens, Tells, Stirs, Again, Serves, Begin}
-use Rattle.polling.specs.Seating.{with_talk, ServesOne, SeatsNow, AreSame, HadNone, held, Held, ServesAll}
+use Rattle.polling.specs.Seating.{with_talk, ServesOne, SeatsNow, AreSame, HadNone, held, Held, Keeps, ServesAll}
 use Rattle.polling.specs.declared.step.Step.TheVariants as step
 use Rattle.polling.proofs.OneLemmas.{Stays, goes, once, serves_on, replies_both, with_talk-own, with_talk-other}
 
@@ -110,6 +110,21 @@ module _ {S C P : Type 0} where
       had_none r ledgers ledgers moments moments peers peers seats seats_now next
       (record { ledgers_same = refl; moments_same = refl; peers_same = refl; seats_same = same })
 
+  -- whoever is connected
+  pub keeps_peers :
+      (old : Held S C P) (all : Hall S C P) (peers : P) → Keeps old all →
+      Keeps (record old { peers = peers }) (record all { peers = peers })
+  keeps_peers old all peers keeps = record {
+    ledgers = keeps.ledgers;
+    moments = keeps.moments;
+    peers = refl;
+    seated = keeps.seated;
+    there = keeps.there;
+    below = keeps.below;
+    unused = keeps.unused;
+    not_gone = keeps.not_gone;
+  }
+
   -- something happens among peers alone
   among_peers :
       (r : Rules S C P) (ledgers : S) (moments : C) (peers peers_now : P)
@@ -121,16 +136,7 @@ module _ {S C P : Type 0} where
     [],
     record first { peers = peers_now },
     once r first (record first { peers = peers_now }) [] (happens first keeps.peers),
-    record {
-      ledgers = keeps.ledgers;
-      moments = keeps.moments;
-      peers = refl;
-      seated = keeps.seated;
-      there = keeps.there;
-      below = keeps.below;
-      unused = keeps.unused;
-      not_gone = keeps.not_gone;
-    },
+    keeps_peers (held ledgers moments peers seats next) first peers_now keeps,
     refl,
   )
 

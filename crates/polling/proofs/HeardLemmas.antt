@@ -96,7 +96,7 @@ module _ {S C P : Type 0} (r : Rules S C P) where
       HearTheirOwn r.means r.gives → AreExchanges r.means r.gives → (last next : Hall S C P)
       (more : List Deed) → Happens S C P r last more next → (client : ℕ) (later : List ℕ) →
       MayCome (next.room.talks client).unread later → HearsBy last.room more next.room client later
-  step_heard hear exchanges last next more (Did deed room peers live done hands) client later may =
+  step_heard hear exchanges last next more (Did deed room peers live done settled hands) client later may =
       deed_heard hear exchanges last.room room deed done client later may
   step_heard hear exchanges last next more (Tells told peers does) client later may = Nothing_yet
   step_heard hear exchanges last next more (Stirs peers does) client later may = Nothing_yet
@@ -109,7 +109,7 @@ module _ {S C P : Type 0} (r : Rules S C P) where
       Happens S C P r last more next → (client : ℕ) (later : List ℕ) →
       MayCome (next.room.talks client).unread later →
       MayCome (last.room.talks client).unread (come_from client more ++ later)
-  step_may might last next more (Did deed room peers live done hands) client later may =
+  step_may might last next more (Did deed room peers live done settled hands) client later may =
       subst
       (λ (bytes : List ℕ). MayCome (last.room.talks client).unread (bytes ++ later))
       (sym (append-nil (came_in client deed)))
@@ -163,7 +163,7 @@ module _ {S C P : Type 0} (r : Rules S C P) where
   step_written :
       AreWritten r.means r.gives → (last next : Hall S C P) (more : List Deed) →
       Happens S C P r last more next → (client : ℕ) → WritesBy last.room more next.room client
-  step_written written last next more (Did deed room peers live done hands) client =
+  step_written written last next more (Did deed room peers live done settled hands) client =
       written last.room room (deed ∷ []) (one_deed last.room room deed done) client
   step_written written last next more (Tells told peers does) client =
       sym (append-nil (last.room.talks client).unsent)

@@ -22,7 +22,7 @@ one_more :
     (first : Room S C) (last next : Hall S C P) (deeds more : List Deed) →
     Lives S C r.means r.gives first deeds last.room → Happens S C P r last more next →
     Lives S C r.means r.gives first (deeds ++ more) next.room
-one_more r same first last next deeds more lives (Did deed room peers live done hands) =
+one_more r same first last next deeds more lives (Did deed room peers live done settled hands) =
     life.Then deeds last.room deed room lives done
 one_more r same first last next deeds more lives (Tells told peers does) =
     stays r first last.room deeds lives

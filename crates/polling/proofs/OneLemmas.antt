@@ -9,7 +9,8 @@ use Rattle.clients.specs.Answering.{IsUnmoved, HasReplied}
 use Rattle.clients.specs.Deeds.{Deed, Came, Replied, Wrote, client_of, Does, told_in, all_told}
 use Rattle.clients.specs.Deeds as deed
 use Rattle.polling.specs.Peers.{Gave, Ended, Took, Stirred, Hands}
-use Rattle.polling.specs.Serving.{Hall, hall, Rules, gone_with, Happens, Did, Stirs, Goes, Loses, Serves, Begin, Then}
+use Rattle.service.specs.Openings.{run_meaning, IsSettled}
+use Rattle.polling.specs.Serving.{Hall, hall, Rules, Settles, gone_with, Happens, Did, Stirs, Goes, Loses, Serves, Begin, Then}
 use Rattle.polling.specs.Seating.{with_talk, ServesOne, gone_by, replies_in}
 use Rattle.polling.specs.declared.step.Step.{Step}
 use Rattle.polling.specs.declared.step.Step.TheVariants as step
@@ -58,11 +59,11 @@ pub did_one :
     (peers peers_now : P) (talk talk_now : Talk) (talks : ℕ → Talk) (gone : ℕ → Bool) →
     gone (client_of deed) ≡ false →
     Does r.means r.gives deed ledgers moments talk ledgers_now moments_now talk_now →
-    Hands r.does deed peers peers_now →
+    Settles r.means deed ledgers_now → Hands r.does deed peers peers_now →
     Serves S C P r (hall ledgers moments peers (with_talk (client_of deed) talk talks) gone) (deed ∷ [])
     (hall ledgers_now moments_now peers_now (with_talk (client_of deed) talk_now talks) gone)
 did_one {S} {C} {P} r deed ledgers ledgers_now moments moments_now peers peers_now talk talk_now talks
-    gone stays does hands =
+    gone stays does settled hands =
     let client = client_of deed in
     once r (hall ledgers moments peers (with_talk client talk talks) gone)
     (hall ledgers_now moments_now peers_now (with_talk client talk_now talks) gone) (deed ∷ [])
@@ -89,7 +90,7 @@ did_one {S} {C} {P} r deed ledgers ledgers_now moments moments_now peers peers_n
           with_talk-other client other talk_now talks differ
           ∙ sym (with_talk-other client other talk talks differ);
     })
-    hands)
+    settled hands)
 
 -- one client was served, and stays
 abbrev pub Stays :
@@ -173,7 +174,7 @@ module _ {S C P : Type 0} (r : Rules S C P) (client : ℕ) where
   came ledgers moments peers peers_now talk talk_now piece more is does talks gone stays = (
     Came client piece ∷ [],
     did_one r (Came client piece) ledgers ledgers moments moments peers peers_now talk talk_now talks
-        gone stays (record { ledgers_same = refl; moments_same = refl; same = is }, more) does,
+        gone stays (record { ledgers_same = refl; moments_same = refl; same = is }, more) tt does,
     refl,
   )
 
@@ -185,7 +186,7 @@ module _ {S C P : Type 0} (r : Rules S C P) (client : ℕ) where
   ended ledgers moments peers peers_now talk talk_now is does talks gone stays = (
     deed.Ended client ∷ [],
     did_one r (deed.Ended client) ledgers ledgers moments moments peers peers_now talk talk_now talks
-        gone stays (record { ledgers_same = refl; moments_same = refl; same = is }) does,
+        gone stays (record { ledgers_same = refl; moments_same = refl; same = is }) tt does,
     refl,
   )
 
@@ -207,7 +208,7 @@ module _ {S C P : Type 0} (r : Rules S C P) (client : ℕ) where
                   ∙ ap (λ (all : List ℕ). record talk { unsent = all })
                   (take-append-drop count talk.unsent);
             })
-            does,
+            tt does,
         refl,
       )
 
@@ -216,11 +217,12 @@ module _ {S C P : Type 0} (r : Rules S C P) (client : ℕ) where
       (ledgers ledgers_now : S) (moments moments_now : C) (peers : P) (talk talk_now : Talk)
       (reply : Reply) → may_answer talk ≡ true →
       HasReplied r.means r.gives ledgers moments talk reply ledgers_now moments_now talk_now →
+      IsSettled (run_meaning r.means) ledgers_now →
       Stays r client ledgers moments peers talk ledgers_now moments_now peers talk_now 1
-  replied ledgers ledgers_now moments moments_now peers talk talk_now reply may has talks gone stays = (
+  replied ledgers ledgers_now moments moments_now peers talk talk_now reply may has settled talks gone stays = (
     Replied client reply ∷ [],
     did_one r (Replied client reply) ledgers ledgers_now moments moments_now peers peers talk
-        talk_now talks gone stays (has, may) refl,
+        talk_now talks gone stays (has, may) settled refl,
     refl,
   )
 

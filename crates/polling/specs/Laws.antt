@@ -1,10 +1,11 @@
 -- What serving many clients comes to.
-use Rattle.std.specs.Prelude.{◌≡◌, ℕ, false, List}
+use Rattle.std.specs.Prelude.{◌≡◌, ◌≤◌, ◌+◌, ℕ, false, List}
 use Rattle.clients.specs.Talk.{new_talk}
 use Rattle.clients.specs.Answering.{MayCome}
 use Rattle.clients.specs.Deeds.{Deed, Lives, come_from, written_to, IsServed}
-use Rattle.polling.specs.Serving.{Hall, hall, Rules, Serves}
-use Rattle.polling.specs.Seating.{AreEmpty, held_by, Keeps}
+use Rattle.polling.specs.Ending.{Ends}
+use Rattle.polling.specs.Serving.{Hall, hall, Rules, Serves, tellings}
+use Rattle.polling.specs.Seating.{AreEmpty, Held, held_by, Keeps, ServesAll, replies_in}
 use Rattle.polling.specs.declared.seats.Seats.{Seats}
 
 -- what is written to a new client is a beginning of the replies to its own messages, in order, one
@@ -38,3 +39,32 @@ BeginsEmpty S C P =
     (ledgers : S) (moments : C) (peers : P) (seats : Seats)
     → AreEmpty seats
     → Keeps (held_by ledgers moments peers seats) (empty_hall ledgers moments peers)
+
+-- behind what was done clients were served, and in that peers told something so often at least
+pub record ServedOn {S C P : Type 0} {r : Rules S C P} {first mid : Hall S C P}
+    {before : List Deed} (served : Serves S C P r first before mid) (new : Held S C P)
+    (replies times : ℕ) : Type 0 where
+  pub deeds : List Deed
+  pub last : Hall S C P
+  pub all : Serves S C P r first deeds last
+  pub keeps : Keeps new last
+  pub count : replies_in deeds ≡ replies_in before + replies
+  pub told : tellings served + times ≤ tellings all
+
+-- what is done behind what was done leads on from the same hall
+abbrev pub GoesOn : {S C P : Type 0} → Rules S C P → Type 0
+GoesOn {S} {C} {P} r =
+    (first mid : Hall S C P) (before : List Deed) (served : Serves S C P r first before mid)
+    (old new : Held S C P) (replies : ℕ)
+    → Keeps old mid
+    → ServesAll r old new replies
+    → ServedOn served new replies 0
+
+-- where it ended though not enough was done, peers told something in it
+abbrev pub EndsTold : {S C P : Type 0} → Rules S C P → Type 0
+EndsTold {S} {C} {P} r =
+    (first mid : Hall S C P) (before : List Deed) (served : Serves S C P r first before mid)
+    (old new : Held S C P) (replies : ℕ)
+    → Keeps old mid
+    → Ends S C P r ⊥ old new replies
+    → ServedOn served new replies 1

@@ -3,3 +3,4 @@ pub mod Serving
 pub mod Seating
 pub mod Ending
 pub mod Laws
+pub mod Courses

@@ -1,8 +1,9 @@
 -- What serving clients at once does.
-use Rattle.std.specs.Prelude.{◌≡◌, ℕ, Bool, true, false, List, [], ◌∷◌, ◌++◌, nat_eq, if◌then◌else◌}
+use Rattle.std.specs.Prelude.{◌≡◌, ◌+◌, ℕ, Bool, true, false, List, [], ◌∷◌, ◌++◌, nat_eq, if◌then◌else◌}
 use Rattle.chain.specs.Ledgers.{LedgersMeaning}
 use Rattle.clients.specs.Talk.{Talk}
-use Rattle.clients.specs.Deeds.{Room, Deed, client_of, IsDone}
+use Rattle.clients.specs.Deeds.{Room, Deed, Came, Ended, Replied, Wrote, client_of, IsDone}
+use Rattle.service.specs.Openings.{run_meaning, IsSettled}
 use Rattle.polling.specs.Peers.{Doing, Gave, Said, Stirred, Hands}
 use Rattle.polling.specs.declared.peers.Told.{Told}
 
@@ -37,6 +38,13 @@ rules means gives renews does =
 abbrev pub gone_with : ℕ → (ℕ → Bool) → ℕ → Bool
 gone_with client gone other = if nat_eq client other then true else gone other
 
+-- what is known of ledgers behind a deed: those that answered a message are settled
+abbrev pub Settles : {S : Type 0} → LedgersMeaning S → Deed → S → Type 0
+Settles t (Replied client reply) ledgers = IsSettled (run_meaning t) ledgers
+Settles t (Came client piece) ledgers = Unit {0}
+Settles t (Ended client) ledgers = Unit {0}
+Settles t (Wrote client bytes) ledgers = Unit {0}
+
 -- a deed of a client that has not gone, with what peers did of it; peers tell something; anything
 -- else among them; a client goes; it goes, and what was read of it last is lost; or the ledgers are
 -- opened again
@@ -45,7 +53,7 @@ pub data Happens (S C P : Type 0) (r : Rules S C P) (old : Hall S C P) :
   Did :
       (deed : Deed) (room : Room S C) (peers : P) →
       old.gone (client_of deed) ≡ false → IsDone r.means r.gives old.room deed room →
-      Hands r.does deed old.peers peers →
+      Settles r.means deed room.ledgers → Hands r.does deed old.peers peers →
       Happens S C P r old (deed ∷ []) (record old { room = room; peers = peers })
   Tells :
       (told : Told) (peers : P) → r.does old.peers (Said told) peers →
@@ -70,3 +78,15 @@ pub data Serves (S C P : Type 0) (r : Rules S C P) (first : Hall S C P) :
       (deeds : List Deed) (last : Hall S C P) (more : List Deed) (next : Hall S C P) →
       Serves S C P r first deeds last → Happens S C P r last more next →
       Serves S C P r first (deeds ++ more) next
+
+module _ {S C P : Type 0} {r : Rules S C P} where
+  -- how often peers told something: in what happens, and in all that happened
+  abbrev pub tellings_of :
+      {old new : Hall S C P} {deeds : List Deed} → Happens S C P r old deeds new → ℕ
+  tellings_of (Tells told peers said) = 1
+  tellings_of happens = 0
+
+  abbrev pub tellings :
+      {first last : Hall S C P} {deeds : List Deed} → Serves S C P r first deeds last → ℕ
+  tellings Begin = 0
+  tellings (Then deeds last more next serves happens) = tellings serves + tellings_of happens

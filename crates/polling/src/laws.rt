@@ -1,11 +1,12 @@
 //! Laws of serving many clients. The functions do nothing; their contracts are the laws.
-ghost use Rattle.polling.specs.Laws.{EachIsServed, AreLives, BeginsEmpty};
+ghost use Rattle.polling.specs.Courses.{IsCourse, ServesEachAlone};
+ghost use Rattle.polling.specs.Laws.{EachIsServed, AreLives, BeginsEmpty, GoesOn, EndsTold};
 ghost use Rattle.polling.specs.Serving.{rules};
 
 use crate::{Peers, Reopen};
 use chain::Ledgers;
 use clients::{clients_are_served, clients_hear_their_own};
-use service::Moments;
+use service::{Moments, each_tenant_sees_itself, responses_move};
 
 /// In whatever pieces messages come, whatever others ask between, and whenever the ledgers are
 /// opened again, what is written to a client is a beginning of the replies to its own messages, in
@@ -22,7 +23,25 @@ pub fn serving_is_a_run<L: Ledgers, H: Reopen<L>, C: Moments, P: Peers>()
     ensures { AreLives (rules L.means C.gives H.renews P.does) }
 {}
 
+/// All that is done over live ledgers, whenever they are opened again, is a course of what happens to
+/// them, with what an opening finds done. It begins anew where they are opened anew, or where that is
+/// refused. In it a tenant's replies and its machine are those of its own deeds alone.
+pub fn serving_is_a_course<L: Ledgers, H: Reopen<L>, C: Moments, P: Peers>()
+    ensures course { IsCourse (rules L.means C.gives H.renews P.does) }
+    ensures alone { ServesEachAlone (rules L.means C.gives H.renews P.does) }
+{
+    responses_move::<L>();
+    each_tenant_sees_itself();
+}
+
 /// Before anybody has come, all that is held is of a hall in which nobody has sent anything.
 pub fn serving_begins_empty<L: Ledgers, C: Moments, P: Peers>()
     ensures { BeginsEmpty L C P }
+{}
+
+/// What is done behind what was done leads on from the hall in which that began. Where it ended
+/// though not enough was done, those who are connected told something in it.
+pub fn serving_goes_on<L: Ledgers, H: Reopen<L>, C: Moments, P: Peers>()
+    ensures served { GoesOn (rules L.means C.gives H.renews P.does) }
+    ensures told { EndsTold (rules L.means C.gives H.renews P.does) }
 {}

@@ -11,7 +11,9 @@ mod step;
 mod turn;
 
 pub use finishing::write_rest;
-pub use laws::{each_is_served, serving_begins_empty, serving_is_a_run};
+pub use laws::{
+    each_is_served, serving_begins_empty, serving_goes_on, serving_is_a_course, serving_is_a_run,
+};
 pub use peers::{Peers, Read, Told, Written};
 pub use reopen::Reopen;
 pub use seats::Seats;

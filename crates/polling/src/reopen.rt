@@ -1,4 +1,5 @@
 //! Where ledgers come from.
+ghost use Rattle.service.specs.Openings.{run_meaning, IsSettled};
 
 use chain::Ledgers;
 
@@ -6,6 +7,11 @@ use chain::Ledgers;
 pub trait Reopen<L: Ledgers> {
     // What opening again may make of ledgers.
     ghost renews: { L → L → Type 0 };
+
+    /// A law: while ledgers are live, an opening finds what is there.
+    fn is_settled(ledgers: &L)
+        requires { L.means.is_usable ledgers.now }
+        ensures { IsSettled (run_meaning L.means) ledgers.now };
 
     /// Opens again what has failed, where it is time to.
     fn reopen(&mut self, ledgers: &mut L)

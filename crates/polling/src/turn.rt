@@ -63,10 +63,13 @@ pub(crate) fn answer_or_read<L: Ledgers, H: Reopen<L>, C: Moments, P: Peers>(
     ensures usable { L.means.is_usable ledgers.new }
 {
     match client.answer(alloc, ledgers, moments) {
-        Answered::Replied => Turned {
-            step: write_all::<L, H, C, P>(peers, number, client),
-            replied: true,
-        },
+        Answered::Replied => {
+            H::is_settled(ledgers);
+            Turned {
+                step: write_all::<L, H, C, P>(peers, number, client),
+                replied: true,
+            }
+        }
         Answered::Wanting => Turned {
             step: read_some::<L, H, C, P>(peers, number, client, piece),
             replied: false,

@@ -9,3 +9,4 @@ pub mod OwnDeedLemmas
 pub mod ConnectionEventsLemmas
 pub mod FindingLemmas
 pub mod RetryLemmas
+mod MovingLemmas

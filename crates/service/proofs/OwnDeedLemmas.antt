@@ -1,5 +1,5 @@
 -- What one tenant sees of a course.
-use Rattle.std.proofs.Common.{◌≡◌, ◌≢◌, ℕ, Bool, true, false, List, [], ◌∷◌, ◌++◌, map, bytes_eq}
+use Rattle.std.proofs.Common.{◌≡◌, ℕ, Bool, true, false, List, [], ◌∷◌, ◌++◌, map, bytes_eq}
 use Rattle.std.proofs.Common.{Option, Result, Ok, Err, if◌then◌else◌, refl, sym, ap, ◌∙◌}
 use Rattle.std.proofs.Common.{append_assoc}
 use Rattle.std.proofs.lemmas.Bool.{true≢false}
@@ -11,12 +11,9 @@ use Rattle.std.specs.List.{flat_map}
 use Rattle.records.specs.Machine.{Machine}
 use Rattle.chain.specs.Ledgers.{Tenants}
 use Rattle.ledger_http.specs.declared.refusal.Refusal.{Refusal}
-use Rattle.ledger_http.specs.declared.refusal.Refusal.TheVariants.{Unavailable}
 use Rattle.ledger_http.specs.declared.reply.Reply.{Reply}
-use Rattle.ledger_http.specs.declared.reply.Reply.TheVariants.{Whole, Fixed}
 use Rattle.ledger_http.specs.ReplyText.{reply_text}
 use Rattle.ledger_http.specs.Question.{Question}
-use Rattle.service.specs.Replies.{unavailable}
 use Rattle.service.specs.Responds.{Answers}
 use Rattle.service.specs.Deeds.{Deed, asking, deeds_in, tenant_of, after_deed}
 use Rattle.service.specs.Deeds.{IsDeedDone, AreDone}
@@ -26,14 +23,7 @@ use Rattle.service.specs.Courses.{Done, Declined, Unavailable as NotThere}
 use Rattle.service.specs.OwnDeeds.{Happening, Told, Untold, deed_of, happenings_in, if_own}
 use Rattle.service.specs.OwnDeeds.{own_happenings, replies_in, after_all, told_of, told_in_turn}
 use Rattle.service.specs.OwnDeeds.{SeesItself}
-
-pub told_unavailable : (reply : Reply) → is_unavailable reply ≡ true → reply ≡ unavailable
-told_unavailable (Whole bytes) is = absurd (cc)
-told_unavailable (Fixed Unavailable) is = refl
-told_unavailable (Fixed refusal) is = absurd (cc)
-
-pub told_available : (reply : Reply) → is_unavailable reply ≡ false → reply ≢ unavailable
-told_available reply is same = true≢false (sym (ap is_unavailable same) ∙ is)
+use Rattle.service.specs.OpeningLaws.{told_unavailable, told_available}
 
 pub after_more :
     (tenant : Option Machine) (owns more : List Happening) →

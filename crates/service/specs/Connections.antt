@@ -3,7 +3,7 @@ use Rattle.std.specs.Prelude.{◌≡◌, ◌⊎◌, ℕ, Bool, true, false, List
 use Rattle.std.specs.Prelude.{Option, Some, None, Result, Ok, Err}
 use Rattle.std.specs.Io.KnownBytes.{Appends}
 use Rattle.records.specs.Streams.{AppendsFront}
-use Rattle.chain.specs.Ledgers.{LedgersMeaning}
+use Rattle.chain.specs.Ledgers.{LedgersMeaning, Finds}
 use Rattle.ledger_http.specs.declared.refusal.Refusal.{Refusal}
 use Rattle.ledger_http.specs.declared.reply.Reply.{Reply}
 use Rattle.ledger_http.specs.declared.reply.Reply.TheVariants.{Fixed}
@@ -13,7 +13,8 @@ use Rattle.service.specs.declared.exchanging.Exchanged.{Exchanged}
 use Rattle.service.specs.declared.serving.ServeFault.{ServeFault}
 use Rattle.service.specs.declared.serving.ServeFault.TheVariants.{Read, Write}
 use Rattle.service.specs.Replies.{unavailable}
-use Rattle.service.specs.Responds.{Responds, RefusesEarly}
+use Rattle.service.specs.Responds.{Responds, RefusesEarly, IsLeftBy}
+use Rattle.service.specs.Responds as response
 
 -- a connection between two messages: the ledgers, what is unread where that is known, what gives
 -- the moments, and whether another message is read
@@ -39,6 +40,8 @@ pub record IsAnswered {S C : Type 0} (t : LedgersMeaning S) (gives : C → ℕ �
       t.is_live new.ledgers
       → Responds (t.tenants old.ledgers) (t.tenants new.ledgers) message moment reply
   pub early : RefusesEarly message reply
+  pub finds :
+      Finds t (response.IsAnswered message reply) (IsLeftBy message moment) old.ledgers new.ledgers
   pub follows : t.follows old.ledgers new.ledgers
   pub goes_on : new.goes_on ≡ true
 

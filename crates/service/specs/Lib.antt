@@ -8,4 +8,6 @@ pub mod Sound
 pub mod Courses
 pub mod OwnDeeds
 pub mod ConnectionEvents
+pub mod Openings
+pub mod OpeningLaws
 pub mod Retries

@@ -2,6 +2,7 @@
 ghost use Rattle.service.specs.ConnectionEvents.{ExchangesLeadOn, ConnectionsAreCourses};
 ghost use Rattle.service.specs.ConnectionEvents.{ServesEachAlone};
 ghost use Rattle.service.specs.Courses.{ResponsesHappen};
+ghost use Rattle.service.specs.Openings.{ResponsesMove};
 ghost use Rattle.service.specs.OwnDeeds.{EachSeesItself};
 ghost use Rattle.service.specs.Responds.{Isolates, StandsAlone};
 ghost use Rattle.service.specs.Retries.{HasAsked, RetriesAddNothing, FailedStaysFailed};
@@ -46,6 +47,14 @@ pub fn each_tenant_sees_itself()
 /// The response to a message is the event of that message and its reply.
 pub fn responses_happen()
     ensures { ResponsesHappen }
+{
+    meanings_are_unique();
+}
+
+/// Of ledgers of which an opening finds what is there while they are live, a response makes what the
+/// event of its message does, also of what an opening may find.
+pub fn responses_move<L: Ledgers>()
+    ensures { ResponsesMove L.means }
 {
     meanings_are_unique();
 }

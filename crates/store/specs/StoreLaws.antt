@@ -1,15 +1,20 @@
--- What every run of calls on a store keeps, and what a live one holds.
-use Rattle.std.proofs.Common.{◌≡◌, ℤ, Option, Some, None, option_map, refl, subst}
+-- What every run of calls on a store keeps, what a live one holds, and what an opening finds.
+use Rattle.std.proofs.Common.{◌≡◌, ℤ, Bool, List, ℕ, Option, Some, None, option_map, refl, sym}
+use Rattle.std.proofs.Common.{ap, ◌∙◌, subst}
+use Rattle.std.proofs.Math.Logic.{∥∥₁_map}
 use Rattle.sqlite_disk.specs.declared.Disk as disk
 use Rattle.records.specs.Valid.{IsValid}
-use Rattle.chain.specs.Ledgers.{LedgersMeaning, AreValid}
+use Rattle.chain.specs.Ledgers.{LedgersMeaning, Tenants, KeepsAll, AreValid}
+use Rattle.sqlite_trees.specs.Tree.{Trees}
 use Rattle.sqlite.specs.Effect.{Database}
 use Rattle.sqlite.specs.Files.{file_state}
 use Rattle.stored_tables.specs.MachineOf.{machine_of}
 use Rattle.stored_ledgers.specs.Directory.{number_of, tenants_in}
 use Rattle.stored_ledgers.specs.DueSets.{DueSets}
 use Rattle.stored_ledgers.specs.Ledger.{HoldsLedgers}
-use Rattle.store.specs.Stores.{IsUsable, IsUsableAt, IsLive, IsLiveAt, Follows, FindsTenants, tenants_of, tenants_at}
+use Rattle.store.specs.Stores.{IsUsable, IsUsableAt, IsLive, IsLiveAt, IsHonest, IsHonestAt, Follows}
+use Rattle.store.specs.Stores.{tenants_of, tenants_at, may_find, may_find_at, FindsTenants, Finds}
+use Rattle.store.specs.Stores.{FindsAt, IsSettledStore, IsSettledAt}
 use Rattle.store.specs.declared.place.Place.{Place}
 use Rattle.store.specs.declared.place.Place.TheVariants as at
 use Rattle.store.specs.declared.store.Store.{Store}
@@ -61,3 +66,56 @@ module _ {D : Type 0} {g : disk.Ghosts D} where
   -- the machines of a live store are valid
   pub valid_tenants : (a : Store D g) → IsLive a → IsUsable a → AreValid (tenants_of a)
   valid_tenants a live usable = valid_at a.ready a.due a.place live usable
+
+  settled_at :
+      (ready : Bool) (sets : DueSets) (place : Place D g) (db : Trees) → IsSettledAt place →
+      IsUsableAt ready sets place → IsLiveAt place → may_find_at place db →
+      (digest : List ℕ) → tenants_in db digest ≡ tenants_at place digest
+  settled_at ready sets (at.Open conn) db settled usable live may digest =
+      ap (λ (trees : Trees). tenants_in trees digest)
+      (settled.only live.1 db may
+      ∙ sym (ap (λ (now : Database). now.trees) (usable.0 live).quiet.settled))
+  settled_at ready sets (at.Shut files) db settled usable live may digest = absurd live
+
+  -- while a store is open, an opening finds what is there
+  pub finds_itself :
+      (store : Store D g) → IsSettledStore store → IsUsable store → IsLive store →
+      (found : Tenants) → FindsTenants store found → KeepsAll (tenants_of store) found
+  finds_itself store settled usable live found f digest =
+      f.agrees digest
+      ∙ settled_at store.ready store.due store.place f.db settled usable live f.may digest
+
+  opened_at :
+      (old : Store D g) (place : Place D g) → IsHonest old → FindsAt (may_find old) place →
+      ∥ FindsTenants old (tenants_at place) ∥₁
+  opened_at old (at.Open conn) honest finds =
+      ∥∥₁_map finds.1 (λ may. record {
+        honest = honest;
+        db = (file_state conn).now.trees;
+        may = may;
+        agrees = λ digest. refl;
+      })
+  opened_at old (at.Shut files) honest finds = absurd finds
+
+  honest_at : (place : Place D g) → IsLiveAt place → IsHonestAt place
+  honest_at (at.Open conn) live = live.0
+  honest_at (at.Shut files) live = absurd live
+
+  -- a store that is opened again is what might have been found before
+  pub opened_is_found :
+      (old new : Store D g) → (IsHonest new → Finds new (may_find old)) →
+      (IsHonest new → IsHonest old) → IsLive new → ∥ FindsTenants old (tenants_of new) ∥₁
+  opened_is_found old new finds honest live =
+      let now = honest_at new.place live in opened_at old new.place (honest now) (finds now)
+
+  found_live_at :
+      (X : Trees → Type 0) (place : Place D g) → IsHonestAt place → FindsAt X place → IsLiveAt place
+  found_live_at X (at.Open conn) honest finds = (honest, finds.0)
+  found_live_at X (at.Shut files) honest finds = absurd finds
+
+  -- and where an opening may find something, it is live
+  pub opened_is_live :
+      (old new : Store D g) → (IsHonest new → Finds new (may_find old)) → (found : Tenants) →
+      FindsTenants new found → IsLive new
+  opened_is_live old new finds found f =
+      found_live_at (may_find old) new.place f.honest (finds f.honest)

@@ -1,6 +1,4 @@
 mod Asked
-mod Unavailable
 mod CourseLemmas
-mod ReplyLemmas
 mod SameRowsLemmas
 mod StoreLemmas

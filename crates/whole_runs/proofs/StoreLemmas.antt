@@ -19,7 +19,7 @@ use Rattle.store.specs.declared.store.Store.{Store}
 use Rattle.stored_ledgers.specs.Directory.{tenants_in}
 use Rattle.stored_ledgers.specs.DueSets.{DueSets}
 use Rattle.stored_ledgers.specs.Joining.{HasJoined, Joined, JoiningAddsOne}
-use Rattle.store.specs.StoreLaws.{store_meaning}
+use Rattle.store.specs.StoreLaws.{store_meaning, opened_is_found, opened_is_live}
 use Rattle.store.specs.Stores.{IsUsable, IsUsableAt, IsLive, IsLiveAt, IsHonest, IsHonestAt}
 use Rattle.store.specs.Stores.{tenants_of, tenants_at, may_find, may_find_at, FindsTenants, Finds}
 use Rattle.store.specs.Stores.{FindsAt, Follows, Goes, OfDatabase, OfDatabaseAt, OfDatabases}
@@ -28,8 +28,10 @@ use Rattle.service.specs.Deeds as deed
 use Rattle.service.specs.Deeds.{IsDeedDone, joined}
 use Rattle.service.specs.Courses.{Tried, Happens}
 use Rattle.whole_runs.specs.Courses.{ending_of}
-use Rattle.whole_runs.specs.Reopenings.{run_meaning, IsSettled, FoundAfter, As_now, As_before}
-use Rattle.whole_runs.specs.Reopenings.{As_done, Moves, Reopens}
+use Rattle.service.specs.Openings.{run_meaning, IsSettled, FoundAfter, As_now, As_before, As_done}
+use Rattle.service.specs.Openings.{Moves}
+use Rattle.service.specs.OpeningLaws.{is_opened}
+use Rattle.whole_runs.specs.Reopenings.{Reopens}
 
 module _ {D : Type 0} {g : disk.Ghosts D} where
   -- a store whose calls are answered is open
@@ -38,24 +40,6 @@ module _ {D : Type 0} {g : disk.Ghosts D} where
       IsUsableAt ready sets place → IsHonestAt place → IsLiveAt place
   live_at ready sets (at.Open conn) answers usable clean = (clean, usable.1 answers clean)
   live_at ready sets (at.Shut files) answers usable clean = absurd (both_ways ready usable answers)
-
-  settled_at :
-      (ready : Bool) (sets : DueSets) (place : Place D g) (db : Trees) → IsSettledAt place →
-      IsUsableAt ready sets place → IsLiveAt place → may_find_at place db →
-      (digest : List ℕ) → tenants_in db digest ≡ tenants_at place digest
-  settled_at ready sets (at.Open conn) db settled usable live may digest =
-      ap (λ (trees : Trees). tenants_in trees digest)
-      (settled.only live.1 db may
-      ∙ sym (ap (λ (now : Database). now.trees) (usable.0 live).quiet.settled))
-  settled_at ready sets (at.Shut files) db settled usable live may digest = absurd live
-
-  -- while a store is open, an opening finds what is there
-  pub settled_so :
-      (store : Store D g) → IsSettledStore store → IsUsable store →
-      IsSettled (run_meaning store_meaning) store
-  settled_so store settled usable live found f digest =
-      f.agrees digest
-      ∙ settled_at store.ready store.due store.place f.db settled usable live f.may digest
 
   module _ (law : JoiningAddsOne) (name digest : List ℕ) where
     added_at :
@@ -171,27 +155,6 @@ module _ {D : Type 0} {g : disk.Ghosts D} where
           found = λ found f. found_so result found open_yet f;
         }
 
-  opened_at :
-      (old : Store D g) (place : Place D g) → IsHonest old → FindsAt (may_find old) place →
-      ∥ FindsTenants old (tenants_at place) ∥₁
-  opened_at old (at.Open conn) honest finds =
-      ∥∥₁_map finds.1 (λ may. record {
-        honest = honest;
-        db = (file_state conn).now.trees;
-        may = may;
-        agrees = λ digest. refl;
-      })
-  opened_at old (at.Shut files) honest finds = absurd finds
-
-  honest_at : (place : Place D g) → IsLiveAt place → IsHonestAt place
-  honest_at (at.Open conn) live = live.0
-  honest_at (at.Shut files) live = absurd live
-
-  found_live_at :
-      (X : Trees → Type 0) (place : Place D g) → IsHonestAt place → FindsAt X place → IsLiveAt place
-  found_live_at X (at.Open conn) honest finds = (honest, finds.0)
-  found_live_at X (at.Shut files) honest finds = absurd finds
-
   -- a reopening, as a step of a run
   pub reopens_so :
       (old new : Store D g) (result : Result (Unit {0}) OpenFault) →
@@ -199,13 +162,7 @@ module _ {D : Type 0} {g : disk.Ghosts D} where
       (IsHonest new → OnOk result (IsHonest old)) →
       OnErr result (IsLive new → ⊥) → IsSettled (run_meaning store_meaning) new →
       Reopens (run_meaning store_meaning) old result new
-  reopens_so old new (Ok done) finds honest shut settled = record {
-    member = λ live.
-        let now = honest_at new.place live in
-        opened_at old new.place (honest now) (finds now);
-    found = λ found f.
-        let live =
-        found_live_at (may_find old) new.place f.honest (finds f.honest) in
-        (live, settled live found f);
-  }
+  reopens_so old new (Ok done) finds honest shut settled =
+      is_opened (run_meaning store_meaning) old new (opened_is_found old new finds honest)
+      (opened_is_live old new finds) settled
   reopens_so old new (Err fault) finds honest shut settled = shut

@@ -1,9 +1,10 @@
 -- A run as a course: its steps, its answers, and what happened.
 use Rattle.std.specs.Prelude.{◌≡◌, ℕ, List, [], ◌∷◌, ◌++◌, Result, Ok, Err}
 use Rattle.chain.specs.Ledgers.{Tenants}
-use Rattle.service.specs.Deeds.{Deed, Joined, AreDone}
+use Rattle.service.specs.Deeds.{Joined}
 use Rattle.service.specs.Courses.{Ending, Done, Declined, Unavailable, Event, Tried, Reopened}
-use Rattle.service.specs.Courses.{MayBeFound, Course, IsReplyTo}
+use Rattle.service.specs.Courses.{IsReplyTo}
+use Rattle.service.specs.Openings.{CourseSince}
 use Rattle.service.specs.OwnDeeds.{SeesItself}
 use Rattle.stored_ledgers.specs.declared.joining.AddTenant.{AddTenant}
 use Rattle.stored_ledgers.specs.declared.joining.AddTenant.TheVariants as add
@@ -44,28 +45,10 @@ pub data IsSince (first : Tenants) : List Step → List Answer → List Event �
       IsSince first (steps ++ step ∷ []) (answers ++ answer ∷ []) (events ++ event ∷ []) began
 
 -- a run is the course of these events, from the machines at that time to those now
-pub record RunCourse (first : Tenants) (steps : List Step) (answers : List Answer)
-    (events : List Event) (began last : Tenants) : Type 0 where
-  pub since : IsSince first steps answers events began
-  pub course : Course began events last
-
--- a course to these machines
-pub record Leads (first : Tenants) (steps : List Step) (answers : List Answer) (last : Tenants) :
-    Type 0 where
-  pub events : List Event
-  pub began : Tenants
-  pub course : RunCourse first steps answers events began last
-
--- a course to an opening that finds these machines
-pub record MayFind (first : Tenants) (steps : List Step) (answers : List Answer) (found : Tenants) :
-    Type 0 where
-  pub events : List Event
-  pub began : Tenants
-  pub last : Tenants
-  pub course : RunCourse first steps answers events began last
-  pub deeds : List Deed
-  pub follows : MayBeFound deeds events
-  pub happens : AreDone deeds last found
+abbrev pub RunCourse :
+    Tenants → List Step → List Answer → List Event → Tenants → Tenants → Type 0
+RunCourse first steps answers events began last =
+    CourseSince (IsSince first steps answers) events began last
 
 -- in a run each tenant sees its own deeds alone
 abbrev pub RunsServeEachAlone : Type 0

@@ -1,8 +1,9 @@
 //! Ledgers that can be closed and opened again.
 ghost use Rattle.service.specs.Deeds.{Joined};
 ghost use Rattle.service.specs.Courses.{Tried};
+ghost use Rattle.service.specs.Openings.{RunMeaning, IsSettled, Replies, Moves};
 ghost use Rattle.whole_runs.specs.Courses.{ending_of};
-ghost use Rattle.whole_runs.specs.Reopenings.{RunMeaning, IsSettled, Replies, Moves, Reopens};
+ghost use Rattle.whole_runs.specs.Reopenings.{Reopens};
 
 use ledger_http::Reply;
 use std::alloc::Global;

@@ -1,16 +1,16 @@
 //! A store, as ledgers that can be opened again.
 
 use crate::reopening::Reopening;
-use ledger_http::{Reply, meanings_are_unique};
-use service::{respond, responses_happen};
+use ledger_http::Reply;
+use service::{respond, responses_move};
 use sqlite_disk::Disk;
 use std::alloc::Global;
 use store::{AddTenant, FullAudit, OpenFault, Store, joining_adds_one};
 use tenants::TenantName;
 
 impl<D: Disk + Drop> Reopening for Store<D> {
+    ghost use Rattle.service.specs.Openings.{run_meaning};
     ghost use Rattle.store.specs.StoreLaws.{store_meaning};
-    ghost use Rattle.whole_runs.specs.Reopenings.{run_meaning};
 
     ghost means = { run_meaning store_meaning };
 
@@ -19,8 +19,7 @@ impl<D: Disk + Drop> Reopening for Store<D> {
     }
 
     fn reply_to(&mut self, alloc: Global, bytes: &[u8], moment: u64) -> Reply {
-        meanings_are_unique();
-        responses_happen();
+        responses_move::<Store<D>>();
         let reply = respond(alloc, self, bytes, moment);
         self.is_settled();
         reply

@@ -30,6 +30,8 @@ struct Never;
 impl Reopen<Book> for Never {
     ghost renews = { λ old new. new ≡ old };
 
+    fn is_settled(_ledgers: &Book) {}
+
     fn reopen(&mut self, _ledgers: &mut Book) {}
 }
 

@@ -7,7 +7,8 @@ returns-in-Whole-clause-exchanges g c =
     answers_whole g.L.Ledgers.means g.C.Moments.gives _ _ _ _ c.args.inbox.now _ _ _ c.in-Whole.size _
     c.respond-reply.result c.later_bytes_change_nothing.ensures.begins c.next.ensures.same
     c.take.ensures c.front.ensures (rw c.in-Whole.is at c.next.ensures.next) c.moment-moment.ensures
-    c.respond-reply.ensures.responds c.respond-reply.ensures.early c.respond-reply.ensures.follows
+    c.respond-reply.ensures.responds c.respond-reply.ensures.early c.respond-reply.ensures.finds
+    c.respond-reply.ensures.follows
 
 pub returns-in-Refused-clause-exchanges : goal.returns-in-Refused-clause-exchanges
 returns-in-Refused-clause-exchanges g c =

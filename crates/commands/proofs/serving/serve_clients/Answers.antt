@@ -1,7 +1,9 @@
-use Rattle.std.proofs.Common.{◌++◌, [], arith}
+use Rattle.std.proofs.Common.{◌≡◌, ◌<◌, [], Ok, Err, arith}
 use Rattle.polling.specs.Laws.{empty_hall}
+use Rattle.polling.specs.Seating.{held_by}
 use Rattle.polling.specs.Serving.{Begin, rules}
-use Rattle.commands.proofs.ServingLemmas.{serves_on, replies_on, each_written}
+use Rattle.command_texts.specs.declared.fault.Fault.TheVariants.{Socket}
+use Rattle.commands.proofs.ServingLemmas.{ended_short, serves_so}
 use Rattle.commands.proofs.serving.serve_clients.Goals as goal
 
 pub loop-init : goal.loop-init
@@ -13,69 +15,72 @@ loop-init g c = record {
       c.serving_begins_empty.ensures c.args.ledgers.now c.args.moments.now c.args.peers.now
       c.new-seats.result c.new-seats.ensures;
   left = omega arith;
+  wanting = λ (some : 0 < 0). omega arith;
+  told = omega arith;
   usable = c.requires;
 }
 
 pub loop-preserved : goal.loop-preserved
 loop-preserved g c =
+    let r = rules g.L.Ledgers.means g.C.Moments.gives g.H.Reopen.renews g.P.Peers.does in
+    let first = empty_hall c.args.ledgers.now c.args.moments.now c.args.peers.now in
     let before = c.loop.invariant in
-    let more = c.serve_ready-left.ensures.serves before.last before.keeps in
+    let old = held_by c.loop.ledgers c.loop.moments c.loop.peers c.loop.seats in
+    let round = c.serve_ready-left in
+    let new = held_by round.new.ledgers round.new.moments round.new.peers round.new.seats in
+    let on =
+    c.serving_goes_on.ensures.told first before.last before.deeds before.served old new round.result
+    before.keeps
+    (ended_short r (round.result ≡ c.loop.left) old new round.result
+    (λ (same : round.result ≡ c.loop.left). omega arith) round.ensures.ends) in
     record {
-      deeds = before.deeds ++ more.0;
-      last = more.1;
-      served =
-          serves_on
-          (rules g.L.Ledgers.means g.C.Moments.gives g.H.Reopen.renews g.P.Peers.does)
-          (empty_hall c.args.ledgers.now c.args.moments.now c.args.peers.now) before.last more.1
-          before.deeds more.0 before.served more.2;
-      keeps = more.3;
-      left =
-          omega (
-            arith,
-            replies_on before.deeds more.0,
-            more.4,
-            before.left,
-            c.serve_ready-left.ensures.few,
-          );
-      usable = c.serve_ready-left.ensures.usable;
+      deeds = on.deeds;
+      last = on.last;
+      served = on.all;
+      keeps = on.keeps;
+      left = omega (arith, on.count, before.left, round.ensures.few);
+      wanting = λ some. omega arith;
+      told = omega (arith, on.told, before.told);
+      usable = round.ensures.usable;
     }
 
 pub returns-then-left-eq0-clause-served : goal.returns-then-left-eq0-clause-served
 returns-then-left-eq0-clause-served g c =
+    let first = empty_hall c.args.ledgers.now c.args.moments.now c.args.peers.now in
     let before = c.loop.invariant in
-    let rest =
-    c.write_rest.ensures.serves c.loop.ledgers c.loop.moments before.last before.keeps in
-    let served =
-    serves_on
-    (rules g.L.Ledgers.means g.C.Moments.gives g.H.Reopen.renews g.P.Peers.does)
-    (empty_hall c.args.ledgers.now c.args.moments.now c.args.peers.now) before.last rest.1
-    before.deeds rest.0 before.served rest.2 in
-    record {
-      deeds = before.deeds ++ rest.0;
-      last = rest.1;
-      served = served;
-      ledgers_left = rest.3.ledgers;
-      moments_left = rest.3.moments;
-      peers_left = rest.3.peers;
-      each =
-          each_written c.each_is_served.ensures c.args.ledgers.now c.args.moments.now
-          c.args.peers.now rest.1 (before.deeds ++ rest.0) served;
-      enough =
-          omega (arith, replies_on before.deeds rest.0, rest.4, before.left, c.if-left-eq0.true);
-    }
+    let old = held_by c.loop.ledgers c.loop.moments c.loop.peers c.loop.seats in
+    let round = c.serve_ready-left in
+    let mid = held_by round.new.ledgers round.new.moments round.new.peers round.new.seats in
+    let new =
+    held_by round.new.ledgers round.new.moments c.write_rest.new.peers c.write_rest.new.seats in
+    let one =
+    c.serving_goes_on.ensures.served first before.last before.deeds before.served old mid
+    round.result before.keeps round.ensures.serves in
+    let all =
+    c.serving_goes_on.ensures.served first one.last one.deeds one.all mid new 0 one.keeps
+    (c.write_rest.ensures.serves round.new.ledgers round.new.moments) in
+    serves_so (rules g.L.Ledgers.means g.C.Moments.gives g.H.Reopen.renews g.P.Peers.does)
+    c.each_is_served.ensures c.serving_is_a_course.ensures.course
+    c.serving_is_a_course.ensures.alone c.args.ledgers.now c.args.moments.now c.args.peers.now
+    c.is_settled.ensures all.last all.deeds all.all new all.keeps c.args.most (Ok tt)
+    (omega (
+      arith,
+      one.count,
+      all.count,
+      before.left,
+      round.ensures.few,
+      c.if-left-eq0.true,
+    ))
+    tt tt
 
 pub returns-clause-served : goal.returns-clause-served
 returns-clause-served g c =
     let before = c.loop.invariant in
-    record {
-      deeds = before.deeds;
-      last = before.last;
-      served = before.served;
-      ledgers_left = before.keeps.ledgers;
-      moments_left = before.keeps.moments;
-      peers_left = before.keeps.peers;
-      each =
-          each_written c.each_is_served.ensures c.args.ledgers.now c.args.moments.now
-          c.args.peers.now before.last before.deeds before.served;
-      enough = tt;
-    }
+    serves_so (rules g.L.Ledgers.means g.C.Moments.gives g.H.Reopen.renews g.P.Peers.does)
+    c.each_is_served.ensures c.serving_is_a_course.ensures.course
+    c.serving_is_a_course.ensures.alone c.args.ledgers.now c.args.moments.now c.args.peers.now
+    c.is_settled.ensures before.last before.deeds before.served
+    (held_by c.loop.ledgers c.loop.moments c.loop.peers c.loop.seats) before.keeps c.args.most
+    (Err Socket) tt
+    (let some = before.wanting (omega arith) in omega (arith, before.left))
+    (omega (arith, before.told, c.loop-test.false))

@@ -1,11 +1,11 @@
-use Rattle.std.proofs.Common.{◌≡◌, ◌+◌, List}
+use Rattle.std.proofs.Common.{◌≡◌, ◌≤◌, ◌<◌, ◌+◌, List}
 use Rattle.clients.specs.Deeds.{Deed}
 use Rattle.polling.specs.Laws.{empty_hall}
 use Rattle.polling.specs.Seating.{Keeps, held_by, replies_in}
-use Rattle.polling.specs.Serving.{Hall, Serves, rules}
+use Rattle.polling.specs.Serving.{Hall, Serves, rules, tellings}
 use Rattle.commands.proofs.serving.serve_clients.Given as goal
 
--- Clients were served, and the replies that are left are to come.
+-- Clients were served in so many rounds, and the replies that are left are to come.
 abbrev pub invariant-loop : goal.invariant-loop
 invariant-loop g l = record {
   deeds : List Deed;
@@ -16,5 +16,7 @@ invariant-loop g l = record {
       (empty_hall l.fn.ledgers l.fn.moments l.fn.peers) deeds last;
   keeps : Keeps (held_by l.ledgers l.moments l.peers l.seats) last;
   left : replies_in deeds + l.left ≡ l.most;
+  wanting : 0 < l.counter → 0 < l.left;
+  told : l.counter ≤ tellings served;
   usable : g.L.Ledgers.means.is_usable l.ledgers;
 }

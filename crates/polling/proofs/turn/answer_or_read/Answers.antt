@@ -14,7 +14,7 @@ returns-in-Replied-clause-serves g c =
     (replied (rules g.L.Ledgers.means g.C.Moments.gives g.H.Reopen.renews g.P.Peers.does) c.args.number
     c.args.ledgers.now c.answer.new.ledgers c.args.moments.now c.answer.new.moments
     c.args.peers.now c.args.client.now c.answer.new.self c.in-Replied.ensures.answers.0
-    c.requires.open c.in-Replied.ensures.answers.1)
+    c.requires.open c.in-Replied.ensures.answers.1 c.is_settled.ensures)
     (c.write_all.ensures c.answer.new.ledgers c.answer.new.moments)
 
 pub returns-in-Wanting-clause-serves : goal.returns-in-Wanting-clause-serves

@@ -1,5 +1,6 @@
 use Rattle.std.proofs.Common.{refl, inl, inr, subst, List, ℕ}
-use Rattle.service.specs.Responds.{Responds, RefusesEarly}
+use Rattle.chain.specs.Ledgers.{Finds}
+use Rattle.service.specs.Responds.{Responds, RefusesEarly, IsAnswered, IsLeftBy}
 use Rattle.service.proofs.exchanging.exchange.Goals as goal
 
 pub returns-in-Whole-clause-exchanges : goal.returns-in-Whole-clause-exchanges
@@ -20,6 +21,12 @@ returns-in-Whole-clause-exchanges g c = record {
     early =
         subst (λ (bytes : List ℕ). RefusesEarly bytes c.respond-reply.result)
         c.deref.ensures.value c.respond-reply.ensures.early;
+    finds =
+        subst
+        (λ (bytes : List ℕ).
+        Finds g.L.Ledgers.means (IsAnswered bytes c.respond-reply.result)
+        (IsLeftBy bytes c.moment-moment.result) c.args.ledgers.now c.respond-reply.new.ledgers)
+        c.deref.ensures.value c.respond-reply.ensures.finds;
     follows = c.respond-reply.ensures.follows;
     goes_on = refl;
   });

@@ -1,12 +1,13 @@
 use Rattle.std.proofs.Common.{refl}
-use Rattle.whole_runs.specs.Reopenings.{As_now}
-use Rattle.whole_runs.proofs.ReplyLemmas.{event_of}
+use Rattle.ledger_http.specs.Question.{asked_of}
+use Rattle.service.specs.Courses.{Replied}
+use Rattle.service.specs.Openings.{As_now}
 use Rattle.whole_runs.proofs.named_book.NamedBookReopening.reply_to.Goals as goal
 
 pub returns-clause-replies : goal.returns-clause-replies
 returns-clause-replies c =
     let early = c.respond.ensures.early in
-    let event = event_of c.args.bytes.now c.args.moment c.respond.result early in
+    let event = Replied (asked_of c.args.bytes.now early.head) c.args.moment c.respond.result in
     record {
       event = event;
       is = record { head = early.head; has = early.has; is = refl };

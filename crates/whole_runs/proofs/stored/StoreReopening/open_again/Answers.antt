@@ -1,8 +1,9 @@
-use Rattle.whole_runs.proofs.StoreLemmas.{reopens_so, settled_so}
+use Rattle.store.specs.StoreLaws.{finds_itself}
+use Rattle.whole_runs.proofs.StoreLemmas.{reopens_so}
 use Rattle.whole_runs.proofs.stored.StoreReopening.open_again.Goals as goal
 
 pub returns-clause-opened : goal.returns-clause-opened
 returns-clause-opened g c =
     reopens_so c.args.self.now c.reopen-opened.new.self c.reopen-opened.result
     c.reopen-opened.ensures.found c.reopen-opened.ensures.honest c.reopen-opened.ensures.shut
-    (settled_so c.reopen-opened.new.self c.is_settled.ensures c.reopen-opened.ensures.usable)
+    (finds_itself c.reopen-opened.new.self c.is_settled.ensures c.reopen-opened.ensures.usable)

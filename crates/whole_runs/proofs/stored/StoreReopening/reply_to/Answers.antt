@@ -1,12 +1,19 @@
-use Rattle.store.specs.StoreLaws.{store_meaning}
-use Rattle.whole_runs.proofs.ReplyLemmas.{replies_so}
-use Rattle.whole_runs.proofs.StoreLemmas.{settled_so}
+use Rattle.std.proofs.Common.{refl}
+use Rattle.service.specs.Courses.{Replied}
+use Rattle.ledger_http.specs.Question.{asked_of}
+use Rattle.store.specs.StoreLaws.{finds_itself}
 use Rattle.whole_runs.proofs.stored.StoreReopening.reply_to.Goals as goal
 
 pub returns-clause-replies : goal.returns-clause-replies
 returns-clause-replies g c =
-    replies_so store_meaning c.meanings_are_unique.ensures.head c.args.self.now
-    c.respond-reply.new.ledgers c.args.bytes.now c.args.moment c.respond-reply.result
-    c.respond-reply.ensures.early c.respond-reply.ensures.finds
-    (settled_so c.respond-reply.new.ledgers c.is_settled.ensures c.respond-reply.ensures.usable)
-    c.responses_happen.ensures c.respond-reply.ensures.responds c.respond-reply.ensures.follows.lived
+    let early = c.respond-reply.ensures.early in
+    record {
+      event = Replied (asked_of c.args.bytes.now early.head) c.args.moment c.respond-reply.result;
+      is = record { head = early.head; has = early.has; is = refl };
+      moves =
+          c.responses_move.ensures c.args.self.now c.respond-reply.new.ledgers c.args.bytes.now
+          c.args.moment c.respond-reply.result early c.respond-reply.ensures.responds
+          c.respond-reply.ensures.finds c.respond-reply.ensures.follows
+          (finds_itself c.respond-reply.new.ledgers c.is_settled.ensures
+          c.respond-reply.ensures.usable);
+    }

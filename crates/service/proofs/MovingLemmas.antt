@@ -1,32 +1,22 @@
--- A reply, as what happened.
+-- A response, as what it makes of the ledgers.
 use Rattle.std.proofs.Common.{◌≡◌, ◌≢◌, ◌⊎◌, inl, inr, ℕ, Bool, true, false, List, Option, Result}
 use Rattle.std.proofs.Common.{[], Ok, Err, IsOk, refl, sym, ap, ◌∙◌, subst}
 use Rattle.httparse.specs.Grammar.{RequestHead}
-use Rattle.chain.specs.Ledgers.{LedgersMeaning, Tenants, KeepsAll, Finds}
+use Rattle.chain.specs.Ledgers.{LedgersMeaning, Tenants, Finds}
 use Rattle.ledger_http.specs.declared.refusal.Refusal.{Refusal}
 use Rattle.ledger_http.specs.declared.reply.Reply.{Reply}
 use Rattle.ledger_http.specs.ReplyText.{reply_text}
-use Rattle.ledger_http.specs.Message.{HasHead}
 use Rattle.ledger_http.specs.Question.{Question, asked_of}
 use Rattle.service.specs.Replies.{unavailable}
 use Rattle.service.specs.Responds.{Answers, Responds, RefusesEarly}
 use Rattle.service.specs.Responds.{IsAnswered, IsLeftBy, IsLeftByAsked}
 use Rattle.service.specs.Deeds.{asking}
 use Rattle.service.specs.Courses.{Event, Replied, is_unavailable, IsStill, untold_in}
-use Rattle.service.specs.Courses.{ResponsesHappen}
-use Rattle.whole_runs.specs.Reopenings.{run_meaning, FoundAfter, As_now, As_before, As_done}
-use Rattle.whole_runs.specs.Reopenings.{Replies}
-use Rattle.whole_runs.proofs.Unavailable.{told_unavailable, told_available}
-
--- bytes have one head
-abbrev pub HeadsAreUnique : Type 0
-HeadsAreUnique =
-    (bytes : List ℕ) (h k : Option RequestHead) → HasHead bytes h → HasHead bytes k → h ≡ k
-
--- the event of a reply
-abbrev pub event_of :
-    (bytes : List ℕ) (moment : ℕ) (reply : Reply) → RefusesEarly bytes reply → Event
-event_of bytes moment reply early = Replied (asked_of bytes early.head) moment reply
+use Rattle.service.specs.Openings.{run_meaning, IsSettled, FoundAfter, As_now, As_before, As_done}
+use Rattle.service.specs.Openings.{Moves, ResponsesMove}
+use Rattle.service.specs.OpeningLaws.{told_unavailable, told_available}
+use Rattle.service.proofs.ConnectionEventsLemmas.{responses_happen}
+use Rattle.service.proofs.Isolation.{HeadsAreUnique}
 
 still_unavailable :
     (asked : Result Question Refusal) (moment : ℕ) (reply : Reply) → reply ≡ unavailable →
@@ -37,7 +27,7 @@ still_unavailable asked moment reply is tenants =
 module _ {S : Type 0} (t : LedgersMeaning S) (unique : HeadsAreUnique) (old new : S)
     (bytes : List ℕ) (moment : ℕ) (reply : Reply) (early : RefusesEarly bytes reply) where
   abbrev event : Event
-  event = event_of bytes moment reply early
+  event = Replied (asked_of bytes early.head) moment reply
 
   still_refused :
       (refusal : Refusal) → asked_of bytes early.head ≡ Err refusal → IsStill event
@@ -63,8 +53,7 @@ module _ {S : Type 0} (t : LedgersMeaning S) (unique : HeadsAreUnique) (old new 
   found_lost (Err refusal) found is untold live left = absurd left
 
   module _ (finds : Finds t (IsAnswered bytes reply) (IsLeftBy bytes moment) old new)
-      (settled :
-      t.is_live new → (found : Tenants) → t.may_find new found → KeepsAll (t.tenants new) found)
+      (settled : IsSettled (run_meaning t) new)
     where
       at_head :
           (found : Tenants) → IsLeftBy bytes moment (t.tenants old) found →
@@ -122,19 +111,20 @@ module _ {S : Type 0} (t : LedgersMeaning S) (unique : HeadsAreUnique) (old new 
       found_by false found is may =
           found_told (asked_of bytes early.head) found refl (told_available reply is) may
 
-      -- a response, as a step of a run
-      pub replies_so :
-          ResponsesHappen →
+      moves_so :
           (t.is_live new → Responds (t.tenants old) (t.tenants new) bytes moment reply) →
-          (t.is_live new → t.is_live old) → Replies (run_meaning t) old bytes moment reply new
-      replies_so happen responds lived = record {
-        event = event;
-        is = record { head = early.head; has = early.has; is = refl };
-        moves = record {
-          happens = λ live.
-              happen (t.tenants old) (t.tenants new) bytes moment reply event
-              (record { head = early.head; has = early.has; is = refl }) (responds live);
-          lived = lived;
-          found = λ found may. found_by (is_unavailable reply) found refl may;
-        };
+          (t.is_live new → t.is_live old) → Moves (run_meaning t) old event new
+      moves_so responds lived = record {
+        happens = λ live.
+            responses_happen unique (t.tenants old) (t.tenants new) bytes moment reply event
+            (record { head = early.head; has = early.has; is = refl }) (responds live);
+        lived = lived;
+        found = λ found may. found_by (is_unavailable reply) found refl may;
       }
+
+pub responses_move :
+    {S : Type 0} (t : LedgersMeaning S) → HeadsAreUnique →
+    ((a b : S) → t.follows a b → t.is_live b → t.is_live a) → ResponsesMove t
+responses_move t unique lived old new bytes moment reply early responds finds follows settled =
+    moves_so t unique old new bytes moment reply early finds settled responds
+    (λ live. lived old new follows live)

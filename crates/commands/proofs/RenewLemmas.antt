@@ -1,0 +1,46 @@
+-- A store that is opened again, or anew in its place.
+use Rattle.std.proofs.Common.{◌≡◌, false, Result, Ok, Err, OnOk, OnErr, IsTrue, ap, sym, subst}
+use Rattle.sqlite_disk.specs.declared.Disk as disk
+use Rattle.openings.specs.declared.opening.OpenFault.{OpenFault}
+use Rattle.service.specs.Openings.{run_meaning, IsSettled, IsOpened}
+use Rattle.service.specs.OpeningLaws.{is_opened}
+use Rattle.store.specs.StoreLaws.{store_meaning, finds_itself, opened_is_found, opened_is_live}
+use Rattle.store.specs.Stores.{IsHonest, IsSettledStore, Finds, may_find}
+use Rattle.store.specs.declared.store.Store.{Store}
+use Rattle.command_texts.specs.declared.fault.Fault.{Fault}
+use Rattle.commands.specs.Kept.{kept_store, IsLiveKept, IsUsableKept, answers, WasRefused, Renews, Anew, Refuses}
+use Rattle.commands.specs.declared.kept.Kept.{Kept}
+use Rattle.commands.specs.declared.kept.Kept.TheVariants.{Open, Closed}
+
+module _ {D : Type 0} {g : disk.Ghosts D} where
+  -- a store that was opened again is what was to be found
+  pub opened_so :
+      (old new : Store D g) (result : Result (Unit {0}) OpenFault) →
+      (IsHonest new → OnOk result (Finds new (may_find old))) →
+      (IsHonest new → OnOk result (IsHonest old)) → IsSettled (run_meaning store_meaning) new →
+      OnOk result (IsOpened (run_meaning store_meaning) old new)
+  opened_so old new (Ok done) finds honest settled =
+      is_opened (run_meaning store_meaning) old new (opened_is_found old new finds honest)
+      (opened_is_live old new finds) settled
+  opened_so old new (Err fault) finds honest settled = tt
+
+  -- a store was opened anew where one was refused, or that was refused too
+  pub anew_so :
+      (old left new : Kept (Store D g)) (result : Result (Unit {0}) Fault) → answers old ≡ false →
+      WasRefused old left → OnOk result (IsTrue (answers new)) →
+      OnOk result (IsSettled kept_store new) → OnErr result (new ≡ Closed) → Renews old new
+  anew_so old left new (Ok done) silent refused answering settled closed =
+      Anew left silent refused answering settled
+  anew_so old left new (Err fault) silent refused answering settled closed =
+      Refuses silent (ap (λ (kept : Kept (Store D g)). answers kept) closed)
+      (subst (λ (kept : Kept (Store D g)). IsLiveKept store_meaning kept → ⊥) (sym closed)
+      (λ live. live))
+
+  -- a store that is there is settled
+  pub kept_settled :
+      (kept : Kept (Store D g)) (store : Store D g) → kept ≡ Open store →
+      IsUsableKept store_meaning kept → IsSettledStore store → IsSettled kept_store kept
+  kept_settled kept store is usable settled =
+      subst (λ (each : Kept (Store D g)). IsSettled kept_store each) (sym is)
+      (finds_itself store settled
+      (subst (λ (each : Kept (Store D g)). IsUsableKept store_meaning each) is usable))

@@ -1,0 +1,24 @@
+use Rattle.std.proofs.Common.{sym, subst}
+use Rattle.store.specs.declared.store.Store.{Store}
+use Rattle.commands.specs.Kept.{WasRefused}
+use Rattle.commands.specs.declared.kept.Kept.{Kept}
+use Rattle.commands.specs.declared.kept.Kept.TheVariants.{Open, Closed}
+use Rattle.commands.proofs.RenewLemmas.{anew_so}
+use Rattle.commands.proofs.renewing.opened_again.Goals as goal
+
+pub returns-in-Err-Unavailable-Disk-clause-renews :
+    goal.returns-in-Err-Unavailable-Disk-clause-renews
+returns-in-Err-Unavailable-Disk-clause-renews g c =
+    let refused = c.in-Err-Unavailable-Disk.ensures in
+    anew_so c.args.kept.now (Open c.reopened.new.store) c.open_anew.new.kept c.open_anew.result
+    c.requires.silent
+    (subst (λ (was : Kept (Store _ _)). WasRefused was (Open c.reopened.new.store))
+    (sym c.in-Open.is) (refused.refused, refused.shut))
+    c.open_anew.ensures.answers c.open_anew.ensures.settled c.open_anew.ensures.refused
+
+pub returns-in-Closed-clause-renews : goal.returns-in-Closed-clause-renews
+returns-in-Closed-clause-renews g c =
+    let opened = c.open_anew-in-Closed in
+    anew_so c.args.kept.now Closed opened.new.kept opened.result c.requires.silent
+    (subst (λ (was : Kept (Store _ _)). WasRefused was Closed) (sym c.in-Closed.is) tt)
+    opened.ensures.answers opened.ensures.settled opened.ensures.refused

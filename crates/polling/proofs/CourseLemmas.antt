@@ -1,0 +1,125 @@
+-- Serving as a course, step by step.
+use Rattle.std.proofs.Common.{◌≡◌, ◌⊎◌, inl, inr, refl, sym, subst, ℕ, List, [], ◌∷◌, ◌++◌}
+use Rattle.ledger_http.specs.declared.reply.Reply.{Reply}
+use Rattle.ledger_http.specs.Question.{asked_of}
+use Rattle.chain.specs.Ledgers.{LedgersMeaning, Tenants}
+use Rattle.service.specs.Deeds as service
+use Rattle.service.specs.Connections.{Connection, IsAnswered, IsTurnedAway, LacksMemory}
+use Rattle.service.specs.ConnectionEvents.{event_in}
+use Rattle.service.specs.Courses.{Event, Reopened}
+use Rattle.service.specs.Courses as course
+use Rattle.service.specs.Openings.{RunMeaning, run_meaning, IsSettled, ResponsesMove, MayBegin}
+use Rattle.service.specs.Openings.{HasLed, GoesOn}
+use Rattle.service.specs.OpeningLaws.{event_more, same_more, opened_more, begun_anew, none_yet}
+use Rattle.service.specs.OwnDeeds.{EachSeesItself}
+use Rattle.clients.specs.Deeds.{Deed, Came, Ended, Replied, Wrote}
+use Rattle.polling.specs.Serving.{Hall, Rules, Happens, Did, Tells, Stirs, Goes, Loses, Again, Serves, Begin, Then}
+use Rattle.polling.specs.Courses.{Renewed, Stayed, Opened, Anew, Refused, AreOfOpening, IsAnew}
+use Rattle.polling.specs.Courses.{AreRenewals, AreOf, BeginsWith, IsSince, Start, Onward, From, IsCourse, ServesEachAlone}
+
+-- an exchange leads on, by its event where it has one
+exchange_more :
+    {S C : Type 0} (t : LedgersMeaning S) (gives : C → ℕ → C → Type 0) → ResponsesMove t →
+    (Since Now : List Event → Tenants → Type 0) (old new : Connection S C) (reply : Reply)
+    (by :
+    IsAnswered t gives old reply new ⊎ (IsTurnedAway old reply new ⊎ LacksMemory old reply new)) →
+    GoesOn Since (event_in reply by) Now → IsSettled (run_meaning t) new.ledgers →
+    HasLed (run_meaning t) Since old.ledgers → HasLed (run_meaning t) Now new.ledgers
+exchange_more t gives move Since Now old new reply (inl answered) on settled led =
+    event_more Since Now (run_meaning t) old.ledgers new.ledgers
+    (course.Replied (asked_of answered.message answered.early.head) answered.moment reply) on
+    (λ events. tt)
+    (move old.ledgers new.ledgers answered.message answered.moment reply answered.early
+    answered.responds answered.finds answered.follows settled)
+    led
+exchange_more t gives move Since Now old new reply (inr (inl away)) on settled led =
+    subst (HasLed (run_meaning t) Now) (sym away.cut.ledgers)
+    (same_more Since Now (run_meaning t) old.ledgers on led)
+exchange_more t gives move Since Now old new reply (inr (inr lacks)) on settled led =
+    subst (HasLed (run_meaning t) Now) (sym lacks.cut.ledgers)
+    (same_more Since Now (run_meaning t) old.ledgers on led)
+
+-- so does opening again
+opening_more :
+    {S : Type 0} (t : RunMeaning S) (Since Now : List Event → Tenants → Type 0) (old new : S)
+    (renewed : Renewed t old new) →
+    ((events : List Event) → AreOfOpening renewed events → GoesOn Since events Now) →
+    (IsAnew renewed → (began : Tenants) → MayBegin t new began → Now [] began) →
+    HasLed t Since old → HasLed t Now new
+opening_more t Since Now old new (Stayed same) on anew led =
+    subst (HasLed t Now) (sym same) (same_more Since Now t old (on [] refl) led)
+opening_more t Since Now old new (Opened opened) on anew led =
+    opened_more Since Now t old new
+    (λ (deeds : List service.Deed). on (Reopened deeds ∷ []) (deeds, refl)) opened led
+opening_more t Since Now old new (Anew settled) on anew led = begun_anew t Now new (anew tt)
+opening_more t Since Now old new (Refused dead) on anew led = begun_anew t Now new (anew tt)
+
+module _ {S C P : Type 0} (r : Rules S C P) (move : ResponsesMove r.means) (renewals : AreRenewals r) where
+  -- where nothing happens to the ledgers, nothing is told
+  unmoved_more :
+      (Since Now : List Event → Tenants → Type 0) (old new : S) → new ≡ old →
+      GoesOn Since [] Now → HasLed (run_meaning r.means) Since old →
+      HasLed (run_meaning r.means) Now new
+  unmoved_more Since Now old new same on led =
+      subst (HasLed (run_meaning r.means) Now) (sym same)
+      (same_more Since Now (run_meaning r.means) old on led)
+
+  one_more :
+      (Since Now : List Event → Tenants → Type 0) (last next : Hall S C P) (more : List Deed)
+      (happens : Happens S C P r last more next) →
+      ((events : List Event) → AreOf renewals happens events → GoesOn Since events Now) →
+      ((began : Tenants) → BeginsWith renewals happens began → Now [] began) →
+      HasLed (run_meaning r.means) Since last.room.ledgers →
+      HasLed (run_meaning r.means) Now next.room.ledgers
+  one_more Since Now last next more (Did (Replied client reply) room peers stays done settled hands)
+      on anew led =
+      let exchange = done.does.0.exchange [] (λ ended. refl) in
+      exchange_more r.means r.gives move Since Now _ _ reply exchange.by
+      (on (event_in reply exchange.by) refl) settled led
+  one_more Since Now last next more (Did (Came client piece) room peers stays done settled hands)
+      on anew led =
+      unmoved_more Since Now last.room.ledgers room.ledgers done.does.0.ledgers_same (on [] refl) led
+  one_more Since Now last next more (Did (Ended client) room peers stays done settled hands) on anew
+      led =
+      unmoved_more Since Now last.room.ledgers room.ledgers done.does.ledgers_same (on [] refl) led
+  one_more Since Now last next more (Did (Wrote client bytes) room peers stays done settled hands)
+      on anew led =
+      unmoved_more Since Now last.room.ledgers room.ledgers done.does.ledgers_same (on [] refl) led
+  one_more Since Now last next more (Tells told peers does) on anew led =
+      same_more Since Now (run_meaning r.means) last.room.ledgers (on [] refl) led
+  one_more Since Now last next more (Stirs peers does) on anew led =
+      same_more Since Now (run_meaning r.means) last.room.ledgers (on [] refl) led
+  one_more Since Now last next more (Goes client) on anew led =
+      same_more Since Now (run_meaning r.means) last.room.ledgers (on [] refl) led
+  one_more Since Now last next more (Loses client piece peers does) on anew led =
+      same_more Since Now (run_meaning r.means) last.room.ledgers (on [] refl) led
+  one_more Since Now last next more (Again ledgers renewed) on anew led =
+      opening_more (run_meaning r.means) Since Now last.room.ledgers ledgers
+      (renewals last.room.ledgers ledgers renewed) on
+      (λ is began may. anew began (is, may)) led
+
+  all_led :
+      (first last : Hall S C P) (deeds : List Deed) (serves : Serves S C P r first deeds last) →
+      r.means.is_live first.room.ledgers →
+      IsSettled (run_meaning r.means) first.room.ledgers →
+      HasLed (run_meaning r.means) (IsSince renewals first deeds last serves) last.room.ledgers
+  all_led first last deeds Begin live settled =
+      none_yet (run_meaning r.means) (IsSince renewals first [] first Begin) first.room.ledgers live
+      settled Start
+  all_led first last deeds (Then before mid more next serves happens) live settled =
+      one_more (IsSince renewals first before mid serves)
+      (IsSince renewals first (before ++ more) next (Then before mid more next serves happens)) mid
+      next more happens
+      (λ behind are events began since.
+      Onward before mid more next serves happens events behind began since are)
+      (λ began anew. From before mid more next serves happens began anew)
+      (all_led first mid before serves live settled)
+
+pub is_course :
+    {S C P : Type 0} (r : Rules S C P) → ResponsesMove r.means → IsCourse r
+is_course r move renewals first last deeds serves live settled =
+    all_led r move renewals first last deeds serves live settled
+
+pub serves_each_alone : {S C P : Type 0} (r : Rules S C P) → EachSeesItself → ServesEachAlone r
+serves_each_alone r sees renewals first last deeds serves events began now course digest =
+    sees began now events course.course digest

@@ -1,0 +1,137 @@
+-- Serving behind what was done, and how often peers tell something in it.
+use Rattle.std.proofs.Common.{◌≡◌, ◌≤◌, ◌<◌, ◌+◌, refl, sym, subst, ℕ, List, [], ◌++◌, append_assoc, arith}
+use Rattle.std.proofs.lemmas.List.{append-nil}
+use Rattle.clients.specs.Deeds.{Deed}
+use Rattle.polling.specs.Peers.{Said}
+use Rattle.polling.specs.declared.peers.Told.{Told}
+use Rattle.polling.specs.declared.peers.Told.TheVariants as told
+use Rattle.polling.specs.Serving.{Hall, Rules, Tells, Serves, Begin, Then, tellings, tellings_of}
+use Rattle.polling.specs.Seating.{Held, Keeps, ServesAll, replies_in}
+use Rattle.polling.specs.Ending.{HasTurn, IsQuiet, Turns, Start, Turn, most_turns, Ends, Enough, Quiet, Long}
+use Rattle.polling.specs.Laws.{ServedOn}
+use Rattle.polling.proofs.OneLemmas.{replies_both}
+use Rattle.polling.proofs.AllLemmas.{keeps_peers}
+use Rattle.polling.proofs.TurnLemmas.{turns_serve}
+
+module _ {S C P : Type 0} (r : Rules S C P) where
+  -- what follows, behind what was done
+  both_told :
+      (first mid last : Hall S C P) (before more : List Deed) (did : Serves S C P r first before mid)
+      (does : Serves S C P r mid more last) →
+      (all : Serves S C P r first (before ++ more) last) × (tellings all ≡ tellings did + tellings does)
+  both_told first mid last before more did Begin =
+      subst
+      (λ (deeds : List Deed).
+      (all : Serves S C P r first deeds mid) × (tellings all ≡ tellings did + 0))
+      (sym (append-nil before)) (did, omega arith)
+  both_told first mid last before more did (Then deeds between behind next rest happens) =
+      let so_far = both_told first mid between before deeds did rest in
+      subst
+      (λ (each : List Deed).
+      (all : Serves S C P r first each next)
+      × (tellings all ≡ tellings did + (tellings rest + tellings_of happens)))
+      (append_assoc before deeds behind)
+      (Then (before ++ deeds) between behind next so_far.0 happens, omega (arith, so_far.1))
+
+  pub served_on :
+      (first mid : Hall S C P) (before : List Deed) (served : Serves S C P r first before mid)
+      (old new : Held S C P) (replies : ℕ) → Keeps old mid → ServesAll r old new replies →
+      ServedOn served new replies 0
+  served_on first mid before served old new replies keeps serves =
+      let did = serves mid keeps in
+      let both = both_told first mid did.1 before did.0 served did.2 in
+      record {
+        deeds = before ++ did.0;
+        last = did.1;
+        all = both.0;
+        keeps = did.3;
+        count =
+            replies_both before did.0 (replies_in before) replies (replies_in before + replies) refl
+            did.4 refl;
+        told = omega (arith, both.1);
+      }
+
+  -- one after the other
+  then_on :
+      (first mid : Hall S C P) (before : List Deed) (served : Serves S C P r first before mid)
+      (between new : Held S C P) (some more all : ℕ) (times others sum : ℕ) → some + more ≡ all →
+      sum ≤ times + others → (one : ServedOn served between some times) →
+      ServedOn one.all new more others → ServedOn served new all sum
+  then_on first mid before served between new some more all times others sum are within one two =
+      record {
+        deeds = two.deeds;
+        last = two.last;
+        all = two.all;
+        keeps = two.keeps;
+        count = omega (arith, one.count, two.count);
+        told = omega (arith, one.told, two.told);
+      }
+
+  -- peers tell something
+  tells_on :
+      (first mid : Hall S C P) (before : List Deed) (served : Serves S C P r first before mid)
+      (old : Held S C P) (told : Told) (peers : P) → Keeps old mid → r.does old.peers (Said told) peers →
+      ServedOn served (record old { peers = peers }) 0 1
+  tells_on first mid before served old told peers keeps said = record {
+    deeds = before ++ [];
+    last = record mid { peers = peers };
+    all =
+        Then before mid [] (record mid { peers = peers }) served
+        (Tells told peers (subst (λ (p : P). r.does p (Said told) peers) (sym keeps.peers) said));
+    keeps = keeps_peers old mid peers keeps;
+    count = replies_both before [] (replies_in before) 0 (replies_in before + 0) refl refl refl;
+    told = omega arith;
+  }
+
+  quiet_on :
+      (first mid : Hall S C P) (before : List Deed) (served : Serves S C P r first before mid)
+      (old new : Held S C P) (replies : ℕ) → Keeps old mid → IsQuiet r old new replies →
+      ServedOn served new replies 1
+  quiet_on first mid before served old new replies keeps quiet =
+      let one = served_on first mid before served old quiet.before replies keeps quiet.served in
+      let two =
+      tells_on first one.last one.deeds one.all quiet.before told.Nothing new.peers one.keeps
+      quiet.said in
+      subst (λ (now : Held S C P). ServedOn served now replies 1) (sym quiet.same)
+      (then_on first mid before served quiet.before (record quiet.before { peers = new.peers })
+      replies 0 replies 0 1 1 (omega arith) (omega arith) one two)
+
+  turn_on :
+      (first mid : Hall S C P) (before : List Deed) (served : Serves S C P r first before mid)
+      (old new : Held S C P) (replies : ℕ) → Keeps old mid → HasTurn r old new replies →
+      ServedOn served new replies 1
+  turn_on first mid before served old new replies keeps turn =
+      let told = record turn.before { peers = turn.peers } in
+      let one = served_on first mid before served old turn.before 0 keeps turn.first in
+      let two =
+      tells_on first one.last one.deeds one.all turn.before turn.told turn.peers one.keeps turn.said in
+      let both =
+      then_on first mid before served turn.before told 0 0 0 0 1 1 (omega arith) (omega arith) one
+      two in
+      then_on first mid before served told new 0 replies replies 1 0 1 (omega arith) (omega arith)
+      both
+      (served_on first both.last both.deeds both.all told new replies both.keeps turn.served)
+
+  turns_on :
+      (first mid : Hall S C P) (before : List Deed) (served : Serves S C P r first before mid)
+      (old new : Held S C P) (turns replies : ℕ) → 0 < turns → Keeps old mid →
+      Turns S C P r old turns replies new → ServedOn served new replies 1
+  turns_on first mid before served old new turns replies some keeps Start = absurd (omega arith)
+  turns_on first mid before served old new turns replies some keeps
+      (Turn count so_far between more next rest turn) =
+      let one =
+      served_on first mid before served old between so_far keeps
+      (turns_serve r old between count so_far rest) in
+      then_on first mid before served between next so_far more (so_far + more) 0 1 1 refl (omega arith)
+      one
+      (turn_on first one.last one.deeds one.all between next more one.keeps turn)
+
+  pub ends_told :
+      (first mid : Hall S C P) (before : List Deed) (served : Serves S C P r first before mid)
+      (old new : Held S C P) (replies : ℕ) → Keeps old mid → Ends S C P r ⊥ old new replies →
+      ServedOn served new replies 1
+  ends_told first mid before served old new replies keeps (Enough never) = absurd never
+  ends_told first mid before served old new replies keeps (Quiet quiet) =
+      quiet_on first mid before served old new replies keeps quiet
+  ends_told first mid before served old new replies keeps (Long turns) =
+      turns_on first mid before served old new most_turns replies (omega arith) keeps turns

@@ -1,0 +1,97 @@
+-- Serving as a course: what has happened to the ledgers since they were last opened anew.
+use Rattle.std.specs.Prelude.{◌≡◌, ℕ, List, [], ◌∷◌, ◌++◌, refl}
+use Rattle.chain.specs.Ledgers.{Tenants}
+use Rattle.service.specs.Deeds as service
+use Rattle.service.specs.Courses.{Event, Reopened}
+use Rattle.service.specs.ConnectionEvents.{event_in}
+use Rattle.service.specs.Openings.{RunMeaning, run_meaning, IsSettled, IsOpened, MayBegin}
+use Rattle.service.specs.Openings.{CourseSince, HasLed}
+use Rattle.service.specs.OwnDeeds.{SeesItself}
+use Rattle.clients.specs.Deeds.{Deed, Replied}
+use Rattle.polling.specs.Serving.{Hall, Rules, Happens, Did, Again, Serves, Begin, Then}
+
+-- what opening again makes of ledgers: they stay as they are; they are opened again, and are what
+-- was to be found; they are opened anew, whatever was before; or that is refused, and they are not
+-- live
+pub data Renewed {S : Type 0} (t : RunMeaning S) (old new : S) : Type 0 where
+  Stayed : new ≡ old → Renewed t old new
+  Opened : IsOpened t old new → Renewed t old new
+  Anew : IsSettled t new → Renewed t old new
+  Refused : (t.is_live new → ⊥) → Renewed t old new
+
+-- the events of it: none, or that deeds were found done
+abbrev pub AreOfOpening :
+    {S : Type 0} {t : RunMeaning S} {old new : S} → Renewed t old new → List Event → Type 0
+AreOfOpening (Stayed same) events = events ≡ []
+AreOfOpening (Opened opened) events = (deeds : List service.Deed) × (events ≡ Reopened deeds ∷ [])
+AreOfOpening (Anew settled) events = ⊥
+AreOfOpening (Refused dead) events = ⊥
+
+-- behind it nothing is said of what was before
+abbrev pub IsAnew :
+    {S : Type 0} {t : RunMeaning S} {old new : S} → Renewed t old new → Type 0
+IsAnew (Stayed same) = ⊥
+IsAnew (Opened opened) = ⊥
+IsAnew (Anew settled) = Unit {0}
+IsAnew (Refused dead) = Unit {0}
+
+-- whatever opens ledgers again does one of these
+abbrev pub AreRenewals : {S C P : Type 0} → Rules S C P → Type 0
+AreRenewals {S} r = (old new : S) → r.renews old new → Renewed (run_meaning r.means) old new
+
+module _ {S C P : Type 0} {r : Rules S C P} (renewals : AreRenewals r) where
+  -- the events of what happens: that of a message that was replied to, if it was read whole; those
+  -- of an opening; and no others
+  abbrev pub AreOf :
+      {old new : Hall S C P} {deeds : List Deed} → Happens S C P r old deeds new → List Event
+      → Type 0
+  AreOf (Did (Replied client reply) room peers stays done settled hands) events =
+      events ≡ event_in reply (done.does.0.exchange [] (λ ended. refl)).by
+  AreOf {old} (Again ledgers renewed) events =
+      AreOfOpening (renewals old.room.ledgers ledgers renewed) events
+  AreOf happens events = events ≡ []
+
+  -- ledgers are opened anew, or that is refused; and then the machines are those that are there, or
+  -- that the next opening finds
+  abbrev pub BeginsWith :
+      {old new : Hall S C P} {deeds : List Deed} → Happens S C P r old deeds new → Tenants → Type 0
+  BeginsWith {old} (Again ledgers renewed) began =
+      IsAnew (renewals old.room.ledgers ledgers renewed)
+      × MayBegin (run_meaning r.means) ledgers began
+  BeginsWith happens began = ⊥
+
+  -- the events since ledgers were last opened anew, or since the beginning, and the machines then
+  pub data IsSince (first : Hall S C P) :
+      (deeds : List Deed) (last : Hall S C P) → Serves S C P r first deeds last → List Event
+      → Tenants → Type 0 where
+    Start : IsSince first [] first Begin [] (r.means.tenants first.room.ledgers)
+    Onward :
+        (deeds : List Deed) (last : Hall S C P) (more : List Deed) (next : Hall S C P)
+        (serves : Serves S C P r first deeds last) (happens : Happens S C P r last more next)
+        (events behind : List Event) (began : Tenants) →
+        IsSince first deeds last serves events began → AreOf happens behind →
+        IsSince first (deeds ++ more) next (Then deeds last more next serves happens)
+        (events ++ behind) began
+    From :
+        (deeds : List Deed) (last : Hall S C P) (more : List Deed) (next : Hall S C P)
+        (serves : Serves S C P r first deeds last) (happens : Happens S C P r last more next)
+        (began : Tenants) → BeginsWith happens began →
+        IsSince first (deeds ++ more) next (Then deeds last more next serves happens) [] began
+
+-- serving over ledgers that are live and settled is a course, from then on or from the last time on
+-- that they were opened anew
+abbrev pub IsCourse : {S C P : Type 0} → Rules S C P → Type 0
+IsCourse {S} {C} {P} r =
+    (renewals : AreRenewals r) (first last : Hall S C P) (deeds : List Deed)
+    (serves : Serves S C P r first deeds last)
+    → r.means.is_live first.room.ledgers
+    → IsSettled (run_meaning r.means) first.room.ledgers
+    → HasLed (run_meaning r.means) (IsSince renewals first deeds last serves) last.room.ledgers
+
+-- in it each tenant sees its own deeds alone
+abbrev pub ServesEachAlone : {S C P : Type 0} → Rules S C P → Type 0
+ServesEachAlone {S} {C} {P} r =
+    (renewals : AreRenewals r) (first last : Hall S C P) (deeds : List Deed)
+    (serves : Serves S C P r first deeds last) (events : List Event) (began now : Tenants)
+    → CourseSince (IsSince renewals first deeds last serves) events began now
+    → (digest : List ℕ) → SeesItself began events now digest
