@@ -11,20 +11,26 @@ from drawn import LEDGER, transfer
 from runs import House
 from service import Connection, Lost, body_of, message, want
 
-# So many clients are served at once, and so many large bodies are read at once.
-MOST_CLIENTS, MOST_BODIES = 1000, 128
+# So many clients are served at once.
+MOST_CLIENTS = 1000
 # The seconds that a message has, and a quiet client; what a busy machine adds is not the service's.
 MESSAGE, IDLE, ADDED = 10, 75, 20
+# A service with other limits: room for two bodies of 2 MB, and fewer seconds.
+FEW = {"--room": "5", "--clients": "8", "--message": "6", "--idle": "5"}
+# What is told of a shortage, and when it is over.
+SHORT = "no more clients for now: descriptors or memory are wanting"
+TAKEN = "clients are taken again"
 
 
 def limits(trial):
     """Clients that are slow, silent, too many, or do not read."""
     soft, hard = resource.getrlimit(resource.RLIMIT_NOFILE)
     resource.setrlimit(resource.RLIMIT_NOFILE, (min(hard, 4096), hard))
+    other_limits(trial)
     house = House(trial.fresh(), 3)
     house.begin()
     fill(house)
-    waits = [slow_message, unread_replies, many_bodies, *([idle] if trial.is_long else [])]
+    waits = [slow_message, unread_replies, *([idle] if trial.is_long else [])]
     told = [Limit(wait, house) for wait in waits]
     beside = Beside(house)
     for each in (*told, beside):
@@ -145,24 +151,51 @@ def is_let_go(house, pause):
     return read < 40 * 200_000
 
 
+def other_limits(trial):
+    """The limits that options set, met in a service of its own."""
+    house = House(trial.fresh(), 1, [word for option in FEW.items() for word in option])
+    house.begin()
+    many_bodies(house)
+    few_clients(house)
+    house.compare()
+    house.stop()
+
+
 def many_bodies(house):
-    """As many begun bodies as are read at once: a large batch waits until they have had their
-    time."""
-    key = house.desks[0].key
-    begun = message("POST", "/transfers", key, b" " * 2_000_000)[:100_000 + 200]
-    held = [Connection(house.service.port) for _ in range(MOST_BODIES)]
+    """Of four begun bodies two have room. A large batch waits behind the other two, though there
+    is room for it, until the first have had their time; the others' begins then."""
+    key, seconds = house.desks[0].key, int(FEW["--message"])
+    begun = message("POST", "/transfers", key, b" " * 2_000_000)[:60_000]
+    held = [Connection(house.service.port) for _ in range(4)]
     for each in held:
         each.send(begun)
-    time.sleep(1)
+        time.sleep(0.2)
     moved = [transfer(2 * 10**9 + place, debit_account_id=1, credit_account_id=2, amount=1,
                       ledger=LEDGER, code=1, user_data_128=10**38) for place in range(1000)]
     want(len(body_of(moved)) > 1 << 16, "a small batch")
     start = time.monotonic()
     want(house.take_turn(0).batch(moved), "unavailable, beside bodies that have begun")
     took = time.monotonic() - start
-    want(took < MESSAGE + ADDED, f"a large batch waited for {took:.1f} s")
+    want(seconds - 2 <= took <= seconds + ADDED, f"a large batch waited for {took:.1f} s")
+    for each in held[:2]:
+        ends(each, 0, 1)
+    for each in held[2:]:
+        ends(each, max(0, seconds - ADDED), seconds)
     for each in held:
-        ends(each, 0, MESSAGE)
+        each.close()
+
+
+def few_clients(house):
+    """As many clients as the option says; a quiet one goes for one more, or has had its time."""
+    most, seconds = int(FEW["--clients"]), int(FEW["--idle"])
+    held = [Connection(house.service.port) for _ in range(most)]
+    time.sleep(0.5)
+    more = Connection(house.service.port)
+    more.send(message("POST", "/x", house.desks[0].key))
+    want(more.reply()[0] == "404 Not Found", "no reply to one client more")
+    ends(held[0], 0, 1)
+    ends(more, 0, seconds)
+    for each in (*held, more):
         each.close()
 
 
@@ -199,9 +232,12 @@ def few_descriptors(house):
     for _ in range(5):
         want(desk.batch([]), "unavailable, with no descriptor left")
         time.sleep(0.1)
+    want(house.service.told() == [SHORT], f"standard error: {house.service.told()}")
     house.service.limit_connections(1024)
     for each in held:
         each.send(message("POST", "/x", desk.key))
     for each in held:
         want(each.reply()[0] == "404 Not Found", "not served, with descriptors again")
         each.close()
+    house.service.wait_for_lines(3)
+    want(house.service.told() == [SHORT, TAKEN], f"standard error: {house.service.told()}")

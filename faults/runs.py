@@ -12,10 +12,10 @@ NAMES = ("north-desk", "south-hall", "east-club", "west-pier", "old-mill", "new-
 
 
 class House:
-    """A file, its tenants and the service over it."""
+    """A file, its tenants and the service over it, with its options."""
 
-    def __init__(self, trial, tenants=2):
-        self.program, self.random = trial.program, trial.random
+    def __init__(self, trial, tenants=2, options=()):
+        self.program, self.random, self.options = trial.program, trial.random, options
         self.db = os.path.join(trial.folder, "ledger.db")
         self.desks, self.requests, self.service = [], [], None
         for place, name in enumerate(NAMES[:tenants]):
@@ -25,7 +25,7 @@ class House:
             self.requests.append(Requests(self.random, 10**6 * (place + 1)))
 
     def start(self, env=None):
-        self.service = Service(self.program, self.db, env)
+        self.service = Service(self.program, self.db, env, self.options)
 
     def stop(self):
         for desk in self.desks:

@@ -71,14 +71,15 @@ def free_port():
 
 
 class Service:
-    """A running service over a file."""
+    """A running service over a file, with options beside those that it must have."""
 
-    def __init__(self, program, db, env=None):
+    def __init__(self, program, db, env=None, options=()):
         self.port, self.text = free_port(), b""
         self.errors, errors = os.pipe()
         os.set_blocking(self.errors, False)
         self.served = subprocess.Popen(
-            [program, "serve", "--db", db, "--port", str(self.port), "--requests", str(2**64 - 1)],
+            [program, "serve", "--db", db, "--port", str(self.port), "--requests", str(2**64 - 1),
+             *options],
             env=env, stderr=errors,
             preexec_fn=lambda: signal.signal(signal.SIGXFSZ, signal.SIG_IGN))
         os.close(errors)

@@ -1,6 +1,8 @@
 //! One client.
-ghost use Rattle.std.specs.Prelude.{◌≡◌, ◌≤◌, true, false, length, OnOk, OnErr, IsTrue};
+ghost use Rattle.std.specs.Prelude.{◌≡◌, ◌≤◌, true, false, length, IfOk, IfSome, OnOk, OnErr, IsTrue};
+ghost use Rattle.ledger_http.specs.Limits.{longest_message};
 ghost use Rattle.ledger_http.specs.Message.{IsAnnounced};
+ghost use Rattle.ledger_http.specs.Progress.{HasLength};
 ghost use Rattle.clients.specs.Talk.{new_talk, received, input_ended, written, may_answer, given_up};
 ghost use Rattle.clients.specs.Answering.{HasAnswered};
 
@@ -126,6 +128,25 @@ impl Client {
         ensures { IsTrue result → IsAnnounced self.now.unread.bytes }
     {
         self.inbox.is_announced()
+    }
+
+    /// How long its next message is with its head, where a good head was found and a body of allowed
+    /// length is due behind it.
+    pub fn announced_length(&self) -> Option<usize>
+        ensures length { IfSome result (HasLength self.now.unread.bytes) }
+        ensures few { IfSome result (λ length. length ≤ longest_message) }
+    {
+        self.inbox.announced_length()
+    }
+
+    /// Where a body is due, makes room for what is wanting of it, up to so many bytes. Says how many
+    /// bytes to receive. It fails only where a body is due.
+    pub fn reserve_due(&mut self, most: usize) -> Result<usize, AllocError>
+        ensures same { self.new ≡ self.old }
+        ensures few { IfOk result (λ count. count ≤ most) }
+        ensures due { OnErr result (IsAnnounced self.old.unread.bytes) }
+    {
+        self.inbox.reserve_due(most)
     }
 
     /// Memory is wanting for the body that is due: the last reply says so.

@@ -1,5 +1,5 @@
 -- Where `clap` takes the words, the subcommand that it states is one of ours, with each of its values.
-use Rattle.std.proofs.Common.{◌≡◌, ◌⊎◌, ◌∙◌, ◌==◌, ◌&&◌, ◌||◌, Bool, true, false, List, [], ◌∷◌, length, Option, Some, None, ap, refl, sym, subst, inl, inr, cond, is_some, true≢false, lit<}
+use Rattle.std.proofs.Common.{◌≡◌, ◌⊎◌, ◌∙◌, ◌==◌, ◌&&◌, ◌||◌, ◌^◌, ℕ, Bool, true, false, List, [], ◌∷◌, length, Option, Some, None, ap, refl, sym, subst, inl, inr, cond, is_some, true≢false, lit<}
 use Rattle.std.specs.Prelude.{find, option_map, unwrap_or, codes}
 use Rattle.std.specs.Option.{option_map_or}
 use Rattle.std.specs.Str.{bytes_eq}
@@ -16,8 +16,8 @@ use Rattle.clap.proofs.ValueTestLemmas.{accepts-Accepts}
 use Rattle.command_line.proofs.Uses.{Each, IsOwn, both_none, each_found, flag_sets, help_sets, option_sets}
 use Rattle.command_line.proofs.Walks.{walk_stops}
 use Rattle.command_line.proofs.Levels.{HasValue, Holds, level_holds}
-use Rattle.command_line.specs.Ledgerd.{check_shape, counts, flag_rule, ledgerd_app, migrate_shape, number_rule, option_rule, ports, program, serve_shape, statement_shape, tenant_add_shape, text_rule}
-use Rattle.command_line.specs.Values.{HasSomeText, IsFilled, IsFlag}
+use Rattle.command_line.specs.Ledgerd.{check_shape, counts, flag_rule, ledgerd_app, limit_rule, migrate_shape, number_rule, option_rule, ports, program, serve_shape, statement_shape, tenant_add_shape, text_rule}
+use Rattle.command_line.specs.Values.{HasSomeText, IsFilled, IsFlag, IsFreeNumber, HasNumberBelow}
 use Rattle.command_line.proofs.NumberValues.{signed_number}
 
 -- a subcommand as `clap` builds it
@@ -55,6 +55,10 @@ number_own c name numbers own = record { own = own; sets = option_sets (filled (
 option_own : (c : List Rule) (name : Text) → arg_by_id c name ≡ Some (filled (option_rule name)) → IsOwn c (filled (option_rule name))
 option_own c name own = record { own = own; sets = option_sets (filled (option_rule name)) refl (lit< tt) }
 
+limit_own : (c : List Rule) (name : Text) (least most : ℕ) → arg_by_id c name ≡ Some (filled (limit_rule name least most))
+    → IsOwn c (filled (limit_rule name least most))
+limit_own c name least most own = record { own = own; sets = option_sets (filled (limit_rule name least most)) refl (lit< tt) }
+
 flag_own : (c : List Rule) (name : Text) → arg_by_id c name ≡ Some (filled (flag_rule name)) → IsOwn c (filled (flag_rule name))
 flag_own c name own = record { own = own; sets = flag_sets (filled (flag_rule name)) (codes "true") refl refl }
 
@@ -65,14 +69,45 @@ help_own c own = record { own = own; sets = help_sets (filled help_rule) refl }
 text_at : (rows : List Row) (name : Text) → Holds rows (filled (text_rule name)) → HasSomeText rows name
 text_at rows name holds = some_text rows name (holds.needed refl).first (holds.needed refl).written
 
+-- what stands for a limit passes as a number
+limit_at : (rows : List Row) (name : Text) (least most : ℕ) → Holds rows (filled (limit_rule name least most)) → IsFreeNumber rows name
+limit_at rows name least most holds = elim holds.known [
+  | inl none ↦ inl none
+  | inr v ↦ inr (go v (accepted_value false (vp.Unsigned least most) v.first v.accepted))
+]
+  where
+    go : (v : HasValue rows (filled (limit_rule name least most))) → Accepts false (vp.Unsigned least most) v.first → HasNumberBelow rows name (2 ^ 64)
+    go v ok = record { text = v.first; read = v.read; numeral = ok.0; below = ok.1 }
+
 serve_met : (words : List Text) → level_fault (ready serve_shape) [] nothing_held words false [] ≡ []
     → IsFilled (codes "serve") (rows_after (ready serve_shape).rules [] words)
 serve_met words e =
     let c = (ready serve_shape).rules in
     let rows = rows_after c [] words in
-    let own : Each (IsOwn c) c =
-    (text_own c (codes "db") refl, (number_own c (codes "port") ports refl, (number_own c (codes "requests") counts refl, (help_own c refl, tt)))) in
+    let own : Each (IsOwn c) c = (
+      text_own c (codes "db") refl,
+      (
+        number_own c (codes "port") ports refl,
+        (
+          number_own c (codes "requests") counts refl,
+          (
+            limit_own c (codes "clients") 1 100_000 refl,
+            (
+              limit_own c (codes "room") 3 65_536 refl,
+              (
+                limit_own c (codes "idle") 1 86_400 refl,
+                (
+                  limit_own c (codes "message") 1 3_600 refl,
+                  (limit_own c (codes "reply") 1 3_600 refl, (help_own c refl, tt)),
+                ),
+              ),
+            ),
+          ),
+        ),
+      ),
+    ) in
     let holds = level_holds (ready serve_shape) words own refl e in
+    let limits = holds.1.1.1 in
     let port = holds.1.0.needed refl in
     let requests = holds.1.1.0.needed refl in
     let count : Accepts false counts requests.first = accepted_value false counts requests.first requests.accepted in
@@ -82,6 +117,13 @@ serve_met words e =
         db = text_at rows (codes "db") holds.0;
         port = signed_number rows (codes "port") port.first port.read (accepted_value false ports port.first port.accepted);
         requests = record { text = requests.first; read = requests.read; numeral = count.0; below = count.1 };
+        limits = record {
+          clients = limit_at rows (codes "clients") 1 100_000 limits.0;
+          room = limit_at rows (codes "room") 3 65_536 limits.1.0;
+          idle = limit_at rows (codes "idle") 1 86_400 limits.1.1.0;
+          message = limit_at rows (codes "message") 1 3_600 limits.1.1.1.0;
+          reply = limit_at rows (codes "reply") 1 3_600 limits.1.1.1.1.0;
+        };
       },
     )
 

@@ -9,7 +9,7 @@ use Rattle.clap.specs.Matches.{ReadsOne, first_value, one_text}
 use Rattle.clap.specs.Walk.{Row, Text, first_of, one_of, rows_of}
 use Rattle.clap.specs.declared.parser.matches.Found.{Found}
 use Rattle.clap.proofs.WalkLemmas.{first_value-rows, one_text-rows}
-use Rattle.command_line.specs.Values.{HasNumber, HasNumberBelow, HasSomeText, HasText, IsFlag, has_flag, number_of}
+use Rattle.command_line.specs.Values.{HasFreeNumber, HasNumber, HasNumberBelow, HasSomeText, HasText, IsFlag, IsFreeNumber, has_flag, number_of}
 
 some_from : (o : Option (Bor Text)) (x : Option Text) → option_map (λ s. s.now) o ≡ x → is_some x ≡ true → is_some o ≡ true
 some_from (Some t) x e h = refl
@@ -40,6 +40,15 @@ some_number r n e = rw e refl
 pub number_is : (rows : List Row) (name : Text) (bound : ℕ) (h : HasNumberBelow rows name bound) (r : Option ℕ) (n : ℕ) → r ≡ Some (number_of h.text) → r ≡ Some n
     → HasNumber rows name n
 number_is rows name bound h r n is e = ap (option_map number_of) h.read ∙ sym is ∙ e
+
+-- `get_one` of an option that may be left out
+pub free_number_is : (E : Type 0) (G : List ℕ → Result ℕ E → Type 0) → ((u : List ℕ) (x : Result ℕ E) → G u x → ParsesUnsigned 64 10 u x)
+    → (f : Found) (name : Text) (r : Option ℕ) → (one_text f name ≡ None → r ≡ None) → ((t : List ℕ) → one_text f name ≡ Some t → ReadsOne G t r)
+    → IsFreeNumber (rows_of f) name → HasFreeNumber (rows_of f) name r
+free_number_is E G only f name r none reads h = elim h [
+  | inl absent ↦ none (one_text-rows f name ∙ absent) ∙ sym (ap (option_map number_of) absent)
+  | inr n ↦ number_at E G 64 only f name r reads n ∙ sym (ap (option_map number_of) n.read)
+]
 
 -- `get_flag`
 pub flag_is : (f : Found) (name : Text) (b : Bool) → (one_text f name ≡ None → b ≡ false) → (one_text f name ≡ Some (codes "true") → b ≡ true)

@@ -6,3 +6,4 @@ pub mod Filled
 pub mod Getters
 pub mod Builders
 pub mod Outcomes
+pub mod Named

@@ -1,5 +1,5 @@
 -- The command line as `clap`'s rules see it.
-use Rattle.std.specs.Prelude.{List, Some, codes, pos, true, ◌∷◌, []}
+use Rattle.std.specs.Prelude.{ℕ, List, Some, codes, pos, true, ◌∷◌, []}
 use Rattle.clap.specs.Words.{App, Rule, Shape, Text, new_app, new_rule, with_subcommand}
 use Rattle.clap.specs.declared.builder.action.ArgAction.TheVariants.{SetTrue}
 use Rattle.clap.specs.declared.builder.value_parser.ValueParser.{ValueParser}
@@ -29,6 +29,10 @@ flag_rule name = record (new_rule name) { long = Some name; action = Some SetTru
 abbrev pub option_rule : Text → Rule
 option_rule name = record (new_rule name) { long = Some name; value_names = 1 }
 
+-- `--name N`, a number within bounds, which may be left out
+abbrev pub limit_rule : Text → ℕ → ℕ → Rule
+limit_rule name least most = record (option_rule name) { parser = Some (Unsigned least most) }
+
 -- the option that names the file of the store
 abbrev pub db_rule : Rule
 db_rule = text_rule (codes "db")
@@ -42,9 +46,19 @@ abbrev pub store_app : Text → App
 store_app name = record (new_app name) { top = over_store name [] }
 
 -- serve: a port, and how many requests to answer
+abbrev pub counted_serve_app : App
+counted_serve_app = record (new_app (codes "serve")) {
+  top = over_store (codes "serve")
+      (number_rule (codes "port") ports ∷ number_rule (codes "requests") counts ∷ []);
+}
+
+-- and then the limits: clients, megabytes for long messages, and seconds
 abbrev pub serve_shape : Shape
 serve_shape = over_store (codes "serve")
-    (number_rule (codes "port") ports ∷ number_rule (codes "requests") counts ∷ [])
+    (number_rule (codes "port") ports ∷ number_rule (codes "requests") counts
+    ∷ limit_rule (codes "clients") 1 100_000 ∷ limit_rule (codes "room") 3 65_536
+    ∷ limit_rule (codes "idle") 1 86_400 ∷ limit_rule (codes "message") 1 3_600
+    ∷ limit_rule (codes "reply") 1 3_600 ∷ [])
 
 -- tenant-add: the tenant's name and key
 abbrev pub tenant_add_shape : Shape

@@ -2,8 +2,9 @@
 use Rattle.std.specs.Prelude.{List, [], Option, Some, None, ◌≡◌, codes}
 use Rattle.clap.specs.Words.{IsAmong, Row, Text, fault_of, kind_of, subcommand_of}
 use Rattle.command_line.specs.Ledgerd.{ledgerd_app}
-use Rattle.command_line.specs.Values.{HasFreeText, HasNumber, HasText, has_flag, text_in}
+use Rattle.command_line.specs.Values.{HasFreeNumber, HasFreeText, HasNumber, HasText, has_flag, text_in}
 use Rattle.command_line.specs.declared.commands.Command.{Command}
+use Rattle.command_line.specs.declared.commands.LimitWords.{LimitWords}
 use Rattle.command_line.specs.declared.commands.StatementWords.{StatementWords}
 use Rattle.command_line.specs.declared.commands.Command.TheVariants as command
 use Rattle.command_line.specs.declared.fault.LineFault.{LineFault}
@@ -18,13 +19,22 @@ pub record SpellsStatement (rows : List Row) (asked : StatementWords) : Type 0 w
   pub wide : asked.wide ≡ has_flag rows (codes "wide")
   pub format : HasFreeText rows (codes "format") (text_in asked.format)
 
+-- the limits, each from the option of its own name
+pub record SpellsLimits (rows : List Row) (limits : LimitWords) : Type 0 where
+  pub clients : HasFreeNumber rows (codes "clients") limits.clients
+  pub room : HasFreeNumber rows (codes "room") limits.room
+  pub idle : HasFreeNumber rows (codes "idle") limits.idle
+  pub message : HasFreeNumber rows (codes "message") limits.message
+  pub reply : HasFreeNumber rows (codes "reply") limits.reply
+
 -- the command has the subcommand's name, and each value from the option of its own name
 abbrev pub Spells : Text → List Row → Command → Type 0
 Spells name rows command.Lists = ⊥
-Spells name rows (command.Serve db port requests) = (name ≡ codes "serve")
+Spells name rows (command.Serve db port requests limits) = (name ≡ codes "serve")
     × HasText rows (codes "db") db.now
     × HasNumber rows (codes "port") port
     × HasNumber rows (codes "requests") requests
+    × SpellsLimits rows limits
 Spells name rows (command.AddTenant db tenant key) = (name ≡ codes "tenant-add")
     × HasText rows (codes "db") db.now
     × HasText rows (codes "name") tenant.now

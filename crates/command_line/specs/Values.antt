@@ -38,6 +38,14 @@ pub record HasNumberBelow (rows : List Row) (name : Text) (bound : ℕ) : Type 0
   pub numeral : IsNumeral 10 (without_leading_plus text)
   pub below : number_of text < bound
 
+-- the value of an option that may be left out, as a number
+abbrev pub HasFreeNumber : List Row → Text → Option ℕ → Type 0
+HasFreeNumber rows name n = n ≡ option_map number_of (one_of name rows)
+
+-- what stands for an option that may be left out is nothing, or a number below 2^64
+abbrev pub IsFreeNumber : List Row → Text → Type 0
+IsFreeNumber rows name = (one_of name rows ≡ None) ⊎ HasNumberBelow rows name (2 ^ 64)
+
 -- the flag was given
 abbrev pub has_flag : List Row → Text → Bool
 has_flag rows name = option_map_or (λ text. bytes_eq text (codes "true")) (one_of name rows) false
@@ -47,11 +55,20 @@ abbrev pub IsFlag : List Row → Text → Type 0
 IsFlag rows name = (one_of name rows ≡ None)
     ⊎ ((one_of name rows ≡ Some (codes "true")) ⊎ (one_of name rows ≡ Some (codes "false")))
 
+-- each limit of serve is a number where it is there
+pub record FillsLimits (rows : List Row) : Type 0 where
+  pub clients : IsFreeNumber rows (codes "clients")
+  pub room : IsFreeNumber rows (codes "room")
+  pub idle : IsFreeNumber rows (codes "idle")
+  pub message : IsFreeNumber rows (codes "message")
+  pub reply : IsFreeNumber rows (codes "reply")
+
 -- the values of serve are there
 pub record FillsServe (rows : List Row) : Type 0 where
   pub db : HasSomeText rows (codes "db")
   pub port : HasNumberBelow rows (codes "port") (2 ^ 16)
   pub requests : HasNumberBelow rows (codes "requests") (2 ^ 64)
+  pub limits : FillsLimits rows
 
 -- the values of tenant-add are there
 pub record FillsTenantAdd (rows : List Row) : Type 0 where

@@ -1,18 +1,30 @@
 //! `ledgerd` as `clap` sees it: the subcommands, their options and their help.
 ghost use Rattle.std.specs.Prelude.{IfOk};
-ghost use Rattle.command_line.specs.Ledgerd.{check_shape, db_rule, flag_rule, ledgerd_app};
-ghost use Rattle.command_line.specs.Ledgerd.{migrate_shape, number_rule, option_rule, program};
-ghost use Rattle.command_line.specs.Ledgerd.{serve_shape};
+ghost use Rattle.command_line.specs.Ledgerd.{check_shape, counted_serve_app, db_rule, flag_rule};
+ghost use Rattle.command_line.specs.Ledgerd.{ledgerd_app, limit_rule, migrate_shape, number_rule};
+ghost use Rattle.command_line.specs.Ledgerd.{option_rule, program, serve_shape};
 ghost use Rattle.command_line.specs.Ledgerd.{statement_shape, store_app, tenant_add_shape, text_rule};
 ghost use Rattle.command_line.specs.Ledgerd.{whole_statement_app};
 ghost use Rattle.command_line.specs.Built.{IsLeaf, IsLocalArg, IsProgram};
 
+use crate::LEAST_ROOM;
 use clap::builder::ValueParser;
 use clap::{Arg, ArgAction, value_parser};
 use std::alloc::{AllocError, Global};
 
 static LISTS_HELP: &str = "Without a command, ledgerd reads one body of transfers from standard \
     input, answers it over lists in memory and prints the reply.";
+
+static CLIENTS_HELP: &str = "The most clients at once, 1 to 100000 [default: 1000]";
+
+static ROOM_HELP: &str = "Megabytes for all messages beyond 64 kB, 3 to 65536 [default: 256]";
+
+static IDLE_HELP: &str = "Seconds of silence between messages, 1 to 86400 [default: 75]";
+
+static MESSAGE_HELP: &str = "Seconds for a message from its first byte on, 1 to 3600 [default: 10]";
+
+static REPLY_HELP: &str =
+    "Seconds to take a reply, beside 1 for each 64 kB, 1 to 3600 [default: 10]";
 
 // `--name VALUE`, which its command must have.
 fn text_option<'a>(alloc: Global, name: &'a str, value: &'a str, help: &'a str) -> Arg<'a>
@@ -64,6 +76,13 @@ fn free_option<'a>(alloc: Global, name: &'a str, value: &'a str, help: &'a str) 
         .help(help)
 }
 
+// The same, of a number within bounds.
+fn limit_option<'a>(alloc: Global, name: &'a str, least: u64, most: u64, help: &'a str) -> Arg<'a>
+    ensures { IsLocalArg (limit_rule name.entry.now least most) result }
+{
+    free_option(alloc, name, "N", help).value_parser(ValueParser::unsigned(least, most))
+}
+
 // The program without its subcommands. Its name is told to `clap`, since the words are without it.
 fn named_command<'a>(alloc: Global) -> Result<clap::Command<'a>, AllocError>
     ensures { IfOk result (IsProgram program) }
@@ -88,8 +107,9 @@ fn store_command<'a>(
         .arg(db_option(alloc))
 }
 
-fn serve_command<'a>(alloc: Global) -> Result<clap::Command<'a>, AllocError>
-    ensures { IfOk result (IsLeaf serve_shape) }
+// The command that serves, with what it must have.
+fn counted_serve_command<'a>(alloc: Global) -> Result<clap::Command<'a>, AllocError>
+    ensures { IfOk result (IsProgram counted_serve_app) }
 {
     let about = "Answer requests over HTTP until a number of replies was written";
     store_command(alloc, "serve", about)?
@@ -107,6 +127,17 @@ fn serve_command<'a>(alloc: Global) -> Result<clap::Command<'a>, AllocError>
             value_parser!(u64),
             "How many replies to write before ending, below 2^64, e.g. 1000",
         ))
+}
+
+fn serve_command<'a>(alloc: Global) -> Result<clap::Command<'a>, AllocError>
+    ensures { IfOk result (IsLeaf serve_shape) }
+{
+    counted_serve_command(alloc)?
+        .arg(limit_option(alloc, "clients", 1, 100_000, CLIENTS_HELP))?
+        .arg(limit_option(alloc, "room", LEAST_ROOM, 65_536, ROOM_HELP))?
+        .arg(limit_option(alloc, "idle", 1, 86_400, IDLE_HELP))?
+        .arg(limit_option(alloc, "message", 1, 3_600, MESSAGE_HELP))?
+        .arg(limit_option(alloc, "reply", 1, 3_600, REPLY_HELP))
 }
 
 fn tenant_add_command<'a>(alloc: Global) -> Result<clap::Command<'a>, AllocError>

@@ -15,17 +15,37 @@ pub struct StatementWords<'a> {
     pub format: Option<&'a str>,
 }
 
+/// The least room for long messages, in megabytes.
+pub const LEAST_ROOM: u64 = 3;
+
+/// Which limits of the service were given. What was not is as usual.
+#[derive(Clone, Copy, Debug, PartialEq, Eq, Default, Drop)]
+pub struct LimitWords {
+    /// The most clients at once, 1 to 100,000.
+    pub clients: Option<u64>,
+    /// How many megabytes the long messages may have together that are read at once, `LEAST_ROOM` to
+    /// 65,536.
+    pub room: Option<u64>,
+    /// For how many seconds a client may be silent between messages, 1 to 86,400.
+    pub idle: Option<u64>,
+    /// How many seconds a message may take, 1 to 3,600.
+    pub message: Option<u64>,
+    /// How many seconds a reply may take, beside those for its length, 1 to 3,600.
+    pub reply: Option<u64>,
+}
+
 /// What a command line asks of `ledgerd`. Texts stand as they were written: programs read names,
 /// keys, ids and versions from them.
 #[derive(Clone, Copy, Debug, PartialEq, Eq, Drop)]
 pub enum Command<'a> {
     /// No words: the run over lists.
     Lists,
-    /// Answer requests on `port` of 127.0.0.1, until `requests` were answered.
+    /// Answer requests on `port` of 127.0.0.1, until `requests` were answered, within `limits`.
     Serve {
         db: &'a str,
         port: u16,
         requests: u64,
+        limits: LimitWords,
     },
     /// Add a tenant, who is known by a key of 64 hexadecimal digits.
     AddTenant {

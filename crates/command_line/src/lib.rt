@@ -6,6 +6,6 @@ mod commands;
 mod fault;
 mod read;
 
-pub use commands::{Command, StatementWords};
+pub use commands::{Command, LEAST_ROOM, LimitWords, StatementWords};
 pub use fault::LineFault;
 pub use read::command;

@@ -1,14 +1,16 @@
 ghost use Rattle.std.specs.Prelude.{◌≡◌, ◌^◌, IfErr, IfOk, codes, map, true};
 ghost use Rattle.clap.specs.Words.{found_of, rows_of, takes};
 ghost use Rattle.command_line.specs.Ledgerd.{ledgerd_app};
-ghost use Rattle.command_line.specs.Line.{IsCommandOf, IsFaultOf, Spells, SpellsStatement};
-ghost use Rattle.command_line.specs.Values.{FillsCheck, FillsMigrate, FillsServe, FillsStatement};
-ghost use Rattle.command_line.specs.Values.{FillsTenantAdd, HasNumber, HasNumberBelow};
-ghost use Rattle.command_line.specs.Values.{HasFreeText, HasSomeText, HasText, IsFilled, IsFlag};
+ghost use Rattle.command_line.specs.Line.{IsCommandOf, IsFaultOf, Spells, SpellsLimits};
+ghost use Rattle.command_line.specs.Line.{SpellsStatement};
+ghost use Rattle.command_line.specs.Values.{FillsCheck, FillsLimits, FillsMigrate, FillsServe};
+ghost use Rattle.command_line.specs.Values.{FillsStatement, FillsTenantAdd, HasNumber};
+ghost use Rattle.command_line.specs.Values.{HasFreeNumber, HasFreeText, HasNumberBelow, HasSomeText};
+ghost use Rattle.command_line.specs.Values.{HasText, IsFilled, IsFlag, IsFreeNumber};
 ghost use Rattle.command_line.specs.Values.{has_flag, text_in};
 
 use crate::app::ledgerd_command;
-use crate::{Command, LineFault, StatementWords};
+use crate::{Command, LimitWords, LineFault, StatementWords};
 use clap::ArgMatches;
 use std::alloc::Global;
 use std::convert::AsStr;
@@ -47,6 +49,26 @@ fn free_text<'a>(values: &ArgMatches<'a>, name: &str) -> Option<&'a str>
     values.get_str(name)
 }
 
+fn free_number(values: &ArgMatches<'_>, name: &str) -> Option<u64>
+    requires { IsFreeNumber (rows_of (found_of values.now)) name.now }
+    ensures { HasFreeNumber (rows_of (found_of values.now)) name.now result }
+{
+    values.get_one::<u64>(name)
+}
+
+fn limit_words(values: &ArgMatches<'_>) -> LimitWords
+    requires { FillsLimits (rows_of (found_of values.now)) }
+    ensures { SpellsLimits (rows_of (found_of values.now)) result }
+{
+    LimitWords {
+        clients: free_number(values, "clients"),
+        room: free_number(values, "room"),
+        idle: free_number(values, "idle"),
+        message: free_number(values, "message"),
+        reply: free_number(values, "reply"),
+    }
+}
+
 fn serve<'a>(values: &ArgMatches<'a>) -> Command<'a>
     requires { FillsServe (rows_of (found_of values.now)) }
     ensures { Spells (codes "serve") (rows_of (found_of values.now)) result }
@@ -55,6 +77,7 @@ fn serve<'a>(values: &ArgMatches<'a>) -> Command<'a>
         db: text(values, "db"),
         port: port(values),
         requests: requests(values),
+        limits: limit_words(values),
     }
 }
 

@@ -1,5 +1,6 @@
 pub mod Kept
 pub mod Serving
+pub mod GivenLimits
 pub mod Statements
 pub mod Adding
 pub mod Openings

@@ -80,7 +80,7 @@ DoesNothing out result = result ≡ Ok (record { out = out; is_damaged = false }
 abbrev pub Does :
     {O : Type 0} → (O → Option (List ℕ)) → Command → O → Result (Ended O) Fault → Type 0
 Does written command.Lists out result = DoesNothing out result
-Does written (command.Serve db port requests) out result = DoesNothing out result
+Does written (command.Serve db port requests limits) out result = DoesNothing out result
 Does written (command.AddTenant db name key) out result =
     AddsTenant written name.now key.now out result
 Does written (command.Statement db tenant account asked) out result =

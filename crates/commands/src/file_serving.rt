@@ -5,15 +5,17 @@ ghost use Rattle.commands.specs.Openings.{IsOpeningFault};
 ghost use Rattle.commands.specs.Serving.{ServesStore};
 
 use crate::SystemMoments;
+use crate::given_limits::limits_of;
 use crate::kept::Kept;
 use crate::opening::open_served;
 use crate::renewing::{Home, Renewing};
 use crate::serving::serve_clients;
+use command_line::LimitWords;
 use command_texts::{Fault, tell_fault};
 use polling::Peers;
 use records::Streamed;
 use service::Moments;
-use sockets::{Limits, Sockets};
+use sockets::{Operator, Sockets};
 use sqlite_disk::Disk;
 use sqlite_std_file::File;
 use std::alloc::Global;
@@ -21,6 +23,24 @@ use std::io;
 use std::net::{Ipv4Addr, SocketAddr};
 use std::time::{Clock, Duration};
 use store::Store;
+
+/// Whoever reads standard error. The service goes on where nobody does.
+#[derive(Drop)]
+struct Console<'a> {
+    rt: &'a HostRuntime,
+}
+
+impl Operator for Console<'_> {
+    fn tell_short(&self) {
+        let _ = self.rt.eprintln(format_args!(
+            "no more clients for now: descriptors or memory are wanting"
+        ));
+    }
+
+    fn tell_accepting(&self) {
+        let _ = self.rt.eprintln(format_args!("clients are taken again"));
+    }
+}
 
 /// A file of this machine. The service goes on where nobody reads what it tells on standard error.
 #[derive(Drop)]
@@ -60,14 +80,21 @@ impl HostFile<'_> {
     }
 }
 
-/// Serves the ledger in a file on a port of 127.0.0.1, at the moments of the machine's clock, until
-/// `most` messages were replied to. The port is bound first, so that clients wait while the file is
-/// opened, and are served once it is.
-pub fn serve_file(rt: &HostRuntime, db: &str, port: u16, most: u64) -> Result<(), Fault>
+/// Serves the ledger in a file on a port of 127.0.0.1, at the moments of the machine's clock, within
+/// limits, until `most` messages were replied to. The port is bound first, so that clients wait while
+/// the file is opened, and are served once it is.
+pub fn serve_file(
+    rt: &HostRuntime,
+    db: &str,
+    port: u16,
+    limits: &LimitWords,
+    most: u64,
+) -> Result<(), Fault>
     ensures { IfErr result (λ fault. IsOpeningFault fault ⊎ (fault ≡ Fault.Socket)) }
 {
     let address = SocketAddr::from((Ipv4Addr::LOCALHOST, port));
-    let Ok(mut peers) = Sockets::listen(rt, rt, address, Limits::usual()) else {
+    let console = Console { rt };
+    let Ok(mut peers) = Sockets::listen(rt, rt, &console, address, limits_of(limits)) else {
         return Err(Fault::Socket);
     };
     let port = match peers.local_addr() {

@@ -7,6 +7,7 @@ mod asked;
 mod ended;
 mod extracts;
 mod file_serving;
+mod given_limits;
 mod kept;
 mod moments;
 mod opening;

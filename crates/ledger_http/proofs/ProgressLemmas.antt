@@ -5,12 +5,13 @@ use Rattle.std.specs.List.{ends_with}
 use Rattle.ledger_http.specs.declared.refusal.Refusal.TheVariants.{Truncated}
 use Rattle.ledger_http.specs.declared.progress.Progress.{Progress}
 use Rattle.ledger_http.specs.declared.progress.Progress.TheVariants.{Head, Body}
+use Rattle.ledger_http.specs.Limits.{longest_message}
 use Rattle.ledger_http.specs.Head.{IsGoodHead}
 use Rattle.ledger_http.specs.Message.{blank_line, length_of_head, message_of, IsRefused, IsAnnounced}
 use Rattle.ledger_http.specs.Progress.{HasBody, IsProgress}
 use Rattle.ledger_http.specs.Unread.{IsShort, IsWhole}
 use Rattle.ledger_http.proofs.MessageLemmas.{first_message-no_end, first_message-truncated, first_message-whole, HasHead-no_end}
-use Rattle.ledger_http.proofs.LaterLemmas.{length_of_head-append}
+use Rattle.ledger_http.proofs.LaterLemmas.{length_of_head-append, length_of_head-within}
 
 -- what was looked at stays so where more comes
 pub IsProgress-append : (bytes later : List ℕ) (progress : Progress) → IsProgress bytes progress
@@ -79,3 +80,7 @@ IsProgress-received false bytes kept piece now taken left progress within same i
   omega (arith, ap length is),
   subst (λ unread. IsProgress unread progress) (sym same ∙ ap (drop left) (sym is)) known,
 )
+
+-- a message whose head and body are good is no longer than the longest
+pub few_in_body : (bytes : List ℕ) (head size : ℕ) → HasBody bytes head size → head + size ≤ longest_message
+few_in_body bytes head size body = omega (arith, (length_of_head-within bytes head body.ends).0, body.few)

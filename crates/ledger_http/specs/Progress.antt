@@ -1,5 +1,5 @@
 -- How far the first message of some bytes has been looked at.
-use Rattle.std.specs.Prelude.{◌≡◌, ℕ, ◌≤◌, ◌<◌, false, List, length, take, Ok, Err, nat_eq}
+use Rattle.std.specs.Prelude.{◌≡◌, ℕ, ◌+◌, ◌≤◌, ◌<◌, false, List, length, take, Ok, Err, nat_eq}
 use Rattle.std.specs.List.{ends_with}
 use Rattle.httparse.specs.Grammar.{RequestHead}
 use Rattle.ledger_http.specs.declared.refusal.Refusal.TheVariants.{Truncated}
@@ -27,6 +27,13 @@ pub record HasBody (bytes : List ℕ) (head size : ℕ) : Type 0 where
   pub says : RequestHead
   pub good : IsGoodHead (take head bytes) says
   pub allowed : length_of_body says ≡ Ok size
+
+-- the message that stands first has so many bytes, head and body together
+pub record HasLength (bytes : List ℕ) (length : ℕ) : Type 0 where
+  pub head : ℕ
+  pub size : ℕ
+  pub body : HasBody bytes head size
+  pub sum : length ≡ head + size
 
 -- what is known so far is so
 abbrev pub IsProgress : List ℕ → Progress → Type 0

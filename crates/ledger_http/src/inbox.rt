@@ -1,7 +1,8 @@
 //! What comes from a client, in whatever pieces, and the messages in it.
-ghost use Rattle.std.specs.Prelude.{◌≡◌, ◌≤◌, [], false, length, take, drop, OnOk, OnErr, IfSome, IfNone, IsTrue};
+ghost use Rattle.std.specs.Prelude.{◌≡◌, ◌≤◌, [], false, length, take, drop, OnOk, OnErr, IfOk, IfSome, IfNone, IsTrue};
+ghost use Rattle.ledger_http.specs.Limits.{longest_message};
 ghost use Rattle.ledger_http.specs.Message.{IsAnnounced};
-ghost use Rattle.ledger_http.specs.Progress.{IsLooked};
+ghost use Rattle.ledger_http.specs.Progress.{HasLength, IsLooked};
 ghost use Rattle.ledger_http.specs.Unread.{nothing_yet, with_more, ended_now, without, IsShort, IsWhole};
 ghost use Rattle.ledger_http.specs.Unread.{IsNext};
 
@@ -169,6 +170,38 @@ impl Inbox {
         ensures { IsTrue result → IsAnnounced self.now.bytes }
     {
         matches!(self.progress, Progress::Body(_, _))
+    }
+
+    /// How long the first message is with its head, where a good head was found and a body of
+    /// allowed length is due behind it.
+    #[tactic(auto, using(crate::proofs::ProgressLemmas::few_in_body))]
+    pub fn announced_length(&self) -> Option<usize>
+        ensures length { IfSome result (HasLength self.now.bytes) }
+        ensures few { IfSome result (λ length. length ≤ longest_message) }
+    {
+        match self.progress {
+            Progress::Body(head, size) => Some(head + size),
+            Progress::Head(_) => None,
+        }
+    }
+
+    /// Where a body is due, makes room for what is wanting of it, up to so many bytes. Says how many
+    /// bytes to receive. It fails only where a body is due.
+    pub fn reserve_due(&mut self, most: usize) -> Result<usize, AllocError>
+        ensures same { self.new ≡ self.old }
+        ensures few { IfOk result (λ count. count ≤ most) }
+        ensures due { OnErr result (IsAnnounced self.old.bytes) }
+    {
+        let Progress::Body(head, size) = self.progress else {
+            return Ok(most);
+        };
+        self.taken = move_up(&mut self.bytes, self.taken);
+        let come = self.bytes.len() - self.taken;
+        let due = (head + size).saturating_sub(come).min(most);
+        match self.bytes.reserve(due) {
+            Ok(()) => Ok(due),
+            Err(e) => Err(e),
+        }
     }
 
     /// The first bytes.

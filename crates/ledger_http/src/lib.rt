@@ -24,6 +24,7 @@ pub use asking::asked;
 pub use content_type::ContentType;
 pub use inbox::{Inbox, Next};
 pub use laws::{later_bytes_change_nothing, meanings_are_unique, messages_stand_alone};
+pub use limits::LONGEST_MESSAGE;
 pub use message::{Message, ReadError, read_message};
 pub use refusal::Refusal;
 pub use reply::Reply;

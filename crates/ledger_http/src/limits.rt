@@ -7,3 +7,6 @@ pub(crate) const MAX_HEADERS: usize = 64;
 
 /// Bytes of a body.
 pub(crate) const MAX_BODY: usize = 2_097_152;
+
+/// Bytes of the longest message, with its head.
+pub const LONGEST_MESSAGE: usize = MAX_HEAD + MAX_BODY;

@@ -31,7 +31,14 @@ fn status(rt: &HostRuntime, words: &[String]) -> u8 {
     let mut err = Streamed::new(rt.stderr());
     let ended = match command(rt.alloc(), words) {
         Ok(Command::Lists) => run::run(rt),
-        Ok(Command::Serve { db, port, requests }) => serve_file(rt, db, port, requests),
+        Ok(
+            Command::Serve {
+                db,
+                port,
+                requests,
+                limits,
+            },
+        ) => serve_file(rt, db, port, &limits, requests),
         _ => return program(rt, words, Streamed::new(rt.stdout()), &mut err),
     };
     match ended {

@@ -1,5 +1,6 @@
 //! Those who are connected, and what they do.
-ghost use Rattle.std.specs.Prelude.{◌≡◌, length};
+ghost use Rattle.std.specs.Prelude.{◌≡◌, ◌≤◌, length};
+ghost use Rattle.ledger_http.specs.Limits.{longest_message};
 ghost use Rattle.polling.specs.Peers.{Doing, Said, Stirred, HasRead, HasWritten};
 
 /// What waiting told.
@@ -47,6 +48,12 @@ pub trait Peers {
     /// The next thing that has happened. A new client gets the number `fresh`.
     fn told(&mut self, fresh: u64) -> Told
         ensures { does self.old (Said result) self.new };
+
+    /// A client wants to be read, whose next message has so many bytes, head and body together; 0
+    /// where its head has not come. Told before each reading, and what is told later holds.
+    fn wants(&mut self, client: u64, bytes: u64)
+        requires { bytes ≤ longest_message }
+        ensures { does self.old Stirred self.new };
 
     /// Reads from a client.
     fn read(&mut self, client: u64, piece: &mut [u8]) -> Read

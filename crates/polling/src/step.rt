@@ -1,5 +1,6 @@
 //! Steps of serving one client.
-ghost use Rattle.std.specs.Prelude.{◌≡◌, false};
+ghost use Rattle.std.specs.Prelude.{◌≡◌, ◌≤◌, false};
+ghost use Rattle.ledger_http.specs.Limits.{longest_message};
 ghost use Rattle.polling.specs.Serving.{rules};
 ghost use Rattle.polling.specs.Seating.{ServesOne};
 
@@ -19,8 +20,18 @@ pub(crate) enum Step {
     Goes,
 }
 
+/// How long a client's next message is; 0 where its head has not come.
+fn length_of(client: &Client) -> u64
+    ensures { result ≤ longest_message }
+{
+    match client.announced_length() {
+        Some(length) => length as u64,
+        None => 0,
+    }
+}
+
 /// Reads a piece of what a client sends. Where memory is wanting for it, the client goes.
-pub(crate) fn read_some<L: Ledgers, H: Reopen<L>, C: Moments, P: Peers>(
+fn read_piece<L: Ledgers, H: Reopen<L>, C: Moments, P: Peers>(
     peers: &mut P,
     number: u64,
     client: &mut Client,
@@ -43,6 +54,23 @@ pub(crate) fn read_some<L: Ledgers, H: Reopen<L>, C: Moments, P: Peers>(
         Read::Waits => Step::Waits,
         Read::Broken => Step::Goes,
     }
+}
+
+/// Reads a piece of what a client sends. Those who are connected are told first how long the message
+/// is that is waited for.
+pub(crate) fn read_some<L: Ledgers, H: Reopen<L>, C: Moments, P: Peers>(
+    peers: &mut P,
+    number: u64,
+    client: &mut Client,
+    piece: &mut [u8],
+) -> Step
+    requires { client.old.unread.ended ≡ false }
+    ensures { (ledgers : L) → (moments : C) →
+        ServesOne (rules L.means C.gives H.renews P.does) number
+        ledgers moments peers.old client.old ledgers moments peers.new client.new result 0 }
+{
+    peers.wants(number, length_of(client));
+    read_piece::<L, H, C, P>(peers, number, client, piece)
 }
 
 /// Writes what of the reply to a client is not written, as much as is taken at once.

@@ -1,5 +1,5 @@
 //! A client's turn.
-ghost use Rattle.std.specs.Prelude.{◌≡◌, true};
+ghost use Rattle.std.specs.Prelude.{◌≡◌, true, false};
 ghost use Rattle.clients.specs.Talk.{may_answer};
 ghost use Rattle.polling.specs.Serving.{rules};
 ghost use Rattle.polling.specs.Seating.{ServesOne, count_of};
@@ -7,7 +7,7 @@ ghost use Rattle.polling.specs.Seating.{ServesOne, count_of};
 use crate::step::{Step, read_some, write_some};
 use crate::{Peers, Reopen};
 use chain::Ledgers;
-use clients::{Answered, Client};
+use clients::{Answered, Client, giving_up_replies};
 use service::Moments;
 use std::alloc::Global;
 
@@ -45,6 +45,39 @@ pub(crate) fn write_all<L: Ledgers, H: Reopen<L>, C: Moments, P: Peers>(
     Step::More
 }
 
+/// Reads more of a client's next message. Where memory is wanting for a body that is due, the last
+/// reply says so.
+fn read_or_give_up<L: Ledgers, H: Reopen<L>, C: Moments, P: Peers>(
+    peers: &mut P,
+    number: u64,
+    client: &mut Client,
+    ledgers: &L,
+    piece: &mut [u8],
+) -> Turned
+    requires usable { L.means.is_usable ledgers.now }
+    requires open { may_answer client.old ≡ true }
+    requires more { client.old.unread.ended ≡ false }
+    ensures { (moments : C) → ServesOne (rules L.means C.gives H.renews P.does) number
+        ledgers.now moments peers.old client.old
+        ledgers.now moments peers.new client.new result.step (count_of result.replied) }
+{
+    match client.reserve_due(piece.len()) {
+        Ok(count) => Turned {
+            step: read_some::<L, H, C, P>(peers, number, client, &mut piece[..count]),
+            replied: false,
+        },
+        Err(_) => {
+            giving_up_replies::<L, C>();
+            H::is_settled(ledgers);
+            client.give_up();
+            Turned {
+                step: write_all::<L, H, C, P>(peers, number, client),
+                replied: true,
+            }
+        }
+    }
+}
+
 /// Answers the next message of a client, or reads more of it where that has not come.
 pub(crate) fn answer_or_read<L: Ledgers, H: Reopen<L>, C: Moments, P: Peers>(
     alloc: Global,
@@ -70,10 +103,9 @@ pub(crate) fn answer_or_read<L: Ledgers, H: Reopen<L>, C: Moments, P: Peers>(
                 replied: true,
             }
         }
-        Answered::Wanting => Turned {
-            step: read_some::<L, H, C, P>(peers, number, client, piece),
-            replied: false,
-        },
+        Answered::Wanting => {
+            read_or_give_up::<L, H, C, P>(peers, number, client, ledgers, piece)
+        }
         Answered::Over => Turned {
             step: Step::Goes,
             replied: false,

@@ -65,6 +65,11 @@ impl Door {
         self.closed_until.is_some()
     }
 
+    /// Whether somebody may wait to be accepted.
+    pub(crate) fn is_knocked(&self) -> bool {
+        self.is_knocked
+    }
+
     pub(crate) fn closed_until(&self) -> Option<Duration> {
         self.closed_until
     }

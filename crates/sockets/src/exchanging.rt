@@ -1,40 +1,31 @@
 //! Reading of clients, and writing to them.
 ghost use Rattle.std.specs.Prelude.{◌≡◌, ◌≤◌, length, IfSome};
+ghost use Rattle.std.specs.BTreeMap.{get};
+ghost use Rattle.std.specs.Ordering.{nat_cmp};
+ghost use Rattle.sockets.specs.Turn.{room_of};
 ghost use Rattle.sockets.specs.Counts.{IsReadOf, IsWrittenOf};
 
 use crate::guests::Guests;
-use crate::limits::may_read;
 use crate::peer::write_to;
 use crate::stages::Stage;
 use polling::{Read, Written};
 use std::time::Duration;
 
 impl Guests {
-    // How much may be read of a client now. With none it waits for a place; with `None` it is gone.
-    fn room_for(&mut self, number: u64, wanted: usize, now: Duration) -> Option<usize>
-        ensures { IfSome result (λ room. room ≤ wanted) }
+    // How much may be read of a client now: nothing while it waits for room. With `None` it is gone.
+    fn room_for(&self, number: u64, wanted: usize) -> Option<usize>
+        ensures few { IfSome result (λ room. room ≤ wanted) }
+        ensures room { result ≡ room_of (get nat_cmp self.now.peers number) wanted }
     {
-        let Some(peer) = self.peers.get_mut(&number) else {
+        let Some(peer) = self.peers.get(&number) else {
             return None;
         };
         if peer.is_over {
             return None;
         }
-        if let Stage::Place(_) = peer.stage {
-            return Some(0);
-        }
-        let room = may_read(peer.read, peer.has_place, wanted);
-        if room > 0 || wanted == 0 {
-            return Some(room);
-        }
-        if self.places.take() {
-            peer.has_place = true;
-            return Some(wanted);
-        }
-        if peer.change(&mut self.stages, number, Stage::Place(now)) {
-            Some(0)
-        } else {
-            None
+        match peer.stage {
+            Stage::Room => Some(0),
+            _ => Some(peer.reading.may_read(wanted)),
         }
     }
 
@@ -43,7 +34,7 @@ impl Guests {
         ensures count { IsReadOf result piece.new }
         ensures size { length piece.new ≡ length piece.old }
     {
-        let room = match self.room_for(number, piece.len(), now) {
+        let room = match self.room_for(number, piece.len()) {
             Some(0) => return Read::Waits,
             Some(room) => room,
             None => return Read::Broken,
@@ -69,13 +60,11 @@ impl Guests {
         };
         let written = write_to(&mut peer.stream, bytes);
         let size = bytes.len();
+        let room = peer.reading.wrote(written, size);
         let result = peer.has_written(&mut self.stages, number, written, size, &self.limits, now);
-        if let Stage::Idle(_) = peer.stage {
-            if peer.has_place {
-                peer.has_place = false;
-                self.places.give_back();
-                self.hand_on_place(now);
-            }
+        if room > 0 {
+            self.room.give_back(room);
+            self.admit(now);
         }
         result
     }

@@ -2,7 +2,7 @@
 use crate::limits::Limits;
 use crate::lingering::Lingering;
 use crate::peer::Peer;
-use crate::places::Places;
+use crate::room::{Asked, Room};
 use crate::stages::{Stage, Stages};
 use mio::net::TcpStream;
 use std::alloc::{AllocError, Global};
@@ -15,7 +15,7 @@ pub(crate) struct Guests {
     pub(crate) limits: Limits,
     pub(crate) peers: BTreeMap<u64, Peer>,
     pub(crate) stages: Stages,
-    pub(crate) places: Places,
+    pub(crate) room: Room,
     pub(crate) lingering: Lingering,
     /// Those who are ready, each once.
     queue: VecDeque<u64>,
@@ -34,7 +34,7 @@ impl Guests {
             limits,
             peers: BTreeMap::new(alloc),
             stages: Stages::new(alloc),
-            places: Places::new(limits.places),
+            room: Room::new(alloc, limits.room),
             lingering: Lingering::new(alloc)?,
             queue: VecDeque::new(alloc),
             left: 0,
@@ -199,10 +199,7 @@ impl Guests {
             return;
         };
         self.stages.leave(number, peer.stage);
-        if peer.has_place {
-            self.places.give_back();
-            self.hand_on_place(now);
-        }
+        self.give_back(number, peer.stage, peer.reading.room(), now);
         if peer.is_over {
             return;
         }
@@ -216,25 +213,59 @@ impl Guests {
         }
     }
 
-    // Whoever waited for a place first has it from now on, where there is one.
-    pub(crate) fn hand_on_place(&mut self, now: Duration) {
-        let Some((since, number)) = self.stages.waiting.first() else {
+    // A client that goes gives its room back, or waits for none any more.
+    fn give_back(&mut self, number: u64, stage: Stage, room: usize, now: Duration) {
+        if stage == Stage::Room {
+            self.room.leave(number);
+        }
+        self.room.give_back(room);
+        self.admit(now);
+    }
+
+    /// Whoever waits for room has it from now on, one after the other, as far as there is room.
+    pub(crate) fn admit(&mut self, now: Duration) {
+        for _ in 0..u64::MAX {
+            match self.room.admit() {
+                Some(asked) => self.let_in(asked, now),
+                None => return,
+            }
+        }
+    }
+
+    // A client has the room that it waited for.
+    fn let_in(&mut self, asked: Asked, now: Duration) {
+        match self.peers.get_mut(&asked.number) {
+            Some(peer) => {
+                peer.reading.has_room(asked.bytes);
+                let stage = Stage::with_room(&self.limits, now);
+                let _ = peer.change(&mut self.stages, asked.number, stage);
+            }
+            None => self.room.give_back(asked.bytes),
+        }
+        self.again(asked.number);
+    }
+
+    /// A client is to be read whose next message has so many bytes, or 0 where that is not known. A
+    /// long message takes room, or waits for it. Where memory is wanting for that the client goes.
+    pub(crate) fn wants(&mut self, number: u64, bytes: u64) {
+        let Some(peer) = self.peers.get_mut(&number) else {
             return;
         };
-        if !self.places.take() {
+        if peer.is_over || peer.stage == Stage::Room {
             return;
         }
-        match self.peers.get_mut(&number) {
-            Some(peer) => {
-                peer.has_place = true;
-                let stage = Stage::in_place(&self.limits, now);
-                let _ = peer.change(&mut self.stages, number, stage);
-            }
-            None => {
-                self.stages.waiting.remove(since, number);
-                self.places.give_back();
-            }
+        let bytes = peer.reading.lacks(bytes as usize);
+        if bytes == 0 {
+            return;
         }
-        self.again(number);
+        if let Some(room) = self.room.take(bytes) {
+            peer.reading.has_room(room);
+            return;
+        }
+        if self.room.wait(Asked { number, bytes }).is_ok() {
+            let _ = peer.change(&mut self.stages, number, Stage::Room);
+        } else {
+            peer.is_over = true;
+        }
     }
 }

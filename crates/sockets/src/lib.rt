@@ -10,10 +10,13 @@ mod line;
 mod lingering;
 mod own_time;
 mod peer;
-mod places;
+mod reading;
+mod room;
+mod shortage;
 mod sockets;
 mod stages;
 mod waiting;
 
 pub use limits::Limits;
+pub use shortage::Operator;
 pub use sockets::Sockets;

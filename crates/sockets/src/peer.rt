@@ -3,6 +3,7 @@ ghost use Rattle.std.specs.Prelude.{◌≡◌, ℕ, List, length};
 ghost use Rattle.sockets.specs.Counts.{IsReadOf, IsWrittenOf};
 
 use crate::limits::Limits;
+use crate::reading::Reading;
 use crate::stages::{Stage, Stages};
 use mio::net::TcpStream;
 use polling::Written;
@@ -19,9 +20,7 @@ pub(crate) struct Peer {
     pub(crate) can_read: bool,
     /// Whether its input ends, so that something is left to read whatever was read before.
     pub(crate) is_ending: bool,
-    /// How many bytes were read since its last whole reply.
-    pub(crate) read: usize,
-    pub(crate) has_place: bool,
+    pub(crate) reading: Reading,
     pub(crate) stage: Stage,
     /// Whether nothing more can come of it, so that it need not be lingered for.
     pub(crate) is_over: bool,
@@ -34,8 +33,7 @@ impl Peer {
             is_queued: false,
             can_read: true,
             is_ending: false,
-            read: 0,
-            has_place: false,
+            reading: Reading::new(),
             stage,
             is_over: false,
         }
@@ -88,7 +86,7 @@ impl Peer {
     {
         let goes_on = match read {
             polling::Read::Gave(count) => {
-                self.read = self.read.saturating_add(count);
+                self.reading.gave(count);
                 self.change(stages, number, self.stage.behind_bytes(limits, now))
             }
             polling::Read::Waits => !self.stage.is_over(now),
@@ -121,7 +119,6 @@ impl Peer {
         let goes_on = match written {
             Written::Took(count) => {
                 if count == size {
-                    self.read = 0;
                     self.change(stages, number, Stage::idle(limits, now))
                 } else {
                     self.change(stages, number, part)

@@ -3,6 +3,7 @@ use crate::door::Door;
 use crate::guests::Guests;
 use crate::limits::Limits;
 use crate::own_time::OwnTime;
+use crate::shortage::{Operator, Shortage};
 use mio::net::TcpListener;
 use mio::{Events, Poll, Token};
 use std::alloc::{AllocGlobal, Global};
@@ -17,9 +18,13 @@ pub(crate) const EVENTS: usize = 1_024;
 pub(crate) const DOOR: Token = Token(0);
 
 /// Those who are connected to a socket of the machine. Who takes too long, by a clock, is let go.
+/// Where descriptors or memory are wanting nobody is accepted for a moment, which is told once, and
+/// once when all who waited are accepted again.
 #[derive(Drop)]
-pub struct Sockets<'a, K: Clock> {
+pub struct Sockets<'a, K: Clock, O: Operator> {
     pub(crate) clock: &'a K,
+    pub(crate) operator: &'a O,
+    pub(crate) shortage: Shortage,
     pub(crate) time: OwnTime,
     pub(crate) poll: Poll,
     pub(crate) events: Events<Global>,
@@ -27,11 +32,12 @@ pub struct Sockets<'a, K: Clock> {
     pub(crate) guests: Guests,
 }
 
-impl<'a, K: Clock> Sockets<'a, K> {
+impl<'a, K: Clock, O: Operator> Sockets<'a, K, O> {
     /// Listens at an address.
     pub fn listen<R: Net + AllocGlobal>(
         rt: &R,
         clock: &'a K,
+        operator: &'a O,
         address: SocketAddr,
         limits: Limits,
     ) -> io::Result<Self> {
@@ -40,6 +46,8 @@ impl<'a, K: Clock> Sockets<'a, K> {
         door.register(poll.registry(), DOOR)?;
         Ok(Sockets {
             clock,
+            operator,
+            shortage: Shortage::new(),
             time: OwnTime::new(clock.monotonic().unwrap_or(Duration::ZERO)),
             poll,
             events: Events::with_capacity(rt.alloc(), EVENTS)?,
@@ -51,10 +59,5 @@ impl<'a, K: Clock> Sockets<'a, K> {
     /// Where it listens.
     pub fn local_addr(&self) -> io::Result<SocketAddr> {
         self.door.local_addr()
-    }
-
-    /// Whether nobody is accepted for the moment, since descriptors or memory are wanting.
-    pub fn is_short(&self) -> bool {
-        self.door.is_closed()
     }
 }

@@ -15,8 +15,8 @@ pub(crate) enum Stage {
     Idle(Duration),
     /// For the rest of a message.
     Message(Duration),
-    /// For nothing: it waits for a place itself, since this moment.
-    Place(Duration),
+    /// For nothing: it waits for room itself.
+    Room,
     /// For it to take a reply.
     Reply(Duration),
 }
@@ -37,7 +37,7 @@ impl Stage {
             Stage::Idle(until) | Stage::Message(until) | Stage::Reply(until) => {
                 has_come(until, now)
             }
-            Stage::Place(_) => false,
+            Stage::Room => false,
         }
     }
 
@@ -48,8 +48,8 @@ impl Stage {
         Stage::Idle(now.saturating_add(limits.idle))
     }
 
-    /// For somebody who waited for a place and has it.
-    pub(crate) fn in_place(limits: &Limits, now: Duration) -> Stage
+    /// For somebody who waited for room and has it.
+    pub(crate) fn with_room(limits: &Limits, now: Duration) -> Stage
         ensures { IsMessage (behind now (as_nanos limits.now.message)) result }
     {
         Stage::Message(now.saturating_add(limits.message))
@@ -61,7 +61,7 @@ impl Stage {
     {
         match self {
             Stage::Idle(_) => Stage::Message(now.saturating_add(limits.message)),
-            Stage::Reply(_) | Stage::Message(_) | Stage::Place(_) => self,
+            Stage::Reply(_) | Stage::Message(_) | Stage::Room => self,
         }
     }
 
@@ -70,7 +70,7 @@ impl Stage {
         ensures { IsBehindPart limits.now now size self result }
     {
         match self {
-            Stage::Idle(_) | Stage::Message(_) | Stage::Place(_) => {
+            Stage::Idle(_) | Stage::Message(_) | Stage::Room => {
                 Stage::Reply(now.saturating_add(reply_time(limits, size)))
             }
             Stage::Reply(_) => self,
@@ -78,15 +78,13 @@ impl Stage {
     }
 }
 
-/// All clients, by what they are waited for.
+/// All clients but those who wait for room, by what they are waited for.
 #[derive(Drop)]
 pub(crate) struct Stages {
     /// Those between messages, who has been silent for longest first.
     pub(crate) idle: Line,
     /// Those in the middle of a message or of a reply.
     pub(crate) busy: Line,
-    /// Those who wait for a place.
-    pub(crate) waiting: Line,
 }
 
 impl Stages {
@@ -94,7 +92,6 @@ impl Stages {
         Stages {
             idle: Line::new(alloc),
             busy: Line::new(alloc),
-            waiting: Line::new(alloc),
         }
     }
 
@@ -102,7 +99,7 @@ impl Stages {
         match stage {
             Stage::Idle(until) => self.idle.add(until, number),
             Stage::Message(until) | Stage::Reply(until) => self.busy.add(until, number),
-            Stage::Place(since) => self.waiting.add(since, number),
+            Stage::Room => Ok(()),
         }
     }
 
@@ -110,7 +107,7 @@ impl Stages {
         match stage {
             Stage::Idle(until) => self.idle.remove(until, number),
             Stage::Message(until) | Stage::Reply(until) => self.busy.remove(until, number),
-            Stage::Place(since) => self.waiting.remove(since, number),
+            Stage::Room => {}
         }
     }
 

@@ -1,6 +1,7 @@
 //! What happens to clients.
 ghost use Rattle.std.specs.Prelude.{⊤};
 
+use crate::shortage::{Operator, Tidings};
 use crate::sockets::{DOOR, EVENTS, Sockets};
 use mio::net::TcpStream;
 use mio::{Interest, Token};
@@ -34,7 +35,7 @@ fn earlier(one: Option<Duration>, other: Option<Duration>) -> Option<Duration> {
     }
 }
 
-impl<K: Clock> Sockets<'_, K> {
+impl<K: Clock, O: Operator> Sockets<'_, K, O> {
     // The moment of the machine's clock, or where it cannot be read the last one.
     fn seen(&self) -> Duration {
         self.clock.monotonic().unwrap_or(self.time.seen)
@@ -119,12 +120,26 @@ impl<K: Clock> Sockets<'_, K> {
         }
     }
 
+    // Tells once that nobody is accepted, and once that all who waited are again.
+    fn tell(&mut self) {
+        let is_anybody_waiting = self.door.is_knocked();
+        match self
+            .shortage
+            .learns(self.door.is_closed(), is_anybody_waiting)
+        {
+            Tidings::Short => self.operator.tell_short(),
+            Tidings::Accepting => self.operator.tell_accepting(),
+            Tidings::Nothing => {}
+        }
+    }
+
     // What has happened and was not told.
     fn next(&mut self, fresh: u64) -> Told {
         if let Some(number) = self.guests.late(self.time.now) {
             return Told::Late(number);
         }
         let greeted = self.greeted(fresh);
+        self.tell();
         if greeted != Told::Nothing {
             return greeted;
         }
@@ -147,12 +162,16 @@ impl<K: Clock> Sockets<'_, K> {
     }
 }
 
-impl<K: Clock> Peers for Sockets<'_, K> {
+impl<K: Clock, O: Operator> Peers for Sockets<'_, K, O> {
     // Nothing is known of what a client does, nor of what the system does of it.
     ghost does = { λ _ _ _. ⊤ };
 
     fn told(&mut self, fresh: u64) -> Told {
         self.told_next(fresh)
+    }
+
+    fn wants(&mut self, client: u64, bytes: u64) {
+        self.guests.wants(client, bytes);
     }
 
     fn read(&mut self, client: u64, piece: &mut [u8]) -> Read {

@@ -102,9 +102,10 @@ fn answers_nothing_before_the_reply_is_written(rt: HostRuntime) -> Result<(), Fa
 fn gives_up_where_memory_is_wanting(rt: HostRuntime) -> Result<(), Fail> {
     let mut firms = Firms::with(rt.alloc(), &[FIRST])?;
     let mut client = Client::new(rt.alloc());
-    assert!(rt; !client.is_announced());
+    assert!(rt; !client.is_announced() && client.reserve_due(9)? == 9);
     client.receive(ANNOUNCED.as_bytes())?;
     assert!(rt; firms.answer(&mut client) == Some(Answered::Wanting));
+    assert!(rt; client.announced_length() == Some(132) && client.reserve_due(9)? == 5);
     if client.may_answer() && client.is_announced() {
         client.give_up();
     }

@@ -1,7 +1,7 @@
 //! The words of the command line, read as commands.
 
 use clap::error::ErrorKind;
-use command_line::{Command, LineFault, StatementWords, command};
+use command_line::{Command, LimitWords, LineFault, StatementWords, command};
 use std::test::Fail;
 
 // Nothing but the whole statement.
@@ -14,8 +14,17 @@ const WHOLE: StatementWords<'static> = StatementWords {
     format: None,
 };
 
+// All limits as usual.
+const USUAL: LimitWords = LimitWords {
+    clients: None,
+    room: None,
+    idle: None,
+    message: None,
+    reply: None,
+};
+
 // Lines, and the commands that they are.
-const READ: [(&str, Command<'static>); 10] = [
+const READ: [(&str, Command<'static>); 11] = [
     ("", Command::Lists),
     (
         "serve --db l.db --port 8080 --requests 1000",
@@ -23,6 +32,7 @@ const READ: [(&str, Command<'static>); 10] = [
             db: "l.db",
             port: 8080,
             requests: 1000,
+            limits: USUAL,
         },
     ),
     (
@@ -31,6 +41,22 @@ const READ: [(&str, Command<'static>); 10] = [
             db: "d",
             port: 65535,
             requests: 18446744073709551615,
+            limits: USUAL,
+        },
+    ),
+    (
+        "serve --db d --clients 1 --idle=86400 --port 1 --room 3 --reply 3600 --requests 2",
+        Command::Serve {
+            db: "d",
+            port: 1,
+            requests: 2,
+            limits: LimitWords {
+                clients: Some(1),
+                room: Some(3),
+                idle: Some(86_400),
+                reply: Some(3_600),
+                ..USUAL
+            },
         },
     ),
     (
@@ -135,6 +161,7 @@ const REFUSED: [(ErrorKind, &[&str]); 7] = [
             "serve --db d --db d --port 1 --requests 2",
             "serve --db d --port 1 --port 1 --requests 2",
             "serve --db d --port 1 --requests 2 --requests 2",
+            "serve --db d --port 1 --requests 2 --idle 1 --idle 1",
             "tenant-add --db d --db d --name n --key k",
             "tenant-add --db d --name n --name n --key k",
             "tenant-add --db d --name n --key k --key k",
@@ -158,6 +185,12 @@ const REFUSED: [(ErrorKind, &[&str]); 7] = [
             "serve --db d --port 65536 --requests 0",
             "serve --db d --port http --requests 0",
             "serve --db d --port 0 --requests 18446744073709551616",
+            "serve --db d --port 0 --requests 1 --clients 0",
+            "serve --db d --port 0 --requests 1 --clients 100001",
+            "serve --db d --port 0 --requests 1 --room 2",
+            "serve --db d --port 0 --requests 1 --idle 86401",
+            "serve --db d --port 0 --requests 1 --message 0",
+            "serve --db d --port 0 --requests 1 --reply 1.5",
         ],
     ),
     (ErrorKind::InvalidSubcommand, &["audit --db d"]),
@@ -241,12 +274,17 @@ in memory and prints the reply.
 static SERVE_HELP: &str = "\
 Answer requests over HTTP until a number of replies was written
 
-Usage: ledgerd serve --db <FILE> --port <N> --requests <K>
+Usage: ledgerd serve [OPTIONS] --db <FILE> --port <N> --requests <K>
 
 Options:
       --db <FILE>     The store's file, e.g. ledger.db
       --port <N>      The TCP port of 127.0.0.1 to listen on, below 65536, e.g. 8080
       --requests <K>  How many replies to write before ending, below 2^64, e.g. 1000
+      --clients <N>   The most clients at once, 1 to 100000 [default: 1000]
+      --room <N>      Megabytes for all messages beyond 64 kB, 3 to 65536 [default: 256]
+      --idle <N>      Seconds of silence between messages, 1 to 86400 [default: 75]
+      --message <N>   Seconds for a message from its first byte on, 1 to 3600 [default: 10]
+      --reply <N>     Seconds to take a reply, beside 1 for each 64 kB, 1 to 3600 [default: 10]
   -h, --help          Print help
 ";
 

@@ -2,16 +2,25 @@
 use super::files::Step::{Posts, Serves};
 use super::files::take_steps;
 use super::firms::NO_TRANSFERS;
-use super::homes::{NEVER, Notes, Nowhere, firm_store};
+use super::homes::{Fails, Notes, Nowhere, firm_store};
 use super::scripted::Hand;
 use super::serving::{AT_FIRST, Thousands};
 use command_texts::Fault;
 use commands::serve_store;
-use sockets::{Limits, Sockets};
-use sqlite_disk::{Fuse, Memory};
+use sockets::{Limits, Operator, Sockets};
 use std::io::{ErrorKind, Read, Write};
 use std::net::{Ipv4Addr, SocketAddr, TcpListener, TcpStream};
 use std::test::Fail;
+
+// Nobody, who is told nothing.
+#[derive(Drop)]
+struct Nobody;
+
+impl Operator for Nobody {
+    fn tell_short(&self) {}
+
+    fn tell_accepting(&self) {}
+}
 
 // The port is bound before the file is opened.
 #[test]
@@ -50,11 +59,11 @@ fn client(rt: &HostRuntime, address: SocketAddr, text: &str) -> Result<TcpStream
 fn exchange(rt: &HostRuntime, texts: [&str; 3], most: u64) -> Result<Vec<u8>, Fail> {
     let clock = Hand::new();
     let home = Nowhere(Notes::new(rt.alloc(), &clock));
-    let Some(store) = firm_store::<Fuse<Memory>>(rt.alloc(), NEVER) else {
+    let Some(store) = firm_store(rt.alloc(), Fails::Never) else {
         return Err(Fail::new(format_args!("no store")));
     };
     let address = SocketAddr::from((Ipv4Addr::LOCALHOST, 0));
-    let mut peers = Sockets::listen(rt, rt, address, Limits::usual())?;
+    let mut peers = Sockets::listen(rt, rt, &Nobody, address, Limits::usual())?;
     let address = peers.local_addr()?;
     let first = client(rt, address, texts[0])?;
     let second = client(rt, address, texts[1])?;

@@ -3,6 +3,7 @@ ghost use Rattle.std.specs.Prelude.{◌≡◌, false};
 
 use super::broken::breaks;
 use super::firms::{ADDING, post_in_part, send_back};
+use command_line::LimitWords;
 use command_texts::Fault;
 use commands::{program, serve_file};
 use records::{Drain, Streamed};
@@ -138,7 +139,7 @@ fn post_back(rt: &HostRuntime, db: &str, moment: u64) -> Result<(), Fail> {
 
 // Serves a file for no replies, and looks at the fault.
 fn serves(rt: &HostRuntime, db: &str, port: u16, want: Option<Fault>) -> Result<(), Fail> {
-    let fault = serve_file(rt, db, port, 0).err();
+    let fault = serve_file(rt, db, port, &LimitWords::default(), 0).err();
     if fault == want {
         return Ok(());
     }

@@ -14,36 +14,41 @@ use std::cell::{Cell, RefCell};
 use store::Store;
 use tenants::{Key, TenantName, digest};
 
-/// A disk in memory that fails behind so many calls.
-pub trait Faulty: Disk + Drop {
-    fn made(alloc: Global, calls: u64) -> Self;
+/// The disk of a store in memory: one type, since each further one is one more database to prove.
+pub type TestDisk = OnceFailing<Fuse<Memory>>;
+
+/// Behind how many calls the disk of a store's log fails.
+#[derive(Clone, Copy)]
+pub enum Fails {
+    Never,
+    /// It fails one call.
+    Once(u64),
+    /// It fails from then on.
+    FromThen(u64),
 }
 
-// Fails once.
-impl Faulty for OnceFailing<Memory> {
-    fn made(alloc: Global, calls: u64) -> OnceFailing<Memory> {
-        OnceFailing::new(Memory::new(alloc), calls)
+// No test makes so many calls.
+const NEVER: u64 = 1_000_000;
+
+impl Fails {
+    fn disk(self, alloc: Global) -> TestDisk {
+        let (once, from_then) = match self {
+            Fails::Never => (NEVER, NEVER),
+            Fails::Once(calls) => (calls, NEVER),
+            Fails::FromThen(calls) => (NEVER, calls),
+        };
+        OnceFailing::new(Fuse::new(Memory::new(alloc), from_then), once)
     }
 }
 
-// Fails from then on.
-impl Faulty for Fuse<Memory> {
-    fn made(alloc: Global, calls: u64) -> Fuse<Memory> {
-        Fuse::new(Memory::new(alloc), calls)
-    }
-}
-
-/// No test makes so many calls.
-pub const NEVER: u64 = 1_000_000;
-
-/// The ledgers of a new firm, whose log fails behind so many calls.
-pub fn firm_store<D: Faulty>(alloc: Global, calls: u64) -> Option<Store<D>>
+/// The ledgers of a new firm, if its disk lets it be made.
+pub fn firm_store(alloc: Global, fails: Fails) -> Option<Store<TestDisk>>
     ensures usable { IfSome result IsUsable }
     ensures ready { IfSome result IsReady }
 {
     let files = Files {
-        log: D::made(alloc, calls),
-        db: D::made(alloc, NEVER),
+        log: fails.disk(alloc),
+        db: Fails::Never.disk(alloc),
     };
     if !(files.log.may_be_used() && files.db.may_be_used()) {
         return None;
@@ -152,15 +157,15 @@ impl<'a> Refusing<'a> {
     }
 }
 
-impl<D: Faulty> Home<D> for Refusing<'_> {
-    fn open_store(&self) -> Result<Store<D>, Fault> {
+impl Home<TestDisk> for Refusing<'_> {
+    fn open_store(&self) -> Result<Store<TestDisk>, Fault> {
         self.notes.ask();
         let left = self.left.get();
         if left != 0 {
             self.left.set(left - 1);
             return Err(Fault::Damaged);
         }
-        match firm_store(self.alloc, NEVER) {
+        match firm_store(self.alloc, Fails::Never) {
             Some(store) => Ok(store),
             None => Err(Fault::Unreadable),
         }
@@ -170,7 +175,7 @@ impl<D: Faulty> Home<D> for Refusing<'_> {
         self.notes.add(Notice::Refused(fault));
     }
 
-    fn tell_answers(&self, _store: &Store<D>) {
+    fn tell_answers(&self, _store: &Store<TestDisk>) {
         self.notes.add(Notice::Answers);
     }
 }

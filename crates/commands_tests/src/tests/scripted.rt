@@ -131,6 +131,8 @@ impl Peers for Scripted<'_> {
         Told::Nothing
     }
 
+    fn wants(&mut self, _client: u64, _bytes: u64) {}
+
     fn read(&mut self, client: u64, piece: &mut [u8]) -> Read {
         let most = piece.len();
         let Some(peer) = self.peer(client) else {

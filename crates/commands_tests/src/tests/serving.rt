@@ -4,13 +4,12 @@ ghost use Rattle.store.specs.Stores.{IsUsable};
 
 use super::firms::NO_TRANSFERS;
 use super::homes::Notice::{Answers, Refused};
-use super::homes::{Faulty, NEVER, Notes, Notice, Nowhere, Refusing, firm_store};
+use super::homes::{Fails, Notes, Notice, Nowhere, Refusing, TestDisk, firm_store};
 use super::scripted::{Hand, Scripted};
 use command_texts::Fault;
 use commands::{Home, serve_store};
-use failing_disk::OnceFailing;
 use service::Moments;
-use sqlite_disk::{Disk, Fuse, Memory};
+use sqlite_disk::Disk;
 use std::alloc::{AllocError, Global};
 use std::test::Fail;
 use store::Store;
@@ -78,7 +77,7 @@ pub fn exchange_over<D: Disk + Drop, H: Home<D>>(
 fn serves_clients_in_turn(rt: HostRuntime) -> Result<(), Fail> {
     let clock = Hand::new();
     let home = Nowhere(Notes::new(rt.alloc(), &clock));
-    let Some(store) = firm_store::<Fuse<Memory>>(rt.alloc(), NEVER) else {
+    let Some(store) = firm_store(rt.alloc(), Fails::Never) else {
         return Err(Fail::new(format_args!("no store")));
     };
     let told = exchange_over(rt.alloc(), &home, store, &clock, 1, (3, 1))?;
@@ -92,7 +91,7 @@ fn serves_clients_in_turn(rt: HostRuntime) -> Result<(), Fail> {
 fn serves_nobody_for_no_replies(rt: HostRuntime) -> Result<(), Fail> {
     let clock = Hand::new();
     let home = Nowhere(Notes::new(rt.alloc(), &clock));
-    let Some(store) = firm_store::<Fuse<Memory>>(rt.alloc(), NEVER) else {
+    let Some(store) = firm_store(rt.alloc(), Fails::Never) else {
         return Err(Fail::new(format_args!("no store")));
     };
     let told = exchange_over(rt.alloc(), &home, store, &clock, 1, (0, 0))?;
@@ -104,6 +103,7 @@ fn serves_nobody_for_no_replies(rt: HostRuntime) -> Result<(), Fail> {
 // pass with each turn.
 #[derive(Clone, Copy)]
 struct Trial<'a> {
+    is_once: bool,
     refusals: u64,
     seconds: u64,
     messages: (u64, u64),
@@ -113,13 +113,23 @@ struct Trial<'a> {
     notices: &'a [Notice],
 }
 
+impl Trial<'_> {
+    fn fails(self, calls: u64) -> Fails {
+        if self.is_once {
+            Fails::Once(calls)
+        } else {
+            Fails::FromThen(calls)
+        }
+    }
+}
+
 // Whether the first message meets a fault at some call, and each time all is as it is to be.
-fn holds<D: Faulty>(alloc: Global, trial: Trial) -> Result<bool, AllocError> {
+fn holds(alloc: Global, trial: Trial) -> Result<bool, AllocError> {
     let mut has_failed = false;
     for calls in 0..48 {
         let clock = Hand::new();
         let home = Refusing::new(alloc, &clock, trial.refusals);
-        let Some(store) = firm_store::<D>(alloc, calls) else {
+        let Some(store) = firm_store(alloc, trial.fails(calls)) else {
             continue;
         };
         let told = exchange_over(alloc, &home, store, &clock, trial.seconds, trial.messages)?;
@@ -141,13 +151,14 @@ fn holds<D: Faulty>(alloc: Global, trial: Trial) -> Result<bool, AllocError> {
 fn opens_a_store_again_over_its_files(rt: HostRuntime) -> Result<(), Fail> {
     let want = format!(in rt.alloc(); "{UNAVAILABLE}{}", replies!("" "3000", "|" "2000"))?;
     let trial = Trial {
+        is_once: true,
         refusals: 2,
         seconds: 0,
         messages: (2, 1),
         want: &want,
         notices: &[],
     };
-    assert!(rt; holds::<OnceFailing<Memory>>(rt.alloc(), trial)?);
+    assert!(rt; holds(rt.alloc(), trial)?);
     Ok(())
 }
 
@@ -155,13 +166,14 @@ fn opens_a_store_again_over_its_files(rt: HostRuntime) -> Result<(), Fail> {
 fn opens_a_store_anew(rt: HostRuntime) -> Result<(), Fail> {
     let want = format!(in rt.alloc(); "{UNAVAILABLE}{}", replies!("" "3000", "|" "2000"))?;
     let trial = Trial {
+        is_once: false,
         refusals: 0,
         seconds: 0,
         messages: (2, 1),
         want: &want,
         notices: &[],
     };
-    assert!(rt; holds::<Fuse<Memory>>(rt.alloc(), trial)?);
+    assert!(rt; holds(rt.alloc(), trial)?);
     Ok(())
 }
 
@@ -175,13 +187,14 @@ fn serves_kept_clients_again(rt: HostRuntime) -> Result<(), Fail> {
         replies!("" "6000")
     )?;
     let trial = Trial {
+        is_once: false,
         refusals: 2,
         seconds: 1,
         messages: (3, 3),
         want: &want,
         notices: &[Refused(Fault::Damaged), Answers],
     };
-    assert!(rt; holds::<Fuse<Memory>>(rt.alloc(), trial)?);
+    assert!(rt; holds(rt.alloc(), trial)?);
     Ok(())
 }
 
@@ -190,22 +203,23 @@ fn serves_kept_clients_again(rt: HostRuntime) -> Result<(), Fail> {
 fn answers_that_it_is_unavailable(rt: HostRuntime) -> Result<(), Fail> {
     let want = format!(in rt.alloc(); "{UNAVAILABLE}{UNAVAILABLE}|{UNAVAILABLE}")?;
     let trial = Trial {
+        is_once: false,
         refusals: 1,
         seconds: 0,
         messages: (2, 1),
         want: &want,
         notices: &[Refused(Fault::Damaged)],
     };
-    assert!(rt; holds::<Fuse<Memory>>(rt.alloc(), trial)?);
+    assert!(rt; holds(rt.alloc(), trial)?);
     Ok(())
 }
 
 // The ledgers of a firm, whose log fails at its next call.
-fn failing_store(alloc: Global) -> Option<Store<Fuse<Memory>>>
+fn failing_store(alloc: Global) -> Option<Store<TestDisk>>
     ensures { IfSome result IsUsable }
 {
     for calls in 0..48 {
-        if let Some(store) = firm_store(alloc, calls) {
+        if let Some(store) = firm_store(alloc, Fails::FromThen(calls)) {
             return Some(store);
         }
     }

@@ -150,8 +150,10 @@ fn announces_a_body_behind_a_good_head(rt: HostRuntime) -> Result<(), AllocError
     let mut inbox = Inbox::new(rt.alloc());
     inbox.receive(b"POST / HTTP/1.1\r\ncontent-length: 5\r\n\r")?;
     assert!(rt; inbox.next() == Next::Wanting && !inbox.is_announced());
+    assert!(rt; inbox.announced_length() == None && inbox.reserve_due(9)? == 9);
     inbox.receive(b"\n1234")?;
     assert!(rt; inbox.next() == Next::Wanting && inbox.is_announced());
+    assert!(rt; inbox.announced_length() == Some(43) && inbox.reserve_due(9)? == 1);
     inbox.receive(b"5GET")?;
     assert!(rt; inbox.next() == Next::Whole(43));
     Ok(())

@@ -16,6 +16,8 @@ pub(crate) struct Peer<'a> {
     waits: bool,
     /// How many bytes more it takes before it breaks.
     takes: usize,
+    /// How long its messages were told to be, each length once in a row.
+    wanted: Vec<u64>,
 }
 
 impl<'a> Peer<'a> {
@@ -27,12 +29,18 @@ impl<'a> Peer<'a> {
             is_open: true,
             waits: false,
             takes,
+            wanted: Vec::new(alloc),
         }
     }
 
     /// What it was written.
     pub(crate) fn heard(&self) -> &[u8] {
         &self.heard
+    }
+
+    /// How long its messages were told to be, before it was read.
+    pub(crate) fn wanted(&self) -> &[u64] {
+        &self.wanted
     }
 
     /// Whether it was not let go.
@@ -126,6 +134,14 @@ impl Peers for Scripted<'_> {
             }
         }
         Told::Nothing
+    }
+
+    fn wants(&mut self, client: u64, bytes: u64) {
+        if let Some(peer) = self.peer_mut(client) {
+            if peer.wanted.last() != Some(&bytes) {
+                let _ = peer.wanted.push(bytes);
+            }
+        }
     }
 
     fn read(&mut self, client: u64, piece: &mut [u8]) -> Read {

@@ -89,3 +89,21 @@ fn what_is_left_of_replies_is_written_and_who_comes_is_let_go(rt: HostRuntime) -
     assert!(rt; has_heard(&peers, 2, &[]));
     Ok(())
 }
+
+// The first message has 190 bytes, the second one 129. Of the third the head is all.
+#[test]
+fn tells_how_long_a_message_is_once_its_head_has_come(rt: HostRuntime) -> Result<(), Fail> {
+    let mut firms = Firms::with(rt.alloc(), &KEYS)?;
+    let mut peers = two(&rt, 1, 10000)?;
+    let _ = firms.serve_ready(&mut peers, 99);
+    assert!(rt; is_told(&peers, 0, &[0, 190, 0, 129, 0]));
+    Ok(())
+}
+
+// Which lengths were told of a client's messages.
+fn is_told(peers: &Scripted, number: usize, lengths: &[u64]) -> bool {
+    match peers.peer(number) {
+        Some(peer) => peer.wanted() == lengths,
+        None => false,
+    }
+}

@@ -1,6 +1,8 @@
 //! What is read, and what is written.
 use super::scene::Allowed;
-use super::steps::Step::{Again, Closes, Connects, Hears, Reads, Sends, Shuts, Tells, Writes};
+use super::steps::Step::{
+    Again, Closes, Connects, Hears, Reads, Sends, Shuts, Tells, Wants, Writes,
+};
 use super::steps::{Step, take_steps};
 use polling::{Read, Told, Written};
 use std::test::Fail;
@@ -31,45 +33,137 @@ fn tells_who_is_there_and_what_comes(rt: HostRuntime) -> Result<(), Fail> {
     take_steps(&rt, 0, Allowed(9, 9, LONG, LONG, LONG), &ONE)
 }
 
-// Of two long messages the second is read once the first is answered.
-const TWO_LONG: [Step; 11] = [
+// Of three long messages two have room. The third is not read before the first is answered.
+const THREE_LONG: [Step; 20] = [
     Connects(70_000),
     Connects(80_000),
+    Connects(90_000),
     Tells(0, 3, Told::Joined),
     Tells(1, 3, Told::Joined),
-    Tells(2, 3, Told::Ready(0)),
+    Tells(2, 3, Told::Joined),
+    Tells(3, 3, Told::Ready(0)),
+    Wants(0, 70_000),
     Reads(0, 70_000, Read::Waits),
-    Tells(2, 3, Told::Ready(1)),
-    Reads(1, 65_536, Read::Waits),
+    Tells(3, 3, Told::Ready(1)),
+    Wants(1, 80_000),
+    Reads(1, 80_000, Read::Waits),
+    Tells(3, 3, Told::Ready(2)),
+    Wants(2, 90_000),
+    Reads(2, 0, Read::Waits),
+    Wants(2, 90_000),
     Writes(0, 5, Written::Took(5)),
-    Tells(2, 3, Told::Ready(1)),
-    Reads(1, 14_464, Read::Waits),
+    Tells(3, 3, Told::Ready(2)),
+    Wants(2, 90_000),
+    Reads(2, 90_000, Read::Waits),
 ];
 
 #[test]
-fn reads_long_messages_one_after_the_other(rt: HostRuntime) -> Result<(), Fail> {
-    take_steps(&rt, 0, Allowed(9, 1, LONG, LONG, LONG), &TWO_LONG)
+fn reads_as_many_long_messages_as_there_is_room_for(rt: HostRuntime) -> Result<(), Fail> {
+    take_steps(&rt, 0, Allowed(9, 170_000, LONG, LONG, LONG), &THREE_LONG)
 }
 
-// Who waits for a place has all the time, and is told again when it has the place of one who went.
-const WAITS_FOR_A_PLACE: [Step; 10] = [
+// Behind one that waits for room nobody is let in before it, though there is room for a shorter one.
+const SHORTER_BEHIND: [Step; 19] = [
+    Connects(70_000),
+    Connects(90_000),
+    Connects(66_000),
+    Tells(0, 3, Told::Joined),
+    Tells(1, 3, Told::Joined),
+    Tells(2, 3, Told::Joined),
+    Tells(3, 3, Told::Ready(0)),
+    Wants(0, 70_000),
+    Reads(0, 70_000, Read::Waits),
+    Tells(3, 3, Told::Ready(1)),
+    Wants(1, 90_000),
+    Reads(1, 0, Read::Waits),
+    Tells(3, 3, Told::Ready(2)),
+    Wants(2, 66_000),
+    Reads(2, 0, Read::Waits),
+    Closes(1),
+    Tells(3, 3, Told::Ready(2)),
+    Wants(2, 66_000),
+    Reads(2, 66_000, Read::Waits),
+];
+
+#[test]
+fn gives_room_in_order(rt: HostRuntime) -> Result<(), Fail> {
+    take_steps(
+        &rt,
+        0,
+        Allowed(9, 140_000, LONG, LONG, LONG),
+        &SHORTER_BEHIND,
+    )
+}
+
+// Where no head has come, 64 kB are read, and of a short message no more.
+const NO_HEAD: [Step; 6] = [
+    Connects(70_000),
+    Tells(0, 3, Told::Joined),
+    Tells(1, 3, Told::Ready(0)),
+    Wants(0, 0),
+    Reads(0, 65_536, Read::Waits),
+    Reads(0, 0, Read::Waits),
+];
+
+#[test]
+fn reads_little_where_no_length_is_known(rt: HostRuntime) -> Result<(), Fail> {
+    take_steps(&rt, 0, Allowed(9, 170_000, LONG, LONG, LONG), &NO_HEAD)
+}
+
+// Who waits for room has all the time. His own begins with the room, here that of one who went.
+const WAITS_FOR_ROOM: [Step; 16] = [
     Connects(70_000),
     Connects(80_000),
     Tells(0, 3, Told::Joined),
     Tells(1, 3, Told::Joined),
     Tells(2, 3, Told::Ready(0)),
+    Wants(0, 70_000),
     Reads(0, 70_000, Read::Waits),
     Tells(2, 3, Told::Ready(1)),
-    Reads(1, 65_536, Read::Waits),
+    Wants(1, 90_000),
+    Reads(1, 0, Read::Waits),
     Tells(2, 5, Told::Late(0)),
     Closes(0),
+    Tells(2, 3, Told::Ready(1)),
+    Wants(1, 90_000),
+    Reads(1, 80_000, Read::Waits),
+    Tells(2, 5, Told::Late(1)),
 ];
 
 #[test]
-fn gives_the_place_of_one_who_went(rt: HostRuntime) -> Result<(), Fail> {
-    let mut steps = Vec::new(rt.alloc());
-    steps.extend_from_slice(&WAITS_FOR_A_PLACE)?;
-    steps.push(Tells(2, 3, Told::Ready(1)))?;
-    steps.push(Reads(1, 14_464, Read::Waits))?;
-    take_steps(&rt, 150, Allowed(9, 1, LONG, 300, LONG), &steps)
+fn gives_time_with_the_room(rt: HostRuntime) -> Result<(), Fail> {
+    take_steps(
+        &rt,
+        150,
+        Allowed(9, 100_000, LONG, 300, LONG),
+        &WAITS_FOR_ROOM,
+    )
+}
+
+// A message longer than all room has all of it, and its time. It keeps nobody waiting for ever.
+const LONGER_THAN_ALL: [Step; 14] = [
+    Connects(80_000),
+    Connects(68_000),
+    Tells(0, 3, Told::Joined),
+    Tells(1, 3, Told::Joined),
+    Tells(2, 3, Told::Ready(0)),
+    Wants(0, 90_000),
+    Reads(0, 70_000, Read::Waits),
+    Tells(2, 3, Told::Ready(1)),
+    Wants(1, 69_000),
+    Reads(1, 0, Read::Waits),
+    Tells(2, 5, Told::Late(0)),
+    Closes(0),
+    Tells(2, 3, Told::Ready(1)),
+    Reads(1, 68_000, Read::Waits),
+];
+
+#[test]
+fn lets_a_message_go_that_is_longer_than_all_room(rt: HostRuntime) -> Result<(), Fail> {
+    take_steps(
+        &rt,
+        150,
+        Allowed(9, 70_000, LONG, 300, LONG),
+        &LONGER_THAN_ALL,
+    )
 }

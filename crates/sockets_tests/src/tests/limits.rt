@@ -1,6 +1,6 @@
 //! How long each may take, and how many there may be.
 use super::scene::Allowed;
-use super::steps::Step::{Closes, Connects, Hears, Passes, Reads, Sends, Tells, Writes};
+use super::steps::Step::{Closes, Connects, Hears, Passes, Reads, Sends, Tells, WasTold, Writes};
 use super::steps::{Step, take_steps};
 use polling::{Read, Told, Written};
 use std::test::Fail;
@@ -81,4 +81,25 @@ fn takes_so_many_clients(rt: HostRuntime) -> Result<(), Fail> {
     steps.extend_from_slice(&THREE)?;
     steps.push(Tells(2, 3, Told::Joined))?;
     take_steps(&rt, 0, Allowed(2, 9, LONG, LONG, LONG), &steps)
+}
+
+// Who cannot be taken in is dropped: here since there is no number for it. However many are, that is
+// told once, and once that all who waited are accepted again.
+const CANNOT_JOIN: [Step; 11] = [
+    Connects(0),
+    Connects(0),
+    Connects(0),
+    Tells(u64::MAX, 2, Told::Nothing),
+    WasTold(1, 0),
+    Tells(0, 3, Told::Joined),
+    Tells(1, 3, Told::Ready(0)),
+    WasTold(1, 1),
+    Connects(0),
+    Tells(u64::MAX, 2, Told::Nothing),
+    WasTold(2, 2),
+];
+
+#[test]
+fn tells_once_that_nobody_is_accepted(rt: HostRuntime) -> Result<(), Fail> {
+    take_steps(&rt, 150, Allowed(9, 9, LONG, LONG, LONG), &CANNOT_JOIN)
 }

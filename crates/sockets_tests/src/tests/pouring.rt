@@ -1,5 +1,5 @@
 //! A great reply.
-use super::scene::{Allowed, Scene, Ticking};
+use super::scene::{Allowed, Notes, Scene, Ticking};
 use polling::{Peers, Told, Written};
 use std::test::Fail;
 
@@ -50,7 +50,8 @@ fn pour_all(scene: &mut Scene<'_>, reply: &[u8]) -> Result<Poured, Fail> {
 #[test]
 fn writes_a_great_reply_by_and_by(rt: HostRuntime) -> Result<(), Fail> {
     let clock = Ticking::new(0);
-    let mut scene = Scene::new(&rt, &clock, Allowed(9, 9, LONG, LONG, LONG))?;
+    let notes = Notes::new();
+    let mut scene = Scene::new(&rt, &clock, &notes, Allowed(9, 9, LONG, LONG, LONG))?;
     scene.connect(&rt, 0)?;
     for client in &scene.clients {
         client.set_nonblocking(true)?;

@@ -1,6 +1,6 @@
 //! A service of this machine, and its clients, in one thread.
 use polling::{Peers, Read, Told};
-use sockets::{Limits, Sockets};
+use sockets::{Limits, Operator, Sockets};
 use std::cell::Cell;
 use std::io;
 use std::net::{Ipv4Addr, SocketAddr, TcpStream};
@@ -40,32 +40,68 @@ impl Clock for Ticking {
     }
 }
 
-/// What is allowed: so many clients, so many places, and so many milliseconds silent, in a message
-/// and in a reply.
+/// How often an operator was told that nobody is accepted, and that all who waited are again.
+#[derive(Drop)]
+pub struct Notes {
+    short: Cell<u64>,
+    accepting: Cell<u64>,
+}
+
+impl Notes {
+    pub fn new() -> Notes {
+        Notes {
+            short: Cell::new(0),
+            accepting: Cell::new(0),
+        }
+    }
+
+    /// How often each was told.
+    pub fn told(&self) -> (u64, u64) {
+        (self.short.get(), self.accepting.get())
+    }
+}
+
+impl Operator for Notes {
+    fn tell_short(&self) {
+        self.short.set(self.short.get().saturating_add(1));
+    }
+
+    fn tell_accepting(&self) {
+        self.accepting.set(self.accepting.get().saturating_add(1));
+    }
+}
+
+/// What is allowed: so many clients, so many bytes of long messages, and so many milliseconds
+/// silent, in a message and in a reply.
 #[derive(Clone, Copy, Debug)]
 pub struct Allowed(pub usize, pub usize, pub u64, pub u64, pub u64);
 
 /// Those who are connected, and the clients at the other end.
 #[derive(Drop)]
 pub struct Scene<'a> {
-    pub sockets: Sockets<'a, Ticking>,
+    pub sockets: Sockets<'a, Ticking, Notes>,
     pub clients: Vec<TcpStream>,
     pub piece: Vec<u8>,
 }
 
 impl<'a> Scene<'a> {
-    pub fn new(rt: &HostRuntime, clock: &'a Ticking, allowed: Allowed) -> Result<Self, Fail> {
-        let Allowed(clients, places, idle, message, reply) = allowed;
+    pub fn new(
+        rt: &HostRuntime,
+        clock: &'a Ticking,
+        notes: &'a Notes,
+        allowed: Allowed,
+    ) -> Result<Self, Fail> {
+        let Allowed(clients, room, idle, message, reply) = allowed;
         let limits = Limits {
             clients,
-            places,
+            room,
             idle: Duration::from_millis(idle),
             message: Duration::from_millis(message),
             reply: Duration::from_millis(reply),
         };
         let here = SocketAddr::from((Ipv4Addr::LOCALHOST, 0));
         Ok(Scene {
-            sockets: Sockets::listen(rt, clock, here, limits)?,
+            sockets: Sockets::listen(rt, clock, notes, here, limits)?,
             clients: Vec::new(rt.alloc()),
             piece: Vec::from_elem(rt.alloc(), 0, 65_536)?,
         })

@@ -1,7 +1,10 @@
 //! Steps of a service and its clients, and what they must come to.
-use super::scene::{Allowed, Scene, Ticking};
+use super::scene::{Allowed, Notes, Scene, Ticking};
 use polling::{Peers, Read, Told, Written};
 use std::test::Fail;
+
+// No message is told to be longer.
+const LONGEST: u64 = 2_000_000;
 
 /// A step. Clients have the places at which they connected, and beside them the numbers that they
 /// are told under.
@@ -19,6 +22,8 @@ pub enum Step {
     IsReset(usize),
     /// This number is handed in, and in so many waits this is told.
     Tells(u64, u64, Told),
+    /// A client is to be read whose message has so many bytes.
+    Wants(u64, u64),
     /// So many bytes are read, and then this.
     Reads(u64, usize, Read),
     /// This comes of writing so many bytes.
@@ -27,6 +32,8 @@ pub enum Step {
     Closes(u64),
     /// So many milliseconds pass.
     Passes(u64),
+    /// So often it was told that nobody is accepted, and that all who waited are again.
+    WasTold(u64, u64),
 }
 
 /// Takes steps, by a clock that goes on so many milliseconds each time that it is asked.
@@ -37,9 +44,10 @@ pub fn take_steps(
     steps: &[Step],
 ) -> Result<(), Fail> {
     let clock = Ticking::new(ticks);
-    let mut scene = Scene::new(rt, &clock, allowed)?;
+    let notes = Notes::new();
+    let mut scene = Scene::new(rt, &clock, &notes, allowed)?;
     for step in steps {
-        if !is_taken(rt, &clock, &mut scene, *step)? {
+        if !is_taken(rt, &clock, &notes, &mut scene, *step)? {
             return Err(Fail::new(format_args!("{step:?}")));
         }
     }
@@ -50,10 +58,16 @@ pub fn take_steps(
 fn is_taken(
     rt: &HostRuntime,
     clock: &Ticking,
+    notes: &Notes,
     scene: &mut Scene<'_>,
     step: Step,
 ) -> Result<bool, Fail> {
     match step {
+        Step::WasTold(short, accepting) => Ok(notes.told() == (short, accepting)),
+        Step::Wants(client, bytes) => {
+            scene.sockets.wants(client, bytes.min(LONGEST));
+            Ok(true)
+        }
         Step::Tells(fresh, waits, told) => Ok(scene.told(fresh, waits) == told),
         Step::Reads(client, bytes, end) => Ok(scene.read_all(client) == (bytes, end)),
         Step::Writes(client, bytes, written) => {

@@ -1,5 +1,6 @@
-use Rattle.std.proofs.Common.{refl}
+use Rattle.std.proofs.Common.{refl, arith}
 use Rattle.polling.specs.Serving.{rules}
+use Rattle.polling.specs.Seating.{count_of}
 use Rattle.polling.specs.declared.step.Step.TheVariants as step
 use Rattle.polling.proofs.OneLemmas.{goes, replied, unmoved, then_one}
 use Rattle.polling.proofs.turn.answer_or_read.Goals as goal
@@ -22,12 +23,13 @@ returns-in-Wanting-clause-serves g c =
     then_one (rules g.L.Ledgers.means g.C.Moments.gives g.H.Reopen.renews g.P.Peers.does) c.args.number
     c.args.ledgers.now c.answer.new.ledgers c.answer.new.ledgers c.args.moments.now
     c.answer.new.moments c.answer.new.moments c.args.peers.now c.args.peers.now
-    c.read_some.new.peers c.args.client.now c.answer.new.self c.read_some.new.client
-    c.read_some.result 0 0 0 refl
+    c.read_or_give_up.new.peers c.args.client.now c.answer.new.self c.read_or_give_up.new.client
+    c.read_or_give_up.result.step 0 (count_of c.read_or_give_up.result.replied)
+    (count_of c.read_or_give_up.result.replied) (omega arith)
     (unmoved (rules g.L.Ledgers.means g.C.Moments.gives g.H.Reopen.renews g.P.Peers.does) c.args.number
     c.args.ledgers.now c.answer.new.ledgers c.args.moments.now c.answer.new.moments
     c.args.peers.now c.args.client.now c.answer.new.self c.in-Wanting.ensures.answers.0)
-    (c.read_some.ensures c.answer.new.ledgers c.answer.new.moments)
+    (c.read_or_give_up.ensures c.answer.new.moments)
 
 pub returns-in-Over-clause-serves : goal.returns-in-Over-clause-serves
 returns-in-Over-clause-serves g c =

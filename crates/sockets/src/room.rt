@@ -1,0 +1,115 @@
+//! Room for long messages.
+ghost use Rattle.std.specs.Prelude.{◌≡◌, ◌≤◌, ◌+◌, ◌-◌, ◌^◌, ◌++◌, ◌∷◌, [], min, filter, not, nat_eq, IfSome, IfNone, OnOk, OnErr};
+ghost use Rattle.sockets.specs.Room.{IsFirst, IsFull, IsTaken, IsTooLong, share};
+
+use std::alloc::{AllocError, Global};
+use std::collections::VecDeque;
+
+/// A client that waits for room, and for how many bytes.
+#[derive(Clone, Copy, Debug, PartialEq, Eq)]
+pub(crate) struct Asked {
+    pub(crate) number: u64,
+    pub(crate) bytes: usize,
+}
+
+/// Room for all messages of more than 64 kB together. Each has its whole length of it, or none. Of
+/// one that is longer than all room no more than that is reserved, so that it keeps nobody waiting
+/// for ever.
+#[derive(Drop)]
+pub(crate) struct Room {
+    /// So many bytes there are.
+    all: usize,
+    /// So many of them are free.
+    free: usize,
+    /// Those who wait, in the order in which their heads came.
+    waiting: VecDeque<Asked>,
+}
+
+impl Room {
+    pub(crate) fn new(alloc: Global, all: usize) -> Room
+        ensures all { result.all ≡ all }
+        ensures free { result.free ≡ all }
+        ensures nobody { result.waiting.items ≡ [] }
+    {
+        Room {
+            all,
+            free: all,
+            waiting: VecDeque::new(alloc),
+        }
+    }
+
+    // How much of the room a message takes.
+    fn share(&self, bytes: usize) -> usize
+        ensures { result ≡ share self.now bytes }
+    {
+        bytes.min(self.all)
+    }
+
+    /// Takes room for a message, where nobody waits and there is as much. Says how much was taken.
+    pub(crate) fn take(&mut self, bytes: usize) -> Option<usize>
+        ensures taken { IfSome result (IsTaken self.old self.new bytes) }
+        ensures none { IfNone result (IsFull self.old bytes) }
+        ensures same { IfNone result (self.new ≡ self.old) }
+    {
+        let share = self.share(bytes);
+        if !self.waiting.is_empty() || self.free < share {
+            return None;
+        }
+        self.free -= share;
+        Some(share)
+    }
+
+    /// A client waits for room, behind all who do.
+    pub(crate) fn wait(&mut self, asked: Asked) -> Result<(), AllocError>
+        ensures last { OnOk result (self.new.waiting.items ≡ self.old.waiting.items ++ asked ∷ []) }
+        ensures none { OnErr result (self.new.waiting.items ≡ self.old.waiting.items) }
+        ensures free { self.new.free ≡ self.old.free }
+        ensures all { self.new.all ≡ self.old.all }
+    {
+        match self.waiting.push_back(asked) {
+            Ok(()) => Ok(()),
+            Err(_) => Err(AllocError),
+        }
+    }
+
+    /// Whoever has waited for longest takes its room, where there is as much. Says who, and how much.
+    /// Where all room is free nobody is left to wait.
+    pub(crate) fn admit(&mut self) -> Option<Asked>
+        ensures first { IfSome result (IsFirst self.old self.new) }
+        ensures none { IfNone result (IsTooLong self.old) }
+        ensures never { IfNone result (self.old.all ≤ self.old.free → self.old.waiting.items ≡ []) }
+        ensures same { IfNone result (self.new ≡ self.old) }
+    {
+        let first = match self.waiting.front() {
+            Some(first) => *first,
+            None => return None,
+        };
+        let bytes = self.share(first.bytes);
+        if self.free < bytes {
+            return None;
+        }
+        self.free -= bytes;
+        let _ = self.waiting.pop_front();
+        Some(Asked {
+            number: first.number,
+            bytes,
+        })
+    }
+
+    /// Gives room back.
+    pub(crate) fn give_back(&mut self, bytes: usize)
+        ensures { self.new ≡ record self.old { free = min (self.old.free + bytes) (2 ^ 64 - 1) } }
+    {
+        self.free = self.free.saturating_add(bytes);
+    }
+
+    /// A client waits no more.
+    pub(crate) fn leave(&mut self, number: u64)
+        ensures gone { self.new.waiting.items
+            ≡ filter (λ asked. not (nat_eq asked.number number)) self.old.waiting.items }
+        ensures free { self.new.free ≡ self.old.free }
+        ensures all { self.new.all ≡ self.old.all }
+    {
+        self.waiting.retain(|asked| asked.number != number);
+    }
+}
