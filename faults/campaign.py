@@ -21,6 +21,7 @@ import commands
 import damaged
 import limits
 import many
+import paused
 import refused
 import refusing
 import reopened
@@ -35,6 +36,7 @@ TRIALS = {
     "many": many.many,
     "limits": limits.limits,
     "reopened": reopened.reopened,
+    "paused": paused.paused,
     "chosen": chosen.chosen,
     "killed": runs.killed,
     "full": runs.full,

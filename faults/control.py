@@ -1,4 +1,5 @@
-"""The small library that refuses calls of the program that it is loaded into (`refuse.c`)."""
+"""The small library that refuses calls of the program that it is loaded into, and turns its clock
+back (`refuse.c`)."""
 
 import mmap
 import os
@@ -8,8 +9,9 @@ import subprocess
 
 MEMORY, DISK = 0, 1
 ALL = 2**40
-# Four numbers for each kind of call: skip, many, calls, refused.
+# Four numbers for each kind of call: skip, many, calls, refused. Behind them the clock's.
 SIZE = 8 * 4
+WHOLE = 2 * SIZE + 8
 
 
 class Control:
@@ -20,9 +22,9 @@ class Control:
         library, path = os.path.join(folder, "refuse.so"), os.path.join(folder, "control")
         subprocess.run(["cc", "-O2", "-shared", "-fPIC", "-o", library, source, "-ldl"], check=True)
         with open(path, "wb") as file:
-            file.write(bytes(2 * SIZE))
+            file.write(bytes(WHOLE))
         with open(path, "r+b") as file:
-            self.shared = mmap.mmap(file.fileno(), 2 * SIZE)
+            self.shared = mmap.mmap(file.fileno(), WHOLE)
         self.env = {**os.environ, "LD_PRELOAD": library, "CONTROL": path}
 
     def refuse(self, kind, skip, many=1):
@@ -34,6 +36,10 @@ class Control:
         """Refuses nothing more. How many calls were refused."""
         struct.pack_into("q", self.shared, SIZE * kind + 8, 0)
         return struct.unpack_from("q", self.shared, SIZE * kind + 24)[0]
+
+    def turn_back(self, seconds):
+        """The clock of the day is told so many seconds behind from now on."""
+        struct.pack_into("q", self.shared, 2 * SIZE, seconds)
 
     def count(self, kind, act):
         """How many calls of a kind an act makes, with none refused."""

@@ -1,13 +1,15 @@
 /* Refuses calls of the program that it is loaded into, as the file says that CONTROL names and that
    is shared with whoever tries it: allocations, and calls on files by place (pread, pwrite, syncs,
    cuts). Of each kind `skip` calls pass, and then `many` are refused; calls and refusals are
-   counted. */
+   counted. The clock of the day is told so many seconds behind. */
 #define _GNU_SOURCE
 #include <dlfcn.h>
 #include <errno.h>
 #include <fcntl.h>
 #include <stdlib.h>
 #include <sys/mman.h>
+#include <sys/syscall.h>
+#include <time.h>
 #include <unistd.h>
 
 struct refusal {
@@ -16,6 +18,7 @@ struct refusal {
 
 struct control {
     struct refusal memory, disk;
+    long behind;
 };
 
 static struct control *control;
@@ -110,3 +113,11 @@ REFUSED(int, fsync, (int fd), (fd))
 REFUSED(int, fdatasync, (int fd), (fd))
 REFUSED(int, ftruncate, (int fd, off_t length), (fd, length))
 REFUSED(int, ftruncate64, (int fd, off64_t length), (fd, length))
+
+int clock_gettime(clockid_t clock, struct timespec *now)
+{
+    int status = syscall(SYS_clock_gettime, clock, now);
+    if (status == 0 && clock == CLOCK_REALTIME && control)
+        now->tv_sec -= control->behind;
+    return status;
+}
