@@ -2,9 +2,10 @@
 # builds it and plays the worked session on a new file; `make test` is the gate. `make session`
 # plays it and compares it with the expected one; `make faults` tries what may go wrong, and
 # `make faults-long` all of it; `make bench` measures; `make alloc` runs the tests on want of memory
-# with each allocation refused in turn; `make python` tests the client for Python.
+# with each allocation refused in turn; `make python` tests the client for Python, and
+# `make console` the page for the browser, in chromium.
 # `make try` and `make run` take a free port, or PORT=8080; `make try STAY=1` leaves it served.
-.PHONY: run try ledgerd session test python faults faults-long bench alloc
+.PHONY: run try ledgerd session test python console faults faults-long bench alloc
 
 LEDGERD = crates/ledgerd/out/ledgerd
 PLAY = examples/session/play.sh $(LEDGERD) out/session $(PORT)
@@ -16,6 +17,7 @@ run-calls = rt python3 curl sqlite3
 session-calls = $(run-calls)
 ledgerd-calls = rt python3
 python-calls = rt python3
+console-calls = rt python3 curl chromium chromedriver
 faults-calls = rt python3 cc
 faults-long-calls = $(faults-calls)
 test-calls = rt
@@ -50,6 +52,10 @@ test:
 # The client for Python: its own tests, and the program killed under it.
 python: ledgerd
 	LEDGERD=$(LEDGERD) python3 -m unittest discover clients/python
+
+# The page for the browser, in chromium; the pictures in docs/ are made anew.
+console: ledgerd
+	python3 console/try_console.py $(LEDGERD) docs
 
 faults: ledgerd
 	python3 faults/campaign.py $(LEDGERD) $(if $(SEED),--seed $(SEED))

@@ -1,4 +1,4 @@
-"""A table of messages and their refusals, over a socket, in pieces and whole."""
+"""A table of messages and their refusals, and the page, over a socket, in pieces and whole."""
 
 import json
 import re
@@ -8,6 +8,9 @@ from runs import House
 from service import TOP, Connection, message, want
 
 UNKNOWN = "f" * 64
+PAGE = TOP / "console/page.html"
+PAGE_HEAD = (f"HTTP/1.1 200 OK\r\ncontent-length: {PAGE.stat().st_size}\r\n"
+             "content-type: text/html; charset=utf-8\r\ncontent-security-policy: ").encode()
 
 
 def refusals():
@@ -44,9 +47,9 @@ def heads(key):
     yield "16,384 bytes a", b"a" * 16384, "head_too_large"
     yield "16,383 bytes a, and the end", b"a" * 16383, "truncated"
     yield "HTTP/1.0", old, "bad_head"
-    for method in ("POST", "DELETE"):
-        head = f"{method} /transfers HTTP/1.1\r\nx-ledger-key: {key}\r\n\r\n"
-        yield f"{method} without a length", head.encode(), "length_required"
+    for method, path in (("POST", "/transfers"), ("DELETE", "/transfers"), ("POST", "/")):
+        head = f"{method} {path} HTTP/1.1\r\nx-ledger-key: {key}\r\n\r\n"
+        yield f"{method} {path} without a length", head.encode(), "length_required"
     for length in ("2097153", "9" * 30, "18446744073709551618"):
         head = f"{line}content-length: {length}\r\n\r\n"
         yield f"a length of {length}", head.encode(), "body_too_large"
@@ -60,6 +63,9 @@ def routes(key):
     yield "/transfers/", post("/transfers/", b"[]", key), "no_route"
     yield "GET /accounts", get, "bad_method"
     yield "POST /statement/1", post("/statement/1", b"", key), "bad_method"
+    yield "POST /", post("/", b"", key), "bad_method"
+    yield "HEAD / with no key", b"HEAD / HTTP/1.1\r\ncontent-length: 0\r\n\r\n", "bad_method"
+    yield "GET /?", message("GET", "/?", key), "no_route"
     no_key = b"POST /x HTTP/1.1\r\ncontent-length: 0\r\n\r\n"
     yield "POST /x with no key", no_key, "no_route"
     yield "no key", no_key.replace(b"/x", b"/transfers"), "unknown_key"
@@ -114,9 +120,13 @@ def refused_bytes(trial):
             tried += 1
             trial.progress(f"{tried} messages")
     refuse_large(house, desk)
+    for line in ("", "x-ledger-key: 1\r\n", f"x-ledger-key: {desk.key}\r\n"):
+        for piece in (1, 7, None):
+            desk.leave()
+            tell_page(house, desk, f"GET / HTTP/1.1\r\n{line}\r\n".encode(), piece)
     house.compare()
     house.stop()
-    return f"{tried + 1} messages, each refused by its name, and nothing changed"
+    return f"{tried + 1} messages, each refused by its name, the page 9 times, and nothing changed"
 
 
 def refuse_large(house, desk):
@@ -144,3 +154,16 @@ def refuse(house, desk, sent, piece, expected):
         return
     desk.connection = connection
     want(desk.batch([]), f"{name}: the next message is unavailable")
+
+
+def tell_page(house, desk, sent, piece):
+    """Asks for the page, which everybody is told. A good message is answered behind it."""
+    connection = Connection(house.service.port)
+    connection.send(sent, piece)
+    page = PAGE.read_bytes()
+    while not connection.read.endswith(page):
+        want(connection.more(), f"the page ends behind {connection.read[:300]!r}")
+    head, connection.read = connection.read[:-len(page)], b""
+    want(head.startswith(PAGE_HEAD) and head.endswith(b"\r\n\r\n"), f"the page's head is {head!r}")
+    desk.connection = connection
+    want(desk.batch([]), "the message behind the page is unavailable")

@@ -12,7 +12,7 @@ use Rattle.ledger_http.specs.Limits.{max_head}
 use Rattle.ledger_http.specs.Results.{and_then}
 use Rattle.ledger_http.specs.Head.{IsGoodHead}
 use Rattle.ledger_http.specs.Message.{blank_line, end_of_head, length_of_head, length_of_body, HasHead, First, message_of, cut_at, first_message, Begins}
-use Rattle.ledger_http.specs.Question.{question_in, asked_of}
+use Rattle.ledger_http.specs.Question.{as_early, question_in, asked_of}
 use Rattle.ledger_http.specs.Alone.{StandsAlone}
 use Rattle.ledger_http.proofs.MessageLemmas.{first_message-whole}
 
@@ -117,9 +117,9 @@ same_question : (bytes others : List ℕ) (h : RequestHead) (n k : ℕ)
     → asked_of bytes (Some h) ≡ asked_of others (Some h)
 unfolding asked_of
 same_question bytes others h n k body first second =
-    ap (λ message. and_then message question_in) first
+    ap (λ message. and_then (as_early message) question_in) first
     ∙ ap (λ text. question_in (record { head = h; body = text; bytes = []; rest = [] })) body
-    ∙ sym (ap (λ message. and_then message question_in) second)
+    ∙ sym (ap (λ message. and_then (as_early message) question_in) second)
 
 pub stands_alone : (unread message : List ℕ) (left : Option (List ℕ)) → Begins unread message left
     → StandsAlone unread message

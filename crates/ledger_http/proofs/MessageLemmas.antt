@@ -2,6 +2,8 @@
 use Rattle.std.proofs.Common.{◌≡◌, ◌≢◌, refl, ap, sym, subst, ◌∙◌, ◌≤◌, ◌<◌, ◌+◌, Bool, true, false, ℕ, List, length, take, Option, Some, None, ok_or, Result, Ok, Err, IfErr, IsOk, nat_le, nat_lt, bytes_eq, codes, if◌then◌else◌}
 use Rattle.std.proofs.lemmas.Bool.{le-leb, lt-leb}
 use Rattle.httparse.specs.Grammar.{RequestHead}
+use Rattle.ledger_http.specs.declared.early.Early.{Early}
+use Rattle.ledger_http.specs.declared.early.Early.TheVariants.{Page, Refused}
 use Rattle.ledger_http.specs.declared.refusal.Refusal.{Refusal}
 use Rattle.ledger_http.specs.declared.refusal.Refusal.TheVariants.{BadHead, HeadTooLarge, LengthRequired, BodyTooLarge, Truncated, Unavailable}
 use Rattle.ledger_http.specs.declared.request.Asked.{Asked}
@@ -9,7 +11,7 @@ use Rattle.ledger_http.specs.Limits.{max_head, max_body}
 use Rattle.ledger_http.specs.Results.{and_then}
 use Rattle.ledger_http.specs.Head.{IsGoodHead, stated_length}
 use Rattle.ledger_http.specs.Message.{end_of_head, length_of_head, length_for, at_most_max, length_of_body, HasHead, First, message_of, cut_at, first_message}
-use Rattle.ledger_http.specs.Question.{question_in, asked_of, Tells, IsAsked}
+use Rattle.ledger_http.specs.Question.{as_early, question_in, asked_of, Tells, IsAsked}
 
 -- with no end of a head there is no message
 pub first_message-no_end : (bytes : List ℕ) (refusal : Refusal) → length_of_head bytes ≡ Err refusal
@@ -112,26 +114,36 @@ first_message-sure bytes head refusal refused = subst IsSure refused (sure_first
 
 -- a refused message asks nothing
 pub IsAsked-refused : (bytes : List ℕ) (head : Option RequestHead) (refusal : Refusal) → HasHead bytes head
-    → first_message bytes head ≡ Err refusal → IsAsked bytes (Err refusal)
+    → first_message bytes head ≡ Err refusal → IsAsked bytes (Err (Refused refusal))
 unfolding asked_of
-IsAsked-refused bytes head refusal has refused = record {
-  head = head;
-  has = has;
-  told = λ _. ap (λ message. and_then message question_in) refused;
-  unavailable = λ same. absurd (first_message-sure bytes head refusal refused (cc));
-}
+IsAsked-refused bytes head refusal has refused =
+    let told : asked_of bytes head ≡ Err (Refused refusal) =
+    ap (λ message. and_then (as_early message) question_in) refused in
+    record {
+      head = head;
+      has = has;
+      told = λ _. told;
+      unavailable = λ same. absurd (first_message-sure bytes head refusal refused (cc));
+      page = λ asks. absurd (let e = sym told ∙ asks in cc);
+    }
 
 -- a whole message asks what stands in it
-pub IsAsked-whole : (bytes : List ℕ) (h : RequestHead) (first : First) (result : Result Asked Refusal)
-    → HasHead bytes (Some h) → first_message bytes (Some h) ≡ Ok first → Tells (question_in first) result
+pub IsAsked-whole : (bytes : List ℕ) (h : RequestHead) (first : First) (result : Result Asked Early)
+    → HasHead bytes (Some h) → first_message bytes (Some h) ≡ Ok first
+    → Tells (Refused Unavailable) (question_in first) result
+    → (question_in first ≡ Err Page → result ≡ Err Page)
     → IsAsked bytes result
 unfolding asked_of
-IsAsked-whole bytes h first result has whole told = record {
-  head = Some h;
-  has = has;
-  told = subst (λ message. Tells (and_then message question_in) result) (sym whole) told;
-  unavailable = λ _. subst IsOk (sym whole) refl;
-}
+IsAsked-whole bytes h first result has whole told page =
+    let is : asked_of bytes (Some h) ≡ question_in first =
+    ap (λ message. and_then (as_early message) question_in) whole in
+    record {
+      head = Some h;
+      has = has;
+      told = subst (λ question. Tells (Refused Unavailable) question result) (sym is) told;
+      unavailable = λ _. subst IsOk (sym whole) refl;
+      page = λ asks. page (sym is ∙ asks);
+    }
 
 -- where the head has no end, there is no good one
 pub HasHead-no_end : (bytes : List ℕ) (refusal : Refusal) → length_of_head bytes ≡ Err refusal → HasHead bytes None

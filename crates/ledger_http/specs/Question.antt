@@ -1,7 +1,9 @@
 -- What the first message of some bytes asks for.
-use Rattle.std.specs.Prelude.{◌≡◌, ◌≢◌, ℕ, List, bytes_eq, Option, option_and_then, ok_or, Result, Ok, Err, IsOk, MatchResult, if◌then◌else◌}
+use Rattle.std.specs.Prelude.{◌≡◌, ◌≢◌, ℕ, List, bytes_eq, codes, Option, option_and_then, ok_or, Result, Ok, Err, IsOk, MatchResult, if◌then◌else◌}
 use Rattle.httparse.specs.Grammar.{RequestHead}
 use Rattle.tenants.specs.KeyText.{key_of}
+use Rattle.ledger_http.specs.declared.early.Early.{Early}
+use Rattle.ledger_http.specs.declared.early.Early.TheVariants.{Page, Refused}
 use Rattle.ledger_http.specs.declared.refusal.Refusal.{Refusal}
 use Rattle.ledger_http.specs.declared.refusal.Refusal.TheVariants.{NoRoute, BadMethod, UnknownKey, Unavailable}
 use Rattle.ledger_http.specs.declared.route.Route.{Route}
@@ -22,9 +24,9 @@ pub record Question : Type 0 where
 abbrev pub by_method : List ℕ → Route → Result Route Refusal
 by_method method route = if bytes_eq method (method_of route) then Ok route else Err BadMethod
 
--- what a message asks for, or the first of three refusals
-abbrev pub question_in : First → Result Question Refusal
-question_in first =
+-- what a message asks for by the routes, or the first of three refusals
+abbrev pub question_by_route : First → Result Question Refusal
+question_by_route first =
     and_then (ok_or (route_of first.head.target) NoRoute) (λ path.
     and_then (by_method first.head.method path) (λ route.
     and_then (ok_or (option_and_then key_of (key_text first.head)) UnknownKey) (λ key.
@@ -35,9 +37,28 @@ question_in first =
       body = first.body;
     }))))
 
+-- the path of the console's page
+abbrev pub page_path : List ℕ
+page_path = codes "/"
+
+-- the page is told to whoever gets it, without a key
+abbrev pub page_by : List ℕ → Early
+page_by method = if bytes_eq method (codes "GET") then Page else Refused BadMethod
+
+-- a refusal, as what is told early
+abbrev pub as_early : {X : Type 0} → Result X Refusal → Result X Early
+as_early (Ok x) = Ok x
+as_early (Err refusal) = Err (Refused refusal)
+
+-- what a message asks for, or what it is told before any tenant is looked up
+abbrev pub question_in : First → Result Question Early
+question_in first =
+    if bytes_eq first.head.target page_path then Err (page_by first.head.method)
+    else as_early (question_by_route first)
+
 -- what the bytes ask for, whose head this is
-unfoldable pub asked_of : List ℕ → Option RequestHead → Result Question Refusal
-asked_of bytes head = and_then (first_message bytes head) question_in
+unfoldable pub asked_of : List ℕ → Option RequestHead → Result Question Early
+asked_of bytes head = and_then (as_early (first_message bytes head)) question_in
 
 -- the request that is read
 abbrev pub question_of : Asked → Question
@@ -49,15 +70,17 @@ question_of asked = record {
 }
 
 -- an answer tells what is asked; want of memory says nothing of it
-abbrev pub Tells : Result Question Refusal → Result Asked Refusal → Type 0
-Tells expected result =
+abbrev pub Tells : {E : Type 0} → E → Result Question E → Result Asked E → Type 0
+Tells wanting expected result =
     MatchResult result
     (λ asked. expected ≡ Ok (question_of asked))
-    (λ refusal. refusal ≢ Unavailable → expected ≡ Err refusal)
+    (λ told. told ≢ wanting → expected ≡ Err told)
 
--- the answer to some bytes; want of memory is told behind the first five refusals alone
-pub record IsAsked (bytes : List ℕ) (result : Result Asked Refusal) : Type 0 where
+-- the answer to some bytes; want of memory is told behind the first five refusals alone, and never
+-- in place of the page
+pub record IsAsked (bytes : List ℕ) (result : Result Asked Early) : Type 0 where
   pub head : Option RequestHead
   pub has : HasHead bytes head
-  pub told : Tells (asked_of bytes head) result
-  pub unavailable : result ≡ Err Unavailable → IsOk (first_message bytes head)
+  pub told : Tells (Refused Unavailable) (asked_of bytes head) result
+  pub unavailable : result ≡ Err (Refused Unavailable) → IsOk (first_message bytes head)
+  pub page : asked_of bytes head ≡ Err Page → result ≡ Err Page

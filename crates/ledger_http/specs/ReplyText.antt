@@ -1,11 +1,14 @@
 -- The bytes of a reply.
 use Rattle.std.specs.Prelude.{ℕ, List, [], ◌∷◌, ◌++◌, length, codes, decimal}
+use Rattle.console.specs.Reply as console
 use Rattle.http.specs.StatusCode.{status_text}
+use Rattle.ledger_http.specs.declared.early.Early.{Early}
+use Rattle.ledger_http.specs.declared.early.Early.TheVariants as early
 use Rattle.ledger_http.specs.declared.refusal.Refusal.{Refusal}
 use Rattle.ledger_http.specs.declared.content_type.ContentType.{ContentType}
 use Rattle.ledger_http.specs.declared.content_type.ContentType.TheVariants.{Json, Csv}
 use Rattle.ledger_http.specs.declared.reply.Reply.{Reply}
-use Rattle.ledger_http.specs.declared.reply.Reply.TheVariants.{Whole, Fixed}
+use Rattle.ledger_http.specs.declared.reply.Reply.TheVariants.{Whole, Fixed, Page}
 use Rattle.ledger_http.specs.RefusalTable.{status_of, name_of}
 
 -- carriage return and line feed
@@ -41,7 +44,20 @@ refusal_body refusal = codes "{\"error\":\"" ++ name_of refusal ++ codes "\"}"
 unfoldable pub refusal_text : Refusal → List ℕ
 refusal_text refusal = response_text (status_of refusal) Json (refusal_body refusal)
 
+-- the reply that has the console's page
+unfoldable pub page_reply : List ℕ
+page_reply = console.reply_text
+
 -- the bytes of a reply
 abbrev pub reply_text : Reply → List ℕ
 reply_text (Whole bytes) = bytes.items
 reply_text (Fixed refusal) = refusal_text refusal
+reply_text Page = page_reply
+
+-- the reply that tells what comes before any tenant is looked up, and its bytes
+abbrev pub early_reply : Early → Reply
+early_reply early.Page = Page
+early_reply (early.Refused refusal) = Fixed refusal
+
+abbrev pub early_text : Early → List ℕ
+early_text told = reply_text (early_reply told)

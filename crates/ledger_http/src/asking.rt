@@ -1,16 +1,17 @@
-//! Which request a message asks.
-ghost use Rattle.std.specs.Prelude.{◌≡◌, ◌≤◌, IfOk};
+//! Which request a message asks, or whether it asks for the page.
+ghost use Rattle.std.specs.Prelude.{◌≡◌, ◌≤◌, Err, IfOk};
 ghost use Rattle.httparse.specs.Grammar.{RequestHead};
 ghost use Rattle.ledger_http.specs.Limits.{max_body};
 ghost use Rattle.ledger_http.specs.Message.{First, length_of_body};
 ghost use Rattle.ledger_http.specs.Header.{Shows};
-ghost use Rattle.ledger_http.specs.Question.{question_in, Tells, IsAsked};
+ghost use Rattle.ledger_http.specs.Question.{question_by_route, page_by, question_in, Tells};
+ghost use Rattle.ledger_http.specs.Question.{IsAsked};
 
 use crate::ends::head_length;
 use crate::head::{Head, head_of};
 use crate::limits::MAX_BODY;
 use crate::routing::{account_in, find_route};
-use crate::{Asked, Refusal};
+use crate::{Asked, Early, Refusal};
 use std::alloc::Global;
 use tenants::Key;
 
@@ -27,10 +28,14 @@ pub(crate) fn body_length(head: &Head<'_>) -> Result<usize, Refusal>
     }
 }
 
-// What a whole message asks.
-fn question<'a>(alloc: Global, head: Head<'a>, body: &'a [u8]) -> Result<Asked<'a>, Refusal>
+// What a whole message asks by the routes.
+fn question_by_route<'a>(
+    alloc: Global,
+    head: Head<'a>,
+    body: &'a [u8],
+) -> Result<Asked<'a>, Refusal>
     ensures { (first : First) → Shows head.entry first.head → first.body ≡ body.now
-        → Tells (question_in first) result }
+        → Tells Refusal.Unavailable (question_by_route first) result }
 {
     let route = find_route(alloc, head.target)?;
     if head.method != route.method() {
@@ -47,15 +52,43 @@ fn question<'a>(alloc: Global, head: Head<'a>, body: &'a [u8]) -> Result<Asked<'
     })
 }
 
-/// Reads the first message of `bytes` up to its key. What stands behind it does not matter.
-pub fn asked(alloc: Global, bytes: &[u8]) -> Result<Asked<'_>, Refusal>
+// What is told at the path of the page.
+fn page_by(method: &[u8]) -> Early
+    ensures { result ≡ page_by method.now }
+{
+    if method == b"GET".as_slice() {
+        Early::Page
+    } else {
+        Early::Refused(Refusal::BadMethod)
+    }
+}
+
+// What a whole message asks.
+fn question<'a>(alloc: Global, head: Head<'a>, body: &'a [u8]) -> Result<Asked<'a>, Early>
+    ensures told { (first : First) → Shows head.entry first.head → first.body ≡ body.now
+        → Tells (Early.Refused Refusal.Unavailable) (question_in first) result }
+    ensures page { (first : First) → Shows head.entry first.head
+        → question_in first ≡ Err Early.Page → result ≡ Err Early.Page }
+{
+    if head.target == "/" {
+        return Err(page_by(head.method));
+    }
+    match question_by_route(alloc, head, body) {
+        Ok(asked) => Ok(asked),
+        Err(refusal) => Err(Early::Refused(refusal)),
+    }
+}
+
+/// Reads the first message of `bytes` up to its key, or tells what comes before any tenant is
+/// looked up. What stands behind the message does not matter.
+pub fn asked(alloc: Global, bytes: &[u8]) -> Result<Asked<'_>, Early>
     ensures { IsAsked bytes.now result }
 {
     let head_size = head_length(bytes)?;
     let head = head_of(&bytes[..head_size])?;
     let body_size = body_length(&head)?;
     if bytes.len() - head_size < body_size {
-        return Err(Refusal::Truncated);
+        return Err(Early::Refused(Refusal::Truncated));
     }
     question(alloc, head, &bytes[head_size..head_size + body_size])
 }

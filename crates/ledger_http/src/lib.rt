@@ -4,6 +4,7 @@
 
 mod asking;
 mod content_type;
+mod early;
 mod ends;
 mod head;
 mod header;
@@ -22,6 +23,7 @@ mod writing;
 
 pub use asking::asked;
 pub use content_type::ContentType;
+pub use early::Early;
 pub use inbox::{Inbox, Next};
 pub use laws::{later_bytes_change_nothing, meanings_are_unique, messages_stand_alone};
 pub use limits::LONGEST_MESSAGE;

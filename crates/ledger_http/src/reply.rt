@@ -1,8 +1,9 @@
 ghost use Rattle.std.specs.Prelude.{◌≡◌, IfOk};
 ghost use Rattle.std.specs.String.{string_bytes};
-ghost use Rattle.ledger_http.specs.ReplyText.{head_text, body_text, reply_text};
+ghost use Rattle.ledger_http.specs.ReplyText.{head_text, body_text, reply_text, early_reply};
 
-use crate::{ContentType, Refusal};
+use crate::{ContentType, Early, Refusal};
+use console::page_reply;
 use http::StatusCode;
 use std::alloc::{AllocError, Global};
 
@@ -12,6 +13,8 @@ pub enum Reply {
     Whole(Vec<u8>),
     /// The constant reply of a refusal.
     Fixed(Refusal),
+    /// The constant reply that has the console's page.
+    Page,
 }
 
 // All of a reply without refusal that stands before its body.
@@ -36,12 +39,25 @@ impl Reply {
         Ok(Reply::Whole(bytes))
     }
 
+    #[tactic(auto, unfolding(crate::specs::ReplyText::page_reply))]
     pub fn bytes(&self) -> &[u8]
         ensures { result.now ≡ reply_text self.now }
     {
         match self {
             Reply::Whole(bytes) => bytes.as_slice(),
             Reply::Fixed(refusal) => refusal.reply().as_bytes(),
+            Reply::Page => page_reply().as_bytes(),
+        }
+    }
+}
+
+impl From<Early> for Reply {
+    ghost from_gives = { λ early reply. reply ≡ early_reply early };
+
+    fn from(early: Early) -> Reply {
+        match early {
+            Early::Page => Reply::Page,
+            Early::Refused(refusal) => Reply::Fixed(refusal),
         }
     }
 }

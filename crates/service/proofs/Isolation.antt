@@ -5,7 +5,7 @@ use Rattle.httparse.specs.Grammar.{RequestHead}
 use Rattle.sha2.specs.Sha256.{sha256}
 use Rattle.records.specs.Machine.{Machine}
 use Rattle.chain.specs.Ledgers.{Tenants}
-use Rattle.ledger_http.specs.declared.refusal.Refusal.{Refusal}
+use Rattle.ledger_http.specs.declared.early.Early.{Early}
 use Rattle.ledger_http.specs.declared.reply.Reply.{Reply}
 use Rattle.ledger_http.specs.ReplyText.{reply_text}
 use Rattle.ledger_http.specs.Message.{HasHead}
@@ -16,6 +16,7 @@ use Rattle.wire.specs.Told.{outcome_text}
 use Rattle.service.specs.Served.{served_to}
 use Rattle.service.specs.Replies.{unavailable}
 use Rattle.service.specs.Responds.{Answers, Responds, IsAsking, IsCaller, AgreesOn}
+use Rattle.service.specs.Responds.{PageTellsNothing}
 
 -- bytes have one head
 abbrev pub HeadsAreUnique : Type 0
@@ -23,7 +24,7 @@ HeadsAreUnique =
     (bytes : List ℕ) (h k : Option RequestHead) → HasHead bytes h → HasHead bytes k → h ≡ k
 
 same_text :
-    (asked : Result Question Refusal) (old new old' new' : Tenants) (moment : ℕ)
+    (asked : Result Question Early) (old new old' new' : Tenants) (moment : ℕ)
     (text text' : List ℕ) →
     Answers old new asked moment text → Answers old' new' asked moment text' →
     ((digest : List ℕ) → IsAsking asked digest → old digest ≡ old' digest) → text ≡ text'
@@ -34,10 +35,10 @@ same_text (Ok q) old new old' new' moment text text' a a' agree =
     (served_to tenant (meaning_of q.route q.account q.body) moment).told)
     (agree (sha256 q.key) refl)
     ∙ sym a'.told)
-same_text (Err refusal) old new old' new' moment text text' a a' agree = a.told ∙ sym a'.told
+same_text (Err early) old new old' new' moment text text' a a' agree = a.told ∙ sym a'.told
 
 same_own :
-    (asked : Result Question Refusal) (old new old' new' : Tenants) (moment : ℕ)
+    (asked : Result Question Early) (old new old' new' : Tenants) (moment : ℕ)
     (text text' : List ℕ) →
     Answers old new asked moment text → Answers old' new' asked moment text' →
     ((digest : List ℕ) → IsAsking asked digest → old digest ≡ old' digest) →
@@ -50,14 +51,14 @@ same_own (Ok q) old new old' new' moment text text' a a' agree digest is =
     moment).left)
     (agree (sha256 q.key) refl)
     ∙ (sym a'.own ∙ sym (ap new' is))))
-same_own (Err refusal) old new old' new' moment text text' a a' agree digest is = absurd is
+same_own (Err early) old new old' new' moment text text' a a' agree digest is = absurd is
 
 others_stay :
-    (asked : Result Question Refusal) (old new : Tenants) (moment : ℕ) (text : List ℕ) →
+    (asked : Result Question Early) (old new : Tenants) (moment : ℕ) (text : List ℕ) →
     Answers old new asked moment text →
     (digest : List ℕ) → (IsAsking asked digest → ⊥) → new digest ≡ old digest
 others_stay (Ok q) old new moment text a digest not_asking = a.others digest not_asking
-others_stay (Err refusal) old new moment text a digest not_asking = a.same digest
+others_stay (Err early) old new moment text a digest not_asking = a.same digest
 
 asking_at :
     (bytes : List ℕ) (head : Option RequestHead) (digest : List ℕ) → HeadsAreUnique →
@@ -95,6 +96,15 @@ isolated unique old new old' new' bytes moment reply reply' r r' agree ne ne' =
           (λ asking. not_caller (r.head, r.has, asking));
     }
 
+pub page_tells_nothing : HeadsAreUnique → PageTellsNothing
+page_tells_nothing unique old new bytes head moment reply has asks r ne =
+    let a =
+    subst (λ (asked : Result Question Early). Answers old new asked moment (reply_text reply)) asks
+    (subst
+    (λ (h : Option RequestHead). Answers old new (asked_of bytes h) moment (reply_text reply))
+    (unique bytes r.head head r.has has) (r.answered ne)) in
+    (a.told, a.same)
+
 pub alone :
     HeadsAreUnique →
     (old new : Tenants) (unread message : List ℕ) (moment : ℕ) (reply : Reply) →
@@ -104,7 +114,7 @@ alone unique old new unread message moment reply s r = record {
   head = Some s.head;
   has = s.unread_has;
   answered = λ ne.
-      subst (λ (asked : Result Question Refusal). Answers old new asked moment (reply_text reply))
+      subst (λ (asked : Result Question Early). Answers old new asked moment (reply_text reply))
       (ap (asked_of message) (unique message r.head (Some s.head) r.has s.has) ∙ s.same)
       (r.answered ne);
   same = r.same;

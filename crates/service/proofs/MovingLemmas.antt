@@ -3,7 +3,7 @@ use Rattle.std.proofs.Common.{◌≡◌, ◌≢◌, ◌⊎◌, inl, inr, ℕ, Bo
 use Rattle.std.proofs.Common.{[], Ok, Err, IsOk, refl, sym, ap, ◌∙◌, subst}
 use Rattle.httparse.specs.Grammar.{RequestHead}
 use Rattle.chain.specs.Ledgers.{LedgersMeaning, Tenants, Finds}
-use Rattle.ledger_http.specs.declared.refusal.Refusal.{Refusal}
+use Rattle.ledger_http.specs.declared.early.Early.{Early}
 use Rattle.ledger_http.specs.declared.reply.Reply.{Reply}
 use Rattle.ledger_http.specs.ReplyText.{reply_text}
 use Rattle.ledger_http.specs.Question.{Question, asked_of}
@@ -19,7 +19,7 @@ use Rattle.service.proofs.ConnectionEventsLemmas.{responses_happen}
 use Rattle.service.proofs.Isolation.{HeadsAreUnique}
 
 still_unavailable :
-    (asked : Result Question Refusal) (moment : ℕ) (reply : Reply) → reply ≡ unavailable →
+    (asked : Result Question Early) (moment : ℕ) (reply : Reply) → reply ≡ unavailable →
     IsStill (Replied asked moment reply)
 still_unavailable asked moment reply is tenants =
     record { answered = λ available. absurd (available is); same = λ u digest. refl }
@@ -30,19 +30,19 @@ module _ {S : Type 0} (t : LedgersMeaning S) (unique : HeadsAreUnique) (old new 
   event = Replied (asked_of bytes early.head) moment reply
 
   still_refused :
-      (refusal : Refusal) → asked_of bytes early.head ≡ Err refusal → IsStill event
-  still_refused refusal is tenants = record {
+      (told : Early) → asked_of bytes early.head ≡ Err told → IsStill event
+  still_refused told is tenants = record {
     answered = λ available.
         subst
-        (λ (asked : Result Question Refusal).
+        (λ (asked : Result Question Early).
         Answers tenants tenants asked moment (reply_text reply))
         (sym is)
-        (record { told = early.refused refusal is available; same = λ digest. refl });
+        (record { told = early.refused told is available; same = λ digest. refl });
     same = λ u digest. refl;
   }
 
   found_lost :
-      (asked : Result Question Refusal) (found : Tenants) → asked_of bytes early.head ≡ asked →
+      (asked : Result Question Early) (found : Tenants) → asked_of bytes early.head ≡ asked →
       reply ≡ unavailable → t.is_live old → IsLeftByAsked asked moment (t.tenants old) found →
       FoundAfter (run_meaning t) old event new found
   found_lost (Ok question) found is untold live left =
@@ -50,7 +50,7 @@ module _ {S : Type 0} (t : LedgersMeaning S) (unique : HeadsAreUnique) (old new 
       (ap (λ asked. untold_in (Replied asked moment reply)) is
       ∙ ap (λ (r : Reply). untold_in (Replied (Ok question) moment r)) untold)
       live (found, left, λ digest. refl)
-  found_lost (Err refusal) found is untold live left = absurd left
+  found_lost (Err told) found is untold live left = absurd left
 
   module _ (finds : Finds t (IsAnswered bytes reply) (IsLeftBy bytes moment) old new)
       (settled : IsSettled (run_meaning t) new)
@@ -74,18 +74,18 @@ module _ {S : Type 0} (t : LedgersMeaning S) (unique : HeadsAreUnique) (old new 
           found_lost (asked_of bytes early.head) found refl untold done.0 (at_head found done.1)
 
       found_refused :
-          (found : Tenants) (refusal : Refusal) → asked_of bytes early.head ≡ Err refusal →
+          (found : Tenants) (told : Early) → asked_of bytes early.head ≡ Err told →
           t.may_find old found ⊎ (t.is_live old × IsLeftBy bytes moment (t.tenants old) found) →
           FoundAfter (run_meaning t) old event new found
-      found_refused found refusal is (inl before) = As_before (still_refused refusal is) before
-      found_refused found refusal is (inr done) =
+      found_refused found told is (inl before) = As_before (still_refused told is) before
+      found_refused found told is (inr done) =
           absurd
           (subst
-          (λ (asked : Result Question Refusal). IsLeftByAsked asked moment (t.tenants old) found) is
+          (λ (asked : Result Question Early). IsLeftByAsked asked moment (t.tenants old) found) is
           (at_head found done.1))
 
       found_told :
-          (asked : Result Question Refusal) (found : Tenants) → asked_of bytes early.head ≡ asked →
+          (asked : Result Question Early) (found : Tenants) → asked_of bytes early.head ≡ asked →
           reply ≢ unavailable → t.may_find new found →
           FoundAfter (run_meaning t) old event new found
       found_told (Ok question) found is available may =
@@ -95,13 +95,13 @@ module _ {S : Type 0} (t : LedgersMeaning S) (unique : HeadsAreUnique) (old new 
             asks = λ head has.
                 subst (λ (h : Option RequestHead). IsOk (asked_of bytes h))
                 (unique bytes early.head head early.has has)
-                (subst (λ (asked : Result Question Refusal). IsOk asked) (sym is) refl);
+                (subst (λ (asked : Result Question Early). IsOk asked) (sym is) refl);
             available = available;
           })
           found may in
           As_now live (settled live found may)
-      found_told (Err refusal) found is available may =
-          found_refused found refusal is (finds.found found may)
+      found_told (Err told) found is available may =
+          found_refused found told is (finds.found found may)
 
       found_by :
           (untold : Bool) (found : Tenants) → is_unavailable reply ≡ untold →

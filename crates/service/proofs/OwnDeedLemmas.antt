@@ -10,7 +10,7 @@ use Rattle.std.proofs.lemmas.Slice.Eq.{bytes_eq-Decides}
 use Rattle.std.specs.List.{flat_map}
 use Rattle.records.specs.Machine.{Machine}
 use Rattle.chain.specs.Ledgers.{Tenants}
-use Rattle.ledger_http.specs.declared.refusal.Refusal.{Refusal}
+use Rattle.ledger_http.specs.declared.early.Early.{Early}
 use Rattle.ledger_http.specs.declared.reply.Reply.{Reply}
 use Rattle.ledger_http.specs.ReplyText.{reply_text}
 use Rattle.ledger_http.specs.Question.{Question}
@@ -117,7 +117,7 @@ dones_seen (deed ∷ deeds) old new digest done =
     (dones_seen deeds done.0 new digest done.2))
 
 answer_seen :
-    (asked : Result Question Refusal) (old new : Tenants) (digest text : List ℕ) (moment : ℕ) →
+    (asked : Result Question Early) (old new : Tenants) (digest text : List ℕ) (moment : ℕ) →
     Answers old new asked moment text →
     IsSeen old new digest
     (flat_map (if_own digest) (map (λ deed. Told deed text) (deeds_in asked moment)))
@@ -126,10 +126,10 @@ answer_seen (Ok question) old new digest text moment a =
       done = record { may = tt; own = a.own; others = a.others };
       told = ap (λ (t : List ℕ). t ∷ []) a.told;
     })
-answer_seen (Err refusal) old new digest text moment a = none_seen old new digest (a.same digest)
+answer_seen (Err early) old new digest text moment a = none_seen old new digest (a.same digest)
 
 reply_seen :
-    (untold : Bool) (asked : Result Question Refusal) (moment : ℕ) (reply : Reply)
+    (untold : Bool) (asked : Result Question Early) (moment : ℕ) (reply : Reply)
     (old new : Tenants) (digest : List ℕ) → is_unavailable reply ≡ untold →
     IsReplied asked moment reply old new →
     IsSeen old new digest

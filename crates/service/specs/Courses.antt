@@ -4,10 +4,10 @@ use Rattle.std.specs.Prelude.{◌≡◌, ◌≢◌, ℕ, Bool, true, false, List
 use Rattle.std.specs.Prelude.{Option, Result, if◌then◌else◌}
 use Rattle.httparse.specs.Grammar.{RequestHead}
 use Rattle.chain.specs.Ledgers.{Tenants, KeepsAll}
-use Rattle.ledger_http.specs.declared.refusal.Refusal.{Refusal}
+use Rattle.ledger_http.specs.declared.early.Early.{Early}
 use Rattle.ledger_http.specs.declared.refusal.Refusal.TheVariants as refusal
 use Rattle.ledger_http.specs.declared.reply.Reply.{Reply}
-use Rattle.ledger_http.specs.declared.reply.Reply.TheVariants.{Whole, Fixed}
+use Rattle.ledger_http.specs.declared.reply.Reply.TheVariants.{Whole, Fixed, Page}
 use Rattle.ledger_http.specs.ReplyText.{reply_text}
 use Rattle.ledger_http.specs.Message.{HasHead}
 use Rattle.ledger_http.specs.Question.{Question, asked_of}
@@ -26,12 +26,12 @@ pub data Ending : Type 0 where
 -- and how that ended; or that the ledgers were opened again, and that all these deeds were found
 -- done, of which it had been answered that the ledgers were unavailable
 pub data Event : Type 0 where
-  Replied : Result Question Refusal → ℕ → Reply → Event
+  Replied : Result Question Early → ℕ → Reply → Event
   Tried : Deed → Ending → Event
   Reopened : List Deed → Event
 
 -- a message is answered, or the ledgers are unavailable, and then nothing has changed
-pub record IsReplied (asked : Result Question Refusal) (moment : ℕ) (reply : Reply)
+pub record IsReplied (asked : Result Question Early) (moment : ℕ) (reply : Reply)
     (old new : Tenants) : Type 0 where
   pub answered : reply ≢ unavailable → Answers old new asked moment (reply_text reply)
   pub same : reply ≡ unavailable → KeepsAll old new
@@ -49,9 +49,10 @@ abbrev pub is_unavailable : Reply → Bool
 is_unavailable (Whole bytes) = false
 is_unavailable (Fixed refusal.Unavailable) = true
 is_unavailable (Fixed refusal) = false
+is_unavailable Page = false
 
--- an answer that says nothing of any tenant: that the ledgers are unavailable, or a refusal that
--- comes before a tenant is looked up
+-- an answer that says nothing of any tenant: that the ledgers are unavailable, or what is told
+-- before a tenant is looked up
 abbrev pub IsStill : Event → Type 0
 IsStill (Replied asked moment reply) =
     (tenants : Tenants) → IsReplied asked moment reply tenants tenants

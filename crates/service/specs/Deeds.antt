@@ -3,6 +3,7 @@ use Rattle.std.specs.Prelude.{◌≡◌, ℕ, List, [], ◌∷◌, Option, Some,
 use Rattle.sha2.specs.Sha256.{sha256}
 use Rattle.records.specs.Machine.{Machine, new_machine}
 use Rattle.chain.specs.Ledgers.{Tenants, KeepsAll, KeepsOthers}
+use Rattle.ledger_http.specs.declared.early.Early.{Early}
 use Rattle.ledger_http.specs.declared.refusal.Refusal.{Refusal}
 use Rattle.ledger_http.specs.Question.{Question}
 use Rattle.wire.specs.declared.request.Request.{Request}
@@ -20,9 +21,9 @@ abbrev pub asking : Question → ℕ → Deed
 asking question moment =
     Asked (sha256 question.key) (meaning_of question.route question.account question.body) moment
 
-abbrev pub deeds_in : Result Question Refusal → ℕ → List Deed
+abbrev pub deeds_in : Result Question Early → ℕ → List Deed
 deeds_in (Ok question) moment = asking question moment ∷ []
-deeds_in (Err refusal) moment = []
+deeds_in (Err early) moment = []
 
 -- the digest of its tenant
 abbrev pub tenant_of : Deed → List ℕ

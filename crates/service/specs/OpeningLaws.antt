@@ -6,10 +6,10 @@ use Rattle.std.proofs.Math.Logic.{∥∥₁_map, ∥∥₁_elim}
 use Rattle.std.proofs.lemmas.Bool.{true≢false}
 use Rattle.std.proofs.lemmas.List.{append-nil}
 use Rattle.chain.specs.Ledgers.{Tenants, KeepsAll}
-use Rattle.ledger_http.specs.declared.refusal.Refusal.{Refusal}
+use Rattle.ledger_http.specs.declared.early.Early.{Early}
 use Rattle.ledger_http.specs.declared.refusal.Refusal.TheVariants as refusal
 use Rattle.ledger_http.specs.declared.reply.Reply.{Reply}
-use Rattle.ledger_http.specs.declared.reply.Reply.TheVariants.{Whole, Fixed}
+use Rattle.ledger_http.specs.declared.reply.Reply.TheVariants.{Whole, Fixed, Page}
 use Rattle.ledger_http.specs.Question.{Question}
 use Rattle.service.specs.Replies.{unavailable}
 use Rattle.service.specs.Deeds.{Deed, deeds_in, AreDone}
@@ -24,6 +24,7 @@ pub told_unavailable : (reply : Reply) → is_unavailable reply ≡ true → rep
 told_unavailable (Whole bytes) is = absurd (cc)
 told_unavailable (Fixed refusal.Unavailable) is = refl
 told_unavailable (Fixed refusal) is = absurd (cc)
+told_unavailable Page is = absurd (cc)
 
 pub told_available : (reply : Reply) → is_unavailable reply ≡ false → reply ≢ unavailable
 told_available reply is same = true≢false (sym (ap is_unavailable same) ∙ is)
@@ -38,7 +39,7 @@ still_happens (Tried deed Declined) tenants still = absurd still
 still_happens (Reopened deeds) tenants still = absurd still
 
 untold_reply :
-    (untold : Bool) (asked : Result Question Refusal) (moment : ℕ) (reply : Reply) (deed : Deed)
+    (untold : Bool) (asked : Result Question Early) (moment : ℕ) (reply : Reply) (deed : Deed)
     (more : List Deed) → is_unavailable reply ≡ untold →
     (if untold then deeds_in asked moment else []) ≡ deed ∷ more → reply ≡ unavailable
 untold_reply true asked moment reply deed more is untold = told_unavailable reply is

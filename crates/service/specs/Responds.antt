@@ -3,26 +3,27 @@ use Rattle.std.specs.Prelude.{◌≡◌, ◌≢◌, ℕ, List, Option, Result, O
 use Rattle.httparse.specs.Grammar.{RequestHead}
 use Rattle.sha2.specs.Sha256.{sha256}
 use Rattle.chain.specs.Ledgers.{Tenants, KeepsAll}
-use Rattle.ledger_http.specs.declared.refusal.Refusal.{Refusal}
+use Rattle.ledger_http.specs.declared.early.Early.{Early}
+use Rattle.ledger_http.specs.declared.early.Early.TheVariants.{Page}
 use Rattle.ledger_http.specs.declared.reply.Reply.{Reply}
-use Rattle.ledger_http.specs.ReplyText.{refusal_text, reply_text}
+use Rattle.ledger_http.specs.ReplyText.{early_reply, early_text, page_reply, reply_text}
 use Rattle.ledger_http.specs.Message.{HasHead, first_message, Begins}
 use Rattle.ledger_http.specs.Question.{Question, asked_of}
 use Rattle.service.specs.Served.{served}
 use Rattle.service.specs.Deeds.{asking, IsDeedDone}
 use Rattle.service.specs.Replies.{AnswersTenant, unavailable}
 
--- a message is refused before any tenant is looked up, and nothing changes
-pub record Refuses (old new : Tenants) (refusal : Refusal) (text : List ℕ) : Type 0 where
-  pub told : text ≡ refusal_text refusal
+-- a message is answered before any tenant is looked up, and nothing changes
+pub record TellsEarly (old new : Tenants) (early : Early) (text : List ℕ) : Type 0 where
+  pub told : text ≡ early_text early
   pub same : KeepsAll old new
 
 -- what is asked is answered: the tenant that the key names by what is served to its own machine
-abbrev pub Answers : Tenants → Tenants → Result Question Refusal → ℕ → List ℕ → Type 0
+abbrev pub Answers : Tenants → Tenants → Result Question Early → ℕ → List ℕ → Type 0
 Answers old new (Ok question) moment text =
     AnswersTenant old new (sha256 question.key)
     (λ tenant. served tenant question.route question.account question.body moment) text
-Answers old new (Err refusal) moment text = Refuses old new refusal text
+Answers old new (Err early) moment text = TellsEarly old new early text
 
 -- the response to the first message of the bytes: an answer, or that the ledgers were unavailable,
 -- which changes nothing and never stands for one of the first five refusals
@@ -34,14 +35,20 @@ pub record Responds (old new : Tenants) (bytes : List ℕ) (moment : ℕ) (reply
   pub same : reply ≡ unavailable → KeepsAll old new
   pub whole : reply ≡ unavailable → IsOk (first_message bytes head)
 
--- what is refused before any tenant is looked up is refused whatever the ledgers are
+-- what is told before any tenant is looked up is told whatever the ledgers are
 pub record RefusesEarly (bytes : List ℕ) (reply : Reply) : Type 0 where
   pub head : Option RequestHead
   pub has : HasHead bytes head
   pub refused :
-      (refusal : Refusal) → asked_of bytes head ≡ Err refusal → reply ≢ unavailable →
-      reply_text reply ≡ refusal_text refusal
+      (early : Early) → asked_of bytes head ≡ Err early → reply ≢ unavailable →
+      reply_text reply ≡ early_text early
   pub whole : reply ≡ unavailable → IsOk (first_message bytes head)
+
+-- whoever asks for the page is told the page, and never that the ledgers are unavailable
+pub record TellsPage (bytes : List ℕ) (reply : Reply) : Type 0 where
+  pub head : Option RequestHead
+  pub has : HasHead bytes head
+  pub page : asked_of bytes head ≡ Err Page → reply ≡ early_reply Page
 
 -- the bytes ask a question, and it is answered
 pub record IsAnswered (bytes : List ℕ) (reply : Reply) : Type 0 where
@@ -49,9 +56,9 @@ pub record IsAnswered (bytes : List ℕ) (reply : Reply) : Type 0 where
   pub available : reply ≢ unavailable
 
 -- the machines after what the bytes ask was done
-abbrev pub IsLeftByAsked : Result Question Refusal → ℕ → Tenants → Tenants → Type 0
+abbrev pub IsLeftByAsked : Result Question Early → ℕ → Tenants → Tenants → Type 0
 IsLeftByAsked (Ok question) moment old found = IsDeedDone (asking question moment) old found
-IsLeftByAsked (Err refusal) moment old found = ⊥
+IsLeftByAsked (Err early) moment old found = ⊥
 
 abbrev pub IsLeftBy : List ℕ → ℕ → Tenants → Tenants → Type 0
 IsLeftBy bytes moment old found =
@@ -59,9 +66,9 @@ IsLeftBy bytes moment old found =
     × IsLeftByAsked (asked_of bytes head) moment old found
 
 -- the question is asked by the tenant with this digest
-abbrev pub IsAsking : Result Question Refusal → List ℕ → Type 0
+abbrev pub IsAsking : Result Question Early → List ℕ → Type 0
 IsAsking (Ok question) digest = digest ≡ sha256 question.key
-IsAsking (Err refusal) digest = ⊥
+IsAsking (Err early) digest = ⊥
 
 -- the bytes ask by the key of the tenant with this digest
 abbrev pub IsCaller : List ℕ → List ℕ → Type 0
@@ -89,6 +96,16 @@ Isolates =
     → reply ≢ unavailable
     → reply' ≢ unavailable
     → AgreesOn bytes old new old' new' reply reply'
+
+-- the page is the same bytes for everybody, and nothing changes
+abbrev pub PageTellsNothing : Type 0
+PageTellsNothing =
+    (old new : Tenants) (bytes : List ℕ) (head : Option RequestHead) (moment : ℕ) (reply : Reply)
+    → HasHead bytes head
+    → asked_of bytes head ≡ Err Page
+    → Responds old new bytes moment reply
+    → reply ≢ unavailable
+    → (reply_text reply ≡ page_reply) × KeepsAll old new
 
 -- what stands behind a message does not matter to its answer
 abbrev pub StandsAlone : Type 0

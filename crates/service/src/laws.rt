@@ -4,7 +4,7 @@ ghost use Rattle.service.specs.ConnectionEvents.{ServesEachAlone};
 ghost use Rattle.service.specs.Courses.{ResponsesHappen};
 ghost use Rattle.service.specs.Openings.{ResponsesMove};
 ghost use Rattle.service.specs.OwnDeeds.{EachSeesItself};
-ghost use Rattle.service.specs.Responds.{Isolates, StandsAlone};
+ghost use Rattle.service.specs.Responds.{Isolates, PageTellsNothing, StandsAlone};
 ghost use Rattle.service.specs.Retries.{HasAsked, RetriesAddNothing, FailedStaysFailed};
 ghost use Rattle.service.specs.Sound.{AreSound};
 ghost use Rattle.records.specs.Step.{account_rules, transfer_rules};
@@ -25,6 +25,14 @@ use ledger_http::{meanings_are_unique, messages_stand_alone};
 /// one of them answers that it is unavailable, which changes nothing.
 pub fn tenants_are_isolated()
     ensures { Isolates }
+{
+    meanings_are_unique();
+}
+
+/// Whoever asks for the console's page is told the same bytes, with a key or without one, whatever
+/// the ledgers hold, and nothing changes.
+pub fn page_tells_nothing()
+    ensures { PageTellsNothing }
 {
     meanings_are_unique();
 }

@@ -14,8 +14,8 @@ mod showing;
 
 pub use laws::{
     connections_are_courses, connections_serve_each_alone, each_tenant_sees_itself,
-    failed_in_course_stays_failed, ledgers_are_sound, messages_answered_alone, responses_happen,
-    responses_move, retried_in_course_adds_nothing, tenants_are_isolated,
+    failed_in_course_stays_failed, ledgers_are_sound, messages_answered_alone, page_tells_nothing,
+    responses_happen, responses_move, retried_in_course_adds_nothing, tenants_are_isolated,
 };
 pub use moments::Moments;
 pub use responding::respond;

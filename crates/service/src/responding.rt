@@ -1,5 +1,6 @@
 ghost use Rattle.chain.specs.Ledgers.{Finds};
-ghost use Rattle.service.specs.Responds.{Responds, RefusesEarly, IsAnswered, IsLeftBy};
+ghost use Rattle.service.specs.Responds.{Responds, RefusesEarly, TellsPage};
+ghost use Rattle.service.specs.Responds.{IsAnswered, IsLeftBy};
 
 use crate::answering::answer;
 use chain::Ledgers;
@@ -16,6 +17,7 @@ pub fn respond<L: Ledgers>(alloc: Global, ledgers: &mut L, bytes: &[u8], moment:
     ensures responds { L.means.is_live ledgers.new → Responds (L.means.tenants ledgers.old)
         (L.means.tenants ledgers.new) bytes.now moment result }
     ensures early { RefusesEarly bytes.now result }
+    ensures page { TellsPage bytes.now result }
     ensures finds { Finds L.means (IsAnswered bytes.now result) (IsLeftBy bytes.now moment)
         ledgers.old ledgers.new }
     ensures usable { L.means.is_usable ledgers.new }
@@ -23,6 +25,6 @@ pub fn respond<L: Ledgers>(alloc: Global, ledgers: &mut L, bytes: &[u8], moment:
 {
     match asked(alloc, bytes) {
         Ok(asked) => answer(alloc, ledgers, &asked, moment),
-        Err(refusal) => Reply::Fixed(refusal),
+        Err(early) => Reply::from(early),
     }
 }

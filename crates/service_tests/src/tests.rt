@@ -1,5 +1,6 @@
 mod asserting;
 mod connections;
+mod console;
 mod events;
 mod examples;
 mod exchanges;

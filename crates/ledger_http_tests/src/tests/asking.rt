@@ -1,5 +1,5 @@
 use super::sample::{KEY, message, refusal_of, refused};
-use ledger_http::{Refusal, Route, asked};
+use ledger_http::{Early, Refusal, Route, asked};
 use std::alloc::AllocError;
 use tenants::Key;
 
@@ -94,6 +94,31 @@ fn is_read(rt: &impl AllocGlobal, case: u8) -> Result<bool, AllocError> {
 fn reads_requests(rt: HostRuntime) -> Result<(), AllocError> {
     for case in 0..9 {
         assert!(rt; is_read(&rt, case)?, "case {case}");
+    }
+    Ok(())
+}
+
+// The headers of a message that asks for the page.
+fn page_headers(case: u8) -> Option<&'static str> {
+    Some(match case {
+        0 => "",
+        1 => "host: 127.0.0.1:8080\r\naccept: text/html\r\nsec-fetch-mode: navigate\r\n",
+        2 => KEY,
+        3 => "x-ledger-key: 1\r\nx-ledger-key: 2\r\n",
+        4 => "content-length: 2\r\n",
+        _ => return None,
+    })
+}
+
+#[test]
+fn tells_the_page_to_everybody(rt: HostRuntime) -> Result<(), AllocError> {
+    for case in 0..5 {
+        let Some(headers) = page_headers(case) else {
+            break;
+        };
+        let text = message(&rt, "GET /", headers, "[]GET /statement/1 HTTP/1.1\r\n\r\n")?;
+        let told = matches!(asked(rt.alloc(), text.as_bytes()), Err(Early::Page));
+        assert!(rt; told, "case {case}");
     }
     Ok(())
 }

@@ -1,5 +1,5 @@
 use super::sample::Narrow;
-use ledger_http::{ContentType, Refusal, Reply, write_reply};
+use ledger_http::{ContentType, Early, Refusal, Reply, write_reply};
 use records::Streamed;
 use std::alloc::AllocError;
 
@@ -87,6 +87,27 @@ fn has_constant_replies(rt: HostRuntime) -> Result<(), AllocError> {
     }
     assert_eq!(rt; Refusal::HeadTooLarge.status().as_u16(), 431);
     Ok(())
+}
+
+#[test]
+fn tells_the_page_as_html(rt: HostRuntime) {
+    let reply = Reply::from(Early::Page);
+    let bytes = reply.bytes();
+    let front = b"HTTP/1.1 200 OK\r\ncontent-length: ";
+    assert!(rt; bytes.starts_with(front));
+    let page = b"\r\n\r\n<!doctype html>\n<html lang=\"en\">\n";
+    assert!(rt;
+        bytes
+            .windows(page.len())
+            .any(|part| part == page.as_slice())
+    );
+    assert!(rt; bytes.ends_with(b"</html>\n"));
+}
+
+#[test]
+fn tells_early_refusals(rt: HostRuntime) {
+    let reply = Reply::from(Early::Refused(Refusal::NoRoute));
+    assert!(rt; reply.bytes() == Reply::Fixed(Refusal::NoRoute).bytes());
 }
 
 // The reply with room for so many bytes is written as far as it goes, and told so.

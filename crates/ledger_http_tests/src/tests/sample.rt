@@ -2,7 +2,7 @@
 ghost use Rattle.std.specs.Prelude.{◌≡◌, false};
 ghost use Rattle.records.specs.Streamed.{stream_failed};
 
-use ledger_http::{Message, Refusal, asked, read_message};
+use ledger_http::{Early, Message, Refusal, asked, read_message};
 use records::Streamed;
 use std::alloc::AllocError;
 use std::io::{self, ErrorKind, Read, Write};
@@ -158,7 +158,7 @@ pub(crate) fn refused(case: u8) -> Option<Refused> {
         ),
         // Paths without a route, whatever the method and the key.
         22 => ("GET /é", "", "", Refusal::NoRoute),
-        23 => ("POST /", "content-length: 0\r\n", "", Refusal::NoRoute),
+        23 => ("GET /?", "", "", Refusal::NoRoute),
         24 => (
             "POST /accounts/",
             "content-length: 0\r\n",
@@ -253,6 +253,21 @@ pub(crate) fn refused(case: u8) -> Option<Refused> {
             "",
             Refusal::UnknownKey,
         ),
+        // The page by any method but GET, whatever the key.
+        44 => ("POST /", "", "", Refusal::LengthRequired),
+        45 => ("POST /", "content-length: 0\r\n", "", Refusal::BadMethod),
+        46 => ("HEAD /", "content-length: 0\r\n", "", Refusal::BadMethod),
+        47 => (
+            "OPTIONS /",
+            "content-length: 0\r\nx-ledger-key: 1\r\n",
+            "",
+            Refusal::BadMethod,
+        ),
+        48 => ("get /", "content-length: 0\r\n", "", Refusal::BadMethod),
+        // What is near the path of the page.
+        49 => ("GET //", "", "", Refusal::NoRoute),
+        50 => ("GET /index.html", "", "", Refusal::NoRoute),
+        51 => ("GET http://127.0.0.1/", "", "", Refusal::NoRoute),
         _ => return None,
     })
 }
@@ -293,8 +308,8 @@ pub(crate) fn is_of_reading(refusal: Refusal) -> bool {
 /// Why bytes are refused, if they are.
 pub(crate) fn refusal_of(rt: &impl AllocGlobal, bytes: &[u8]) -> Option<Refusal> {
     match asked(rt.alloc(), bytes) {
-        Ok(_) => None,
-        Err(refusal) => Some(refusal),
+        Ok(_) | Err(Early::Page) => None,
+        Err(Early::Refused(refusal)) => Some(refusal),
     }
 }
 

@@ -61,6 +61,17 @@ const REFUSALS: &[Example] = &[
         ],
     ),
     (
+        "at the path of the console",
+        &[
+            (
+                Asked::Post("/", ""),
+                0,
+                Refused("405 Method Not Allowed", "bad_method"),
+            ),
+            (Get("/?x"), 0, Refused("404 Not Found", "no_route")),
+        ],
+    ),
+    (
         "histories",
         &[
             (

@@ -55,4 +55,5 @@ returns c =
     IsAsked-whole c.args.bytes.now good.0 first _ (n, ends, good.1)
     (first_message-whole c.args.bytes.now good.0 n k ends
     (sym (c.in_ok-body_size.ensures.size good.0 good.2)) enough)
-    (c.question.ensures first good.2 (ap (λ m. take m (drop n c.args.bytes.now)) (omega arith)))
+    (c.question.ensures.told first good.2 (ap (λ m. take m (drop n c.args.bytes.now)) (omega arith)))
+    (c.question.ensures.page first good.2)

@@ -1,10 +1,11 @@
-use Rattle.std.proofs.Common.{Result, Err, IsOk, ap, sym, subst}
-use Rattle.ledger_http.specs.declared.refusal.Refusal.{Refusal}
+use Rattle.std.proofs.Common.{Result, Err, IsOk, refl, ap, sym, subst, ◌∙◌}
+use Rattle.ledger_http.specs.declared.early.Early.{Early}
 use Rattle.ledger_http.specs.Question.{Question, question_of}
 use Rattle.service.specs.Responds.{IsLeftByAsked}
 use Rattle.service.proofs.FindingLemmas.{finds_on, finds_same}
-use Rattle.ledger_http.specs.declared.reply.Reply.TheVariants.{Fixed}
-use Rattle.service.proofs.Responses.{responds_to, early_of, responds_refusing, early_refusing}
+use Rattle.ledger_http.specs.ReplyText.{early_reply}
+use Rattle.service.proofs.Responses.{responds_to, early_of, no_page}
+use Rattle.service.proofs.Responses.{responds_early, early_telling, page_telling}
 use Rattle.service.proofs.responding.respond.Goals as goal
 
 pub returns-in-Ok-clause-responds : goal.returns-in-Ok-clause-responds
@@ -18,15 +19,27 @@ returns-in-Ok-clause-early g c =
     let a = c.in-Ok.ensures in
     early_of _ a.head (question_of c.in-Ok.asked) _ a.has a.told
 
+pub returns-in-Ok-clause-page : goal.returns-in-Ok-clause-page
+returns-in-Ok-clause-page g c =
+    let a = c.in-Ok.ensures in
+    no_page _ a.head (question_of c.in-Ok.asked) _ a.has a.told
+
 pub returns-in-Err-clause-responds : goal.returns-in-Err-clause-responds
 returns-in-Err-clause-responds g c live =
     let a = c.in-Err.ensures in
-    responds_refusing _ _ a.head c.in-Err.refusal _ a.has a.told (λ is. a.unavailable (ap Err is))
+    rw c.from.ensures
+    (responds_early _ _ a.head c.in-Err.early _ a.has a.told (λ is. a.unavailable (ap Err is)))
 
 pub returns-in-Err-clause-early : goal.returns-in-Err-clause-early
 returns-in-Err-clause-early g c =
     let a = c.in-Err.ensures in
-    early_refusing _ a.head c.in-Err.refusal a.has a.told (λ is. a.unavailable (ap Err is))
+    rw c.from.ensures
+    (early_telling _ a.head c.in-Err.early a.has a.told (λ is. a.unavailable (ap Err is)))
+
+pub returns-in-Err-clause-page : goal.returns-in-Err-clause-page
+returns-in-Err-clause-page g c =
+    let a = c.in-Err.ensures in
+    rw c.from.ensures (page_telling _ a.head c.in-Err.early _ a.has refl a.page)
 
 pub returns-in-Ok-clause-finds : goal.returns-in-Ok-clause-finds
 returns-in-Ok-clause-finds g c =
@@ -35,7 +48,7 @@ returns-in-Ok-clause-finds g c =
     (λ was now left. (
       a.head,
       a.has,
-      subst (λ (asked : Result Question Refusal). IsLeftByAsked asked c.args.moment was now)
+      subst (λ (asked : Result Question Early). IsLeftByAsked asked c.args.moment was now)
           (sym a.told) left,
     ))
     c.answer.ensures.finds
@@ -46,6 +59,6 @@ returns-in-Err-clause-finds g c =
     finds_same g.L.Ledgers.means _ _ _
     (λ answered.
     let asks =
-    subst (λ (asked : Result Question Refusal). IsOk asked)
-    (a.told (λ is. answered.available (ap Fixed is))) (answered.asks a.head a.has) in
+    subst (λ (asked : Result Question Early). IsOk asked)
+    (a.told (λ is. answered.available (c.from.ensures ∙ ap early_reply is))) (answered.asks a.head a.has) in
     cc)

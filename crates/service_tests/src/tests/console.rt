@@ -1,0 +1,48 @@
+//! The console's page, which everybody is told.
+use super::asserting::same;
+use super::firms::Firms;
+use super::messages::{BATCH, FIRST, good};
+use super::played::base;
+use ledger_http::Reply;
+use std::process::Abort;
+use std::test::Fail;
+
+/// Requests of the page: without a key, with a firm's key, with keys of nobody, and behind which
+/// another message stands.
+const ASKED: [&str; 4] = [
+    "GET / HTTP/1.1\r\nhost: 127.0.0.1:8080\r\n\r\n",
+    concat!(
+        "GET / HTTP/1.1\r\nx-ledger-key: ",
+        "0000000000000000000000000000000000000000000000000000000000000000\r\n\r\n"
+    ),
+    "GET / HTTP/1.1\r\nx-ledger-key: 1\r\nx-ledger-key: 2\r\n\r\n",
+    "GET / HTTP/1.1\r\n\r\nGET /x HTTP/1.1\r\n\r\n",
+];
+
+/// What the page begins with.
+const FRONT: &str = "<!doctype html>\n<html lang=\"en\">\n";
+
+/// All of these are told the page.
+fn tells_page(rt: &impl Abort, firms: &mut Firms, moment: u64) {
+    for asked in ASKED {
+        let reply = firms.answer(asked.as_bytes(), moment);
+        same(rt, "the page", reply.bytes(), Reply::Page.bytes());
+    }
+}
+
+#[test]
+fn tells_the_page_to_everybody(rt: HostRuntime) -> Result<(), Fail> {
+    let page = Reply::Page.bytes();
+    let at = page
+        .windows(4)
+        .position(|part| part == b"\r\n\r\n".as_slice());
+    let body = &page[at.ok_or("no head")? + 4..];
+    same(&rt, "its front", body.starts_with(FRONT.as_bytes()), true);
+    tells_page(&rt, &mut Firms::new(rt.alloc()), 0);
+    let mut firms = base(&rt, rt.alloc(), FIRST)?;
+    tells_page(&rt, &mut firms, 9);
+    let reply = firms.answer(BATCH.as_bytes(), 0);
+    let want = good(rt.alloc(), "{\"clock\":\"4\",\"results\":[]}")?;
+    same(&rt, "nothing has changed", reply.bytes(), want.as_slice());
+    Ok(())
+}
