@@ -40,6 +40,7 @@ ledgerd:
 	+@python3 build/prove.py
 
 session: ledgerd
+	test "$$($(LEDGERD) --version | tail -n 1)" = "$$(rt version)"
 	mkdir -p out
 	$(PLAY) > out/session.txt
 	python3 examples/session/compare.py out/session.txt

@@ -9,6 +9,7 @@ from runs import House
 from service import NAME_TAKEN, UNAVAILABLE, UNREADABLE, check, run, want
 
 KEY = "5" * 64
+ADDED = "added more\n"
 
 
 def refused_commands(trial):
@@ -22,11 +23,11 @@ def refused_commands(trial):
     scratch = os.path.join(trial.folder, "scratch.db")
     add = ("tenant-add", "--db", scratch, "--name", "more", "--key", KEY)
     statement = ("statement", "--db", house.db, "--tenant", "north-desk", "--account", "1")
-    added = (0, "added more\n", "")
+    made = (0, ADDED, f"new ledger {scratch}\n")
     cases = ((("check", "--db", house.db), (0, "ok\n", ""), None),
              (statement, run(house.program, *statement), None),
-             (add, added, lambda: copy(house.db, scratch)),
-             (add, added, lambda: remove(scratch)))
+             (add, (0, ADDED, ""), lambda: copy(house.db, scratch)),
+             (add, made, lambda: remove(scratch)))
     refused = [refuse_in_turn(trial, control, kind, cases) for kind in (MEMORY, DISK)]
     return (f"{refused[MEMORY]} allocations and {refused[DISK]} calls of the disk refused: "
             f"answered as ever, or a fault and nothing half done; "
@@ -66,7 +67,8 @@ def refuse(program, control, refusal, case):
         want(again == NAME_TAKEN, f"{what}, and again: {again}")
     else:
         done = () if refusal[0] == MEMORY else (NAME_TAKEN,)
-        want(again in (ample, *done), f"{what}, and again: {again}")
+        # A ledger that was made by then is new no more.
+        want(again in (ample, (0, ADDED, ""), *done), f"{what}, and again: {again}")
     check(program, words[2])
     return was_refused
 

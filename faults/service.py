@@ -60,8 +60,14 @@ def check(program, db):
 
 
 def add_tenant(program, db, name, key):
+    """Adds a tenant. A file that it makes is told, and its owner's alone."""
+    is_new = not os.path.exists(db)
     told = run(program, "tenant-add", "--db", db, "--name", name, "--key", key)
-    want(told == (0, f"added {name}\n", ""), f"tenant-add: {told}")
+    note = f"new ledger {db}\n" if is_new else ""
+    want(told == (0, f"added {name}\n", note), f"tenant-add: {told}")
+    if is_new:
+        modes = [os.stat(file).st_mode & 0o777 for file in (db, f"{db}-wal")]
+        want(modes == [0o600, 0o600], f"modes: {modes}")
 
 
 def free_port():
@@ -78,8 +84,7 @@ class Service:
         self.errors, errors = os.pipe()
         os.set_blocking(self.errors, False)
         self.served = subprocess.Popen(
-            [program, "serve", "--db", db, "--port", str(self.port), "--requests", str(2**64 - 1),
-             *options],
+            [program, "serve", "--db", db, "--port", str(self.port), *options],
             env=env, stderr=errors,
             preexec_fn=lambda: signal.signal(signal.SIGXFSZ, signal.SIG_IGN))
         os.close(errors)

@@ -46,7 +46,7 @@ def served(ledgerd, folder):
     db, port = os.path.join(folder, "ledger.db"), free_port()
     subprocess.run([ledgerd, "tenant-add", "--db", db, "--name", "first", "--key", KEY], check=True,
                    stdout=subprocess.DEVNULL)
-    words = [ledgerd, "serve", "--db", db, "--port", str(port), "--requests", str(2**64 - 1)]
+    words = [ledgerd, "serve", "--db", db, "--port", str(port)]
     with ended(subprocess.Popen(words)) as service:
         wait_for(port, service)
         yield port

@@ -59,7 +59,7 @@ class Client:
 def serve(ledgerd, folder):
     """The instances, once they listen."""
     instances = [subprocess.Popen([ledgerd, "serve", "--db", os.path.join(folder, f"{name}.db"),
-                                   "--port", str(port), "--requests", str(2**64 - 1)])
+                                   "--port", str(port)])
                  for name, port in INSTANCES.items()]
     for port in INSTANCES.values():
         wait_for(port)

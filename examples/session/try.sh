@@ -15,7 +15,7 @@ mkdir -p "$folder"
 port=$(python3 "$here/port.py" ${2:+"$2"})
 stay=${STAY:-}
 if [ -n "$stay" ]; then
-    requests=18446744073709551615
+    requests=
     seconds=86400
 else
     seconds=600
@@ -50,7 +50,7 @@ TEXT
 begun=$(date +%s)
 (cd "$here/../../crates/ledgerd" && exec setsid rt try --seconds "$seconds" \
     --data "ledger.db=$here/../ledger/ledger.db" \
-    -- serve --db ledger.db --port "$port" --requests "$requests") \
+    -- serve --db ledger.db --port "$port" ${requests:+--requests "$requests"}) \
     </dev/null >"$folder/rt.log" 2>&1 &
 tried=$!
 until listens; do

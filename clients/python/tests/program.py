@@ -67,7 +67,7 @@ class Service:
         self.folder = tempfile.TemporaryDirectory()
         self.db = os.path.join(self.folder.name, "ledger.db")
         told = run("tenant-add", "--db", self.db, "--name", "shop", "--key", key)
-        if told != (0, "added shop\n", ""):
+        if told != (0, "added shop\n", f"new ledger {self.db}\n"):
             raise AssertionError(f"tenant-add: {told}")
         self.port, self.process = free_port(), None
         self.url = f"http://127.0.0.1:{self.port}"
@@ -75,8 +75,7 @@ class Service:
 
     def start(self):
         self.process = subprocess.Popen(
-            [program(), "serve", "--db", self.db, "--port", str(self.port), "--requests",
-             str(2**64 - 1)])
+            [program(), "serve", "--db", self.db, "--port", str(self.port)])
         wait_for(self.port, self.process)
 
     def kill(self):

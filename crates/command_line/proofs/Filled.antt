@@ -6,17 +6,17 @@ use Rattle.std.specs.Str.{bytes_eq}
 use Rattle.std.proofs.lemmas.Slice.Eq.{bytes_eq-Decides}
 use Rattle.clap.specs.Kinds.{Kinds, value_kinds}
 use Rattle.clap.specs.Faults.{entered_fault, fault_of, level_fault, walk_fault}
-use Rattle.clap.specs.Simple.{App, Shape, argument_words, built, built_leaf, entered, filled, help_rule, inherited, label_of, marked_built, names_of, rows_at, subcommand_of, with_leaf_noted}
+use Rattle.clap.specs.Simple.{App, Shape, argument_words, built, built_leaf, entered, filled, help_rule, version_rule, inherited, label_of, marked_built, names_of, rows_at, subcommand_of, with_leaf_noted}
 use Rattle.clap.specs.ValueTests.{accepts}
 use Rattle.clap.specs.Values.{Accepts, refused_kind}
 use Rattle.clap.specs.Walk.{Row, Rule, Text, answers_to, arg_by_id, first_of, nothing_held, one_of, rows_after, walk, walk_from}
 use Rattle.clap.specs.declared.builder.value_parser.ValueParser.{ValueParser}
 use Rattle.clap.specs.declared.builder.value_parser.ValueParser.TheVariants as vp
 use Rattle.clap.proofs.ValueTestLemmas.{accepts-Accepts}
-use Rattle.command_line.proofs.Uses.{Each, IsOwn, both_none, each_found, flag_sets, help_sets, option_sets}
+use Rattle.command_line.proofs.Uses.{Each, IsOwn, both_none, each_found, flag_sets, help_sets, option_sets, version_sets}
 use Rattle.command_line.proofs.Walks.{walk_stops}
 use Rattle.command_line.proofs.Levels.{HasValue, Holds, level_holds}
-use Rattle.command_line.specs.Ledgerd.{check_shape, counts, flag_rule, ledgerd_app, limit_rule, migrate_shape, number_rule, option_rule, ports, program, serve_shape, statement_shape, tenant_add_shape, text_rule}
+use Rattle.command_line.specs.Ledgerd.{check_shape, flag_rule, ledgerd_app, limit_rule, migrate_shape, number_rule, option_rule, ports, program, serve_shape, statement_shape, tenant_add_shape, text_rule}
 use Rattle.command_line.specs.Values.{HasSomeText, IsFilled, IsFlag, IsFreeNumber, HasNumberBelow}
 use Rattle.command_line.proofs.NumberValues.{signed_number}
 
@@ -65,6 +65,9 @@ flag_own c name own = record { own = own; sets = flag_sets (filled (flag_rule na
 help_own : (c : List Rule) → arg_by_id c (codes "help") ≡ Some (filled help_rule) → IsOwn c (filled help_rule)
 help_own c own = record { own = own; sets = help_sets (filled help_rule) refl }
 
+version_own : (c : List Rule) → arg_by_id c (codes "version") ≡ Some (filled version_rule) → IsOwn c (filled version_rule)
+version_own c own = record { own = own; sets = version_sets (filled version_rule) refl }
+
 -- the value of a text option
 text_at : (rows : List Row) (name : Text) → Holds rows (filled (text_rule name)) → HasSomeText rows name
 text_at rows name holds = some_text rows name (holds.needed refl).first (holds.needed refl).written
@@ -89,16 +92,19 @@ serve_met words e =
       (
         number_own c (codes "port") ports refl,
         (
-          number_own c (codes "requests") counts refl,
+          option_own c (codes "address") refl,
           (
-            limit_own c (codes "clients") 1 100_000 refl,
+            limit_own c (codes "requests") 0 18446744073709551615 refl,
             (
-              limit_own c (codes "room") 3 65_536 refl,
+              limit_own c (codes "clients") 1 100_000 refl,
               (
-                limit_own c (codes "idle") 1 86_400 refl,
+                limit_own c (codes "room") 3 65_536 refl,
                 (
-                  limit_own c (codes "message") 1 3_600 refl,
-                  (limit_own c (codes "reply") 1 3_600 refl, (help_own c refl, tt)),
+                  limit_own c (codes "idle") 1 86_400 refl,
+                  (
+                    limit_own c (codes "message") 1 3_600 refl,
+                    (limit_own c (codes "reply") 1 3_600 refl, (help_own c refl, tt)),
+                  ),
                 ),
               ),
             ),
@@ -107,16 +113,14 @@ serve_met words e =
       ),
     ) in
     let holds = level_holds (ready serve_shape) words own refl e in
-    let limits = holds.1.1.1 in
+    let limits = holds.1.1.1.1 in
     let port = holds.1.0.needed refl in
-    let requests = holds.1.1.0.needed refl in
-    let count : Accepts false counts requests.first = accepted_value false counts requests.first requests.accepted in
     inl (
       refl,
       record {
         db = text_at rows (codes "db") holds.0;
         port = signed_number rows (codes "port") port.first port.read (accepted_value false ports port.first port.accepted);
-        requests = record { text = requests.first; read = requests.read; numeral = count.0; below = count.1 };
+        requests = limit_at rows (codes "requests") 0 18446744073709551615 holds.1.1.1.0;
         limits = record {
           clients = limit_at rows (codes "clients") 1 100_000 limits.0;
           room = limit_at rows (codes "room") 3 65_536 limits.1.0;
@@ -280,6 +284,6 @@ filled_from words fault met is =
     let stop = (walk a.top.rules (names_of a) nothing_held (argument_words ledgerd_app words)).stopped in
     let walk_part = both_none (walk_fault a.top (names_of a) (walk_from nothing_held) (argument_words ledgerd_app words)) _ fault in
     let entered_part = both_none (entered_fault a stop) _ walk_part.1 in
-    let own : Each (IsOwn a.top.rules) a.top.rules = (help_own a.top.rules refl, tt) in
+    let own : Each (IsOwn a.top.rules) a.top.rules = (help_own a.top.rules refl, (version_own a.top.rules refl, tt)) in
     let stops = walk_stops a.top (names_of a) own (argument_words ledgerd_app words) (walk_from nothing_held) walk_part.0 (λ q e. absurd (true≢false (sym (ap is_some e)))) in
     entered_filled a stop met (λ q e. stops_at_one q.0 q.1 (stops q e)) entered_part.0 is

@@ -9,6 +9,9 @@ use Rattle.clap.specs.declared.error.Error.{Error}
 use Rattle.clap.specs.declared.parser.matches.ArgMatches.{ArgMatches}
 use Rattle.clap.specs.declared.parser.matches.ArgMatches.TheViews.{out-ArgMatches, out-SubCommand}
 use Rattle.clap.specs.declared.parser.matches.SubCommand.{SubCommand}
+use Rattle.clap.specs.declared.error.kind.ErrorKind.{ErrorKind}
+use Rattle.clap.specs.declared.error.kind.ErrorKind.TheVariants.{DisplayVersion, OutOfMemory}
+use Rattle.clap.specs.Words.{IsAmong}
 use Rattle.clap.proofs.OnLiterals.{clap_on_literals}
 use Rattle.command_line.specs.Ledgerd.{ledgerd_app}
 use Rattle.command_line.specs.Line.{IsCommandOf, IsFaultOf, IsOf, Spells}
@@ -17,7 +20,7 @@ use Rattle.command_line.specs.Values.{IsFilled}
 use Rattle.command_line.specs.declared.commands.Command.{Command}
 use Rattle.command_line.specs.declared.commands.Command.TheVariants.{Lists}
 use Rattle.command_line.specs.declared.fault.LineFault.{LineFault}
-use Rattle.command_line.specs.declared.fault.LineFault.TheVariants.{Refused, Memory}
+use Rattle.command_line.specs.declared.fault.LineFault.TheVariants.{Refused, Version, Memory}
 use Rattle.command_line.proofs.Filled.{filled_from}
 
 -- our command line is simple, and none of its options has a rule on another
@@ -37,6 +40,13 @@ fault_told a words e (Refused x) is fails by =
     elim kinds [
       | inl memory ↦ absurd (by.1 memory)
       | inr among ↦ subst (λ (y : Error). IsFaultOf words (Refused y)) (sym by.0) among
+    ]
+fault_told a words e Version is fails by =
+    let kinds : HasKind (fault_of ledgerd_app words) e =
+    subst (λ (b : App). HasKind (fault_of b words) e) is (fails (ap is_simple_and_free is ∙ is_simple_line)) in
+    elim kinds [
+      | inl memory ↦ let never : OutOfMemory ≡ DisplayVersion = sym memory ∙ by in cc
+      | inr among ↦ subst (λ (k : ErrorKind). IsAmong k (fault_of ledgerd_app words)) by among
     ]
 fault_told a words e Memory is fails by = tt
 

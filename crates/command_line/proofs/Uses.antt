@@ -8,7 +8,7 @@ use Rattle.clap.specs.Kinds.{Kinds, or_else, range_kinds, value_kinds}
 use Rattle.clap.specs.Faults.{action_fault, repeat_fault, use_fault, values_fault}
 use Rattle.clap.specs.Walk.{Row, Rule, Text, action_of, arg_by_id, at_row, more_values, most_values, reading_by, stronger, used, used_as, values_or_missing, with_values, without}
 use Rattle.clap.specs.declared.builder.action.ArgAction.{ArgAction}
-use Rattle.clap.specs.declared.builder.action.ArgAction.TheVariants.{Set, SetTrue, Help}
+use Rattle.clap.specs.declared.builder.action.ArgAction.TheVariants.{Set, SetTrue, Help, Version}
 use Rattle.clap.specs.declared.parser.matches.ValueSource.{ValueSource}
 use Rattle.clap.specs.declared.parser.matches.ValueSource.TheVariants.{CommandLine}
 
@@ -156,4 +156,11 @@ pub help_sets : (a : Rule) → action_of a ≡ Help → Sets a
 help_sets a is again values rows e =
     let act : action_fault (action_of a) again a (values_or_missing a values) rows ≡ [] = (both_none (range_kinds (unwrap_or_range a.range).start_inclusive (most_values a) (length values)) _ e).1 in
     let at : action_fault Help again a (values_or_missing a values) rows ≡ [] = subst (λ (x : ArgAction). action_fault x again a (values_or_missing a values) rows ≡ []) is act in
+    cc
+
+-- a call for the version is never taken
+pub version_sets : (a : Rule) → action_of a ≡ Version → Sets a
+version_sets a is again values rows e =
+    let act : action_fault (action_of a) again a (values_or_missing a values) rows ≡ [] = (both_none (range_kinds (unwrap_or_range a.range).start_inclusive (most_values a) (length values)) _ e).1 in
+    let at : action_fault Version again a (values_or_missing a values) rows ≡ [] = subst (λ (x : ArgAction). action_fault x again a (values_or_missing a values) rows ≡ []) is act in
     cc

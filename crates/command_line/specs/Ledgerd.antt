@@ -17,10 +17,6 @@ number_rule name numbers = record (text_rule name) { parser = Some numbers }
 abbrev pub ports : ValueParser
 ports = Signed (pos 0) (pos 65535)
 
--- a count, below 2^64
-abbrev pub counts : ValueParser
-counts = Unsigned 0 18446744073709551615
-
 -- `--name`, which may be left out
 abbrev pub flag_rule : Text → Rule
 flag_rule name = record (new_rule name) { long = Some name; action = Some SetTrue }
@@ -32,6 +28,10 @@ option_rule name = record (new_rule name) { long = Some name; value_names = 1 }
 -- `--name N`, a number within bounds, which may be left out
 abbrev pub limit_rule : Text → ℕ → ℕ → Rule
 limit_rule name least most = record (option_rule name) { parser = Some (Unsigned least most) }
+
+-- how many replies there are to be, which may be left out
+abbrev pub requests_rule : Rule
+requests_rule = limit_rule (codes "requests") 0 18446744073709551615
 
 -- the option that names the file of the store
 abbrev pub db_rule : Rule
@@ -45,17 +45,17 @@ over_store name rules = record (new_app name).top { rules = db_rule ∷ rules }
 abbrev pub store_app : Text → App
 store_app name = record (new_app name) { top = over_store name [] }
 
--- serve: a port, and how many requests to answer
+-- serve: a port, an address, and how many requests to answer
 abbrev pub counted_serve_app : App
 counted_serve_app = record (new_app (codes "serve")) {
   top = over_store (codes "serve")
-      (number_rule (codes "port") ports ∷ number_rule (codes "requests") counts ∷ []);
+      (number_rule (codes "port") ports ∷ option_rule (codes "address") ∷ requests_rule ∷ []);
 }
 
 -- and then the limits: clients, megabytes for long messages, and seconds
 abbrev pub serve_shape : Shape
 serve_shape = over_store (codes "serve")
-    (number_rule (codes "port") ports ∷ number_rule (codes "requests") counts
+    (number_rule (codes "port") ports ∷ option_rule (codes "address") ∷ requests_rule
     ∷ limit_rule (codes "clients") 1 100_000 ∷ limit_rule (codes "room") 3 65_536
     ∷ limit_rule (codes "idle") 1 86_400 ∷ limit_rule (codes "message") 1 3_600
     ∷ limit_rule (codes "reply") 1 3_600 ∷ [])
@@ -88,10 +88,10 @@ check_shape = over_store (codes "check") []
 abbrev pub migrate_shape : Shape
 migrate_shape = over_store (codes "migrate") (text_rule (codes "to") ∷ [])
 
--- the program without its subcommands; the words are those after its name
+-- the program without its subcommands, with `--version`; the words are those after its name
 abbrev pub program : App
 program = record (new_app (codes "ledgerd")) {
-  top = record (new_app (codes "ledgerd")).top { no_binary_name = true };
+  top = record (new_app (codes "ledgerd")).top { no_binary_name = true; has_version = true };
 }
 
 -- the whole command line

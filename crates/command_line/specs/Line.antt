@@ -1,14 +1,16 @@
 -- Which command a line is.
-use Rattle.std.specs.Prelude.{List, [], Option, Some, None, ◌≡◌, codes}
+use Rattle.std.specs.Prelude.{List, [], Option, Some, None, ◌≡◌, ◌-◌, ◌^◌, codes}
+use Rattle.clap.specs.declared.error.kind.ErrorKind.TheVariants.{DisplayVersion}
 use Rattle.clap.specs.Words.{IsAmong, Row, Text, fault_of, kind_of, subcommand_of}
 use Rattle.command_line.specs.Ledgerd.{ledgerd_app}
-use Rattle.command_line.specs.Values.{HasFreeNumber, HasFreeText, HasNumber, HasText, has_flag, text_in}
+use Rattle.command_line.specs.Values.{HasFreeNumber, HasFreeText, HasNumber, HasNumberOr}
+use Rattle.command_line.specs.Values.{HasText, has_flag, text_in}
 use Rattle.command_line.specs.declared.commands.Command.{Command}
 use Rattle.command_line.specs.declared.commands.LimitWords.{LimitWords}
 use Rattle.command_line.specs.declared.commands.StatementWords.{StatementWords}
 use Rattle.command_line.specs.declared.commands.Command.TheVariants as command
 use Rattle.command_line.specs.declared.fault.LineFault.{LineFault}
-use Rattle.command_line.specs.declared.fault.LineFault.TheVariants.{Refused, Memory}
+use Rattle.command_line.specs.declared.fault.LineFault.TheVariants.{Refused, Version, Memory}
 
 -- what is asked of a statement, each from the option of its own name
 pub record SpellsStatement (rows : List Row) (asked : StatementWords) : Type 0 where
@@ -30,10 +32,11 @@ pub record SpellsLimits (rows : List Row) (limits : LimitWords) : Type 0 where
 -- the command has the subcommand's name, and each value from the option of its own name
 abbrev pub Spells : Text → List Row → Command → Type 0
 Spells name rows command.Lists = ⊥
-Spells name rows (command.Serve db port requests limits) = (name ≡ codes "serve")
+Spells name rows (command.Serve db address port requests limits) = (name ≡ codes "serve")
     × HasText rows (codes "db") db.now
+    × HasFreeText rows (codes "address") (text_in address)
     × HasNumber rows (codes "port") port
-    × HasNumber rows (codes "requests") requests
+    × HasNumberOr rows (codes "requests") (2 ^ 64 - 1) requests
     × SpellsLimits rows limits
 Spells name rows (command.AddTenant db tenant key) = (name ≡ codes "tenant-add")
     × HasText rows (codes "db") db.now
@@ -60,7 +63,8 @@ pub record IsCommandOf (words : List Text) (c : Command) : Type 0 where
   pub taken : fault_of ledgerd_app words ≡ []
   pub stated : IsOf (subcommand_of ledgerd_app words) c
 
--- a refusal has a kind that `clap` states for the words
+-- a refusal has a kind that `clap` states for the words, and so has a call for the version
 abbrev pub IsFaultOf : List Text → LineFault → Type 0
 IsFaultOf words (Refused error) = IsAmong (kind_of error) (fault_of ledgerd_app words)
+IsFaultOf words Version = IsAmong DisplayVersion (fault_of ledgerd_app words)
 IsFaultOf words Memory = Unit {0}

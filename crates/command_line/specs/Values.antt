@@ -1,6 +1,6 @@
 -- What the matches of a command hold.
 use Rattle.std.specs.Prelude.{ℕ, Bool, List, None, Some, ◌≡◌, ◌⊎◌, ◌<◌, ◌^◌, IsSome, codes, false}
-use Rattle.std.specs.Prelude.{Option, option_map}
+use Rattle.std.specs.Prelude.{Option, option_map, unwrap_or}
 use Rattle.std.specs.Borrow.{Bor}
 use Rattle.std.specs.Option.{option_map_or}
 use Rattle.std.specs.Str.{bytes_eq}
@@ -42,6 +42,10 @@ pub record HasNumberBelow (rows : List Row) (name : Text) (bound : ℕ) : Type 0
 abbrev pub HasFreeNumber : List Row → Text → Option ℕ → Type 0
 HasFreeNumber rows name n = n ≡ option_map number_of (one_of name rows)
 
+-- the same, with a number where it is left out
+abbrev pub HasNumberOr : List Row → Text → ℕ → ℕ → Type 0
+HasNumberOr rows name usual n = n ≡ unwrap_or (option_map number_of (one_of name rows)) usual
+
 -- what stands for an option that may be left out is nothing, or a number below 2^64
 abbrev pub IsFreeNumber : List Row → Text → Type 0
 IsFreeNumber rows name = (one_of name rows ≡ None) ⊎ HasNumberBelow rows name (2 ^ 64)
@@ -67,7 +71,7 @@ pub record FillsLimits (rows : List Row) : Type 0 where
 pub record FillsServe (rows : List Row) : Type 0 where
   pub db : HasSomeText rows (codes "db")
   pub port : HasNumberBelow rows (codes "port") (2 ^ 16)
-  pub requests : HasNumberBelow rows (codes "requests") (2 ^ 64)
+  pub requests : IsFreeNumber rows (codes "requests")
   pub limits : FillsLimits rows
 
 -- the values of tenant-add are there

@@ -7,13 +7,19 @@ ghost use Rattle.command_line.specs.Ledgerd.{statement_shape, store_app, tenant_
 ghost use Rattle.command_line.specs.Ledgerd.{whole_statement_app};
 ghost use Rattle.command_line.specs.Built.{IsLeaf, IsLocalArg, IsProgram};
 
-use crate::LEAST_ROOM;
+use crate::{LEAST_ROOM, version_text};
 use clap::builder::ValueParser;
 use clap::{Arg, ArgAction, value_parser};
 use std::alloc::{AllocError, Global};
 
 static LISTS_HELP: &str = "Without a command, ledgerd reads one body of transfers from standard \
     input, answers it over lists in memory and prints the reply.";
+
+static ADDRESS_HELP: &str =
+    "The IPv4 or IPv6 address of this machine to listen on [default: 127.0.0.1]";
+
+static REQUESTS_HELP: &str =
+    "How many replies to write before ending, below 2^64 [default: no end]";
 
 static CLIENTS_HELP: &str = "The most clients at once, 1 to 100000 [default: 1000]";
 
@@ -89,6 +95,7 @@ fn named_command<'a>(alloc: Global) -> Result<clap::Command<'a>, AllocError>
 {
     clap::Command::new(alloc, "ledgerd")
         .about("A double-entry ledger for several tenants")
+        .version(version_text())
         .after_help(LISTS_HELP)
         .no_binary_name(true)
         .bin_name("ledgerd")
@@ -107,26 +114,21 @@ fn store_command<'a>(
         .arg(db_option(alloc))
 }
 
-// The command that serves, with what it must have.
+// The command that serves: where, and how long.
 fn counted_serve_command<'a>(alloc: Global) -> Result<clap::Command<'a>, AllocError>
     ensures { IfOk result (IsProgram counted_serve_app) }
 {
-    let about = "Answer requests over HTTP until a number of replies was written";
+    let about = "Answer requests over HTTP, on and on or until a number of replies was written";
     store_command(alloc, "serve", about)?
         .arg(number_option(
             alloc,
             "port",
             "N",
             value_parser!(u16),
-            "The TCP port of 127.0.0.1 to listen on, below 65536, e.g. 8080",
+            "The TCP port to listen on, below 65536, e.g. 8080",
         ))?
-        .arg(number_option(
-            alloc,
-            "requests",
-            "K",
-            value_parser!(u64),
-            "How many replies to write before ending, below 2^64, e.g. 1000",
-        ))
+        .arg(free_option(alloc, "address", "IP", ADDRESS_HELP))?
+        .arg(limit_option(alloc, "requests", 0, u64::MAX, REQUESTS_HELP))
 }
 
 fn serve_command<'a>(alloc: Global) -> Result<clap::Command<'a>, AllocError>

@@ -40,9 +40,12 @@ pub struct LimitWords {
 pub enum Command<'a> {
     /// No words: the run over lists.
     Lists,
-    /// Answer requests on `port` of 127.0.0.1, until `requests` were answered, within `limits`.
+    /// Answer requests on `port` of `address`, that of 127.0.0.1 where none was given, until `requests`
+    /// were answered, within `limits`. Where no number was given there is no end: `requests` is the
+    /// greatest.
     Serve {
         db: &'a str,
+        address: Option<&'a str>,
         port: u16,
         requests: u64,
         limits: LimitWords,

@@ -5,7 +5,9 @@ mod app;
 mod commands;
 mod fault;
 mod read;
+mod version;
 
 pub use commands::{Command, LEAST_ROOM, LimitWords, StatementWords};
 pub use fault::LineFault;
 pub use read::command;
+pub use version::version_text;

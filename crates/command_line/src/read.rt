@@ -1,12 +1,12 @@
-ghost use Rattle.std.specs.Prelude.{◌≡◌, ◌^◌, IfErr, IfOk, codes, map, true};
+ghost use Rattle.std.specs.Prelude.{◌≡◌, ◌-◌, ◌^◌, IfErr, IfOk, codes, map, true};
 ghost use Rattle.clap.specs.Words.{found_of, rows_of, takes};
 ghost use Rattle.command_line.specs.Ledgerd.{ledgerd_app};
 ghost use Rattle.command_line.specs.Line.{IsCommandOf, IsFaultOf, Spells, SpellsLimits};
 ghost use Rattle.command_line.specs.Line.{SpellsStatement};
 ghost use Rattle.command_line.specs.Values.{FillsCheck, FillsLimits, FillsMigrate, FillsServe};
 ghost use Rattle.command_line.specs.Values.{FillsStatement, FillsTenantAdd, HasNumber};
-ghost use Rattle.command_line.specs.Values.{HasFreeNumber, HasFreeText, HasNumberBelow, HasSomeText};
-ghost use Rattle.command_line.specs.Values.{HasText, IsFilled, IsFlag, IsFreeNumber};
+ghost use Rattle.command_line.specs.Values.{HasFreeNumber, HasFreeText, HasNumberBelow, HasNumberOr};
+ghost use Rattle.command_line.specs.Values.{HasSomeText, HasText, IsFilled, IsFlag, IsFreeNumber};
 ghost use Rattle.command_line.specs.Values.{has_flag, text_in};
 
 use crate::app::ledgerd_command;
@@ -30,10 +30,10 @@ fn port(values: &ArgMatches<'_>) -> u16
 }
 
 fn requests(values: &ArgMatches<'_>) -> u64
-    requires { HasNumberBelow (rows_of (found_of values.now)) (codes "requests") (2 ^ 64) }
-    ensures { HasNumber (rows_of (found_of values.now)) (codes "requests") result }
+    requires { IsFreeNumber (rows_of (found_of values.now)) (codes "requests") }
+    ensures { HasNumberOr (rows_of (found_of values.now)) (codes "requests") (2 ^ 64 - 1) result }
 {
-    values.get_one::<u64>("requests").unwrap()
+    free_number(values, "requests").unwrap_or(u64::MAX)
 }
 
 fn is_set(values: &ArgMatches<'_>, name: &str) -> bool
@@ -75,6 +75,7 @@ fn serve<'a>(values: &ArgMatches<'a>) -> Command<'a>
 {
     Command::Serve {
         db: text(values, "db"),
+        address: free_text(values, "address"),
         port: port(values),
         requests: requests(values),
         limits: limit_words(values),

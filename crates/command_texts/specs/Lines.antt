@@ -17,6 +17,10 @@ fault_line fault = codes "ledgerd: " ++ word_of fault ++ 10 ∷ []
 abbrev pub added_line : List ℕ → List ℕ
 added_line name = codes "added " ++ name ++ 10 ∷ []
 
+-- the line on standard error that tells a file which has become a new ledger
+abbrev pub new_ledger_line : List ℕ → List ℕ
+new_ledger_line path = codes "new ledger " ++ path ++ 10 ∷ []
+
 -- the line that tells the version of a file
 abbrev pub schema_line : List ℕ → List ℕ
 schema_line version = codes "schema " ++ version ++ 10 ∷ []
@@ -33,3 +37,8 @@ damage_line damage =
 pub record IsWritten (old new : Option (List ℕ)) (has_failed : Bool) (text : List ℕ) : Type 0 where
   pub front : AppendsFront old new text
   pub whole : has_failed ≡ false → Appends old new text
+
+-- the line of a fault is written, and text may come behind it
+abbrev pub IsFaultWritten : Option (List ℕ) → Option (List ℕ) → Bool → Fault → Type 0
+IsFaultWritten old new has_failed fault =
+    (more : List ℕ) × IsWritten old new has_failed (fault_line fault ++ more)

@@ -28,6 +28,8 @@ pub enum Fault {
     BadTime,
     /// A form of a statement is `csv`, `sheet` or `json`.
     BadFormat,
+    /// An address is one of IPv4 or IPv6, in digits.
+    BadAddress,
     /// Memory ran out, or the store answers no calls.
     Unavailable,
     /// The port cannot be bound, or a connection not be accepted.
@@ -69,6 +71,7 @@ impl Fault {
             Fault::BadVersion => line!("bad_version"),
             Fault::BadTime => line!("bad_time"),
             Fault::BadFormat => line!("bad_format"),
+            Fault::BadAddress => line!("bad_address"),
             Fault::Unavailable => line!("unavailable"),
             Fault::Socket => line!("socket"),
             Fault::Output => line!("output"),
@@ -91,7 +94,8 @@ impl Fault {
             | Fault::BadAccount
             | Fault::BadVersion
             | Fault::BadTime
-            | Fault::BadFormat => 2,
+            | Fault::BadFormat
+            | Fault::BadAddress => 2,
             Fault::Unavailable | Fault::Socket | Fault::Output => 3,
             Fault::Unreadable
             | Fault::NotALedger

@@ -1,5 +1,5 @@
-//! The texts of the commands: names, keys, ids, versions and moments read from words, and the lines
-//! that tell answers and faults.
+//! The texts of the commands: names, keys, ids, versions, addresses and moments read from words, and
+//! the lines that tell answers and faults.
 #![tactic(auto)]
 
 mod date;
@@ -9,6 +9,8 @@ mod moments;
 mod words;
 
 pub use fault::Fault;
-pub use lines::{damage_line, put_added, put_schema, put_text, tell_fault};
+pub use lines::{
+    damage_line, put_added, put_schema, put_text, tell_fault, tell_fault_for, tell_new_ledger,
+};
 pub use moments::{first_moment, last_moment};
-pub use words::{account_id, key_digest, name, version};
+pub use words::{account_id, address, key_digest, name, version};

@@ -1,9 +1,10 @@
 //! What commands write.
-ghost use Rattle.std.specs.Prelude.{◌≡◌, false, is_err, IfOk, IfErr, OnOk};
+ghost use Rattle.std.specs.Prelude.{◌≡◌, ◌∷◌, ◌++◌, [], false, is_err, IfOk, IfErr, OnOk};
 ghost use Rattle.std.specs.String.{string_bytes};
 ghost use Rattle.std.specs.Io.KnownBytes.{Appends};
 ghost use Rattle.command_texts.specs.Faults.{status_of};
-ghost use Rattle.command_texts.specs.Lines.{IsWritten, added_line, damage_line, fault_line, schema_line};
+ghost use Rattle.command_texts.specs.Lines.{IsFaultWritten, IsWritten, added_line, damage_line};
+ghost use Rattle.command_texts.specs.Lines.{fault_line, new_ledger_line, schema_line};
 
 use crate::Fault;
 use audit::Damage;
@@ -22,6 +23,23 @@ pub fn tell_fault<E: Drain>(err: &mut E, fault: Fault) -> u8
     fault.status()
 }
 
+/// Tells a fault and the reason for it, a line each, as far as that can be written, and says the
+/// status. Where memory is wanting the reason is left out.
+pub fn tell_fault_for<E: Drain>(alloc: Global, err: &mut E, fault: Fault, reason: &str) -> u8
+    requires { E.failed err.old ≡ false }
+    ensures status { result ≡ status_of fault }
+    ensures lines { IsFaultWritten (E.written err.old) (E.written err.new) (E.failed err.new) fault }
+{
+    let line = fault.line();
+    match format!(in alloc; "{line}{reason}\n") {
+        Ok(text) => {
+            let _ = put_all(err, text.as_bytes());
+            fault.status()
+        }
+        Err(_) => tell_fault(err, fault),
+    }
+}
+
 /// Writes a text to standard output.
 pub fn put_text<O: Drain>(out: &mut O, text: &str) -> Result<(), Fault>
     requires { O.failed out.old ≡ false }
@@ -32,6 +50,19 @@ pub fn put_text<O: Drain>(out: &mut O, text: &str) -> Result<(), Fault>
     put_all(out, text.as_bytes()).map_err(|_| Fault::Output)
 }
 
+// A line of a word and a text.
+fn put_line<O: Drain>(out: &mut O, word: &str, text: &str) -> Result<(), Fault>
+    requires { O.failed out.old ≡ false }
+    ensures ok { OnOk result (Appends (O.written out.old) (O.written out.new)
+        (word.now ++ text.now ++ 10 ∷ [])) }
+    ensures fault { IfErr result (λ fault. fault ≡ Fault.Output) }
+    ensures failed { O.failed out.new ≡ is_err result }
+{
+    put_text(out, word)?;
+    put_text(out, text)?;
+    put_text(out, "\n")
+}
+
 /// Tells a new tenant.
 pub fn put_added<O: Drain>(out: &mut O, name: &TenantName) -> Result<(), Fault>
     requires { O.failed out.old ≡ false }
@@ -40,9 +71,7 @@ pub fn put_added<O: Drain>(out: &mut O, name: &TenantName) -> Result<(), Fault>
     ensures fault { IfErr result (λ fault. fault ≡ Fault.Output) }
     ensures failed { O.failed out.new ≡ is_err result }
 {
-    put_text(out, "added ")?;
-    put_text(out, name.as_str())?;
-    put_text(out, "\n")
+    put_line(out, "added ", name.as_str())
 }
 
 /// Tells the version that a file has come to, as it was written.
@@ -53,9 +82,16 @@ pub fn put_schema<O: Drain>(out: &mut O, version: &str) -> Result<(), Fault>
     ensures fault { IfErr result (λ fault. fault ≡ Fault.Output) }
     ensures failed { O.failed out.new ≡ is_err result }
 {
-    put_text(out, "schema ")?;
-    put_text(out, version)?;
-    put_text(out, "\n")
+    put_line(out, "schema ", version)
+}
+
+/// Tells on standard error that a file has become a new ledger, as far as that can be written.
+pub fn tell_new_ledger<E: Drain>(err: &mut E, path: &str)
+    requires { E.failed err.old ≡ false }
+    ensures { E.failed err.new ≡ false
+        → Appends (E.written err.old) (E.written err.new) (new_ledger_line path.now) }
+{
+    let _ = put_line(err, "new ledger ", path);
 }
 
 /// The line that tells where a file is damaged.

@@ -1,12 +1,13 @@
-//! Names, keys and ids, as the command line has them.
+//! Names, keys, ids, versions and addresses, as the command line has them.
 ghost use Rattle.std.specs.Prelude.{◌≡◌, ◌≢◌, ◌^◌, ◌<◌, ◌≤◌, ◌↔◌, ℕ, IsOk, IfOk, IfErr};
 ghost use Rattle.amount.specs.Decimal.{decimal_of};
 ghost use Rattle.tenants.specs.KeyText.{key_of};
 ghost use Rattle.tenants.specs.NameText.{IsTenantName};
-ghost use Rattle.command_texts.specs.Words.{IsDigestOfKey};
+ghost use Rattle.command_texts.specs.Words.{IsDigestOfKey, ReadsAddress};
 
 use crate::Fault;
 use amount::Amount;
+use std::net::IpAddr;
 use tenants::{Key, TenantName, digest};
 
 /// A tenant's name.
@@ -34,6 +35,16 @@ pub fn account_id(text: &str) -> Result<u128, Fault>
 {
     let id = Amount::read_decimal(text).ok_or(Fault::BadAccount)?;
     Ok(id.value())
+}
+
+/// An address of IPv4 or IPv6, in digits.
+pub fn address(text: &str) -> Result<IpAddr, Fault>
+    ensures { ReadsAddress text.now result }
+{
+    match text.parse::<IpAddr>() {
+        Ok(address) => Ok(address),
+        Err(_) => Err(Fault::BadAddress),
+    }
 }
 
 /// A version of the schema up to the current one, in canonical decimal.

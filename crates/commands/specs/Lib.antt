@@ -1,4 +1,5 @@
 pub mod Kept
+pub mod Listening
 pub mod Serving
 pub mod GivenLimits
 pub mod Statements

@@ -1,6 +1,9 @@
 //! Serves a store to many clients at once.
-ghost use Rattle.std.specs.Prelude.{◌≡◌, ◌⊎◌, IfErr};
+ghost use Rattle.std.specs.Prelude.{◌≡◌, ◌⊎◌, IfErr, Ok, Err};
+ghost use Rattle.std.specs.declared.net.ip_addr.IpAddr.{IpAddr as AnIpAddr};
+ghost use Rattle.command_line.specs.Values.{text_in};
 ghost use Rattle.store.specs.Stores.{IsUsable};
+ghost use Rattle.commands.specs.Listening.{ReadsListening};
 ghost use Rattle.commands.specs.Openings.{IsOpeningFault};
 ghost use Rattle.commands.specs.Serving.{ServesStore};
 
@@ -11,7 +14,7 @@ use crate::opening::open_served;
 use crate::renewing::{Home, Renewing};
 use crate::serving::serve_clients;
 use command_line::LimitWords;
-use command_texts::{Fault, tell_fault};
+use command_texts::{Fault, address, tell_fault};
 use polling::Peers;
 use records::Streamed;
 use service::Moments;
@@ -20,7 +23,7 @@ use sqlite_disk::Disk;
 use sqlite_std_file::File;
 use std::alloc::Global;
 use std::io;
-use std::net::{Ipv4Addr, SocketAddr};
+use std::net::{IpAddr, Ipv4Addr, SocketAddr};
 use std::time::{Clock, Duration};
 use store::Store;
 
@@ -65,8 +68,8 @@ impl Home<File> for HostFile<'_> {
 }
 
 impl HostFile<'_> {
-    // Tells that the file is served, and how long it has been opened for.
-    fn tell_serving(&self, port: u16, began: io::Result<Duration>) {
+    // Tells that the file is served, where, and how long it has been opened for.
+    fn tell_serving(&self, address: SocketAddr, began: io::Result<Duration>) {
         let path = self.path;
         let millis = match (began, self.rt.monotonic()) {
             (Ok(began), Ok(now)) => now.saturating_sub(began).as_millis(),
@@ -75,41 +78,52 @@ impl HostFile<'_> {
         let seconds = millis / 1000;
         let tenths = millis % 1000 / 100;
         let _ = self.rt.eprintln(format_args!(
-            "serving {path} on 127.0.0.1:{port}, opened in {seconds}.{tenths} s"
+            "serving {path} on {address}, opened in {seconds}.{tenths} s"
         ));
     }
 }
 
-/// Serves the ledger in a file on a port of 127.0.0.1, at the moments of the machine's clock, within
-/// limits, until `most` messages were replied to. The port is bound first, so that clients wait while
-/// the file is opened, and are served once it is.
+// The address that is listened on: 127.0.0.1 without a word.
+fn listening(word: Option<&str>) -> Result<IpAddr, Fault>
+    ensures { ReadsListening (text_in word.entry) result }
+{
+    match word {
+        Some(text) => address(text),
+        None => Ok(IpAddr::V4(Ipv4Addr::LOCALHOST)),
+    }
+}
+
+/// Serves the ledger in a file on a port of an address, of 127.0.0.1 where none is given, at the
+/// moments of the machine's clock, within limits, until `most` messages were replied to. The port is
+/// bound first, so that clients wait while the file is opened, and are served once it is.
 pub fn serve_file(
     rt: &HostRuntime,
     db: &str,
+    address: Option<&str>,
     port: u16,
     limits: &LimitWords,
     most: u64,
 ) -> Result<(), Fault>
-    ensures { IfErr result (λ fault. IsOpeningFault fault ⊎ (fault ≡ Fault.Socket)) }
+    ensures address_first { ((ip : AnIpAddr) → ¬ ReadsListening (text_in address.entry) (Ok ip))
+        → result ≡ Err Fault.BadAddress }
+    ensures fault { IfErr result (λ fault. IsOpeningFault fault
+        ⊎ (fault ≡ Fault.Socket) ⊎ (fault ≡ Fault.BadAddress)) }
 {
-    let address = SocketAddr::from((Ipv4Addr::LOCALHOST, port));
+    let asked = SocketAddr::new(listening(address)?, port);
     let console = Console { rt };
-    let Ok(mut peers) = Sockets::listen(rt, rt, &console, address, limits_of(limits)) else {
+    let Ok(mut peers) = Sockets::listen(rt, rt, &console, asked, limits_of(limits)) else {
         return Err(Fault::Socket);
     };
-    let port = match peers.local_addr() {
-        Ok(address) => address.port(),
-        Err(_) => port,
-    };
-    serve_to(rt, &mut peers, db, port, most)
+    let bound = peers.local_addr().unwrap_or(asked);
+    serve_to(rt, &mut peers, db, bound, most)
 }
 
-// Serves the ledger in a file to those who are connected on a port.
+// Serves the ledger in a file to those who are connected at an address.
 fn serve_to<P: Peers>(
     rt: &HostRuntime,
     peers: &mut P,
     db: &str,
-    port: u16,
+    address: SocketAddr,
     most: u64,
 ) -> Result<(), Fault>
     ensures { IfErr result (λ fault. IsOpeningFault fault ⊎ (fault ≡ Fault.Socket)) }
@@ -117,7 +131,7 @@ fn serve_to<P: Peers>(
     let home = HostFile { rt, path: db };
     let began = rt.monotonic();
     let store = home.open_store()?;
-    home.tell_serving(port, began);
+    home.tell_serving(address, began);
     let mut moments = SystemMoments::new(rt);
     serve_store(rt.alloc(), peers, &home, store, &mut moments, rt, most)
 }

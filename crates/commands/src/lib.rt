@@ -12,6 +12,7 @@ mod kept;
 mod moments;
 mod opening;
 mod over_files;
+mod reasons;
 mod renewing;
 mod serving;
 mod statements;
@@ -19,5 +20,6 @@ mod whole_program;
 
 pub use file_serving::{serve_file, serve_store};
 pub use moments::SystemMoments;
+pub use reasons::{Place, tell_file_fault};
 pub use renewing::Home;
 pub use whole_program::program;

@@ -11,9 +11,10 @@ use records::Unavailable;
 use sqlite::Options;
 use sqlite_disk::Unknown;
 use sqlite_std_file::File;
-use std::fs;
+use std::fs::{self, OpenOptions};
 use std::hash::{BuildHasher, RandomState};
-use std::io::ErrorKind;
+use std::io::{self, ErrorKind};
+use std::os::unix::fs::OpenOptionsExt;
 use store::{FullAudit, OpenFault, Store};
 
 /// How many pages of 4,096 bytes a command keeps in memory, of those that it read and of those that
@@ -22,6 +23,9 @@ const PAGES: usize = 2_000;
 
 /// The same of a ledger that is served: 80 megabytes.
 const SERVED_PAGES: usize = 20_000;
+
+/// Who may read and write a file that is made.
+const OWNER_ALONE: u32 = 0o600;
 
 /// What stands at a path, before anything is opened.
 #[derive(Clone, Copy, Debug, PartialEq, Eq)]
@@ -59,16 +63,31 @@ fn open_with(rt: &HostRuntime, path: &str, pages: usize) -> Result<Store<File>, 
     }
 }
 
+/// A ledger that was opened, or made.
+#[derive(Drop)]
+pub(crate) struct Opened {
+    pub(crate) store: Store<File>,
+    pub(crate) is_new: bool,
+}
+
 /// The ledger in a file, which is made where the file is absent or empty, or a database without
 /// tables, as a making that was cut short leaves it.
-pub(crate) fn open_or_make(rt: &HostRuntime, path: &str) -> Result<Store<File>, Fault>
-    ensures { IfOk result IsUsable }
+pub(crate) fn open_or_make(rt: &HostRuntime, path: &str) -> Result<Opened, Fault>
+    ensures { IfOk result (λ opened. IsUsable opened.store) }
 {
     match look(rt, path).map_err(open_fault)? {
-        Found::Absent | Found::Empty => make(rt, path),
+        Found::Absent => {
+            make_file(rt, path)?;
+            make(rt, path)
+        }
+        Found::Empty => make(rt, path),
         Found::Filled => match open_file(rt, path) {
+            Ok(store) => Ok(Opened {
+                store,
+                is_new: false,
+            }),
             Err(Fault::NotALedger) => make_over(rt, path),
-            opened => opened,
+            Err(fault) => Err(fault),
         },
     }
 }
@@ -129,19 +148,52 @@ fn look(rt: &HostRuntime, path: &str) -> Result<Found, OpenFault> {
     }
 }
 
-fn make(rt: &HostRuntime, path: &str) -> Result<Store<File>, Fault>
-    ensures { IfOk result IsUsable }
+/// Makes an empty file for its owner alone. A log that is made beside it gets the same mode.
+pub(crate) fn create_private(rt: &HostRuntime, path: &str) -> io::Result<fs::File> {
+    OpenOptions::new()
+        .write(true)
+        .create_new(true)
+        .mode(OWNER_ALONE)
+        .open(rt, path)
+}
+
+/// Whether an opening takes a name for a path. It refuses others.
+pub(crate) fn is_path(name: &str) -> bool {
+    name != ":memory:" && !name.starts_with("file:")
+}
+
+// Makes an absent file. A name that something else has by now is left to the opening, and so is one
+// that is no path.
+fn make_file(rt: &HostRuntime, path: &str) -> Result<(), Fault> {
+    if !is_path(path) {
+        return Ok(());
+    }
+    match create_private(rt, path) {
+        Ok(_file) => Ok(()),
+        Err(error) => match error.kind() {
+            ErrorKind::AlreadyExists => Ok(()),
+            ErrorKind::OutOfMemory => Err(Fault::Unavailable),
+            _ => Err(Fault::Unreadable),
+        },
+    }
+}
+
+fn make(rt: &HostRuntime, path: &str) -> Result<Opened, Fault>
+    ensures { IfOk result (λ opened. IsUsable opened.store) }
 {
     let options = options(rt, PAGES).map_err(open_fault)?;
     match Store::create_at(rt, path, Unknown, options) {
-        Ok(store) => Ok(store),
+        Ok(store) => Ok(Opened {
+            store,
+            is_new: true,
+        }),
         Err(fault) => Err(open_fault(fault)),
     }
 }
 
 // The same in a database that is no ledger: tables of anything else stay as they are.
-fn make_over(rt: &HostRuntime, path: &str) -> Result<Store<File>, Fault>
-    ensures { IfOk result IsUsable }
+fn make_over(rt: &HostRuntime, path: &str) -> Result<Opened, Fault>
+    ensures { IfOk result (λ opened. IsUsable opened.store) }
 {
     match make(rt, path) {
         Err(Fault::Unreadable) => Err(Fault::NotALedger),

@@ -6,7 +6,7 @@ ghost use Rattle.commands.specs.Program.{AddsTenant, Checks, Migrates, WritesSta
 use crate::adding::add_tenant;
 use crate::asked::Asked;
 use crate::ended::Ended;
-use crate::opening::{examine, open_file, open_or_make, open_to_migrate};
+use crate::opening::{Opened, examine, open_file, open_or_make, open_to_migrate};
 use crate::statements::write_asked;
 use command_line::StatementWords;
 use command_texts::{
@@ -16,23 +16,24 @@ use migrate::{MigrateFault, migrate};
 use records::Drain;
 
 /// Adds a tenant to a file, which is made where there is none.
-pub(crate) fn run_add_tenant<O: Drain + Drop>(
+pub(crate) fn run_add_tenant<'a, O: Drain + Drop>(
     rt: &HostRuntime,
-    db: &str,
+    db: &'a str,
     tenant: &str,
     key: &str,
     mut out: O,
-) -> Result<Ended<O>, Fault>
+) -> Result<Ended<'a, O>, Fault>
     requires { O.failed out ≡ false }
-    ensures { AddsTenant O.written tenant.now key.now out result }
+    ensures { AddsTenant O.written db.now tenant.now key.now out result }
 {
     let tenant = name(tenant)?;
     let digest = key_digest(key)?;
-    let mut store = open_or_make(rt, db)?;
+    let Opened { mut store, is_new } = open_or_make(rt, db)?;
     add_tenant(&mut store, &tenant, &digest, &mut out)?;
     Ok(Ended {
         out,
         is_damaged: false,
+        made: if is_new { Some(db) } else { None },
     })
 }
 
@@ -44,7 +45,7 @@ pub(crate) fn run_statement<O: Drain + Drop>(
     account: &str,
     words: &StatementWords<'_>,
     out: O,
-) -> Result<Ended<O>, Fault>
+) -> Result<Ended<'static, O>, Fault>
     requires { O.failed out ≡ false }
     ensures { WritesStatement tenant.now account.now words.now result }
 {
@@ -59,6 +60,7 @@ pub(crate) fn run_statement<O: Drain + Drop>(
     Ok(Ended {
         out: write_asked(rt.alloc(), &mut store, &digest, account, &asked, out)?,
         is_damaged: false,
+        made: None,
     })
 }
 
@@ -67,7 +69,7 @@ pub(crate) fn run_check<O: Drain + Drop>(
     rt: &HostRuntime,
     db: &str,
     mut out: O,
-) -> Result<Ended<O>, Fault>
+) -> Result<Ended<'static, O>, Fault>
     requires { O.failed out ≡ false }
     ensures { Checks O.written out result }
 {
@@ -79,6 +81,7 @@ pub(crate) fn run_check<O: Drain + Drop>(
     Ok(Ended {
         out,
         is_damaged: found.is_some(),
+        made: None,
     })
 }
 
@@ -88,7 +91,7 @@ pub(crate) fn run_migrate<O: Drain + Drop>(
     db: &str,
     to: &str,
     mut out: O,
-) -> Result<Ended<O>, Fault>
+) -> Result<Ended<'static, O>, Fault>
     requires { O.failed out ≡ false }
     ensures { Migrates O.written to.now out result }
 {
@@ -101,6 +104,7 @@ pub(crate) fn run_migrate<O: Drain + Drop>(
     Ok(Ended {
         out,
         is_damaged: false,
+        made: None,
     })
 }
 

@@ -1,11 +1,14 @@
 //! The program but for its sockets: words in, a text and a status out.
 ghost use Rattle.std.specs.Prelude.{◌≡◌, false, map};
-ghost use Rattle.commands.specs.Program.{Does, HasRun, IsRefusalTold, Tells, told};
+ghost use Rattle.command_line.specs.Values.{text_in};
+ghost use Rattle.commands.specs.Program.{Does, HasRun, IsMadeTold, IsRefusalTold, Tells};
+ghost use Rattle.commands.specs.Program.{TellsVersion, told};
 
 use crate::ended::Ended;
 use crate::over_files::{run_add_tenant, run_check, run_migrate, run_statement};
-use command_line::{Command, LineFault, command};
-use command_texts::{Fault, tell_fault};
+use crate::reasons::{Place, tell_file_fault};
+use command_line::{Command, LineFault, command, version_text};
+use command_texts::{Fault, put_text, tell_fault, tell_new_ledger};
 use records::{Drain, put_all};
 use std::alloc::Global;
 use std::convert::AsStr;
@@ -14,7 +17,9 @@ use std::fmt::Display;
 /// Does what the words after the program's name ask for, on files of this machine, and says the
 /// status with which the program ends: 0, or that of the fault, whose line it writes to `err`; 2
 /// and `clap`'s text there, where the words are refused; 4 where `check` has told of damage on
-/// `out`. For no words, and for `serve`, it does nothing.
+/// `out`. Behind the line of an `unreadable` file the system's reason may stand. A file that
+/// `tenant-add` makes a new ledger is told on `err`, and `--version` is answered on `out`. For no
+/// words, and for `serve`, it does nothing.
 pub fn program<S: AsStr, O: Drain + Drop, E: Drain>(
     rt: &HostRuntime,
     words: &[S],
@@ -27,25 +32,58 @@ pub fn program<S: AsStr, O: Drain + Drop, E: Drain>(
         (E.written err.new) (E.failed err.new)) result }
 {
     match command(rt.alloc(), words) {
-        Ok(asked) => tell(err, run(rt, asked, out)),
+        Ok(asked) => tell(rt, err, run(rt, asked, out), Place::of(asked)),
+        Err(LineFault::Version) => tell(rt, err, write_version(out), None),
         Err(LineFault::Memory) => tell_fault(err, Fault::Unavailable),
         Err(LineFault::Refused(error)) => tell_refusal(rt.alloc(), err, &error),
     }
 }
 
-// The status of what a command has come to, whose fault is told.
-fn tell<O: Drop, E: Drain>(err: &mut E, ended: Result<Ended<O>, Fault>) -> u8
+// What `--version` asks for.
+fn write_version<O: Drain + Drop>(mut out: O) -> Result<Ended<'static, O>, Fault>
+    requires { O.failed out ≡ false }
+    ensures { TellsVersion O.written out result }
+{
+    put_text(&mut out, version_text())?;
+    Ok(Ended {
+        out,
+        is_damaged: false,
+        made: None,
+    })
+}
+
+// Tells a file that has become a new ledger.
+fn tell_made<E: Drain>(err: &mut E, made: Option<&str>)
     requires { E.failed err.old ≡ false }
-    ensures { Tells ended (told (E.written err.old)
+    ensures { IsMadeTold (text_in made.entry) (told (E.written err.old)
+        (E.written err.new) (E.failed err.new)) }
+{
+    if let Some(path) = made {
+        tell_new_ledger(err, path);
+    }
+}
+
+// The status of what a command has come to, whose fault is told.
+fn tell<O: Drop, E: Drain>(
+    rt: &HostRuntime,
+    err: &mut E,
+    ended: Result<Ended<'_, O>, Fault>,
+    place: Option<Place<'_>>,
+) -> u8
+    requires { E.failed err.old ≡ false }
+    ensures { Tells ended.entry (told (E.written err.old)
         (E.written err.new) (E.failed err.new)) result }
 {
     match ended {
-        Ok(ended) => if ended.is_damaged {
-            Fault::Damaged.status()
-        } else {
-            0
-        },
-        Err(fault) => tell_fault(err, fault),
+        Ok(ended) => {
+            tell_made(err, ended.made);
+            if ended.is_damaged {
+                Fault::Damaged.status()
+            } else {
+                0
+            }
+        }
+        Err(fault) => tell_file_fault(rt, err, fault, place),
     }
 }
 
@@ -65,7 +103,11 @@ fn tell_refusal<T: Display, E: Drain>(alloc: Global, err: &mut E, error: &T) -> 
 }
 
 // Does what is asked for.
-fn run<O: Drain + Drop>(rt: &HostRuntime, asked: Command<'_>, out: O) -> Result<Ended<O>, Fault>
+fn run<'a, O: Drain + Drop>(
+    rt: &HostRuntime,
+    asked: Command<'a>,
+    out: O,
+) -> Result<Ended<'a, O>, Fault>
     requires { O.failed out ≡ false }
     ensures { Does O.written asked.entry out result }
 {
@@ -73,6 +115,7 @@ fn run<O: Drain + Drop>(rt: &HostRuntime, asked: Command<'_>, out: O) -> Result<
         Command::Lists | Command::Serve { .. } => Ok(Ended {
             out,
             is_damaged: false,
+            made: None,
         }),
         Command::AddTenant { db, name, key } => run_add_tenant(rt, db, name, key, out),
         Command::Statement {

@@ -1,4 +1,4 @@
-//! Tests of `command_line` and `commands`, over files and sockets of this machine and over stores
+//! Tests of `commands`, over files and sockets of this machine and over stores
 //! in memory.
 #![tactic(auto)]
 

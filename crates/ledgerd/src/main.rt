@@ -6,7 +6,7 @@ mod run;
 
 use command_line::{Command, command};
 use command_texts::{Fault, tell_fault};
-use commands::{program, serve_file};
+use commands::{Place, program, serve_file, tell_file_fault};
 use records::Streamed;
 use std::env;
 use std::io::{self, ErrorKind};
@@ -28,22 +28,36 @@ fn words(rt: &HostRuntime) -> io::Result<Vec<String>> {
 
 // Does what the words ask for, and says the status with which the program ends.
 fn status(rt: &HostRuntime, words: &[String]) -> u8 {
-    let mut err = Streamed::new(rt.stderr());
-    let ended = match command(rt.alloc(), words) {
-        Ok(Command::Lists) => run::run(rt),
+    match command(rt.alloc(), words) {
+        Ok(Command::Lists) => tell(rt, run::run(rt), None),
         Ok(
             Command::Serve {
                 db,
+                address,
                 port,
                 requests,
                 limits,
             },
-        ) => serve_file(rt, db, port, &limits, requests),
-        _ => return program(rt, words, Streamed::new(rt.stdout()), &mut err),
-    };
+        ) => {
+            let served = serve_file(rt, db, address, port, &limits, requests);
+            let place = Place {
+                path: db,
+                is_made: false,
+            };
+            tell(rt, served, Some(place))
+        }
+        _ => {
+            let (out, mut err) = (Streamed::new(rt.stdout()), Streamed::new(rt.stderr()));
+            program(rt, words, out, &mut err)
+        }
+    }
+}
+
+// The status of what a command on a file has come to, whose fault is told.
+fn tell(rt: &HostRuntime, ended: Result<(), Fault>, place: Option<Place<'_>>) -> u8 {
     match ended {
         Ok(()) => 0,
-        Err(fault) => tell_fault(&mut err, fault),
+        Err(fault) => tell_file_fault(rt, &mut Streamed::new(rt.stderr()), fault, place),
     }
 }
 

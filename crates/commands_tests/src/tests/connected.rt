@@ -1,13 +1,15 @@
 //! Clients over sockets of this machine.
-use super::files::Step::{Posts, Serves};
+use super::files::Step::{Listens, Posts, Serves};
 use super::files::take_steps;
 use super::firms::NO_TRANSFERS;
-use super::homes::{Fails, Notes, Nowhere, firm_store};
+use super::homes::{Fails, Firms, InMemory, Notes, Nowhere, TestDisk};
 use super::scripted::Hand;
 use super::serving::{AT_FIRST, Thousands};
 use command_texts::Fault;
 use commands::serve_store;
+use polling::Peers;
 use sockets::{Limits, Operator, Sockets};
+use sqlite_disk::Disk;
 use std::io::{ErrorKind, Read, Write};
 use std::net::{Ipv4Addr, SocketAddr, TcpListener, TcpStream};
 use std::test::Fail;
@@ -37,6 +39,24 @@ fn takes_no_port_in_use(rt: HostRuntime) -> Result<(), Fail> {
     take_steps(&rt, "port.db", &steps)
 }
 
+// An address is read before anything is done. 192.0.2.1 is no machine's (RFC 5737).
+#[test]
+fn listens_where_it_is_told(rt: HostRuntime) -> Result<(), Fail> {
+    let steps = [
+        Listens("", Some(Fault::BadAddress)),
+        Listens("localhost", Some(Fault::BadAddress)),
+        Listens("127.1", Some(Fault::BadAddress)),
+        Listens("[::1]", Some(Fault::BadAddress)),
+        Listens("127.0.0.1:80", Some(Fault::BadAddress)),
+        Listens("192.0.2.1", Some(Fault::Socket)),
+        Listens("127.0.0.2", Some(Fault::Unreadable)),
+        Posts,
+        Listens("127.0.0.2", None),
+        Listens("0.0.0.0", None),
+    ];
+    take_steps(&rt, "address.db", &steps)
+}
+
 // All that a client is still told, behind a bar. A connection that is ended before all that was
 // sent is read may be reset.
 fn hear(told: &mut Vec<u8>, mut client: TcpStream) -> Result<(), Fail> {
@@ -55,23 +75,34 @@ fn client(rt: &HostRuntime, address: SocketAddr, text: &str) -> Result<TcpStream
     Ok(client)
 }
 
-// What three clients are told that have sent these texts, until so many messages are replied to.
-fn exchange(rt: &HostRuntime, texts: [&str; 3], most: u64) -> Result<Vec<u8>, Fail> {
+// Serves the ledgers of a firm until so many messages are replied to.
+fn serve<D: Disk + Drop, F: Firms<D>, P: Peers>(
+    rt: &HostRuntime,
+    firms: &F,
+    peers: &mut P,
+    most: u64,
+) -> Result<(), Fail> {
     let clock = Hand::new();
     let home = Nowhere(Notes::new(rt.alloc(), &clock));
-    let Some(store) = firm_store(rt.alloc(), Fails::Never) else {
+    let Some(store) = firms.store(Fails::Never) else {
         return Err(Fail::new(format_args!("no store")));
     };
+    let mut moments = Thousands(1000);
+    match serve_store(rt.alloc(), peers, &home, store, &mut moments, rt, most) {
+        Ok(()) => Ok(()),
+        Err(_) => Err(Fail::new(format_args!("the service has ended"))),
+    }
+}
+
+// What three clients are told that have sent these texts, until so many messages are replied to.
+fn exchange(rt: &HostRuntime, texts: [&str; 3], most: u64) -> Result<Vec<u8>, Fail> {
     let address = SocketAddr::from((Ipv4Addr::LOCALHOST, 0));
     let mut peers = Sockets::listen(rt, rt, &Nobody, address, Limits::usual())?;
     let address = peers.local_addr()?;
     let first = client(rt, address, texts[0])?;
     let second = client(rt, address, texts[1])?;
     let third = client(rt, address, texts[2])?;
-    let mut moments = Thousands(1000);
-    serve_store(rt.alloc(), &mut peers, &home, store, &mut moments, rt, most).map_err(
-        |_| "the service has ended",
-    )?;
+    serve::<TestDisk, InMemory, _>(rt, &InMemory(rt.alloc()), &mut peers, most)?;
     drop(peers);
     let mut told = Vec::new(rt.alloc());
     hear(&mut told, first)?;

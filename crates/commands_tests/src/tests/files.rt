@@ -2,15 +2,16 @@
 ghost use Rattle.std.specs.Prelude.{◌≡◌, false};
 
 use super::broken::breaks;
-use super::firms::{ADDING, post_in_part, send_back};
+use super::firms::{ADDING, Messages};
 use command_line::LimitWords;
 use command_texts::Fault;
 use commands::{program, serve_file};
 use records::{Drain, Streamed};
-use sqlite::{Connection, Options};
+use sqlite::{Alter, Connection, Options};
 use sqlite_disk::Unknown;
 use std::alloc::AllocError;
 use std::fs;
+use std::os::unix::fs::MetadataExt;
 use std::test::Fail;
 use store::{FullAudit, Store};
 
@@ -20,9 +21,15 @@ pub enum Step {
     /// Words, their status, and what they write to standard output; nothing is told on standard
     /// error.
     Tells(&'static str, u8, &'static str),
+    /// Words that make the file a new ledger, and what they write to standard output.
+    Makes(&'static str, &'static str),
+    /// The file and its log are their owner's alone.
+    IsPrivate,
     /// Words, their status, and the fault that they tell on standard error; nothing is written to
     /// standard output.
     Refuses(&'static str, u8, &'static str),
+    /// Words that tell that the file is unreadable, since there is none.
+    Lacks(&'static str),
     /// Words, and what they have written to a standard output that is full behind it.
     Fills(&'static str, &'static str),
     /// The ledger of 'posted in part' is made; its tenant is `a`.
@@ -31,6 +38,8 @@ pub enum Step {
     SendsBack(u64),
     /// A port on which the file is served, for no replies, and the fault with which that ends.
     Serves(u16, Option<Fault>),
+    /// An address on which it is, likewise, on any port.
+    Listens(&'static str, Option<Fault>),
     /// These bytes are written over the file while it is served, and this fault is told of the
     /// attempts to open it again.
     Breaks(&'static [u8], Fault),
@@ -39,6 +48,9 @@ pub enum Step {
     /// These bytes are written to the file in place of what it held.
     Writes(&'static [u8]),
 }
+
+// What is told of a file that is absent, as errno(3) of Linux names it.
+const NO_FILE: &str = "ledgerd: unreadable\nNo such file or directory (os error 2)\n";
 
 /// Takes the steps on a file, which is not there before them, nor behind them.
 pub fn take_steps(rt: &HostRuntime, db: &str, steps: &[Step]) -> Result<(), Fail> {
@@ -52,17 +64,21 @@ pub fn take_steps(rt: &HostRuntime, db: &str, steps: &[Step]) -> Result<(), Fail
 fn take_step(rt: &HostRuntime, db: &str, step: Step) -> Result<(), Fail> {
     match step {
         Step::Tells(words, status, out) => tells(rt, &line(rt, words, db)?, status, out, ""),
+        Step::Makes(words, out) => makes(rt, words, db, out),
+        Step::IsPrivate => is_private(rt, db),
         Step::Refuses(words, status, fault) => {
             let told = format!(in rt.alloc(); "ledgerd: {fault}\n")?;
             tells(rt, &line(rt, words, db)?, status, "", &told)
         }
+        Step::Lacks(words) => tells(rt, &line(rt, words, db)?, 4, "", NO_FILE),
         Step::Fills(words, out) => fills(rt, &line(rt, words, db)?, out),
         Step::Posts => {
-            tells(rt, &line(rt, ADDING, db)?, 0, "added a\n", "")?;
-            post(rt, db)
+            makes(rt, ADDING, db, "added a\n")?;
+            send(rt, db, Messages::PostedInPart)
         }
-        Step::SendsBack(moment) => post_back(rt, db, moment),
-        Step::Serves(port, fault) => serves(rt, db, port, fault),
+        Step::SendsBack(moment) => send(rt, db, Messages::Back(moment)),
+        Step::Serves(port, fault) => serves(rt, db, None, port, fault),
+        Step::Listens(address, fault) => serves(rt, db, Some(address), 0, fault),
         Step::Breaks(bytes, fault) => breaks(rt, db, bytes, fault),
         Step::Changes(sql) => change(rt, db, sql),
         Step::Writes(bytes) => Ok(fs::write(rt, db, bytes)?),
@@ -78,6 +94,22 @@ pub fn tells(rt: &HostRuntime, line: &str, status: u8, out: &str, err: &str) -> 
     let mut written = Vec::new(rt.alloc());
     let (ended, told) = run_program(rt, line, Streamed::new(&mut written))?;
     expect(line, (ended, &written, &told), (status, out, err))
+}
+
+fn makes(rt: &HostRuntime, words: &str, db: &str, out: &str) -> Result<(), Fail> {
+    let told = format!(in rt.alloc(); "new ledger {db}\n")?;
+    tells(rt, &line(rt, words, db)?, 0, out, &told)
+}
+
+fn is_private(rt: &HostRuntime, db: &str) -> Result<(), Fail> {
+    let log = format!(in rt.alloc(); "{db}-wal")?;
+    for path in [db, log.as_str()] {
+        let mode = fs::metadata(rt, path)?.mode() & 0o777;
+        if mode != 0o600 {
+            return Err(Fail::new(format_args!("{path} has mode {mode:o}")));
+        }
+    }
+    Ok(())
 }
 
 // Looks at a status, at what was written to standard output, and at what was told.
@@ -123,36 +155,37 @@ pub fn remove(rt: &HostRuntime, paths: [&str; 2]) {
     }
 }
 
-// Sends the firm's messages of 'posted in part' to the ledger in a file.
-fn post(rt: &HostRuntime, db: &str) -> Result<(), Fail> {
+// Sends messages of the firm to the ledger in a file.
+fn send(rt: &HostRuntime, db: &str, messages: Messages) -> Result<(), Fail> {
     let mut store = Store::open_at(rt, db, Unknown, Options::new(7), &FullAudit)?;
-    post_in_part(rt.alloc(), &mut store);
-    Ok(())
-}
-
-// Sends the firm's transfer back.
-fn post_back(rt: &HostRuntime, db: &str, moment: u64) -> Result<(), Fail> {
-    let mut store = Store::open_at(rt, db, Unknown, Options::new(7), &FullAudit)?;
-    send_back(rt.alloc(), &mut store, moment);
+    messages.send(rt.alloc(), &mut store);
     Ok(())
 }
 
 // Serves a file for no replies, and looks at the fault.
-fn serves(rt: &HostRuntime, db: &str, port: u16, want: Option<Fault>) -> Result<(), Fail> {
-    let fault = serve_file(rt, db, port, &LimitWords::default(), 0).err();
+fn serves(
+    rt: &HostRuntime,
+    db: &str,
+    address: Option<&str>,
+    port: u16,
+    want: Option<Fault>,
+) -> Result<(), Fail> {
+    let fault = serve_file(rt, db, address, port, &LimitWords::default(), 0).err();
     if fault == want {
         return Ok(());
     }
-    Err(Fail::new(format_args!("served on {port}: {fault:?}, and not {want:?}")))
+    Err(Fail::new(format_args!("served on {address:?} {port}: {fault:?}, and not {want:?}")))
 }
 
 // Runs a statement of SQL on a file.
 fn change(rt: &HostRuntime, db: &str, sql: &str) -> Result<(), Fail> {
     match Connection::open_from(rt, db, false, Unknown) {
-        Ok(mut conn) => {
-            conn.execute(sql, &[])?;
-            Ok(())
-        }
+        Ok(mut conn) => run_sql(&mut conn, sql),
         Err((error, _)) => Err(error.into()),
     }
+}
+
+fn run_sql<S: Alter>(conn: &mut Connection<S>, sql: &str) -> Result<(), Fail> {
+    conn.execute(sql, &[])?;
+    Ok(())
 }

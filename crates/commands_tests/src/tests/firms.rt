@@ -54,17 +54,28 @@ const BACK: &str = message!(
     "\"user_data_64\":\"18446744073709551615\",\"user_data_32\":9}]"
 );
 
-/// Sends the firm's messages of 'posted in part': its accounts, a pending transfer, and its post.
-pub fn post_in_part<L: Ledgers>(alloc: Global, ledgers: &mut L)
-    requires { L.means.is_usable ledgers.old }
-{
-    let _reply = respond(alloc, ledgers, ACCOUNTS.as_bytes(), 0);
-    let _reply = respond(alloc, ledgers, TRANSFERS.as_bytes(), 0);
+/// Messages of the firm.
+#[derive(Clone, Copy)]
+pub enum Messages {
+    /// Those of 'posted in part': its accounts, a pending transfer, and its post.
+    PostedInPart,
+    /// Its transfer of 7 back, which takes the nanosecond behind this moment.
+    Back(u64),
 }
 
-/// Sends the firm's transfer of 7 back, which takes the nanosecond behind the moment.
-pub fn send_back<L: Ledgers>(alloc: Global, ledgers: &mut L, moment: u64)
-    requires { L.means.is_usable ledgers.old }
-{
-    let _reply = respond(alloc, ledgers, BACK.as_bytes(), moment);
+impl Messages {
+    /// Sends them.
+    pub fn send<L: Ledgers>(self, alloc: Global, ledgers: &mut L)
+        requires { L.means.is_usable ledgers.old }
+    {
+        match self {
+            Messages::PostedInPart => {
+                let _reply = respond(alloc, ledgers, ACCOUNTS.as_bytes(), 0);
+                let _reply = respond(alloc, ledgers, TRANSFERS.as_bytes(), 0);
+            }
+            Messages::Back(moment) => {
+                let _reply = respond(alloc, ledgers, BACK.as_bytes(), moment);
+            }
+        }
+    }
 }

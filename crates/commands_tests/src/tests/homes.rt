@@ -41,23 +41,42 @@ impl Fails {
     }
 }
 
-/// The ledgers of a new firm, if its disk lets it be made.
-pub fn firm_store(alloc: Global, fails: Fails) -> Option<Store<TestDisk>>
+/// Makes new firms, each with ledgers of its own.
+pub trait Firms<D: Disk + Drop> {
+    /// The ledgers of a new firm, if its disk lets it be made.
+    fn store(&self, fails: Fails) -> Option<Store<D>>
+        ensures usable { IfSome result IsUsable }
+        ensures ready { IfSome result IsReady };
+}
+
+/// Makes them in memory.
+#[derive(Clone, Copy)]
+pub struct InMemory(pub Global);
+
+impl Firms<TestDisk> for InMemory {
+    fn store(&self, fails: Fails) -> Option<Store<TestDisk>> {
+        let files = Files {
+            log: fails.disk(self.0),
+            db: Fails::Never.disk(self.0),
+        };
+        if !(files.log.may_be_used() && files.db.may_be_used()) {
+            return None;
+        }
+        match Store::create(self.0, files, Options::new(7)) {
+            Ok(store) => with_firm(store),
+            Err(_) => None,
+        }
+    }
+}
+
+// The ledgers with the firm, if it can be added.
+fn with_firm<D: Disk + Drop>(mut store: Store<D>) -> Option<Store<D>>
+    requires { IsUsable store }
     ensures usable { IfSome result IsUsable }
     ensures ready { IfSome result IsReady }
 {
-    let files = Files {
-        log: fails.disk(alloc),
-        db: Fails::Never.disk(alloc),
-    };
-    if !(files.log.may_be_used() && files.db.may_be_used()) {
-        return None;
-    }
     let name = TenantName::read("firm")?;
     let key = Key::read(KEY.as_bytes())?;
-    let Ok(mut store) = Store::create(alloc, files, Options::new(7)) else {
-        return None;
-    };
     let joined = store.add_tenant(&name, &digest(&key));
     if joined.is_err() || !store.is_ready() {
         return None;
@@ -139,33 +158,33 @@ impl<D: Disk + Drop> Home<D> for Nowhere<'_> {
     }
 }
 
-/// Refuses so many openings. Then it opens another new store.
+/// Refuses so many openings. Then it opens the store of another new firm.
 #[derive(Drop)]
-pub struct Refusing<'a> {
-    alloc: Global,
+pub struct Refusing<'a, F> {
+    firms: &'a F,
     left: Cell<u64>,
     pub notes: Notes<'a>,
 }
 
-impl<'a> Refusing<'a> {
-    pub fn new(alloc: Global, clock: &'a Hand, refusals: u64) -> Refusing<'a> {
+impl<'a, F> Refusing<'a, F> {
+    pub fn new(firms: &'a F, refusals: u64, notes: Notes<'a>) -> Refusing<'a, F> {
         Refusing {
-            alloc,
+            firms,
             left: Cell::new(refusals),
-            notes: Notes::new(alloc, clock),
+            notes,
         }
     }
 }
 
-impl Home<TestDisk> for Refusing<'_> {
-    fn open_store(&self) -> Result<Store<TestDisk>, Fault> {
+impl<D: Disk + Drop, F: Firms<D>> Home<D> for Refusing<'_, F> {
+    fn open_store(&self) -> Result<Store<D>, Fault> {
         self.notes.ask();
         let left = self.left.get();
         if left != 0 {
             self.left.set(left - 1);
             return Err(Fault::Damaged);
         }
-        match firm_store(self.alloc, Fails::Never) {
+        match self.firms.store(Fails::Never) {
             Some(store) => Ok(store),
             None => Err(Fault::Unreadable),
         }
@@ -175,7 +194,7 @@ impl Home<TestDisk> for Refusing<'_> {
         self.notes.add(Notice::Refused(fault));
     }
 
-    fn tell_answers(&self, _store: &Store<TestDisk>) {
+    fn tell_answers(&self, _store: &Store<D>) {
         self.notes.add(Notice::Answers);
     }
 }

@@ -1,5 +1,5 @@
 //! The program on host files.
-use super::files::Step::{Changes, Fills, Posts, Refuses, Tells, Writes};
+use super::files::Step::{Changes, Fills, IsPrivate, Lacks, Makes, Posts, Refuses, Tells, Writes};
 use super::files::{Step, remove, run_program, take_steps, tells};
 use super::firms::KEY;
 use commands::program;
@@ -30,7 +30,7 @@ macro_rules! statement_text {
 // Of a file that is absent, and that no command makes.
 const WORDS: [Step; 23] = [
     Tells("serve --port=1 --requests=1", 0, ""),
-    Refuses("check", 4, "unreadable"),
+    Lacks("check"),
     Refuses("tenant-add --name=n_o --key=00", 2, "bad_name"),
     Refuses("tenant-add --name=-a --key=00", 2, "bad_key"),
     Refuses("statement --tenant= --account=01", 2, "bad_name"),
@@ -42,12 +42,8 @@ const WORDS: [Step; 23] = [
         2,
         "bad_account",
     ),
-    Refuses(
-        "statement --tenant=a --account=340282366920938463463374607431768211455",
-        4,
-        "unreadable",
-    ),
-    Refuses("statement --tenant=a --account=1", 4, "unreadable"),
+    Lacks("statement --tenant=a --account=340282366920938463463374607431768211455"),
+    Lacks("statement --tenant=a --account=1"),
     Refuses(
         "statement --tenant=a --account=01 --from=1x",
         2,
@@ -73,9 +69,9 @@ const WORDS: [Step; 23] = [
     Refuses("migrate --to=4", 2, "bad_version"),
     Refuses("migrate --to=01", 2, "bad_version"),
     Refuses("migrate --to=03", 2, "bad_version"),
-    Refuses("migrate --to=1", 4, "unreadable"),
-    Refuses("migrate --to=3", 4, "unreadable"),
-    Refuses("check", 4, "unreadable"),
+    Lacks("migrate --to=1"),
+    Lacks("migrate --to=3"),
+    Lacks("check"),
 ];
 
 #[test]
@@ -84,6 +80,15 @@ fn looks_at_words_before_files(rt: HostRuntime) -> Result<(), Fail> {
         take_steps(&rt, db, &WORDS)?;
     }
     Ok(())
+}
+
+// The toolchain is that of the README, as `rt version` names it.
+static VERSION: &str = "ledgerd 0.1.0\nschema 3\nrattle-kit-13f logic dac8208d650f15bf\n";
+
+#[test]
+fn tells_its_version(rt: HostRuntime) -> Result<(), Fail> {
+    tells(&rt, "--version", 0, VERSION, "")?;
+    tells(&rt, "-V", 0, VERSION, "")
 }
 
 // What `main` does itself.
@@ -115,8 +120,9 @@ fn refuses_words_as_clap_does(rt: HostRuntime) -> Result<(), Fail> {
     Ok(())
 }
 
-const ADDED: [Step; 5] = [
-    Tells(tenant_add!("-a", "00000000"), 0, "added -a\n"),
+const ADDED: [Step; 6] = [
+    Makes(tenant_add!("-a", "00000000"), "added -a\n"),
+    IsPrivate,
     Refuses(tenant_add!("-a", "01010101"), 1, "name_taken"),
     Refuses(tenant_add!("b", "00000000"), 1, "digest_taken"),
     Refuses(tenant_add!("-a", "00000000"), 1, "name_taken"),
@@ -133,7 +139,7 @@ const EMPTY: [Step; 6] = [
     Refuses("check", 4, "not_a_ledger"),
     Refuses("statement --tenant=a --account=1", 4, "not_a_ledger"),
     Refuses("migrate --to=3", 4, "not_a_ledger"),
-    Tells(tenant_add!("a", "00000000"), 0, "added a\n"),
+    Makes(tenant_add!("a", "00000000"), "added a\n"),
     Tells("check", 0, "ok\n"),
 ];
 
@@ -244,6 +250,26 @@ fn takes_no_files_of_others(rt: HostRuntime) -> Result<(), Fail> {
     take_steps(&rt, "notes.db", &NOTES)
 }
 
+// Nothing is made at a name that is taken for no path, and the system would refuse nothing there.
+const NO_PATH: [Step; 2] = [
+    Refuses(tenant_add!("a", "00000000"), 4, "unreadable"),
+    Lacks("check"),
+];
+
+// Nor where the system makes no file.
+const NO_FOLDER: [Step; 2] = [Lacks(tenant_add!("a", "00000000")), Lacks("check")];
+
+#[test]
+fn makes_nothing_at_no_path(rt: HostRuntime) -> Result<(), Fail> {
+    for db in [":memory:", "file:made.db"] {
+        take_steps(&rt, db, &NO_PATH)?;
+    }
+    for db in ["absent/a.db", ""] {
+        take_steps(&rt, db, &NO_FOLDER)?;
+    }
+    Ok(())
+}
+
 // Version 2 has the tables of version 3 but the last.
 const OLDER: [Step; 10] = [
     Posts,
@@ -276,7 +302,7 @@ fn tells_want_of_memory(rt: HostRuntime) {
     let written = Streamed::new(out.as_mut_slice());
     let status = program(&rt, words.as_slice(), written, &mut err);
     if status == 0 {
-        assert!(rt; out.starts_with(b"added a\n") && room[0] == 0);
+        assert!(rt; out.starts_with(b"added a\n") && room.starts_with(b"new ledger memory.db\n"));
     } else {
         assert!(rt; status == 3 && out[0] == 0 && room.starts_with(b"ledgerd: unavailable\n"));
     }

@@ -4,7 +4,7 @@ ghost use Rattle.store.specs.Stores.{IsUsable};
 
 use super::firms::NO_TRANSFERS;
 use super::homes::Notice::{Answers, Refused};
-use super::homes::{Fails, Notes, Notice, Nowhere, Refusing, TestDisk, firm_store};
+use super::homes::{Fails, Firms, InMemory, Notes, Notice, Nowhere, Refusing, TestDisk};
 use super::scripted::{Hand, Scripted};
 use command_texts::Fault;
 use commands::{Home, serve_store};
@@ -72,15 +72,54 @@ pub fn exchange_over<D: Disk + Drop, H: Home<D>>(
     }
 }
 
+// The ledgers of a firm, which are sound, or whose log fails at its next call.
+fn some_store<D: Disk + Drop, F: Firms<D>>(firms: &F, are_sound: bool) -> Option<Store<D>>
+    ensures { IfSome result IsUsable }
+{
+    if are_sound {
+        return firms.store(Fails::Never);
+    }
+    for calls in 0..48 {
+        if let Some(store) = firms.store(Fails::FromThen(calls)) {
+            return Some(store);
+        }
+    }
+    None
+}
+
+// What two clients of such ledgers are told, where a second passes with each turn.
+fn exchange_with<D: Disk + Drop, F: Firms<D>>(
+    alloc: Global,
+    firms: &F,
+    are_sound: bool,
+    home: &Nowhere,
+    clock: &Hand,
+    messages: (u64, u64),
+) -> Result<Vec<u8>, Fail> {
+    match some_store::<D, F>(firms, are_sound) {
+        Some(store) => Ok(exchange_over(alloc, home, store, clock, 1, messages)?),
+        None => Err(Fail::new(format_args!("no store"))),
+    }
+}
+
+// The same, of ledgers in memory.
+fn exchange(
+    rt: &HostRuntime,
+    are_sound: bool,
+    home: &Nowhere,
+    clock: &Hand,
+    messages: (u64, u64),
+) -> Result<Vec<u8>, Fail> {
+    let firms = InMemory(rt.alloc());
+    exchange_with::<TestDisk, InMemory>(rt.alloc(), &firms, are_sound, home, clock, messages)
+}
+
 // Each client has one message replied to a turn, whatever the other one sends.
 #[test]
 fn serves_clients_in_turn(rt: HostRuntime) -> Result<(), Fail> {
     let clock = Hand::new();
     let home = Nowhere(Notes::new(rt.alloc(), &clock));
-    let Some(store) = firm_store(rt.alloc(), Fails::Never) else {
-        return Err(Fail::new(format_args!("no store")));
-    };
-    let told = exchange_over(rt.alloc(), &home, store, &clock, 1, (3, 1))?;
+    let told = exchange(&rt, true, &home, &clock, (3, 1))?;
     let want = replies!("|" "1000", "" "3000", "" "4000", "|" "2000");
     assert_eq!(rt; told.as_slice(), want.as_bytes());
     assert!(rt; home.0.are(&[]));
@@ -91,10 +130,7 @@ fn serves_clients_in_turn(rt: HostRuntime) -> Result<(), Fail> {
 fn serves_nobody_for_no_replies(rt: HostRuntime) -> Result<(), Fail> {
     let clock = Hand::new();
     let home = Nowhere(Notes::new(rt.alloc(), &clock));
-    let Some(store) = firm_store(rt.alloc(), Fails::Never) else {
-        return Err(Fail::new(format_args!("no store")));
-    };
-    let told = exchange_over(rt.alloc(), &home, store, &clock, 1, (0, 0))?;
+    let told = exchange(&rt, true, &home, &clock, (0, 0))?;
     assert_eq!(rt; told.as_slice(), b"||".as_slice());
     Ok(())
 }
@@ -124,12 +160,16 @@ impl Trial<'_> {
 }
 
 // Whether the first message meets a fault at some call, and each time all is as it is to be.
-fn holds(alloc: Global, trial: Trial) -> Result<bool, AllocError> {
+fn holds_with<D: Disk + Drop, F: Firms<D>>(
+    alloc: Global,
+    firms: &F,
+    trial: Trial,
+) -> Result<bool, AllocError> {
     let mut has_failed = false;
     for calls in 0..48 {
         let clock = Hand::new();
-        let home = Refusing::new(alloc, &clock, trial.refusals);
-        let Some(store) = firm_store(alloc, trial.fails(calls)) else {
+        let home = Refusing::new(firms, trial.refusals, Notes::new(alloc, &clock));
+        let Some(store) = firms.store(trial.fails(calls)) else {
             continue;
         };
         let told = exchange_over(alloc, &home, store, &clock, trial.seconds, trial.messages)?;
@@ -144,6 +184,11 @@ fn holds(alloc: Global, trial: Trial) -> Result<bool, AllocError> {
         }
     }
     Ok(has_failed)
+}
+
+// The same, of ledgers in memory.
+fn holds(alloc: Global, trial: Trial) -> Result<bool, AllocError> {
+    holds_with::<TestDisk, InMemory>(alloc, &InMemory(alloc), trial)
 }
 
 // The disk is well again at once: what comes next is answered, of the same client too.
@@ -214,27 +259,12 @@ fn answers_that_it_is_unavailable(rt: HostRuntime) -> Result<(), Fail> {
     Ok(())
 }
 
-// The ledgers of a firm, whose log fails at its next call.
-fn failing_store(alloc: Global) -> Option<Store<TestDisk>>
-    ensures { IfSome result IsUsable }
-{
-    for calls in 0..48 {
-        if let Some(store) = firm_store(alloc, Fails::FromThen(calls)) {
-            return Some(store);
-        }
-    }
-    None
-}
-
 // A second passes with each turn. The first attempt is made once a message has met the fault.
 #[test]
 fn tries_again_behind_longer_and_longer_pauses(rt: HostRuntime) -> Result<(), Fail> {
     let clock = Hand::new();
     let home = Nowhere(Notes::new(rt.alloc(), &clock));
-    let Some(store) = failing_store(rt.alloc()) else {
-        return Err(Fail::new(format_args!("no store")));
-    };
-    let _told = exchange_over(rt.alloc(), &home, store, &clock, 1, (100, 100))?;
+    let _told = exchange(&rt, false, &home, &clock, (100, 100))?;
     assert!(rt; home.0.were_asked(&[3, 4, 6, 10, 18, 34, 66, 126, 186]));
     assert!(rt; home.0.are(&[Refused(Fault::NotALedger)]));
     Ok(())

@@ -1,8 +1,8 @@
-//! What commands write.
-use command_texts::{Fault, tell_fault};
+//! What faults are told by.
+use command_texts::{Fault, tell_fault, tell_fault_for, tell_new_ledger};
 use records::Streamed;
 
-const FAULTS: [(Fault, &str, u8); 18] = [
+const FAULTS: [(Fault, &str, u8); 19] = [
     (Fault::NameTaken, "ledgerd: name_taken\n", 1),
     (Fault::DigestTaken, "ledgerd: digest_taken\n", 1),
     (Fault::NoTenant, "ledgerd: no_tenant\n", 1),
@@ -13,6 +13,7 @@ const FAULTS: [(Fault, &str, u8); 18] = [
     (Fault::BadVersion, "ledgerd: bad_version\n", 2),
     (Fault::BadTime, "ledgerd: bad_time\n", 2),
     (Fault::BadFormat, "ledgerd: bad_format\n", 2),
+    (Fault::BadAddress, "ledgerd: bad_address\n", 2),
     (Fault::Unavailable, "ledgerd: unavailable\n", 3),
     (Fault::Socket, "ledgerd: socket\n", 3),
     (Fault::Output, "ledgerd: output\n", 3),
@@ -30,6 +31,28 @@ fn tells_each_fault(rt: HostRuntime) {
         assert_eq!(rt; tell_fault(&mut err, fault), status);
         assert_eq!(rt; err.into_inner().as_slice(), line.as_bytes());
     }
+}
+
+#[test]
+fn tells_a_reason(rt: HostRuntime) {
+    let mut err = Streamed::new(Vec::new(rt.alloc()));
+    let status = tell_fault_for(rt.alloc(), &mut err, Fault::Unreadable, "Is a directory");
+    assert_eq!(rt; status, 4);
+    let told = err.into_inner();
+    assert_eq!(rt;
+        told.as_slice(),
+        b"ledgerd: unreadable\nIs a directory\n".as_slice()
+    );
+}
+
+#[test]
+fn tells_a_new_ledger(rt: HostRuntime) {
+    let mut err = Streamed::new(Vec::new(rt.alloc()));
+    tell_new_ledger(&mut err, "l.db");
+    assert_eq!(rt;
+        err.into_inner().as_slice(),
+        b"new ledger l.db\n".as_slice()
+    );
 }
 
 // A device that is full.

@@ -1,7 +1,7 @@
 //! The words of the command line, read as commands.
 
 use clap::error::ErrorKind;
-use command_line::{Command, LimitWords, LineFault, StatementWords, command};
+use command_line::{Command, LimitWords, LineFault, StatementWords, command, version_text};
 use std::test::Fail;
 
 // Nothing but the whole statement.
@@ -24,14 +24,35 @@ const USUAL: LimitWords = LimitWords {
 };
 
 // Lines, and the commands that they are.
-const READ: [(&str, Command<'static>); 11] = [
+const READ: [(&str, Command<'static>); 13] = [
     ("", Command::Lists),
     (
         "serve --db l.db --port 8080 --requests 1000",
         Command::Serve {
             db: "l.db",
+            address: None,
             port: 8080,
             requests: 1000,
+            limits: USUAL,
+        },
+    ),
+    (
+        "serve --db d --port 1 --address ::1 --requests=0",
+        Command::Serve {
+            db: "d",
+            address: Some("::1"),
+            port: 1,
+            requests: 0,
+            limits: USUAL,
+        },
+    ),
+    (
+        "serve --port 0 --db=d",
+        Command::Serve {
+            db: "d",
+            address: None,
+            port: 0,
+            requests: 18446744073709551615,
             limits: USUAL,
         },
     ),
@@ -39,6 +60,7 @@ const READ: [(&str, Command<'static>); 11] = [
         "serve --db d --port 65535 --requests 18446744073709551615",
         Command::Serve {
             db: "d",
+            address: None,
             port: 65535,
             requests: 18446744073709551615,
             limits: USUAL,
@@ -48,6 +70,7 @@ const READ: [(&str, Command<'static>); 11] = [
         "serve --db d --clients 1 --idle=86400 --port 1 --room 3 --reply 3600 --requests 2",
         Command::Serve {
             db: "d",
+            address: None,
             port: 1,
             requests: 2,
             limits: LimitWords {
@@ -143,7 +166,6 @@ const REFUSED: [(ErrorKind, &[&str]); 7] = [
         &[
             "serve --port 1 --requests 2",
             "serve --db d --requests 2",
-            "serve --db d --port 1",
             "tenant-add --name n --key k",
             "tenant-add --db d --key k",
             "tenant-add --db d --name n",
@@ -160,6 +182,7 @@ const REFUSED: [(ErrorKind, &[&str]); 7] = [
         &[
             "serve --db d --db d --port 1 --requests 2",
             "serve --db d --port 1 --port 1 --requests 2",
+            "serve --db d --port 1 --address 1 --address 1",
             "serve --db d --port 1 --requests 2 --requests 2",
             "serve --db d --port 1 --requests 2 --idle 1 --idle 1",
             "tenant-add --db d --db d --name n --key k",
@@ -202,12 +225,14 @@ const REFUSED: [(ErrorKind, &[&str]); 7] = [
             "check --db d --from 1",
             "check --db d e",
             "statement --db d --tenant n --account 1 --until 1",
+            "check --db d --version",
         ],
     ),
     (
         ErrorKind::InvalidValue,
         &[
             "check --db",
+            "serve --db d --port 1 --address",
             "statement --db d --tenant n --account 1 --from",
             "statement --db d --tenant n --account 1 --format",
         ],
@@ -242,6 +267,14 @@ fn refuses_other_lines(rt: HostRuntime) -> Result<(), Fail> {
     Ok(())
 }
 
+#[test]
+fn takes_a_call_for_the_version(rt: HostRuntime) {
+    for word in ["--version", "-V"] {
+        let told = command(rt.alloc(), &[word]);
+        assert!(rt; matches!(told, Err(LineFault::Version)), "of {word}");
+    }
+}
+
 // The refusal of a line.
 fn refused(rt: &HostRuntime, line: &str) -> Result<clap::Error, Fail> {
     let words: Vec<&str> = line.split_whitespace().collect(rt.alloc())?;
@@ -257,7 +290,7 @@ A double-entry ledger for several tenants
 Usage: ledgerd [COMMAND]
 
 Commands:
-  serve       Answer requests over HTTP until a number of replies was written
+  serve       Answer requests over HTTP, on and on or until a number of replies was written
   tenant-add  Add a tenant; an absent or empty file becomes a new store
   statement   Write an account's statement, one line an entry
   check       Audit a store: print ok, or the kind, tenant and place of the first damage
@@ -265,21 +298,23 @@ Commands:
   help        Print this message or the help of the given subcommand(s)
 
 Options:
-  -h, --help  Print help
+  -h, --help     Print help
+  -V, --version  Print version
 
 Without a command, ledgerd reads one body of transfers from standard input, answers it over lists \
 in memory and prints the reply.
 ";
 
 static SERVE_HELP: &str = "\
-Answer requests over HTTP until a number of replies was written
+Answer requests over HTTP, on and on or until a number of replies was written
 
-Usage: ledgerd serve [OPTIONS] --db <FILE> --port <N> --requests <K>
+Usage: ledgerd serve [OPTIONS] --db <FILE> --port <N>
 
 Options:
       --db <FILE>     The store's file, e.g. ledger.db
-      --port <N>      The TCP port of 127.0.0.1 to listen on, below 65536, e.g. 8080
-      --requests <K>  How many replies to write before ending, below 2^64, e.g. 1000
+      --port <N>      The TCP port to listen on, below 65536, e.g. 8080
+      --address <IP>  The IPv4 or IPv6 address of this machine to listen on [default: 127.0.0.1]
+      --requests <N>  How many replies to write before ending, below 2^64 [default: no end]
       --clients <N>   The most clients at once, 1 to 100000 [default: 1000]
       --room <N>      Megabytes for all messages beyond 64 kB, 3 to 65536 [default: 256]
       --idle <N>      Seconds of silence between messages, 1 to 86400 [default: 75]
@@ -317,6 +352,11 @@ fn prints_faults(rt: HostRuntime) -> Result<(), Fail> {
         let fault = LineFault::Refused(refused(&rt, line)?);
         assert_eq!(rt; format!(in rt.alloc(); "{fault}")?.as_str(), help);
     }
+    let version = LineFault::Version;
+    assert_eq!(rt;
+        format!(in rt.alloc(); "{version}")?.as_str(),
+        version_text()
+    );
     let memory = LineFault::Memory;
     assert_eq!(rt; format!(in rt.alloc(); "{memory}")?.as_str(), "unavailable");
     Ok(())

@@ -1,0 +1,6 @@
+//! Lines, words and faults.
+
+mod addresses;
+mod command_lines;
+mod faults;
+mod times;
