@@ -25,6 +25,7 @@ import paused
 import refused
 import refusing
 import reopened
+import rounds
 import runs
 import stream
 import use
@@ -34,6 +35,8 @@ TRIALS = {
     "model": lambda trial: f"{worked.check()} worked examples are as docs/MODEL.md has them",
     "runs": runs.long_runs,
     "many": many.many,
+    "rounds": rounds.rounds,
+    "crowd": rounds.killed_crowd,
     "limits": limits.limits,
     "reopened": reopened.reopened,
     "paused": paused.paused,

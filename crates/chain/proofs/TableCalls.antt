@@ -1,7 +1,9 @@
 -- Calls on tables, one after the other.
-use Rattle.std.proofs.Common.{◌≡◌, Ok, None, ap, ◌∙◌, sym}
+use Rattle.std.proofs.Common.{◌≡◌, Result, Ok, Err, None, ap, ◌∙◌, sym, inl}
+use Rattle.records.specs.declared.unavailable.Unavailable.{Unavailable}
 use Rattle.records.specs.Machine.{Machine}
-use Rattle.chain.specs.Tables.{State, Meaning, Leaves, on_now, marking, unmarked, at_mark}
+use Rattle.chain.specs.Tables.{State, Meaning, Leaves, LeavesRun, on_now, marking}
+use Rattle.chain.specs.Tables.{unmarked, at_mark}
 
 -- what every run of calls keeps joins on, and tables that are no longer live stay so
 pub record Joins {S : Type 0} (t : Meaning S) : Type 0 where
@@ -27,6 +29,23 @@ changed_so t a b x y f g call same = record {
   state = λ live. call.state live ∙ same live;
   usable = call.usable;
   undone = λ live. tt;
+  follows = call.follows;
+}
+
+-- a call as a run of a batch
+pub leaves_run :
+    {S X : Type 0} (t : Meaning S) (a b : S) (result : Result X Unavailable) (f : State → State) →
+    Leaves t a b result f → LeavesRun t a b result f
+leaves_run t a b (Ok x) f call = record {
+  state = call.state;
+  usable = call.usable;
+  undone = λ live. tt;
+  follows = call.follows;
+}
+leaves_run t a b (Err why) f call = record {
+  state = call.state;
+  usable = call.usable;
+  undone = λ live. inl (call.undone live);
   follows = call.follows;
 }
 

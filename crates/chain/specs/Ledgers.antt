@@ -79,6 +79,11 @@ abbrev pub LeadsBy :
     {O : Type 0} → (Machine → O → Machine → Type 0) → List ℕ → Tenants → Tenants → Type 0
 LeadsBy {O} gives digest old found = (output : O) × IsDone gives digest old found output
 
+-- machines that a round leads to, whatever its output
+abbrev pub LeadsByRound :
+    {O : Type 0} → (Tenants → O → Tenants → Type 0) → Tenants → Tenants → Type 0
+LeadsByRound {O} gives old found = (output : O) × gives old output found
+
 -- there is nothing that a question leads to
 abbrev pub LeadsNowhere : Tenants → Tenants → Type 0
 LeadsNowhere old found = ⊥

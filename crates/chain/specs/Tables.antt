@@ -1,5 +1,5 @@
 -- What the tables of one tenant mean inside an open batch, and what a call on them leaves.
-use Rattle.std.specs.Prelude.{◌≡◌, ℕ, Bool, true, false, Option, Some, None, Result, IfOk, OnOk}
+use Rattle.std.specs.Prelude.{◌≡◌, ◌⊎◌, ℕ, Bool, true, false, Option, Some, None, Result, IfOk, OnOk}
 use Rattle.std.specs.Prelude.{OnErr}
 use Rattle.std.specs.Option.{option_and_then}
 use Rattle.records.specs.declared.facts.PendingState.{PendingState}
@@ -14,9 +14,8 @@ pub record State : Type 0 where
   pub begun : Machine
   pub marked : Option Machine
 
--- at the beginning of a batch
+-- at the beginning of a batch: no mark is open
 pub record IsFresh (s : State) : Type 0 where
-  pub begun : s.begun ≡ s.now
   pub unmarked : s.marked ≡ None
 
 -- the state where the machine now has changed by this
@@ -69,6 +68,18 @@ pub record Leaves {S X : Type 0} (t : Meaning S) (old new : S) (result : Result 
   pub state : t.is_live new → OnOk result (t.state new ≡ change (t.state old))
   pub usable : OnOk result (t.is_usable new)
   pub undone : t.is_live new → OnErr result ((t.state new).now ≡ (t.state old).begun)
+  pub follows : t.follows old new
+
+-- what a run of a whole batch leaves: as a call, but after Err it may also be the machine before it,
+-- which is the same one where nothing came since the beginning
+pub record LeavesRun {S X : Type 0} (t : Meaning S) (old new : S) (result : Result X Unavailable)
+    (change : State → State) : Type 0 where
+  pub state : t.is_live new → OnOk result (t.state new ≡ change (t.state old))
+  pub usable : OnOk result (t.is_usable new)
+  pub undone :
+      t.is_live new →
+      OnErr result
+      (((t.state new).now ≡ (t.state old).begun) ⊎ ((t.state new).now ≡ (t.state old).now))
   pub follows : t.follows old new
 
 -- what has become of the transfer with this id, if it is a pending one

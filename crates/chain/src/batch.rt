@@ -5,7 +5,7 @@ ghost use Rattle.records.specs.Chains.{chains_of, chains_results, trial_of, chai
 ghost use Rattle.records.specs.Chains.{after_fallen, after_chain, after_chains};
 ghost use Rattle.records.specs.Step.{max_clock, with_timestamps, step_outcome, step_machine};
 ghost use Rattle.records.specs.Step.{IsReply};
-ghost use Rattle.chain.specs.Tables.{IsFresh, Tells, Leaves, on_now, closing};
+ghost use Rattle.chain.specs.Tables.{IsFresh, Tells, Leaves, LeavesRun, on_now, closing};
 ghost use Rattle.chain.specs.InBatch.{IsInBatch, IsBetweenChains, IsInTime};
 ghost use Rattle.chain.specs.Chains.{chain_of, after_try, id_failed_by};
 ghost use Rattle.chain.specs.EventLaws.{IsUnused};
@@ -34,7 +34,7 @@ pub(crate) fn run_batch<E: BatchEvent, T: Tables>(
         IfOk result
         (λ reply. IsReply reply
         (step_outcome E.rules (T.means.state tables.old).now batch.now moment)) }
-    ensures leaves { Leaves T.means tables.old tables.new result
+    ensures leaves { LeavesRun T.means tables.old tables.new result
         (on_now (λ m. step_machine E.rules m batch.now moment)) }
 {
     let events = batch.len() as u64;

@@ -3,7 +3,7 @@ ghost use Rattle.records.specs.Machine.{Machine};
 ghost use Rattle.records.specs.Chains.{Rules};
 ghost use Rattle.records.specs.Step.{account_rules, transfer_rules, step_outcome, step_machine};
 ghost use Rattle.records.specs.Step.{IsReply};
-ghost use Rattle.chain.specs.Tables.{IsFresh, Tells, Leaves, on_now};
+ghost use Rattle.chain.specs.Tables.{IsFresh, Tells, Leaves, LeavesRun, on_now};
 ghost use Rattle.chain.specs.InBatch.{IsInBatch, IsInTime, after_event};
 ghost use Rattle.chain.specs.EventLaws.{EventLaws, account_laws, transfer_laws};
 
@@ -159,7 +159,7 @@ impl BatchEvent for TransferEvent {
 /// Runs a batch of account events at a moment, in nanoseconds: the clock goes to the moment, unless
 /// it is there already, and advances one nanosecond per event.
 ///
-/// After `Unavailable` nothing has changed, and the batch is over.
+/// After `Unavailable` the batch is over: all is as at its beginning, or as before this call.
 pub fn run_accounts<T: Tables>(
     alloc: Global,
     tables: &mut T,
@@ -173,7 +173,7 @@ pub fn run_accounts<T: Tables>(
         IfOk result
         (λ reply. IsReply reply
         (step_outcome account_rules (T.means.state tables.old).now accounts.now moment)) }
-    ensures leaves { Leaves T.means tables.old tables.new result
+    ensures leaves { LeavesRun T.means tables.old tables.new result
         (on_now (λ m. step_machine account_rules m accounts.now moment)) }
 {
     run_batch(alloc, tables, accounts, moment)
@@ -182,7 +182,7 @@ pub fn run_accounts<T: Tables>(
 /// Runs a batch of transfer events at a moment, in nanoseconds: the clock goes to the moment,
 /// unless it is there already, and advances one nanosecond per event.
 ///
-/// After `Unavailable` nothing has changed, and the batch is over.
+/// After `Unavailable` the batch is over: all is as at its beginning, or as before this call.
 pub fn run_transfers<T: Tables>(
     alloc: Global,
     tables: &mut T,
@@ -196,7 +196,7 @@ pub fn run_transfers<T: Tables>(
         IfOk result
         (λ reply. IsReply reply
         (step_outcome transfer_rules (T.means.state tables.old).now transfers.now moment)) }
-    ensures leaves { Leaves T.means tables.old tables.new result
+    ensures leaves { LeavesRun T.means tables.old tables.new result
         (on_now (λ m. step_machine transfer_rules m transfers.now moment)) }
 {
     run_batch(alloc, tables, transfers, moment)

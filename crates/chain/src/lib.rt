@@ -7,6 +7,7 @@ mod events;
 mod facts;
 mod ledgers;
 mod reads;
+mod rounds;
 mod tables;
 mod work;
 
@@ -15,5 +16,6 @@ pub use facts::transfer_facts;
 pub use ledgers::{BatchFault, Ledgers};
 pub use reads::{Listed, ReadFault};
 pub use records::BatchReply;
+pub use rounds::{RoundWork, Rounds};
 pub use tables::Tables;
 pub use work::Work;

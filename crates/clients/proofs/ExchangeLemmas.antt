@@ -27,14 +27,16 @@ RefusedStays =
     → IsRefused (unread ++ later) refusal
 
 -- what is known of these bytes is known of the bytes that are unread
-at_known :
+pub at_known :
     (A : List ℕ → Type 0) (bytes : List ℕ) → A bytes → (unread : List ℕ) →
     Some bytes ≡ Some unread → A unread
 at_known A bytes here unread known = let same : bytes ≡ unread = cc in subst A same here
 
-answers_at :
+-- a message that is whole is answered
+unfoldable pub answers_at :
     {S C : Type 0} (t : LedgersMeaning S) (gives : C → ℕ → C → Type 0) (ledgers ledgers_now : S)
-    (moments moments_now : C) (old : Unread) (size moment : ℕ) (reply : Reply) →
+    (moments moments_now : C) (old : Unread) (size moment : ℕ) (reply : Reply)
+    (goes_on : Bool) → goes_on ≡ true →
     BeginsStay → IsWhole old.bytes size → gives moments moment moments_now →
     (t.is_live ledgers_now →
     Responds (t.tenants ledgers) (t.tenants ledgers_now) (take size old.bytes) moment reply) →
@@ -42,8 +44,8 @@ answers_at :
     Finds t (IsAnswered (take size old.bytes) reply) (IsLeftBy (take size old.bytes) moment) ledgers
     ledgers_now →
     t.follows ledgers ledgers_now →
-    IsExchange t gives ledgers moments old reply ledgers_now moments_now (without size old) true
-answers_at t gives ledgers ledgers_now moments moments_now old size moment reply stays whole given responds early finds follows later may =
+    IsExchange t gives ledgers moments old reply ledgers_now moments_now (without size old) goes_on
+answers_at t gives ledgers ledgers_now moments moments_now old size moment reply goes_on going stays whole given responds early finds follows later may =
     record {
       open_before = refl;
       by = inl (record {
@@ -58,7 +60,7 @@ answers_at t gives ledgers ledgers_now moments moments_now old size moment reply
         early = early;
         finds = finds;
         follows = follows;
-        goes_on = refl;
+        goes_on = going;
       });
     }
 
@@ -84,8 +86,8 @@ answers_whole t gives ledgers ledgers_now moments moments_now old same now messa
           (λ (unread : Unread).
           IsExchange t gives ledgers moments old reply ledgers_now moments_now unread true)
           (sym left)
-          (answers_at t gives ledgers ledgers_now moments moments_now old size moment reply stays
-          whole given
+          (answers_at t gives ledgers ledgers_now moments moments_now old size moment reply true refl
+          stays whole given
           (λ live.
           subst
           (λ (bytes : List ℕ).

@@ -6,3 +6,4 @@ pub mod TurnLemmas
 pub mod DeedLemmas
 pub mod WritingLemmas
 pub mod RoundLemmas
+pub mod SeenLemmas

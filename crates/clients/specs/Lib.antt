@@ -4,3 +4,4 @@ pub mod Turns
 pub mod Deeds
 pub mod Rounds
 pub mod Places
+pub mod Within

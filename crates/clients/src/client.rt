@@ -1,15 +1,17 @@
 //! One client.
-ghost use Rattle.std.specs.Prelude.{◌≡◌, ◌≤◌, true, false, length, IfOk, IfSome, OnOk, OnErr, IsTrue};
+ghost use Rattle.std.specs.Prelude.{◌≡◌, ◌≤◌, true, false, length, take, IfOk, IfSome, OnOk, OnErr, IsTrue};
 ghost use Rattle.ledger_http.specs.Limits.{longest_message};
 ghost use Rattle.ledger_http.specs.Message.{IsAnnounced};
 ghost use Rattle.ledger_http.specs.Progress.{HasLength};
 ghost use Rattle.clients.specs.Talk.{new_talk, received, input_ended, written, may_answer, given_up};
 ghost use Rattle.clients.specs.Answering.{HasAnswered};
+ghost use Rattle.clients.specs.Within.{replied_to};
+ghost use Rattle.ledger_http.specs.Unread.{IsWhole};
 
 use crate::exchanging::{Exchanged, exchange};
 use crate::outbox::Outbox;
 use chain::Ledgers;
-use ledger_http::{Inbox, Refusal, Reply};
+use ledger_http::{Inbox, Next, Refusal, Reply};
 use service::Moments;
 use std::alloc::{AllocError, Global};
 use std::marker::Model;
@@ -121,6 +123,36 @@ impl Client {
             Exchanged::Wanting => Answered::Wanting,
             Exchanged::Over => Answered::Over,
         }
+    }
+
+    /// How many bytes its next message has, where all of it has come.
+    pub fn next_size(&mut self) -> Option<usize>
+        ensures whole { IfSome result (IsWhole self.old.unread.bytes) }
+        ensures same { self.new ≡ self.old }
+    {
+        match self.inbox.next() {
+            Next::Whole(size) => Some(size),
+            Next::Refused(_) => None,
+            Next::Wanting => None,
+            Next::End => None,
+        }
+    }
+
+    /// The first bytes of what is not answered.
+    pub fn front(&self, size: usize) -> &[u8]
+        requires { size ≤ length self.now.unread.bytes }
+        ensures { result.now ≡ take size self.now.unread.bytes }
+    {
+        self.inbox.front(size)
+    }
+
+    /// Its next message, of so many bytes, is answered: this reply is to be written.
+    pub fn put_reply(&mut self, size: usize, reply: Reply)
+        requires { size ≤ length self.old.unread.bytes }
+        ensures { self.new ≡ replied_to size reply self.old }
+    {
+        self.inbox.take(size);
+        self.outbox.put(reply);
     }
 
     /// Whether a good head was found first, behind which a body of allowed length is due.

@@ -3,9 +3,11 @@ ghost use Rattle.clients.specs.Answering.{GivesUp};
 ghost use Rattle.clients.specs.Deeds.{MightCome, AreExchanges, AreWritten, AreServed};
 ghost use Rattle.clients.specs.Rounds.{RoundsAreLives};
 ghost use Rattle.clients.specs.Turns.{TurnsLeadOn, ServeEachAlone, HearTheirOwn};
+ghost use Rattle.clients.specs.Within.{AreSeen, AnswersLeave, RepliesWithin, TellsUnavailable};
+ghost use Rattle.service.specs.Seen.{seen};
 
 use chain::Ledgers;
-use ledger_http::later_bytes_change_nothing;
+use ledger_http::{later_bytes_change_nothing, meanings_are_unique};
 use service::{Moments, connections_are_courses, each_tenant_sees_itself};
 
 /// Turns of many clients are a course of the service, as long as the ledgers are live. They go on
@@ -55,3 +57,28 @@ pub fn giving_up_replies<L: Ledgers, C: Moments>()
 pub fn rounds_are_deeds<L: Ledgers, C: Moments>()
     ensures { RoundsAreLives L.means C.gives }
 {}
+
+/// So it is where messages are answered in rounds.
+pub fn clients_are_served_in_rounds<L: Ledgers, C: Moments>()
+    ensures come { MightCome (seen L.means) C.gives }
+    ensures hear { HearTheirOwn (seen L.means) C.gives }
+    ensures exchanges { AreExchanges (seen L.means) C.gives }
+    ensures written { AreWritten (seen L.means) C.gives }
+{}
+
+/// What is replied to between transactions is so at points of rounds as well.
+pub fn whole_ledgers_are_seen<L: Ledgers, C: Moments>()
+    ensures { AreSeen L.means C.gives }
+{}
+
+/// Replies that the messages of a round get are replies to the next messages of their clients. Each
+/// leaves the machines that its question leaves. Of a round that was not kept each may be told that
+/// the ledgers are unavailable.
+pub fn rounds_reply<L: Ledgers, C: Moments>()
+    ensures leave { AnswersLeave }
+    ensures reply { RepliesWithin L.means C.gives }
+    ensures unavailable { TellsUnavailable (seen L.means) C.gives }
+{
+    later_bytes_change_nothing();
+    meanings_are_unique();
+}

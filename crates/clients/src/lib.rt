@@ -10,7 +10,8 @@ mod room;
 
 pub use client::{Answered, Client};
 pub use laws::{
-    clients_are_courses, clients_are_served, clients_hear_their_own, clients_serve_each_alone,
-    giving_up_replies, rounds_are_deeds,
+    clients_are_courses, clients_are_served, clients_are_served_in_rounds, clients_hear_their_own,
+    clients_serve_each_alone, giving_up_replies, rounds_are_deeds, rounds_reply,
+    whole_ledgers_are_seen,
 };
 pub use room::{answer_each, answer_to, end_of, receive_from, wrote_to};

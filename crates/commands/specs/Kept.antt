@@ -3,8 +3,10 @@ use Rattle.std.specs.Prelude.{◌≡◌, Bool, false, None, IsTrue}
 use Rattle.sqlite_disk.specs.declared.Disk as disk
 use Rattle.chain.specs.Ledgers.{LedgersMeaning, Tenants, AreValid}
 use Rattle.service.specs.Openings.{RunMeaning, run_meaning, IsSettled, IsOpened}
-use Rattle.polling.specs.Courses.{Renewed, Stayed, Opened, Refused}
+use Rattle.service.specs.Seen.{Seen, Whole, Within, seen}
+use Rattle.polling.specs.Courses.{Renewed, Stayed, Opened, Refused, renewed_seen}
 use Rattle.polling.specs.Courses as renewed
+use Rattle.polling.specs.Serving.{renews_seen}
 use Rattle.store.specs.StoreLaws.{store_meaning}
 use Rattle.store.specs.Stores.{IsLive}
 use Rattle.store.specs.declared.store.Store.{Store}
@@ -121,3 +123,12 @@ module _ {D : Type 0} {g : disk.Ghosts D} where
   -- the store, if it is there, may be called
   abbrev pub MayBeCalled : Kept (Store D g) → Type 0
   MayBeCalled kept = IsUsableKept store_meaning kept
+
+  -- and as it is seen between messages: nothing is opened inside of a round
+  abbrev pub renewal_seen :
+      (old new : Seen (Kept (Store D g))) → renews_seen Renews old new
+      → Renewed (run_meaning (seen (kept_meaning store_meaning))) old new
+  renewal_seen (Whole old) (Whole new) renews =
+      renewed_seen (kept_meaning store_meaning) (renewal_of old new renews)
+  renewal_seen (Whole old) (Within ledgers machines) renews = absurd renews
+  renewal_seen (Within ledgers machines) new renews = absurd renews

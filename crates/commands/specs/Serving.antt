@@ -5,6 +5,7 @@ use Rattle.chain.specs.Ledgers.{Tenants}
 use Rattle.service.specs.Courses.{Event}
 use Rattle.service.specs.Openings.{run_meaning, CourseSince, HasLed}
 use Rattle.service.specs.OwnDeeds.{SeesItself}
+use Rattle.service.specs.Seen.{Seen, Whole}
 use Rattle.clients.specs.Answering.{MayCome}
 use Rattle.clients.specs.Deeds.{Deed, IsServed, come_from, written_to}
 use Rattle.polling.specs.Courses.{AreRenewals, IsSince}
@@ -16,7 +17,7 @@ use Rattle.polling.specs.Serving.{Hall, Rules, Serves, rules, tellings}
 use Rattle.store.specs.StoreLaws.{store_meaning}
 use Rattle.store.specs.Stores.{IsLive}
 use Rattle.store.specs.declared.store.Store.{Store}
-use Rattle.commands.specs.Kept.{kept_meaning, kept_store, Renews, renewal_of}
+use Rattle.commands.specs.Kept.{kept_meaning, kept_store, Renews, renewal_seen}
 use Rattle.commands.specs.declared.kept.Kept.{Kept}
 use Rattle.commands.specs.declared.kept.Kept.TheVariants.{Open}
 use Rattle.command_texts.specs.declared.fault.Fault.{Fault}
@@ -57,7 +58,7 @@ module _ {D : Type 0} {g : disk.Ghosts D} {C P : Type 0} (gives : C → ℕ → 
     (does : P → Doing → P → Type 0) where
   -- messages are answered by a store, or by ledgers that are not there; a store that answers calls
   -- stays as it is
-  abbrev pub store_rules : Rules (Kept (Store D g)) C P
+  abbrev pub store_rules : Rules (Seen (Kept (Store D g))) C P
   store_rules = rules (kept_meaning store_meaning) gives Renews does
 
   -- clients were served by a store, whenever it was opened again, or by what stood in its place; and
@@ -67,9 +68,10 @@ module _ {D : Type 0} {g : disk.Ghosts D} {C P : Type 0} (gives : C → ℕ → 
       (peers_now : P) (result : Result ⊤ Fault) : Type 0 where
     pub kept : Kept (Store D g)
     pub served :
-        ServesClients store_rules (Open store) moments peers most kept moments_now peers_now result
+        ServesClients store_rules (Whole (Open store)) moments peers most (Whole kept) moments_now
+        peers_now result
     pub course :
         IsLive store
         → HasLed kept_store
-        (IsSince renewal_of (empty_hall (Open store) moments peers) served.deeds served.last
-        served.served) kept
+        (IsSince renewal_seen (empty_hall (Whole (Open store)) moments peers) served.deeds
+        served.last served.served) kept

@@ -1,7 +1,7 @@
 //! Ledgers that may not be there.
 ghost use Rattle.commands.specs.Kept.{kept_meaning, kept_stays, kept_then, kept_lived, kept_valid};
 
-use chain::{BatchFault, Ledgers, Listed, ReadFault, Work};
+use chain::{BatchFault, Ledgers, Listed, ReadFault, RoundWork, Rounds, Work};
 use records::{
     AccountFilter, AccountWithBalances, BalanceAt, Order, RowSink, Transfer, Unavailable,
 };
@@ -107,4 +107,13 @@ impl<L: Ledgers> Ledgers for Kept<L> {
     ghost lived = { λ a b follows live. kept_lived L.means L.lived a b follows live };
 
     ghost valid = { λ a live usable. kept_valid L.means L.valid a live usable };
+}
+
+impl<L: Rounds> Rounds for Kept<L> {
+    fn in_round<W: RoundWork + Drop>(&mut self, work: W) -> Result<W::Output, Unavailable> {
+        match self {
+            Kept::Open(ledgers) => ledgers.in_round(work),
+            Kept::Closed => Err(Unavailable::Disk),
+        }
+    }
 }

@@ -1,9 +1,10 @@
 //! Serving many clients, until so many messages were replied to.
 ghost use Rattle.std.specs.Prelude.{◌≡◌, IfErr};
+ghost use Rattle.service.specs.Seen.{Whole};
 ghost use Rattle.polling.specs.Serving.{rules};
 ghost use Rattle.commands.specs.Serving.{ServesClients};
 
-use chain::Ledgers;
+use chain::Rounds;
 use command_texts::Fault;
 use polling::{
     Peers, Reopen, Seats, each_is_served, serve_ready, serving_begins_empty, serving_goes_on,
@@ -17,7 +18,7 @@ const PIECE: usize = 65_536;
 
 /// Serves those who are connected, until `most` messages were replied to; then what is left of
 /// replies is written. `Socket` where fewer were in 2^64 - 1 rounds.
-pub(crate) fn serve_clients<L: Ledgers, H: Reopen<L>, C: Moments, P: Peers>(
+pub(crate) fn serve_clients<L: Rounds, H: Reopen<L>, C: Moments, P: Peers>(
     alloc: Global,
     peers: &mut P,
     ledgers: &mut L,
@@ -27,7 +28,8 @@ pub(crate) fn serve_clients<L: Ledgers, H: Reopen<L>, C: Moments, P: Peers>(
 ) -> Result<(), Fault>
     requires { L.means.is_usable ledgers.old }
     ensures served { ServesClients (rules L.means C.gives H.renews P.does)
-        ledgers.old moments.old peers.old most ledgers.new moments.new peers.new result }
+        (Whole ledgers.old) moments.old peers.old most (Whole ledgers.new) moments.new peers.new
+        result }
     ensures fault { IfErr result (λ fault. fault ≡ Fault.Socket) }
 {
     serving_begins_empty::<L, C, P>();

@@ -1,7 +1,7 @@
 -- What a batch on the tables that a book lends leaves of the book.
-use Rattle.std.proofs.Common.{◌≡◌, ℕ, List, [], ◌∷◌, Some, option_map, inl, inr}
+use Rattle.std.proofs.Common.{◌≡◌, ℕ, Bool, true, false, cond, List, [], ◌∷◌, Option, Some, option_map, inl, inr}
 use Rattle.std.proofs.Common.{is_some, refl, sym, ap, ◌∙◌, subst, arith}
-use Rattle.std.specs.List.{position}
+use Rattle.std.specs.List.{position, find, AllZip}
 use Rattle.std.specs.Str.{bytes_eq}
 use Rattle.std.proofs.lemmas.Slice.Eq.{bytes_eq-Decides}
 use Rattle.std.proofs.lemmas.Bool.{cases_Bool}
@@ -13,7 +13,7 @@ use Rattle.records.specs.Valid.{IsValid}
 use Rattle.chain.specs.Ledgers.{AreValid, KeepsAll, IsDone}
 use Rattle.plain.specs.declared.book.Tenant.{Tenant}
 use Rattle.plain.specs.Beginning.{beginning_at}
-use Rattle.plain.specs.Book.{has_digest, state_with, machine_with, ChangesOne}
+use Rattle.plain.specs.Book.{has_digest, state_with, machine_with, ChangesOne, IsCopy}
 use Rattle.plain.specs.BookLedgers.{machines_in}
 
 -- a digest that has a place is some tenant's
@@ -91,3 +91,27 @@ stay_valid digest old new after valid changes own other m found =
           (sym (machine_stays other old new (changes.others other
           (not_from_Decides (bytes_eq other digest) (bytes_eq-Decides other digest) not))) ∙ found)
     ]
+
+-- a copy has the same machines
+copy_first :
+    (b : Bool) (x y : Tenant) (before after : Option Tenant) → y.tables.now ≡ x.tables.now →
+    option_map (λ (s : State). s.now) (option_map (λ (t : Tenant). t.tables) after)
+    ≡ option_map (λ (s : State). s.now) (option_map (λ (t : Tenant). t.tables) before) →
+    option_map (λ (s : State). s.now) (option_map (λ (t : Tenant). t.tables) (cond b (Some y) after))
+    ≡ option_map (λ (s : State). s.now)
+    (option_map (λ (t : Tenant). t.tables) (cond b (Some x) before))
+copy_first true x y before after same rest = ap (λ (m : Machine). Some m) same
+copy_first false x y before after same rest = rest
+
+pub copies_keep :
+    (old new : List Tenant) → AllZip IsCopy old new → KeepsAll (machines_in old) (machines_in new)
+copies_keep [] [] copies digest = refl
+copies_keep [] (copy ∷ new) copies digest = absurd copies
+copies_keep (tenant ∷ old) [] copies digest = absurd copies
+copies_keep (tenant ∷ old) (copy ∷ new) copies digest =
+    ap
+    (λ (b : Bool). option_map (λ (s : State). s.now)
+    (option_map (λ (t : Tenant). t.tables) (cond b (Some copy) (find (has_digest digest) new))))
+    (ap (λ (d : List ℕ). bytes_eq d digest) copies.0.digest)
+    ∙ copy_first (has_digest digest tenant) tenant copy (find (has_digest digest) old)
+    (find (has_digest digest) new) copies.0.machine (copies_keep old new copies.1 digest)

@@ -19,6 +19,11 @@ state_with digest tenants = option_map (λ tenant. tenant.tables) (find (has_dig
 abbrev pub machine_with : List ℕ → List Tenant → Option Machine
 machine_with digest tenants = option_map (λ state. state.now) (state_with digest tenants)
 
+-- a tenant with the same digest and the same machine
+pub record IsCopy (tenant copy : Tenant) : Type 0 where
+  pub digest : copy.digest ≡ tenant.digest
+  pub machine : copy.tables.now ≡ tenant.tables.now
+
 -- a tenant has come, or has changed its tables, and every other tenant's are as they were
 pub record ChangesOne (digest : List ℕ) (state : State) (old new : List Tenant) : Type 0 where
   pub own : state_with digest new ≡ Some state

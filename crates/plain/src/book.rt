@@ -1,18 +1,18 @@
-ghost use Rattle.std.specs.Prelude.{◌≡◌, [], ◌∷◌, ◌++◌, is_some, IfErr, IsNone, OnOk, OnErr};
+ghost use Rattle.std.specs.Prelude.{◌≡◌, [], ◌∷◌, ◌++◌, is_some, IfOk, IfErr, IsNone, OnOk, OnErr};
 ghost use Rattle.std.specs.Prelude.{option_copied};
 ghost use Rattle.std.specs.List.{position};
 ghost use Rattle.std.specs.Option.{option_copied_mut};
 ghost use Rattle.std.specs.Borrow.{sem};
 ghost use Rattle.records.specs.Valid.{IsValid};
-ghost use Rattle.chain.specs.Ledgers.{AreValid, IsRun};
+ghost use Rattle.chain.specs.Ledgers.{AreValid, KeepsAll, IsRun};
 ghost use Rattle.plain.specs.BookLedgers.{machines_in};
-ghost use Rattle.plain.specs.Book.{has_digest, state_with, machine_with, ChangesOne};
+ghost use Rattle.plain.specs.Book.{has_digest, state_with, machine_with, ChangesOne, IsCopy};
 ghost use Rattle.plain.specs.Lending.{LendsTables, LendsTablesOf};
 
 use crate::PlainTables;
 use chain::{BatchFault, Work};
 use records::Unavailable;
-use std::alloc::Global;
+use std::alloc::{AllocError, Global};
 use std::marker::Model;
 
 #[derive(Drop)]
@@ -42,6 +42,18 @@ impl Tenant {
         ensures value { result.now ≡ self.old.tables }
     {
         &mut self.tables
+    }
+}
+
+// A copy has the machine, at the beginning of a batch.
+impl Clone for Tenant {
+    ghost is_clone = { IsCopy };
+
+    fn clone(&self) -> Result<Tenant, AllocError> {
+        Ok(Tenant {
+            digest: self.digest,
+            tables: self.tables.copy()?,
+        })
     }
 }
 
@@ -116,6 +128,15 @@ impl Book {
                 Err(BatchFault::Unavailable(why))
             }
         }
+    }
+
+    /// A copy, which has the same machines.
+    pub(crate) fn copy(&self) -> Result<Book, AllocError>
+        ensures { IfOk result (λ copy. KeepsAll (machines_in self.now) (machines_in copy)) }
+    {
+        Ok(Book {
+            tenants: self.tenants.clone()?,
+        })
     }
 }
 

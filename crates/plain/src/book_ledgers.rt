@@ -4,7 +4,7 @@ ghost use Rattle.plain.specs.BookLedgers.{book_meaning};
 
 use crate::Book;
 use crate::hand_out::hand_out;
-use chain::{BatchFault, Ledgers, Listed, ReadFault, Work};
+use chain::{BatchFault, Ledgers, Listed, ReadFault, RoundWork, Rounds, Work};
 use records::{
     AccountFilter, AccountWithBalances, BalanceAt, Order, RowSink, Transfer, Unavailable,
 };
@@ -105,4 +105,18 @@ impl Ledgers for Book {
     ghost lived = { λ a b f live. tt };
 
     ghost valid = { λ a live usable. usable };
+}
+
+impl Rounds for Book {
+    // The book is copied first, and the copy takes its place where the work fails.
+    fn in_round<W: RoundWork + Drop>(&mut self, work: W) -> Result<W::Output, Unavailable> {
+        let before = self.copy()?;
+        match work.run(self) {
+            Ok(output) => Ok(output),
+            Err(why) => {
+                *self = before;
+                Err(why)
+            }
+        }
+    }
 }

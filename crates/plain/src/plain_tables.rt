@@ -108,6 +108,25 @@ impl PlainTables {
         self.mark = None;
     }
 
+    /// A copy of the lists, at the beginning of a batch.
+    pub(crate) fn copy(&self) -> Result<PlainTables, AllocError>
+        ensures { IfOk result (λ copy. copy ≡ beginning_at self.now.now) }
+    {
+        Ok(PlainTables {
+            accounts: self.accounts.clone()?,
+            transfers: self.transfers.clone()?,
+            failed: self.failed.clone()?,
+            clock: self.clock,
+            begun: Beginning {
+                accounts: self.accounts.len(),
+                transfers: self.transfers.len(),
+                failed: self.failed.len(),
+                clock: self.clock,
+            },
+            mark: None,
+        })
+    }
+
     /// The accounts, in order of timestamp.
     pub fn accounts(&self) -> &[Account]
         ensures { result.now ≡ self.now.now.accounts }

@@ -4,5 +4,6 @@ mod asserting;
 mod batches;
 mod firms;
 mod reads;
+mod rounds;
 mod statements;
 mod tables;

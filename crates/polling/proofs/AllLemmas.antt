@@ -246,6 +246,49 @@ module _ {S C P : Type 0} where
     refl,
   )
 
+  -- what is held behind a turn of the client in one seat
+  pub keeps_at :
+      (client : ℕ) (ledgers ledgers_now : S) (moments moments_now : C) (peers peers_now each : P)
+      (seats seats_now : ℕ → Option Talk) (next : ℕ) (talk talk_now : Talk) (first : Hall S C P) →
+      seats client ≡ Some talk → SeatsNow client (Some talk_now) seats seats_now →
+      each ≡ peers_now → Keeps (held ledgers moments peers seats next) first →
+      Keeps (held ledgers_now moments_now peers_now seats_now next)
+      (hall ledgers_now moments_now each (with_talk client talk_now first.room.talks) first.gone)
+  keeps_at client ledgers ledgers_now moments moments_now peers peers_now each seats seats_now next
+      talk talk_now first was now are keeps =
+      let talks = first.room.talks in
+      record {
+        ledgers = refl;
+        moments = refl;
+        peers = are;
+        seated =
+            by_client
+            (λ other.
+            (seat : Talk) → seats_now other ≡ Some seat
+            → with_talk client talk_now talks other ≡ seat)
+            client
+            (λ seat is.
+            with_talk-own client talk_now talks
+            ∙ ap (λ found. unwrap_or found talk_now) (sym now.0 ∙ is))
+            (λ other differ seat is.
+            with_talk-other client other talk_now talks differ
+            ∙ keeps.seated other seat (sym (now.1 other differ) ∙ is));
+        there =
+            by_client (λ other. (seat : Talk) → seats_now other ≡ Some seat → first.gone other ≡ false)
+            client (λ seat is. keeps.there client talk was)
+            (λ other differ seat is. keeps.there other seat (sym (now.1 other differ) ∙ is));
+        below =
+            by_client (λ other. (seat : Talk) → seats_now other ≡ Some seat → other < next) client
+            (λ seat is. keeps.below client talk was)
+            (λ other differ seat is. keeps.below other seat (sym (now.1 other differ) ∙ is));
+        unused =
+            λ other beyond.
+            with_talk-other client other talk_now talks
+            (used client next other (keeps.below client talk was) beyond)
+            ∙ keeps.unused other beyond;
+        not_gone = keeps.not_gone;
+      }
+
   -- the client in one seat was served, and stays
   pub served_at :
       (r : Rules S C P) (client : ℕ) (ledgers ledgers_now : S) (moments moments_now : C)
@@ -266,37 +309,8 @@ module _ {S C P : Type 0} where
             (same_hall ledgers moments peers client talk first keeps.ledgers keeps.moments
             keeps.peers (keeps.seated client talk was))
             did.1,
-        record {
-          ledgers = refl;
-          moments = refl;
-          peers = refl;
-          seated =
-              by_client
-              (λ each.
-              (seat : Talk) → seats_now each ≡ Some seat
-              → with_talk client talk_now talks each ≡ seat)
-              client
-              (λ seat is.
-              with_talk-own client talk_now talks
-              ∙ ap (λ found. unwrap_or found talk_now) (sym now.0 ∙ is))
-              (λ other differ seat is.
-              with_talk-other client other talk_now talks differ
-              ∙ keeps.seated other seat (sym (now.1 other differ) ∙ is));
-          there =
-              by_client (λ each. (seat : Talk) → seats_now each ≡ Some seat → first.gone each ≡ false)
-              client (λ seat is. keeps.there client talk was)
-              (λ other differ seat is. keeps.there other seat (sym (now.1 other differ) ∙ is));
-          below =
-              by_client (λ each. (seat : Talk) → seats_now each ≡ Some seat → each < next) client
-              (λ seat is. keeps.below client talk was)
-              (λ other differ seat is. keeps.below other seat (sym (now.1 other differ) ∙ is));
-          unused =
-              λ other beyond.
-              with_talk-other client other talk_now talks
-              (used client next other (keeps.below client talk was) beyond)
-              ∙ keeps.unused other beyond;
-          not_gone = keeps.not_gone;
-        },
+        keeps_at client ledgers ledgers_now moments moments_now peers peers_now peers_now seats
+            seats_now next talk talk_now first was now refl keeps,
         did.2,
       )
 

@@ -1,19 +1,27 @@
 -- Serving as a course, step by step.
-use Rattle.std.proofs.Common.{◌≡◌, ◌⊎◌, inl, inr, refl, sym, subst, ℕ, List, [], ◌∷◌, ◌++◌}
+use Rattle.std.proofs.Common.{◌≡◌, ◌⊎◌, inl, inr, refl, sym, subst, ℕ, Bool, List, [], ◌∷◌, ◌++◌}
+use Rattle.std.proofs.Math.Path.{fun_ext}
+use Rattle.std.proofs.lemmas.List.{append-nil}
+use Rattle.std.specs.List.{AllByRecursion, flat_map}
 use Rattle.ledger_http.specs.declared.reply.Reply.{Reply}
 use Rattle.ledger_http.specs.Question.{asked_of}
 use Rattle.chain.specs.Ledgers.{LedgersMeaning, Tenants}
 use Rattle.service.specs.Deeds as service
 use Rattle.service.specs.Connections.{Connection, IsAnswered, IsTurnedAway, LacksMemory}
 use Rattle.service.specs.ConnectionEvents.{event_in}
-use Rattle.service.specs.Courses.{Event, Reopened}
+use Rattle.service.specs.Courses.{Event, Reopened, IsStill, HappenInTurn, untold_in}
 use Rattle.service.specs.Courses as course
 use Rattle.service.specs.Openings.{RunMeaning, run_meaning, IsSettled, ResponsesMove, MayBegin}
-use Rattle.service.specs.Openings.{HasLed, GoesOn}
-use Rattle.service.specs.OpeningLaws.{event_more, same_more, opened_more, begun_anew, none_yet}
+use Rattle.service.specs.Openings.{HasLed, GoesOn, IsFree, FoundAfterAll, All_as_now, All_as_before, All_done}
+use Rattle.service.specs.OpeningLaws.{event_more, events_more, same_more, opened_more, begun_anew, none_yet}
+use Rattle.service.specs.EventLaws.{all_append, unavailable_tells_nothing, still_happen}
+use Rattle.service.specs.Replies.{unavailable}
 use Rattle.service.specs.OwnDeeds.{EachSeesItself}
-use Rattle.clients.specs.Deeds.{Deed, Came, Ended, Replied, Wrote}
-use Rattle.polling.specs.Serving.{Hall, Rules, Happens, Did, Tells, Stirs, Goes, Loses, Again, Serves, Begin, Then}
+use Rattle.clients.specs.Deeds.{Room, Deed, Came, Ended, Replied, Wrote, IsDone, Lives}
+use Rattle.clients.specs.Deeds as life
+use Rattle.polling.specs.Serving.{Hall, Rules, Happens, Did, Tells, Stirs, Goes, Loses, Again, Rests, Passes, Fails, Serves, Begin, Then}
+use Rattle.polling.specs.Serving.{AreAsBefore, HasFailed, IsToldUnavailable, AreToldUnavailable}
+use Rattle.polling.specs.Serving.{events_by, events_of}
 use Rattle.polling.specs.Courses.{Renewed, Stayed, Opened, Anew, Refused, AreOfOpening, IsAnew}
 use Rattle.polling.specs.Courses.{AreRenewals, AreOf, BeginsWith, IsSince, Start, Onward, From, IsCourse, ServesEachAlone}
 
@@ -53,6 +61,90 @@ opening_more t Since Now old new (Opened opened) on anew led =
     (λ (deeds : List service.Deed). on (Reopened deeds ∷ []) (deeds, refl)) opened led
 opening_more t Since Now old new (Anew settled) on anew led = begun_anew t Now new (anew tt)
 opening_more t Since Now old new (Refused dead) on anew led = begun_anew t Now new (anew tt)
+
+-- so do ledgers of the same machines, of which nothing is told
+as_before_more :
+    {S : Type 0} (t : LedgersMeaning S) (Since Now : List Event → Tenants → Type 0) (old new : S) →
+    AreAsBefore t old new → GoesOn Since [] Now → HasLed (run_meaning t) Since old →
+    HasLed (run_meaning t) Now new
+as_before_more t Since Now old new same on led =
+    events_more Since Now (run_meaning t) old new [] on tt
+    (record {
+      happen = λ live. fun_ext (same.same live);
+      lived = same.lived;
+      found = λ found may. let now = same.found found may in All_as_now now.0 now.1;
+    })
+    led
+
+-- what tells that the ledgers are unavailable says nothing of any tenant, and needs nothing before it
+still_by :
+    {S C : Type 0} (t : LedgersMeaning S) (gives : C → ℕ → C → Type 0) (old new : Connection S C)
+    (reply : Reply)
+    (by :
+    IsAnswered t gives old reply new ⊎ (IsTurnedAway old reply new ⊎ LacksMemory old reply new)) →
+    reply ≡ unavailable →
+    AllByRecursion IsStill (event_in reply by) × AllByRecursion IsFree (event_in reply by)
+still_by t gives old new reply (inl answered) told = (
+  (
+    unavailable_tells_nothing (asked_of answered.message answered.early.head) answered.moment reply
+        told,
+    tt,
+  ),
+  (λ events. tt, tt),
+)
+still_by t gives old new reply (inr refused) told = (tt, tt)
+
+still_deed :
+    {S C : Type 0} (t : LedgersMeaning S) (gives : C → ℕ → C → Type 0) (gone : ℕ → Bool)
+    (old new : Room S C) (deed : Deed) (done : IsDone t gives old deed new) →
+    IsToldUnavailable gone deed →
+    AllByRecursion IsStill (events_by deed done) × AllByRecursion IsFree (events_by deed done)
+still_deed t gives gone old new (Replied client reply) done told =
+    still_by t gives _ _ reply (done.does.0.exchange [] (λ ended. refl)).by told.1
+still_deed t gives gone old new (Came client piece) done told = absurd told
+still_deed t gives gone old new (Ended client) done told = absurd told
+still_deed t gives gone old new (Wrote client bytes) done told = absurd told
+
+still_deeds :
+    {S C : Type 0} (t : LedgersMeaning S) (gives : C → ℕ → C → Type 0) (gone : ℕ → Bool)
+    (first last : Room S C) (deeds : List Deed) (lives : Lives S C t gives first deeds last) →
+    AreToldUnavailable gone lives →
+    AllByRecursion IsStill (events_of lives) × AllByRecursion IsFree (events_of lives)
+still_deeds t gives gone first last deeds life.Begin told = (tt, tt)
+still_deeds t gives gone first last deeds (life.Then before mid deed next lives done) told =
+    let earlier = still_deeds t gives gone first mid before lives told.0 in
+    let one = still_deed t gives gone mid next deed done told.1 in (
+      all_append IsStill (events_of lives) (events_by deed done) earlier.0 one.0,
+      all_append IsFree (events_of lives) (events_by deed done) earlier.1 one.1,
+    )
+
+found_failed :
+    {S : Type 0} (t : LedgersMeaning S) (old new : S) (events : List Event) (found : Tenants) →
+    AllByRecursion IsStill events →
+    t.may_find old found
+    ⊎ (t.is_live old × service.AreDone (flat_map untold_in events) (t.tenants old) found) →
+    FoundAfterAll (run_meaning t) old events new found
+found_failed t old new events found still (inl before) = All_as_before still before
+found_failed t old new events found still (inr done) =
+    All_done [] events [] (t.tenants old) (sym (append-nil events))
+    (all_append IsStill events [] still tt) done.0 refl done.1
+
+-- so does a round that was lost with the disk
+failed_more :
+    {S : Type 0} (t : LedgersMeaning S) (Since Now : List Event → Tenants → Type 0) (old new : S)
+    (events : List Event) → AllByRecursion IsStill events → AllByRecursion IsFree events →
+    HasFailed t old events new → GoesOn Since events Now → HasLed (run_meaning t) Since old →
+    HasLed (run_meaning t) Now new
+failed_more t Since Now old new events still free failed on led =
+    events_more Since Now (run_meaning t) old new events on free
+    (record {
+      happen = λ live.
+          subst (λ (now : Tenants). HappenInTurn (t.tenants old) events now)
+          (sym (fun_ext (failed.same live))) (still_happen events (t.tenants old) still);
+      lived = failed.lived;
+      found = λ found may. found_failed t old new events found still (failed.found found may);
+    })
+    led
 
 module _ {S C P : Type 0} (r : Rules S C P) (move : ResponsesMove r.means) (renewals : AreRenewals r) where
   -- where nothing happens to the ledgers, nothing is told
@@ -97,6 +189,14 @@ module _ {S C P : Type 0} (r : Rules S C P) (move : ResponsesMove r.means) (rene
       opening_more (run_meaning r.means) Since Now last.room.ledgers ledgers
       (renewals last.room.ledgers ledgers renewed) on
       (λ is began may. anew began (is, may)) led
+  one_more Since Now last next more (Passes moments given passed) on anew led =
+      same_more Since Now (run_meaning r.means) last.room.ledgers (on [] refl) led
+  one_more Since Now last next more (Rests ledgers same) on anew led =
+      as_before_more r.means Since Now last.room.ledgers ledgers same (on [] refl) led
+  one_more Since Now last next more (Fails deeds room ledgers lives told failed) on anew led =
+      let still = still_deeds r.means r.gives last.gone last.room room deeds lives told in
+      failed_more r.means Since Now last.room.ledgers ledgers (events_of lives) still.0 still.1 failed
+      (on (events_of lives) refl) led
 
   all_led :
       (first last : Hall S C P) (deeds : List Deed) (serves : Serves S C P r first deeds last) →

@@ -12,7 +12,7 @@ use Rattle.clients.specs.Answering.{MayCome}
 use Rattle.clients.specs.Turns.{Sent, Told, if_told, told_to, Hears, Nothing_yet, One_more, HearTheirOwn}
 use Rattle.clients.specs.Deeds.{Room, Deed, IsDone, Lives, if_own, come_from, written_in, written_to, told_in, all_told, came_in, sent_with, clients_of, MightCome, AreExchanges, AreWritten}
 use Rattle.clients.specs.Deeds as life
-use Rattle.polling.specs.Serving.{Hall, Rules, Happens, Did, Tells, Stirs, Goes, Loses, Again, Serves, Begin, Then}
+use Rattle.polling.specs.Serving.{Hall, Rules, Happens, Did, Tells, Stirs, Goes, Loses, Again, Rests, Passes, Fails, Serves, Begin, Then}
 use Rattle.polling.specs.Laws.{EachIsServed}
 
 -- what is heard behind what was heard
@@ -74,21 +74,22 @@ module _ {S C P : Type 0} (r : Rules S C P) where
       Hears S C r.means r.gives (sent_with (come_from client deeds ++ later) (first.talks client))
       (told_to client (all_told deeds)) (sent_with later (last.talks client))
 
-  deed_heard :
+  deeds_heard :
       HearTheirOwn r.means r.gives → AreExchanges r.means r.gives → (old new : Room S C)
-      (deed : Deed) → IsDone r.means r.gives old deed new → (client : ℕ) (later : List ℕ) →
-      MayCome (new.talks client).unread later → HearsBy old (deed ∷ []) new client later
-  deed_heard hear exchanges old new deed done client later may =
+      (deeds : List Deed) → Lives S C r.means r.gives old deeds new → (client : ℕ)
+      (later : List ℕ) →
+      MayCome (new.talks client).unread later → HearsBy old deeds new client later
+  deeds_heard hear exchanges old new deeds lives client later may =
       subst
       (λ (bytes : List ℕ).
       Hears S C r.means r.gives
-      (sent_with (come_from client (deed ∷ []) ++ bytes) (old.talks client))
-      (told_to client (all_told (deed ∷ []))) (sent_with bytes (new.talks client)))
+      (sent_with (come_from client deeds ++ bytes) (old.talks client))
+      (told_to client (all_told deeds)) (sent_with bytes (new.talks client)))
       (own client later)
       (hear
-      (clients_of old (λ (i : ℕ). come_from i (deed ∷ []) ++ if_own i client later))
-      (clients_of new (λ (i : ℕ). if_own i client later)) (all_told (deed ∷ []))
-      (exchanges old new (deed ∷ []) (one_deed old new deed done)
+      (clients_of old (λ (i : ℕ). come_from i deeds ++ if_own i client later))
+      (clients_of new (λ (i : ℕ). if_own i client later)) (all_told deeds)
+      (exchanges old new deeds lives
       (λ (i : ℕ). if_own i client later) (only new.talks client later may))
       client)
 
@@ -97,12 +98,47 @@ module _ {S C P : Type 0} (r : Rules S C P) where
       (more : List Deed) → Happens S C P r last more next → (client : ℕ) (later : List ℕ) →
       MayCome (next.room.talks client).unread later → HearsBy last.room more next.room client later
   step_heard hear exchanges last next more (Did deed room peers live done settled hands) client later may =
-      deed_heard hear exchanges last.room room deed done client later may
+      deeds_heard hear exchanges last.room room (deed ∷ []) (one_deed last.room room deed done) client
+      later may
   step_heard hear exchanges last next more (Tells told peers does) client later may = Nothing_yet
   step_heard hear exchanges last next more (Stirs peers does) client later may = Nothing_yet
   step_heard hear exchanges last next more (Goes who) client later may = Nothing_yet
   step_heard hear exchanges last next more (Loses who piece peers does) client later may = Nothing_yet
   step_heard hear exchanges last next more (Again ledgers renews) client later may = Nothing_yet
+  step_heard hear exchanges last next more (Rests ledgers same) client later may = Nothing_yet
+  step_heard hear exchanges last next more (Passes moments given passed) client later may = Nothing_yet
+  step_heard hear exchanges last next more (Fails deeds room ledgers lives told failed) client later
+      may =
+      deeds_heard hear exchanges last.room room deeds lives client later may
+
+  deed_may :
+      MightCome r.means r.gives → (old new : Room S C) (deed : Deed) →
+      IsDone r.means r.gives old deed new → (client : ℕ) (later : List ℕ) →
+      MayCome (new.talks client).unread later →
+      MayCome (old.talks client).unread (came_in client deed ++ later)
+  deed_may might old new deed done client later may =
+      subst
+      (λ (bytes : List ℕ). MayCome (old.talks client).unread (came_in client deed ++ bytes))
+      (own client later)
+      (might old new deed done (λ (i : ℕ). if_own i client later)
+      (only new.talks client later may) client)
+
+  deeds_may :
+      MightCome r.means r.gives → (first last : Room S C) (deeds : List Deed) →
+      Lives S C r.means r.gives first deeds last → (client : ℕ) (later : List ℕ) →
+      MayCome (last.talks client).unread later →
+      MayCome (first.talks client).unread (come_from client deeds ++ later)
+  deeds_may might first last deeds life.Begin client later may = may
+  deeds_may might first last deeds (life.Then before mid deed next lives done) client later may =
+      subst
+      (λ (bytes : List ℕ). MayCome (first.talks client).unread bytes)
+      (sym (append_assoc (come_from client before) (came_in client deed) later)
+      ∙ ap (λ (bytes : List ℕ). (come_from client before ++ bytes) ++ later)
+      (sym (append-nil (came_in client deed)))
+      ∙ ap (λ (bytes : List ℕ). bytes ++ later)
+      (sym (flat_map-append (came_in client) before (deed ∷ []))))
+      (deeds_may might first mid before lives client (came_in client deed ++ later)
+      (deed_may might mid next deed done client later may))
 
   step_may :
       MightCome r.means r.gives → (last next : Hall S C P) (more : List Deed) →
@@ -110,19 +146,16 @@ module _ {S C P : Type 0} (r : Rules S C P) where
       MayCome (next.room.talks client).unread later →
       MayCome (last.room.talks client).unread (come_from client more ++ later)
   step_may might last next more (Did deed room peers live done settled hands) client later may =
-      subst
-      (λ (bytes : List ℕ). MayCome (last.room.talks client).unread (bytes ++ later))
-      (sym (append-nil (came_in client deed)))
-      (subst
-      (λ (bytes : List ℕ). MayCome (last.room.talks client).unread (came_in client deed ++ bytes))
-      (own client later)
-      (might last.room room deed done (λ (i : ℕ). if_own i client later)
-      (only room.talks client later may) client))
+      deeds_may might last.room room (deed ∷ []) (one_deed last.room room deed done) client later may
   step_may might last next more (Tells told peers does) client later may = may
   step_may might last next more (Stirs peers does) client later may = may
   step_may might last next more (Goes who) client later may = may
   step_may might last next more (Loses who piece peers does) client later may = may
   step_may might last next more (Again ledgers renews) client later may = may
+  step_may might last next more (Rests ledgers same) client later may = may
+  step_may might last next more (Passes moments given passed) client later may = may
+  step_may might last next more (Fails deeds room ledgers lives told failed) client later may =
+      deeds_may might last.room room deeds lives client later may
 
   all_heard :
       MightCome r.means r.gives → HearTheirOwn r.means r.gives → AreExchanges r.means r.gives →
@@ -175,6 +208,12 @@ module _ {S C P : Type 0} (r : Rules S C P) where
       sym (append-nil (last.room.talks client).unsent)
   step_written written last next more (Again ledgers renews) client =
       sym (append-nil (last.room.talks client).unsent)
+  step_written written last next more (Rests ledgers same) client =
+      sym (append-nil (last.room.talks client).unsent)
+  step_written written last next more (Passes moments given passed) client =
+      sym (append-nil (last.room.talks client).unsent)
+  step_written written last next more (Fails deeds room ledgers lives told failed) client =
+      written last.room room deeds lives client
 
   all_written :
       AreWritten r.means r.gives → (first last : Hall S C P) (deeds : List Deed) →

@@ -5,3 +5,7 @@ pub mod LifeLemmas
 pub mod HeardLemmas
 pub mod CourseLemmas
 pub mod OnwardLemmas
+pub mod RoundLemmas
+pub mod LostLemmas
+pub mod CopyLemmas
+pub mod RestLemmas

@@ -1,11 +1,12 @@
 -- Serving as a run of deeds.
-use Rattle.std.proofs.Common.{◌≡◌, refl, sym, ap, ◌∙◌, subst, ℕ, List, [], ◌++◌, Some, is_some}
+use Rattle.std.proofs.Common.{◌≡◌, refl, sym, ap, ◌∙◌, subst, ℕ, List, [], ◌++◌, Some, is_some, arith}
 use Rattle.std.proofs.lemmas.Bool.{false≢true}
 use Rattle.std.proofs.lemmas.List.{append-nil}
 use Rattle.clients.specs.Deeds.{Room, Deed, Lives}
 use Rattle.clients.specs.Deeds as life
 use Rattle.clients.specs.Talk.{Talk}
-use Rattle.polling.specs.Serving.{Hall, Rules, Happens, Did, Tells, Stirs, Goes, Loses, Again, Begin, Then}
+use Rattle.polling.specs.Serving.{Hall, Rules, Happens, Did, Tells, Stirs, Goes, Loses, Again, Rests, Passes, Fails, Begin, Then}
+use Rattle.polling.specs.Serving.{rounds_of, rounds_in}
 use Rattle.polling.specs.Laws.{AreLives, BeginsEmpty}
 use Rattle.polling.specs.Seating.{seats_in}
 
@@ -20,27 +21,37 @@ stays {S} {C} r first last deeds lives =
 one_more :
     {S C P : Type 0} (r : Rules S C P) → ((old new : S) → r.renews old new → new ≡ old) →
     (first : Room S C) (last next : Hall S C P) (deeds more : List Deed) →
-    Lives S C r.means r.gives first deeds last.room → Happens S C P r last more next →
+    Lives S C r.means r.gives first deeds last.room → (happens : Happens S C P r last more next) →
+    rounds_of happens ≡ 0 →
     Lives S C r.means r.gives first (deeds ++ more) next.room
-one_more r same first last next deeds more lives (Did deed room peers live done settled hands) =
+one_more r same first last next deeds more lives (Did deed room peers live done settled hands) none =
     life.Then deeds last.room deed room lives done
-one_more r same first last next deeds more lives (Tells told peers does) =
+one_more r same first last next deeds more lives (Tells told peers does) none =
     stays r first last.room deeds lives
-one_more r same first last next deeds more lives (Stirs peers does) =
+one_more r same first last next deeds more lives (Stirs peers does) none =
     stays r first last.room deeds lives
-one_more r same first last next deeds more lives (Goes client) = stays r first last.room deeds lives
-one_more r same first last next deeds more lives (Loses client piece peers does) =
+one_more r same first last next deeds more lives (Goes client) none =
     stays r first last.room deeds lives
-one_more {S} {C} r same first last next deeds more lives (Again ledgers renews) =
+one_more r same first last next deeds more lives (Loses client piece peers does) none =
+    stays r first last.room deeds lives
+one_more {S} {C} r same first last next deeds more lives (Again ledgers renews) none =
     subst
     (λ (l : S).
     Lives S C r.means r.gives first (deeds ++ []) (record last.room { ledgers = l }))
     (sym (same last.room.ledgers ledgers renews)) (stays r first last.room deeds lives)
+one_more r same first last next deeds more lives (Rests ledgers before) none =
+    absurd (omega (arith, none))
+one_more r same first last next deeds more lives (Passes moments given passed) none =
+    absurd (omega (arith, none))
+one_more r same first last next deeds more lives (Fails also room ledgers lived told failed) none =
+    absurd (omega (arith, none))
 
 pub are_lives : {S C P : Type 0} (r : Rules S C P) → AreLives r
-are_lives r same first last deeds Begin = life.Begin
-are_lives r same first last deeds (Then before mid more next serves happens) =
-    one_more r same first.room mid next before more (are_lives r same first mid before serves) happens
+are_lives r same first last deeds Begin none = life.Begin
+are_lives r same first last deeds (Then before mid more next serves happens) none =
+    let earlier : rounds_in serves ≡ 0 = omega (arith, none) in
+    one_more r same first.room mid next before more
+    (are_lives r same first mid before serves earlier) happens (omega (arith, none))
 
 pub begins_empty : {S C P : Type 0} → BeginsEmpty S C P
 begins_empty ledgers moments peers seats empty =

@@ -8,6 +8,7 @@ use Rattle.clients.specs.Talk.{Talk, received, input_ended, written, may_answer}
 use Rattle.clients.specs.Answering.{IsUnmoved, HasReplied}
 use Rattle.clients.specs.Deeds.{Deed, Came, Replied, Wrote, client_of, Does, told_in, all_told}
 use Rattle.clients.specs.Deeds as deed
+use Rattle.service.specs.Seen.{Whole}
 use Rattle.polling.specs.Peers.{Gave, Ended, Took, Stirred, Hands}
 use Rattle.service.specs.Openings.{run_meaning, IsSettled}
 use Rattle.polling.specs.Serving.{Hall, hall, Rules, Settles, gone_with, Happens, Did, Stirs, Goes, Loses, Serves, Begin, Then}
@@ -91,6 +92,17 @@ did_one {S} {C} {P} r deed ledgers ledgers_now moments moments_now peers peers_n
           ∙ sym (with_talk-other client other talk talks differ);
     })
     settled hands)
+
+-- what has not changed between transactions has not changed
+pub whole_unmoved :
+    {S C T : Type 0} {ledgers ledgers_now : S} {moments moments_now : C} {old new : T} →
+    IsUnmoved ledgers moments old ledgers_now moments_now new →
+    IsUnmoved (Whole ledgers) moments old (Whole ledgers_now) moments_now new
+whole_unmoved unmoved = record {
+  ledgers_same = ap Whole unmoved.ledgers_same;
+  moments_same = unmoved.moments_same;
+  same = unmoved.same;
+}
 
 -- one client was served, and stays
 abbrev pub Stays :

@@ -1,14 +1,16 @@
 -- Serving as a course: what has happened to the ledgers since they were last opened anew.
-use Rattle.std.specs.Prelude.{◌≡◌, ℕ, List, [], ◌∷◌, ◌++◌, refl}
-use Rattle.chain.specs.Ledgers.{Tenants}
+use Rattle.std.specs.Prelude.{◌≡◌, ℕ, List, [], ◌∷◌, ◌++◌}
+use Rattle.std.proofs.Common.{ap}
+use Rattle.chain.specs.Ledgers.{LedgersMeaning, Tenants}
 use Rattle.service.specs.Deeds as service
 use Rattle.service.specs.Courses.{Event, Reopened}
-use Rattle.service.specs.ConnectionEvents.{event_in}
 use Rattle.service.specs.Openings.{RunMeaning, run_meaning, IsSettled, IsOpened, MayBegin}
 use Rattle.service.specs.Openings.{CourseSince, HasLed}
 use Rattle.service.specs.OwnDeeds.{SeesItself}
-use Rattle.clients.specs.Deeds.{Deed, Replied}
-use Rattle.polling.specs.Serving.{Hall, Rules, Happens, Did, Again, Serves, Begin, Then}
+use Rattle.service.specs.Seen.{Whole, seen}
+use Rattle.clients.specs.Deeds.{Deed}
+use Rattle.polling.specs.Serving.{Hall, Rules, Happens, Did, Again, Fails, Serves, Begin, Then}
+use Rattle.polling.specs.Serving.{events_by, events_of}
 
 -- what opening again makes of ledgers: they stay as they are; they are opened again, and are what
 -- was to be found; they are opened anew, whatever was before; or that is refused, and they are not
@@ -18,6 +20,15 @@ pub data Renewed {S : Type 0} (t : RunMeaning S) (old new : S) : Type 0 where
   Opened : IsOpened t old new → Renewed t old new
   Anew : IsSettled t new → Renewed t old new
   Refused : (t.is_live new → ⊥) → Renewed t old new
+
+-- the same, as it is seen between messages
+abbrev pub renewed_seen :
+    {S : Type 0} (t : LedgersMeaning S) {old new : S} → Renewed (run_meaning t) old new
+    → Renewed (run_meaning (seen t)) (Whole old) (Whole new)
+renewed_seen t (Stayed same) = Stayed (ap Whole same)
+renewed_seen t (Opened opened) = Opened (record { member = opened.member; found = opened.found })
+renewed_seen t (Anew settled) = Anew settled
+renewed_seen t (Refused dead) = Refused dead
 
 -- the events of it: none, or that deeds were found done
 abbrev pub AreOfOpening :
@@ -40,15 +51,15 @@ abbrev pub AreRenewals : {S C P : Type 0} → Rules S C P → Type 0
 AreRenewals {S} r = (old new : S) → r.renews old new → Renewed (run_meaning r.means) old new
 
 module _ {S C P : Type 0} {r : Rules S C P} (renewals : AreRenewals r) where
-  -- the events of what happens: that of a message that was replied to, if it was read whole; those
-  -- of an opening; and no others
+  -- the events of what happens: those of messages that were replied to, if they were read whole;
+  -- those of an opening; and no others
   abbrev pub AreOf :
       {old new : Hall S C P} {deeds : List Deed} → Happens S C P r old deeds new → List Event
       → Type 0
-  AreOf (Did (Replied client reply) room peers stays done settled hands) events =
-      events ≡ event_in reply (done.does.0.exchange [] (λ ended. refl)).by
+  AreOf (Did deed room peers stays done settled hands) events = events ≡ events_by deed done
   AreOf {old} (Again ledgers renewed) events =
       AreOfOpening (renewals old.room.ledgers ledgers renewed) events
+  AreOf (Fails deeds room ledgers lives told failed) events = events ≡ events_of lives
   AreOf happens events = events ≡ []
 
   -- ledgers are opened anew, or that is refused; and then the machines are those that are there, or

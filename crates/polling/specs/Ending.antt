@@ -8,7 +8,7 @@ use Rattle.polling.specs.Seating.{Held, ServesAll, seats_in}
 use Rattle.polling.specs.declared.peers.Told.{Told}
 use Rattle.polling.specs.declared.peers.Told.TheVariants as told
 use Rattle.polling.specs.declared.serving.Done.{Done}
-use Rattle.polling.specs.declared.serving.Done.TheVariants.{Nothing, Something, Reply}
+use Rattle.polling.specs.declared.serving.Done.TheVariants.{Nothing, Served}
 
 -- a turn: nobody is replied to before peers tell something, and then what it asks for is done
 pub record HasTurn {S C P : Type 0} (r : Rules S C P) (old new : Held S C P) (replies : ℕ) :
@@ -55,5 +55,9 @@ AreWritten clients = (client : ℕ) → IfSome (seats_in clients client) (λ tal
 abbrev pub HasDone :
     {S C P : Type 0} → Rules S C P → Held S C P → Held S C P → Done → Type 0
 HasDone r old new Nothing = IsQuiet r old new 0
-HasDone r old new Something = HasTurn r old new 0
-HasDone r old new Reply = HasTurn r old new 1
+HasDone r old new (Served replies) = HasTurn r old new replies
+
+-- how many messages were replied to
+abbrev pub replies_of : Done → ℕ
+replies_of Nothing = 0
+replies_of (Served replies) = replies

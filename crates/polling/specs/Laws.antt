@@ -4,7 +4,8 @@ use Rattle.clients.specs.Talk.{new_talk}
 use Rattle.clients.specs.Answering.{MayCome}
 use Rattle.clients.specs.Deeds.{Deed, Lives, come_from, written_to, IsServed}
 use Rattle.polling.specs.Ending.{Ends}
-use Rattle.polling.specs.Serving.{Hall, hall, Rules, Serves, tellings}
+use Rattle.service.specs.Seen.{Whole}
+use Rattle.polling.specs.Serving.{Hall, hall, Rules, Serves, tellings, rounds_in}
 use Rattle.polling.specs.Seating.{AreEmpty, Held, held_by, Keeps, ServesAll, replies_in}
 use Rattle.polling.specs.declared.seats.Seats.{Seats}
 
@@ -21,12 +22,14 @@ EachIsServed {S} {C} {P} r =
     → IsServed r.means r.gives (come_from client deeds) later (written_to client deeds)
     (last.room.talks client)
 
--- where opening again changes nothing, the deeds are a run of the same ledgers
+-- where opening again changes nothing and no messages share a round, the deeds are a run of the
+-- same ledgers
 abbrev pub AreLives : {S C P : Type 0} → Rules S C P → Type 0
 AreLives {S} {C} {P} r =
     ((old new : S) → r.renews old new → new ≡ old)
     → (first last : Hall S C P) (deeds : List Deed)
-    → Serves S C P r first deeds last
+    → (serves : Serves S C P r first deeds last)
+    → rounds_in serves ≡ 0
     → Lives S C r.means r.gives first.room deeds last.room
 
 -- a hall in which nobody has sent anything
@@ -38,7 +41,7 @@ abbrev pub BeginsEmpty : (S C P : Type 0) → Type 0
 BeginsEmpty S C P =
     (ledgers : S) (moments : C) (peers : P) (seats : Seats)
     → AreEmpty seats
-    → Keeps (held_by ledgers moments peers seats) (empty_hall ledgers moments peers)
+    → Keeps (held_by ledgers moments peers seats) (empty_hall (Whole ledgers) moments peers)
 
 -- behind what was done clients were served, and in that peers told something so often at least
 pub record ServedOn {S C P : Type 0} {r : Rules S C P} {first mid : Hall S C P}

@@ -4,3 +4,4 @@ pub mod Seating
 pub mod Ending
 pub mod Laws
 pub mod Courses
+pub mod Round

@@ -3,6 +3,7 @@ use Rattle.std.specs.Prelude.{◌≡◌, ◌≢◌, ◌≤◌, ◌<◌, ℕ, Boo
 use Rattle.std.specs.BTreeMap.{BTreeMap, get}
 use Rattle.std.specs.Ordering.{nat_cmp}
 use Rattle.clients.specs.Talk.{Talk, new_talk}
+use Rattle.service.specs.Seen.{Seen, Whole}
 use Rattle.clients.specs.Deeds.{Deed, all_told}
 use Rattle.polling.specs.Serving.{Hall, hall, Rules, Serves, gone_with}
 use Rattle.polling.specs.declared.seats.Seats.{Seats}
@@ -102,9 +103,10 @@ held ledgers moments peers seats next = record {
   next = next;
 }
 
-abbrev pub held_by : {S C P : Type 0} → S → C → P → Seats → Held S C P
+-- the same between transactions
+abbrev pub held_by : {S C P : Type 0} → S → C → P → Seats → Held (Seen S) C P
 held_by ledgers moments peers seats =
-    held ledgers moments peers (seats_in seats.clients) seats.next
+    held (Whole ledgers) moments peers (seats_in seats.clients) seats.next
 
 -- what is held is of this hall: whoever is seated has its talk there and has not gone, and of
 -- numbers that were not used nothing has come

@@ -1,9 +1,16 @@
 -- What serving clients at once does.
-use Rattle.std.specs.Prelude.{◌≡◌, ◌+◌, ℕ, Bool, true, false, List, [], ◌∷◌, ◌++◌, nat_eq, if◌then◌else◌}
-use Rattle.chain.specs.Ledgers.{LedgersMeaning}
-use Rattle.clients.specs.Talk.{Talk}
-use Rattle.clients.specs.Deeds.{Room, Deed, Came, Ended, Replied, Wrote, client_of, IsDone}
+use Rattle.std.specs.Prelude.{◌≡◌, ◌⊎◌, ◌+◌, refl, ℕ, Bool, true, false, List, [], ◌∷◌, ◌++◌, nat_eq, if◌then◌else◌}
+use Rattle.std.specs.List.{flat_map}
+use Rattle.chain.specs.Ledgers.{LedgersMeaning, Tenants, KeepsAll}
+use Rattle.service.specs.ConnectionEvents.{event_in}
+use Rattle.service.specs.Courses.{Event, untold_in}
+use Rattle.service.specs.Deeds as service
 use Rattle.service.specs.Openings.{run_meaning, IsSettled}
+use Rattle.service.specs.Replies.{unavailable}
+use Rattle.service.specs.Seen.{Seen, Whole, seen}
+use Rattle.clients.specs.Talk.{Talk}
+use Rattle.clients.specs.Deeds.{Room, Deed, Came, Ended, Replied, Wrote, client_of, IsDone, Lives}
+use Rattle.clients.specs.Deeds as life
 use Rattle.polling.specs.Peers.{Doing, Gave, Said, Stirred, Hands}
 use Rattle.polling.specs.declared.peers.Told.{Told}
 
@@ -28,11 +35,17 @@ pub record Rules (S C P : Type 0) : Type 1 where
   pub renews : S → S → Type 0
   pub does : P → Doing → P → Type 0
 
+-- ledgers are opened again between transactions alone
+abbrev pub renews_seen : {S : Type 0} → (S → S → Type 0) → Seen S → Seen S → Type 0
+renews_seen renews (Whole old) (Whole new) = renews old new
+renews_seen renews old new = ⊥
+
+-- the rules for ledgers as they are seen between messages
 abbrev pub rules :
     {S C P : Type 0} → LedgersMeaning S → (C → ℕ → C → Type 0) → (S → S → Type 0)
-    → (P → Doing → P → Type 0) → Rules S C P
+    → (P → Doing → P → Type 0) → Rules (Seen S) C P
 rules means gives renews does =
-    record { means = means; gives = gives; renews = renews; does = does }
+    record { means = seen means; gives = gives; renews = renews_seen renews; does = does }
 
 -- these have gone, and this client
 abbrev pub gone_with : ℕ → (ℕ → Bool) → ℕ → Bool
@@ -45,9 +58,68 @@ Settles t (Came client piece) ledgers = Unit {0}
 Settles t (Ended client) ledgers = Unit {0}
 Settles t (Wrote client bytes) ledgers = Unit {0}
 
+-- these moments were given, one after the other
+abbrev pub AreGiven : {C : Type 0} → (C → ℕ → C → Type 0) → C → List ℕ → C → Type 0
+AreGiven gives first [] last = last ≡ first
+AreGiven {C} gives first (moment ∷ moments) last =
+    (next : C) × gives first moment next × AreGiven gives next moments last
+
+-- an opening finds what is there, and that only where the ledgers are live
+abbrev pub IsFoundAgain : {S : Type 0} → LedgersMeaning S → S → Type 0
+IsFoundAgain t ledgers =
+    (found : Tenants) → t.may_find ledgers found
+    → t.is_live ledgers × KeepsAll (t.tenants ledgers) found
+
+-- ledgers of the same machines, which an opening finds again
+pub record AreAsBefore {S : Type 0} (t : LedgersMeaning S) (old new : S) : Type 0 where
+  pub lived : t.is_live new → t.is_live old
+  pub same : t.is_live new → KeepsAll (t.tenants old) (t.tenants new)
+  pub found : IsFoundAgain t new
+
+-- the disk failed while a round was kept, of whose messages these are the events: the machines are
+-- as they were, and an opening may find what it might have found before, or all that was asked
+pub record HasFailed {S : Type 0} (t : LedgersMeaning S) (old : S) (events : List Event) (new : S) :
+    Type 0 where
+  pub lived : t.is_live new → t.is_live old
+  pub same : t.is_live new → KeepsAll (t.tenants old) (t.tenants new)
+  pub found :
+      (found : Tenants) → t.may_find new found
+      → t.may_find old found
+      ⊎ (t.is_live old × service.AreDone (flat_map untold_in events) (t.tenants old) found)
+
+-- a client that has not gone is told that the ledgers are unavailable
+abbrev pub IsToldUnavailable : (ℕ → Bool) → Deed → Type 0
+IsToldUnavailable gone (Replied client reply) = (gone client ≡ false) × (reply ≡ unavailable)
+IsToldUnavailable gone (Came client piece) = ⊥
+IsToldUnavailable gone (Ended client) = ⊥
+IsToldUnavailable gone (Wrote client bytes) = ⊥
+
+module _ {S C : Type 0} {t : LedgersMeaning S} {gives : C → ℕ → C → Type 0} where
+  -- the event of a deed: that of a message that was replied to, if it was read whole
+  abbrev pub events_by : {old new : Room S C} (deed : Deed) → IsDone t gives old deed new → List Event
+  events_by (Replied client reply) done =
+      event_in reply (done.does.0.exchange [] (λ ended. refl)).by
+  events_by (Came client piece) done = []
+  events_by (Ended client) done = []
+  events_by (Wrote client bytes) done = []
+
+  abbrev pub events_of :
+      {first last : Room S C} {deeds : List Deed} → Lives S C t gives first deeds last → List Event
+  events_of life.Begin = []
+  events_of (life.Then deeds last deed next lives done) = events_of lives ++ events_by deed done
+
+  -- nothing is done but that clients are told so
+  abbrev pub AreToldUnavailable :
+      {first last : Room S C} {deeds : List Deed} → (ℕ → Bool) → Lives S C t gives first deeds last
+      → Type 0
+  AreToldUnavailable gone life.Begin = Unit {0}
+  AreToldUnavailable gone (life.Then deeds last deed next lives done) =
+      AreToldUnavailable gone lives × IsToldUnavailable gone deed
+
 -- a deed of a client that has not gone, with what peers did of it; peers tell something; anything
--- else among them; a client goes; it goes, and what was read of it last is lost; or the ledgers are
--- opened again
+-- else among them; a client goes; it goes, and what was read of it last is lost; the ledgers are
+-- opened again; a round begins, ends or is taken back; moments were given for a round that was not
+-- kept; or the disk fails with a round, and all its clients are told that the ledgers are unavailable
 pub data Happens (S C P : Type 0) (r : Rules S C P) (old : Hall S C P) :
     List Deed → Hall S C P → Type 0 where
   Did :
@@ -69,6 +141,17 @@ pub data Happens (S C P : Type 0) (r : Rules S C P) (old : Hall S C P) :
   Again :
       (ledgers : S) → r.renews old.room.ledgers ledgers →
       Happens S C P r old [] (record old { room = record old.room { ledgers = ledgers } })
+  Rests :
+      (ledgers : S) → AreAsBefore r.means old.room.ledgers ledgers →
+      Happens S C P r old [] (record old { room = record old.room { ledgers = ledgers } })
+  Passes :
+      (moments : C) (given : List ℕ) → AreGiven r.gives old.room.moments given moments →
+      Happens S C P r old [] (record old { room = record old.room { moments = moments } })
+  Fails :
+      (deeds : List Deed) (room : Room S C) (ledgers : S)
+      (lives : Lives S C r.means r.gives old.room deeds room) → AreToldUnavailable old.gone lives →
+      HasFailed r.means old.room.ledgers (events_of lives) ledgers →
+      Happens S C P r old deeds (record old { room = record room { ledgers = ledgers } })
 
 -- all that happens, one after the other, and the deeds among it
 pub data Serves (S C P : Type 0) (r : Rules S C P) (first : Hall S C P) :
@@ -90,3 +173,16 @@ module _ {S C P : Type 0} {r : Rules S C P} where
       {first last : Hall S C P} {deeds : List Deed} → Serves S C P r first deeds last → ℕ
   tellings Begin = 0
   tellings (Then deeds last more next serves happens) = tellings serves + tellings_of happens
+
+  -- how often something of a round happened
+  abbrev pub rounds_of :
+      {old new : Hall S C P} {deeds : List Deed} → Happens S C P r old deeds new → ℕ
+  rounds_of (Rests ledgers same) = 1
+  rounds_of (Passes moments given passed) = 1
+  rounds_of (Fails deeds room ledgers lives told failed) = 1
+  rounds_of happens = 0
+
+  abbrev pub rounds_in :
+      {first last : Hall S C P} {deeds : List Deed} → Serves S C P r first deeds last → ℕ
+  rounds_in Begin = 0
+  rounds_in (Then deeds last more next serves happens) = rounds_in serves + rounds_of happens

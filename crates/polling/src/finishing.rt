@@ -1,5 +1,6 @@
 //! Writing what is left of replies, where no further message is answered.
 ghost use Rattle.std.specs.Prelude.{◌≡◌, ◌↔◌, false, [], IsTrue, IfSome, IfNone};
+ghost use Rattle.service.specs.Seen.{Seen};
 ghost use Rattle.polling.specs.Serving.{rules};
 ghost use Rattle.polling.specs.Seating.{HadTurn, HadNone, ServesOne, ServesAll, seats_in, held_by};
 ghost use Rattle.polling.specs.Ending.{HasTurn, IsQuiet, AreWritten, Ends};
@@ -34,7 +35,7 @@ fn write_left<L: Ledgers, H: Reopen<L>, C: Moments, P: Peers>(
     number: u64,
     client: &mut Client,
 ) -> Step
-    ensures { (ledgers : L) → (moments : C) →
+    ensures { (ledgers : Seen L) → (moments : C) →
         ServesOne (rules L.means C.gives H.renews P.does) number
         ledgers moments peers.old client.old ledgers moments peers.new client.new result 0 }
 {
@@ -56,11 +57,11 @@ fn write_in<L: Ledgers, H: Reopen<L>, C: Moments, P: Peers>(
     clients: &mut BTreeMap<u64, Client>,
     number: u64,
 ) -> Option<Step>
-    ensures written { IfSome result (λ step. (ledgers : L) → (moments : C) →
+    ensures written { IfSome result (λ step. (ledgers : Seen L) → (moments : C) →
         HadTurn (rules L.means C.gives H.renews P.does) number
         ledgers moments peers.old (seats_in clients.old)
         ledgers moments peers.new (seats_in clients.new) step 0) }
-    ensures none { IfNone result ((ledgers : L) → (moments : C) → HadNone
+    ensures none { IfNone result ((ledgers : Seen L) → (moments : C) → HadNone
         ledgers moments peers.old (seats_in clients.old)
         ledgers moments peers.new (seats_in clients.new)) }
 {
@@ -142,7 +143,7 @@ pub fn write_rest<L: Ledgers, H: Reopen<L>, C: Moments, P: Peers>(peers: &mut P,
         (held_by ledgers moments peers.old seats.old)
         (held_by ledgers moments peers.new seats.new) 0 }
     ensures ends { (ledgers : L) → (moments : C) →
-        Ends L C P (rules L.means C.gives H.renews P.does) (AreWritten seats.new.clients)
+        Ends (Seen L) C P (rules L.means C.gives H.renews P.does) (AreWritten seats.new.clients)
         (held_by ledgers moments peers.old seats.old)
         (held_by ledgers moments peers.new seats.new) 0 }
 {

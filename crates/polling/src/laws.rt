@@ -5,8 +5,8 @@ ghost use Rattle.polling.specs.Serving.{rules};
 
 use crate::{Peers, Reopen};
 use chain::Ledgers;
-use clients::{clients_are_served, clients_hear_their_own};
-use service::{Moments, each_tenant_sees_itself, responses_move};
+use clients::clients_are_served_in_rounds;
+use service::{Moments, each_tenant_sees_itself, responses_move_within};
 
 /// In whatever pieces messages come, whatever others ask between, and whenever the ledgers are
 /// opened again, what is written to a client is a beginning of the replies to its own messages, in
@@ -14,11 +14,11 @@ use service::{Moments, each_tenant_sees_itself, responses_move};
 pub fn each_is_served<L: Ledgers, H: Reopen<L>, C: Moments, P: Peers>()
     ensures { EachIsServed (rules L.means C.gives H.renews P.does) }
 {
-    clients_are_served::<L, C>();
-    clients_hear_their_own::<L, C>();
+    clients_are_served_in_rounds::<L, C>();
 }
 
-/// Where opening again changes nothing, all that was done is a run of deeds of the same ledgers.
+/// Where opening again changes nothing and no messages share a round, all that was done is a run of
+/// deeds of the same ledgers.
 pub fn serving_is_a_run<L: Ledgers, H: Reopen<L>, C: Moments, P: Peers>()
     ensures { AreLives (rules L.means C.gives H.renews P.does) }
 {}
@@ -30,7 +30,7 @@ pub fn serving_is_a_course<L: Ledgers, H: Reopen<L>, C: Moments, P: Peers>()
     ensures course { IsCourse (rules L.means C.gives H.renews P.does) }
     ensures alone { ServesEachAlone (rules L.means C.gives H.renews P.does) }
 {
-    responses_move::<L>();
+    responses_move_within::<L>();
     each_tenant_sees_itself();
 }
 

@@ -2,11 +2,16 @@
 #![tactic(auto)]
 
 mod finishing;
+mod gathered;
+mod gathering;
 mod laws;
 mod peers;
+mod putting;
 mod reopen;
+mod round;
 mod seats;
 mod serving;
+mod sharing;
 mod step;
 mod turn;
 

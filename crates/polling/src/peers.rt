@@ -49,6 +49,9 @@ pub trait Peers {
     fn told(&mut self, fresh: u64) -> Told
         ensures { does self.old (Said result) self.new };
 
+    /// Whether something more has happened that `told` tells without waiting.
+    fn has_more(&self) -> bool;
+
     /// A client wants to be read, whose next message has so many bytes, head and body together; 0
     /// where its head has not come. Told before each reading, and what is told later holds.
     fn wants(&mut self, client: u64, bytes: u64)

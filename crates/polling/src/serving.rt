@@ -1,14 +1,18 @@
 //! Serving all who are ready.
-ghost use Rattle.std.specs.Prelude.{◌≡◌, ◌≤◌, IfSome, IfNone};
+ghost use Rattle.std.specs.Prelude.{◌≡◌, ◌≤◌, ◌<◌, IfSome, IfNone, IsTrue};
+ghost use Rattle.service.specs.Seen.{Seen, Whole};
 ghost use Rattle.polling.specs.Serving.{rules};
 ghost use Rattle.polling.specs.Seating.{HadTurn, HadNone, IsFollowed, ServesAll, count_of, seats_in, held_by};
-ghost use Rattle.polling.specs.Ending.{HasDone, Ends};
+ghost use Rattle.polling.specs.Ending.{HasDone, Ends, replies_of};
+ghost use Rattle.polling.specs.declared.peers.Told.TheVariants.{Nothing};
 
+use crate::gathered::serve_due;
+use crate::gathering::Gathered;
 use crate::seats::{Seats, seat, unseat};
 use crate::step::Step;
 use crate::turn::{Turned, turn};
 use crate::{Peers, Reopen, Told};
-use chain::Ledgers;
+use chain::{Ledgers, Rounds};
 use clients::Client;
 use service::Moments;
 use std::alloc::Global;
@@ -26,12 +30,12 @@ fn turn_in<L: Ledgers, H: Reopen<L>, C: Moments, P: Peers>(
 ) -> Option<Turned>
     requires usable { L.means.is_usable ledgers.old }
     ensures turn { IfSome result (λ turned. HadTurn (rules L.means C.gives H.renews P.does) number
-        ledgers.old moments.old peers.old (seats_in clients.old)
-        ledgers.new moments.new peers.new (seats_in clients.new)
+        (Whole ledgers.old) moments.old peers.old (seats_in clients.old)
+        (Whole ledgers.new) moments.new peers.new (seats_in clients.new)
         turned.step (count_of turned.replied)) }
     ensures none { IfNone result (HadNone
-        ledgers.old moments.old peers.old (seats_in clients.old)
-        ledgers.new moments.new peers.new (seats_in clients.new)) }
+        (Whole ledgers.old) moments.old peers.old (seats_in clients.old)
+        (Whole ledgers.new) moments.new peers.new (seats_in clients.new)) }
     ensures usable { L.means.is_usable ledgers.new }
 {
     match clients.get_mut(&number) {
@@ -139,15 +143,86 @@ pub(crate) fn let_go<L: Ledgers, H: Reopen<L>, C: Moments, P: Peers>(
 enum Done {
     /// Nothing had happened.
     Nothing,
-    /// Something was done.
-    Something,
-    /// A message was replied to.
-    Reply,
+    /// Something was done, and so many messages were replied to.
+    Served(u64),
 }
 
-/// Does what the next thing that has happened asks for. Before that the ledgers are opened again,
-/// where they have failed.
-fn serve_next<L: Ledgers, H: Reopen<L>, C: Moments, P: Peers>(
+/// Gathers a client whose next message may share a round; gives any other its turn. Says how many
+/// messages were replied to.
+fn serve_or_gather<L: Rounds, H: Reopen<L>, C: Moments, P: Peers>(
+    alloc: Global,
+    peers: &mut P,
+    seats: &mut Seats,
+    number: u64,
+    ledgers: &mut L,
+    moments: &mut C,
+    piece: &mut [u8],
+    gathered: &mut Gathered,
+) -> u64
+    requires { L.means.is_usable ledgers.old }
+    ensures serves { ServesAll (rules L.means C.gives H.renews P.does)
+        (held_by ledgers.old moments.old peers.old seats.old)
+        (held_by ledgers.new moments.new peers.new seats.new) result }
+    ensures few { result ≤ 1 }
+    ensures usable { L.means.is_usable ledgers.new }
+{
+    if gathered.takes(&mut seats.clients, number) {
+        return 0;
+    }
+    if serve_one::<L, H, C, P>(alloc, peers, seats, number, ledgers, moments, piece) {
+        1
+    } else {
+        0
+    }
+}
+
+/// Does what was told, and says how many messages were replied to.
+fn serve_told<L: Rounds, H: Reopen<L>, C: Moments, P: Peers>(
+    alloc: Global,
+    peers: &mut P,
+    seats: &mut Seats,
+    ledgers: &mut L,
+    moments: &mut C,
+    piece: &mut [u8],
+    gathered: &mut Gathered,
+    told: Told,
+) -> u64
+    requires { L.means.is_usable ledgers.old }
+    ensures serves { ServesAll (rules L.means C.gives H.renews P.does)
+        (held_by ledgers.old moments.old peers.old seats.old)
+        (held_by ledgers.new moments.new peers.new seats.new) result }
+    ensures few { result ≤ 1 }
+    ensures usable { L.means.is_usable ledgers.new }
+{
+    match told {
+        Told::Joined => {
+            join::<L, H, C, P>(alloc, peers, seats);
+            0
+        }
+        Told::Ready(number) => serve_or_gather::<L, H, C, P>(
+            alloc, peers, seats, number, ledgers, moments, piece, gathered,
+        ),
+        Told::Late(number) => {
+            let_go::<L, H, C, P>(peers, seats, number);
+            0
+        }
+        Told::Nothing => {
+            gathered.close();
+            0
+        }
+    }
+}
+
+/// Whether nothing had happened, and nobody is gathered.
+fn is_over(told: Told, gathered: &Gathered) -> bool
+    ensures { IsTrue result → told ≡ Nothing }
+{
+    gathered.is_empty() && matches!(told, Told::Nothing)
+}
+
+/// Does what the next thing that has happened asks for, and serves those who are gathered where
+/// nobody more is to be waited for. Before that the ledgers are opened again, where they have failed.
+fn serve_next<L: Rounds, H: Reopen<L>, C: Moments, P: Peers>(
     alloc: Global,
     peers: &mut P,
     seats: &mut Seats,
@@ -155,38 +230,36 @@ fn serve_next<L: Ledgers, H: Reopen<L>, C: Moments, P: Peers>(
     home: &mut H,
     moments: &mut C,
     piece: &mut [u8],
+    gathered: &mut Gathered,
+    most: u64,
 ) -> Done
-    requires { L.means.is_usable ledgers.old }
+    requires usable { L.means.is_usable ledgers.old }
+    requires some { 0 < most }
     ensures does { HasDone (rules L.means C.gives H.renews P.does)
         (held_by ledgers.old moments.old peers.old seats.old)
         (held_by ledgers.new moments.new peers.new seats.new) result }
+    ensures few { replies_of result ≤ most }
     ensures usable { L.means.is_usable ledgers.new }
 {
     home.reopen(ledgers);
-    match peers.told(seats.next) {
-        Told::Joined => {
-            join::<L, H, C, P>(alloc, peers, seats);
-            Done::Something
-        }
-        Told::Ready(number) => {
-            if serve_one::<L, H, C, P>(alloc, peers, seats, number, ledgers, moments, piece) {
-                Done::Reply
-            } else {
-                Done::Something
-            }
-        }
-        Told::Late(number) => {
-            let_go::<L, H, C, P>(peers, seats, number);
-            Done::Something
-        }
-        Told::Nothing => Done::Nothing,
+    let told = peers.told(seats.next);
+    if is_over(told, gathered) {
+        return Done::Nothing;
     }
+    let replies = serve_told::<L, H, C, P>(
+        alloc, peers, seats, ledgers, moments, piece, gathered, told,
+    );
+    let room = most - replies;
+    let more = serve_due::<L, H, C, P>(
+        alloc, peers, seats, ledgers, moments, piece, gathered, room,
+    );
+    Done::Served(replies + more)
 }
 
 /// Serves all who are ready, one turn after the other, until nothing more has happened or so many
-/// messages were replied to, and says how many were. Before each turn the ledgers are opened again,
-/// where they have failed.
-pub fn serve_ready<L: Ledgers, H: Reopen<L>, C: Moments, P: Peers>(
+/// messages were replied to, and says how many were. Messages that are ready at once share a round.
+/// Before each turn the ledgers are opened again, where they have failed.
+pub fn serve_ready<L: Rounds, H: Reopen<L>, C: Moments, P: Peers>(
     alloc: Global,
     peers: &mut P,
     seats: &mut Seats,
@@ -200,21 +273,31 @@ pub fn serve_ready<L: Ledgers, H: Reopen<L>, C: Moments, P: Peers>(
     ensures serves { ServesAll (rules L.means C.gives H.renews P.does)
         (held_by ledgers.old moments.old peers.old seats.old)
         (held_by ledgers.new moments.new peers.new seats.new) result }
-    ensures ends { Ends L C P (rules L.means C.gives H.renews P.does) (result ≡ most)
+    ensures ends { Ends (Seen L) C P (rules L.means C.gives H.renews P.does) (result ≡ most)
         (held_by ledgers.old moments.old peers.old seats.old)
         (held_by ledgers.new moments.new peers.new seats.new) result }
     ensures few { result ≤ most }
     ensures usable { L.means.is_usable ledgers.new }
 {
+    let mut gathered = Gathered::new(alloc);
     let mut replies = 0;
     for _ in 0..u64::MAX {
         if replies == most {
             return replies;
         }
-        match serve_next(alloc, peers, seats, ledgers, home, moments, piece) {
+        match serve_next(
+            alloc,
+            peers,
+            seats,
+            ledgers,
+            home,
+            moments,
+            piece,
+            &mut gathered,
+            most - replies,
+        ) {
             Done::Nothing => return replies,
-            Done::Something => {}
-            Done::Reply => replies += 1,
+            Done::Served(more) => replies += more,
         }
     }
     replies

@@ -1,6 +1,7 @@
 //! Steps of serving one client.
 ghost use Rattle.std.specs.Prelude.{◌≡◌, ◌≤◌, false};
 ghost use Rattle.ledger_http.specs.Limits.{longest_message};
+ghost use Rattle.service.specs.Seen.{Seen};
 ghost use Rattle.polling.specs.Serving.{rules};
 ghost use Rattle.polling.specs.Seating.{ServesOne};
 
@@ -38,7 +39,7 @@ fn read_piece<L: Ledgers, H: Reopen<L>, C: Moments, P: Peers>(
     piece: &mut [u8],
 ) -> Step
     requires { client.old.unread.ended ≡ false }
-    ensures { (ledgers : L) → (moments : C) →
+    ensures { (ledgers : Seen L) → (moments : C) →
         ServesOne (rules L.means C.gives H.renews P.does) number
         ledgers moments peers.old client.old ledgers moments peers.new client.new result 0 }
 {
@@ -65,7 +66,7 @@ pub(crate) fn read_some<L: Ledgers, H: Reopen<L>, C: Moments, P: Peers>(
     piece: &mut [u8],
 ) -> Step
     requires { client.old.unread.ended ≡ false }
-    ensures { (ledgers : L) → (moments : C) →
+    ensures { (ledgers : Seen L) → (moments : C) →
         ServesOne (rules L.means C.gives H.renews P.does) number
         ledgers moments peers.old client.old ledgers moments peers.new client.new result 0 }
 {
@@ -79,7 +80,7 @@ pub(crate) fn write_some<L: Ledgers, H: Reopen<L>, C: Moments, P: Peers>(
     number: u64,
     client: &mut Client,
 ) -> Step
-    ensures { (ledgers : L) → (moments : C) →
+    ensures { (ledgers : Seen L) → (moments : C) →
         ServesOne (rules L.means C.gives H.renews P.does) number
         ledgers moments peers.old client.old ledgers moments peers.new client.new result 0 }
 {

@@ -1,13 +1,14 @@
 //! A client's turn.
 ghost use Rattle.std.specs.Prelude.{◌≡◌, true, false};
 ghost use Rattle.clients.specs.Talk.{may_answer};
+ghost use Rattle.service.specs.Seen.{Seen, Whole};
 ghost use Rattle.polling.specs.Serving.{rules};
 ghost use Rattle.polling.specs.Seating.{ServesOne, count_of};
 
 use crate::step::{Step, read_some, write_some};
 use crate::{Peers, Reopen};
 use chain::Ledgers;
-use clients::{Answered, Client, giving_up_replies};
+use clients::{Answered, Client, giving_up_replies, whole_ledgers_are_seen};
 use service::Moments;
 use std::alloc::Global;
 
@@ -28,7 +29,7 @@ pub(crate) fn write_all<L: Ledgers, H: Reopen<L>, C: Moments, P: Peers>(
     number: u64,
     client: &mut Client,
 ) -> Step
-    ensures { (ledgers : L) → (moments : C) →
+    ensures { (ledgers : Seen L) → (moments : C) →
         ServesOne (rules L.means C.gives H.renews P.does) number
         ledgers moments peers.old client.old ledgers moments peers.new client.new result 0 }
 {
@@ -58,8 +59,8 @@ fn read_or_give_up<L: Ledgers, H: Reopen<L>, C: Moments, P: Peers>(
     requires open { may_answer client.old ≡ true }
     requires more { client.old.unread.ended ≡ false }
     ensures { (moments : C) → ServesOne (rules L.means C.gives H.renews P.does) number
-        ledgers.now moments peers.old client.old
-        ledgers.now moments peers.new client.new result.step (count_of result.replied) }
+        (Whole ledgers.now) moments peers.old client.old
+        (Whole ledgers.now) moments peers.new client.new result.step (count_of result.replied) }
 {
     match client.reserve_due(piece.len()) {
         Ok(count) => Turned {
@@ -68,6 +69,7 @@ fn read_or_give_up<L: Ledgers, H: Reopen<L>, C: Moments, P: Peers>(
         },
         Err(_) => {
             giving_up_replies::<L, C>();
+            whole_ledgers_are_seen::<L, C>();
             H::is_settled(ledgers);
             client.give_up();
             Turned {
@@ -91,12 +93,13 @@ pub(crate) fn answer_or_read<L: Ledgers, H: Reopen<L>, C: Moments, P: Peers>(
     requires usable { L.means.is_usable ledgers.old }
     requires open { may_answer client.old ≡ true }
     ensures serves { ServesOne (rules L.means C.gives H.renews P.does) number
-        ledgers.old moments.old peers.old client.old
-        ledgers.new moments.new peers.new client.new result.step (count_of result.replied) }
+        (Whole ledgers.old) moments.old peers.old client.old
+        (Whole ledgers.new) moments.new peers.new client.new result.step (count_of result.replied) }
     ensures usable { L.means.is_usable ledgers.new }
 {
     match client.answer(alloc, ledgers, moments) {
         Answered::Replied => {
+            whole_ledgers_are_seen::<L, C>();
             H::is_settled(ledgers);
             Turned {
                 step: write_all::<L, H, C, P>(peers, number, client),
@@ -113,6 +116,34 @@ pub(crate) fn answer_or_read<L: Ledgers, H: Reopen<L>, C: Moments, P: Peers>(
     }
 }
 
+/// Writes what is left of the reply to a client. Where nothing is, it has its turn, if it may be
+/// answered.
+pub(crate) fn finish<L: Ledgers, H: Reopen<L>, C: Moments, P: Peers>(
+    alloc: Global,
+    peers: &mut P,
+    number: u64,
+    client: &mut Client,
+    ledgers: &mut L,
+    moments: &mut C,
+    piece: &mut [u8],
+    answers: bool,
+) -> Turned
+    requires usable { L.means.is_usable ledgers.old }
+    ensures serves { ServesOne (rules L.means C.gives H.renews P.does) number
+        (Whole ledgers.old) moments.old peers.old client.old
+        (Whole ledgers.new) moments.new peers.new client.new result.step (count_of result.replied) }
+    ensures few { answers ≡ false → result.replied ≡ false }
+    ensures usable { L.means.is_usable ledgers.new }
+{
+    if answers && client.unsent().is_empty() {
+        return turn::<L, H, C, P>(alloc, peers, number, client, ledgers, moments, piece);
+    }
+    Turned {
+        step: write_all::<L, H, C, P>(peers, number, client),
+        replied: false,
+    }
+}
+
 /// A client's turn: what is left of the last reply is written, and one message at most answered, or
 /// a piece read of it. Behind the last reply of all it goes.
 pub(crate) fn turn<L: Ledgers, H: Reopen<L>, C: Moments, P: Peers>(
@@ -126,8 +157,8 @@ pub(crate) fn turn<L: Ledgers, H: Reopen<L>, C: Moments, P: Peers>(
 ) -> Turned
     requires usable { L.means.is_usable ledgers.old }
     ensures serves { ServesOne (rules L.means C.gives H.renews P.does) number
-        ledgers.old moments.old peers.old client.old
-        ledgers.new moments.new peers.new client.new result.step (count_of result.replied) }
+        (Whole ledgers.old) moments.old peers.old client.old
+        (Whole ledgers.new) moments.new peers.new client.new result.step (count_of result.replied) }
     ensures usable { L.means.is_usable ledgers.new }
 {
     match write_all::<L, H, C, P>(peers, number, client) {

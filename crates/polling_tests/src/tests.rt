@@ -1,4 +1,5 @@
 mod firms;
 mod messages;
+mod rounds;
 mod scripted;
 mod serving;

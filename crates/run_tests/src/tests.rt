@@ -8,5 +8,6 @@ mod faults;
 mod memory;
 mod messages;
 mod requests;
+mod rounds;
 mod runs;
 mod scripts;

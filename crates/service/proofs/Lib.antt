@@ -10,3 +10,4 @@ pub mod ConnectionEventsLemmas
 pub mod FindingLemmas
 pub mod RetryLemmas
 mod MovingLemmas
+mod TurnLemmas

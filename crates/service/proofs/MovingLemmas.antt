@@ -1,6 +1,6 @@
 -- A response, as what it makes of the ledgers.
 use Rattle.std.proofs.Common.{◌≡◌, ◌≢◌, ◌⊎◌, inl, inr, ℕ, Bool, true, false, List, Option, Result}
-use Rattle.std.proofs.Common.{[], Ok, Err, IsOk, refl, sym, ap, ◌∙◌, subst}
+use Rattle.std.proofs.Common.{[], Ok, Err, IsOk, if◌then◌else◌, refl, sym, ap, ◌∙◌, subst}
 use Rattle.httparse.specs.Grammar.{RequestHead}
 use Rattle.chain.specs.Ledgers.{LedgersMeaning, Tenants, Finds}
 use Rattle.ledger_http.specs.declared.early.Early.{Early}
@@ -10,19 +10,18 @@ use Rattle.ledger_http.specs.Question.{Question, asked_of}
 use Rattle.service.specs.Replies.{unavailable}
 use Rattle.service.specs.Responds.{Answers, Responds, RefusesEarly}
 use Rattle.service.specs.Responds.{IsAnswered, IsLeftBy, IsLeftByAsked}
-use Rattle.service.specs.Deeds.{asking}
+use Rattle.service.specs.Deeds.{Deed, asking, deeds_in}
 use Rattle.service.specs.Courses.{Event, Replied, is_unavailable, IsStill, untold_in}
 use Rattle.service.specs.Openings.{run_meaning, IsSettled, FoundAfter, As_now, As_before, As_done}
 use Rattle.service.specs.Openings.{Moves, ResponsesMove}
-use Rattle.service.specs.OpeningLaws.{told_unavailable, told_available}
+use Rattle.service.specs.EventLaws.{told_unavailable, told_available, unavailable_tells_nothing}
 use Rattle.service.proofs.ConnectionEventsLemmas.{responses_happen}
 use Rattle.service.proofs.Isolation.{HeadsAreUnique}
 
-still_unavailable :
-    (asked : Result Question Early) (moment : ℕ) (reply : Reply) → reply ≡ unavailable →
-    IsStill (Replied asked moment reply)
-still_unavailable asked moment reply is tenants =
-    record { answered = λ available. absurd (available is); same = λ u digest. refl }
+same_either_way :
+    (untold : Bool) (deeds : List Deed) → (if untold then deeds else deeds) ≡ deeds
+same_either_way true deeds = refl
+same_either_way false deeds = refl
 
 module _ {S : Type 0} (t : LedgersMeaning S) (unique : HeadsAreUnique) (old new : S)
     (bytes : List ℕ) (moment : ℕ) (reply : Reply) (early : RefusesEarly bytes reply) where
@@ -31,14 +30,21 @@ module _ {S : Type 0} (t : LedgersMeaning S) (unique : HeadsAreUnique) (old new 
 
   still_refused :
       (told : Early) → asked_of bytes early.head ≡ Err told → IsStill event
-  still_refused told is tenants = record {
-    answered = λ available.
+  still_refused told is = record {
+    untold =
         subst
         (λ (asked : Result Question Early).
-        Answers tenants tenants asked moment (reply_text reply))
-        (sym is)
-        (record { told = early.refused told is available; same = λ digest. refl });
-    same = λ u digest. refl;
+        untold_in (Replied asked moment reply) ≡ deeds_in asked moment)
+        (sym is) (same_either_way (is_unavailable reply) []);
+    right = λ tenants. record {
+      answered = λ available.
+          subst
+          (λ (asked : Result Question Early).
+          Answers tenants tenants asked moment (reply_text reply))
+          (sym is)
+          (record { told = early.refused told is available; same = λ digest. refl });
+      same = λ u digest. refl;
+    };
   }
 
   found_lost :
@@ -69,7 +75,7 @@ module _ {S : Type 0} (t : LedgersMeaning S) (unique : HeadsAreUnique) (old new 
           t.may_find old found ⊎ (t.is_live old × IsLeftBy bytes moment (t.tenants old) found) →
           FoundAfter (run_meaning t) old event new found
       found_untold found untold (inl before) =
-          As_before (still_unavailable (asked_of bytes early.head) moment reply untold) before
+          As_before (unavailable_tells_nothing (asked_of bytes early.head) moment reply untold) before
       found_untold found untold (inr done) =
           found_lost (asked_of bytes early.head) found refl untold done.0 (at_head found done.1)
 

@@ -23,7 +23,7 @@ use Rattle.service.specs.Courses.{Done, Declined, Unavailable as NotThere}
 use Rattle.service.specs.OwnDeeds.{Happening, Told, Untold, deed_of, happenings_in, if_own}
 use Rattle.service.specs.OwnDeeds.{own_happenings, replies_in, after_all, told_of, told_in_turn}
 use Rattle.service.specs.OwnDeeds.{SeesItself}
-use Rattle.service.specs.OpeningLaws.{told_unavailable, told_available}
+use Rattle.service.specs.EventLaws.{told_unavailable, told_available}
 
 pub after_more :
     (tenant : Option Machine) (owns more : List Happening) →

@@ -2,6 +2,7 @@
 -- connection, and a whole run, is such a course.
 use Rattle.std.specs.Prelude.{◌≡◌, ◌≢◌, ℕ, Bool, true, false, List, [], ◌∷◌, ◌++◌}
 use Rattle.std.specs.Prelude.{Option, Result, if◌then◌else◌}
+use Rattle.std.specs.List.{AllByRecursion, flat_map}
 use Rattle.httparse.specs.Grammar.{RequestHead}
 use Rattle.chain.specs.Ledgers.{Tenants, KeepsAll}
 use Rattle.ledger_http.specs.declared.early.Early.{Early}
@@ -51,17 +52,7 @@ is_unavailable (Fixed refusal.Unavailable) = true
 is_unavailable (Fixed refusal) = false
 is_unavailable Page = false
 
--- an answer that says nothing of any tenant: that the ledgers are unavailable, or what is told
--- before a tenant is looked up
-abbrev pub IsStill : Event → Type 0
-IsStill (Replied asked moment reply) =
-    (tenants : Tenants) → IsReplied asked moment reply tenants tenants
-IsStill (Tried deed Unavailable) = Unit {0}
-IsStill (Tried deed Done) = ⊥
-IsStill (Tried deed Declined) = ⊥
-IsStill (Reopened deeds) = ⊥
-
--- the deed of which it was answered that the ledgers are unavailable, if it was
+-- the deeds of which it was answered that the ledgers are unavailable
 abbrev pub untold_in : Event → List Deed
 untold_in (Replied asked moment reply) =
     if is_unavailable reply then deeds_in asked moment else []
@@ -70,14 +61,30 @@ untold_in (Tried deed Done) = []
 untold_in (Tried deed Declined) = []
 untold_in (Reopened deeds) = []
 
--- the deeds that an opening may find done after these events: none; or what was untold, where
--- nothing was said of any tenant since
-pub data MayBeFound (deeds : List Deed) : List Event → Type 0 where
-  Nothing : (events : List Event) → deeds ≡ [] → MayBeFound deeds events
-  Last : (events : List Event) (event : Event) →
-      deeds ≡ untold_in event → MayBeFound deeds (events ++ event ∷ [])
-  Before : (events : List Event) (event : Event) →
-      MayBeFound deeds events → IsStill event → MayBeFound deeds (events ++ event ∷ [])
+-- a reply that tells nothing of what a message asks, and that is right whatever the machines are
+pub record TellsNothing (asked : Result Question Early) (moment : ℕ) (reply : Reply) : Type 0 where
+  pub untold : untold_in (Replied asked moment reply) ≡ deeds_in asked moment
+  pub right : (tenants : Tenants) → IsReplied asked moment reply tenants tenants
+
+-- an answer that says nothing of any tenant: that the ledgers are unavailable, or what is told
+-- before a tenant is looked up
+abbrev pub IsStill : Event → Type 0
+IsStill (Replied asked moment reply) = TellsNothing asked moment reply
+IsStill (Tried deed Unavailable) = Unit {0}
+IsStill (Tried deed Done) = ⊥
+IsStill (Tried deed Declined) = ⊥
+IsStill (Reopened deeds) = ⊥
+
+-- the deeds that an opening may find done after these events: all that was untold in a round of
+-- them, where nothing was said of any tenant in that round and since. A round may be of one event,
+-- or of none, and then no deed is found.
+pub record MayBeFound (deeds : List Deed) (events : List Event) : Type 0 where
+  pub before : List Event
+  pub round : List Event
+  pub since : List Event
+  pub are : events ≡ before ++ (round ++ since)
+  pub still : AllByRecursion IsStill (round ++ since)
+  pub all : deeds ≡ flat_map untold_in round
 
 -- what may come after these events: a reopening finds no other deeds
 abbrev pub Follows : List Event → Event → Type 0
@@ -92,6 +99,12 @@ pub data Course (first : Tenants) : List Event → Tenants → Type 0 where
       (events : List Event) (last : Tenants) (event : Event) (next : Tenants) →
       Course first events last → Follows events event → Happens last event next →
       Course first (events ++ event ∷ []) next
+
+-- events happen, one after the other
+abbrev pub HappenInTurn : Tenants → List Event → Tenants → Type 0
+HappenInTurn old [] new = new ≡ old
+HappenInTurn old (event ∷ events) new =
+    (mid : Tenants) × Happens old event mid × HappenInTurn mid events new
 
 -- the event of the first message of some bytes, at a moment, and its reply
 pub record IsReplyTo (bytes : List ℕ) (moment : ℕ) (reply : Reply) (event : Event) : Type 0 where

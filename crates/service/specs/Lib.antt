@@ -6,8 +6,12 @@ pub mod Responds
 pub mod Connections
 pub mod Sound
 pub mod Courses
+pub mod Seen
 pub mod OwnDeeds
 pub mod ConnectionEvents
 pub mod Openings
+pub mod EventLaws
 pub mod OpeningLaws
+pub mod Turns
+pub mod TurnLaws
 pub mod Retries

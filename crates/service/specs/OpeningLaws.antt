@@ -1,65 +1,89 @@
--- Laws of ledgers that are opened again: what has led to them leads on, event by event and opening
--- by opening.
-use Rattle.std.proofs.Common.{◌≡◌, ◌≢◌, ℕ, Bool, true, false, List, [], ◌∷◌, ◌++◌, Result, refl}
-use Rattle.std.proofs.Common.{if◌then◌else◌, inl, inr, sym, subst, ap, ◌∙◌}
+-- Laws of ledgers that are opened again: what has led to them leads on, by events and by openings.
+use Rattle.std.proofs.Common.{◌≡◌, List, [], ◌∷◌, ◌++◌, refl, inl, inr, sym, subst, ap, ◌∙◌}
+use Rattle.std.proofs.Common.{append_assoc}
 use Rattle.std.proofs.Math.Logic.{∥∥₁_map, ∥∥₁_elim}
-use Rattle.std.proofs.lemmas.Bool.{true≢false}
 use Rattle.std.proofs.lemmas.List.{append-nil}
+use Rattle.std.specs.List.{AllByRecursion, flat_map}
 use Rattle.chain.specs.Ledgers.{Tenants, KeepsAll}
-use Rattle.ledger_http.specs.declared.early.Early.{Early}
-use Rattle.ledger_http.specs.declared.refusal.Refusal.TheVariants as refusal
-use Rattle.ledger_http.specs.declared.reply.Reply.{Reply}
-use Rattle.ledger_http.specs.declared.reply.Reply.TheVariants.{Whole, Fixed, Page}
-use Rattle.ledger_http.specs.Question.{Question}
-use Rattle.service.specs.Replies.{unavailable}
-use Rattle.service.specs.Deeds.{Deed, deeds_in, AreDone}
-use Rattle.service.specs.Courses.{Event, Replied, Tried, Reopened, Done, Declined, Unavailable}
-use Rattle.service.specs.Courses.{Happens, is_unavailable, IsStill, untold_in, Nothing}
-use Rattle.service.specs.Courses.{Last, Before, MayBeFound, Follows, Course, Begin, Then}
+use Rattle.service.specs.Deeds.{Deed, AreDone}
+use Rattle.service.specs.Courses.{Event, Reopened, HappenInTurn, IsStill, untold_in}
+use Rattle.service.specs.Courses.{Begin, Then}
 use Rattle.service.specs.Openings.{RunMeaning, IsSettled, FoundAfter, As_now, As_before, As_done}
-use Rattle.service.specs.Openings.{Moves, IsOpened, CourseSince, Leads, MayFind, HasLed}
+use Rattle.service.specs.Openings.{FoundAfterAll, All_as_now, All_as_before, All_done}
+use Rattle.service.specs.Openings.{Moves, MovesAll, IsOpened, CourseSince, Leads, MayFind, HasLed}
 use Rattle.service.specs.Openings.{GoesOn, IsFree, MayBegin}
+use Rattle.service.specs.EventLaws.{all_append, untold_still, still_happen, happen_then}
+use Rattle.service.specs.EventLaws.{course_then, nothing_found, found_since}
 
-pub told_unavailable : (reply : Reply) → is_unavailable reply ≡ true → reply ≡ unavailable
-told_unavailable (Whole bytes) is = absurd (cc)
-told_unavailable (Fixed refusal.Unavailable) is = refl
-told_unavailable (Fixed refusal) is = absurd (cc)
-told_unavailable Page is = absurd (cc)
+module _ {S : Type 0} (t : RunMeaning S) where
+  -- no events
+  pub moves_none : (ledgers : S) → MovesAll t ledgers [] ledgers
+  moves_none ledgers = record {
+    happen = λ live. refl;
+    lived = λ live. live;
+    found = λ found may. All_as_before tt may;
+  }
 
-pub told_available : (reply : Reply) → is_unavailable reply ≡ false → reply ≢ unavailable
-told_available reply is same = true≢false (sym (ap is_unavailable same) ∙ is)
+  one_found :
+      (old new : S) (event : Event) (found : Tenants) → FoundAfter t old event new found →
+      FoundAfterAll t old (event ∷ []) new found
+  one_found old new event found (As_now live keeps) = All_as_now live keeps
+  one_found old new event found (As_before still before) = All_as_before (still, tt) before
+  one_found old new event found (As_done deed more untold live done) =
+      All_done [] (event ∷ []) [] (t.tenants old) refl (untold_still event deed more untold, tt)
+      live refl
+      (subst (λ (deeds : List Deed). AreDone deeds (t.tenants old) found)
+      (sym (append-nil (untold_in event) ∙ untold)) done)
 
--- an event that says nothing of any tenant leaves any machines as they are
-still_happens :
-    (event : Event) (tenants : Tenants) → IsStill event → Happens tenants event tenants
-still_happens (Replied asked moment reply) tenants still = still tenants
-still_happens (Tried deed Unavailable) tenants still = λ digest. refl
-still_happens (Tried deed Done) tenants still = absurd still
-still_happens (Tried deed Declined) tenants still = absurd still
-still_happens (Reopened deeds) tenants still = absurd still
+  -- one event
+  pub moves_one : (old new : S) (event : Event) → Moves t old event new → MovesAll t old (event ∷ []) new
+  moves_one old new event moves = record {
+    happen = λ live. (t.tenants new, moves.happens live, refl);
+    lived = moves.lived;
+    found = λ found may. one_found old new event found (moves.found found may);
+  }
 
-untold_reply :
-    (untold : Bool) (asked : Result Question Early) (moment : ℕ) (reply : Reply) (deed : Deed)
-    (more : List Deed) → is_unavailable reply ≡ untold →
-    (if untold then deeds_in asked moment else []) ≡ deed ∷ more → reply ≡ unavailable
-untold_reply true asked moment reply deed more is untold = told_unavailable reply is
-untold_reply false asked moment reply deed more is untold = absurd (cc)
+  module _ (old mid new : S) (events more : List Event) (first : MovesAll t old events mid) where
+    found_before :
+        (found : Tenants) → AllByRecursion IsStill more → FoundAfterAll t old events mid found →
+        FoundAfterAll t old (events ++ more) new found
+    found_before found still (All_as_now live keeps) =
+        All_done events [] more (t.tenants mid) refl still (first.lived live) (first.happen live)
+        keeps
+    found_before found still (All_as_before still_before before) =
+        All_as_before (all_append IsStill events more still_before still) before
+    found_before found still (All_done before round since last are still_since live happen done) =
+        All_done before round (since ++ more) last
+        (ap (λ (es : List Event). es ++ more) are
+        ∙ (append_assoc before (round ++ since) more
+        ∙ ap (λ (es : List Event). before ++ es) (append_assoc round since more)))
+        (subst (AllByRecursion IsStill) (append_assoc round since more)
+        (all_append IsStill (round ++ since) more still_since still))
+        live happen done
 
--- so does one of which it was answered that the ledgers are unavailable
-untold_happens :
-    (event : Event) (deed : Deed) (more : List Deed) (tenants : Tenants) →
-    untold_in event ≡ deed ∷ more → Happens tenants event tenants
-untold_happens (Replied asked moment reply) deed more tenants untold = record {
-  answered = λ available.
-      absurd
-      (available
-      (untold_reply (is_unavailable reply) asked moment reply deed more refl untold));
-  same = λ u digest. refl;
-}
-untold_happens (Tried tried Unavailable) deed more tenants untold = λ digest. refl
-untold_happens (Tried tried Done) deed more tenants untold = absurd (cc)
-untold_happens (Tried tried Declined) deed more tenants untold = absurd (cc)
-untold_happens (Reopened deeds) deed more tenants untold = absurd (cc)
+    found_then :
+        (found : Tenants) → FoundAfterAll t mid more new found →
+        FoundAfterAll t old (events ++ more) new found
+    found_then found (All_as_now live keeps) = All_as_now live keeps
+    found_then found (All_as_before still before) =
+        found_before found still (first.found found before)
+    found_then found (All_done before round since last are still live happen done) =
+        All_done (events ++ before) round since last
+        (ap (λ (es : List Event). events ++ es) are
+        ∙ sym (append_assoc events before (round ++ since)))
+        still (first.lived live)
+        (happen_then events before (t.tenants old) (t.tenants mid) last (first.happen live) happen)
+        done
+
+    -- events behind others
+    pub moves_then : MovesAll t mid more new → MovesAll t old (events ++ more) new
+    moves_then second = record {
+      happen = λ live.
+          happen_then events more (t.tenants old) (t.tenants mid) (t.tenants new)
+          (first.happen (second.lived live)) (second.happen live);
+      lived = λ live. first.lived (second.lived live);
+      found = λ found may. found_then found (second.found found may);
+    }
 
 -- nothing is lost
 now_found :
@@ -71,126 +95,122 @@ now_found Since last found leads keeps = record {
   last = last;
   course = leads.course;
   deeds = [];
-  follows = Nothing leads.events refl;
+  follows = nothing_found leads.events;
   happens = keeps;
 }
 
 module _ (Since Now : List Event → Tenants → Type 0) where
-  -- an event more
+  -- events more
   course_on :
-      (events : List Event) (began mid new : Tenants) (event : Event) →
-      GoesOn Since (event ∷ []) Now → CourseSince Since events began mid →
-      Follows events event → Happens mid event new →
-      CourseSince Now (events ++ event ∷ []) began new
-  course_on events began mid new event on course follows happens = record {
+      (events more : List Event) (began mid new : Tenants) → GoesOn Since more Now →
+      CourseSince Since events began mid → AllByRecursion IsFree more →
+      HappenInTurn mid more new → CourseSince Now (events ++ more) began new
+  course_on events more began mid new on course free happen = record {
     since = on events began course.since;
-    course = Then events mid event new course.course follows happens;
+    course = course_then events more began mid new course.course free happen;
   }
 
-  event_leads :
-      (mid new : Tenants) (event : Event) → GoesOn Since (event ∷ []) Now → IsFree event →
-      Happens mid event new → Leads Since mid → Leads Now new
-  event_leads mid new event on free happens leads = record {
-    events = leads.events ++ event ∷ [];
+  events_lead :
+      (mid new : Tenants) (more : List Event) → GoesOn Since more Now →
+      AllByRecursion IsFree more → HappenInTurn mid more new → Leads Since mid → Leads Now new
+  events_lead mid new more on free happen leads = record {
+    events = leads.events ++ more;
     began = leads.began;
-    course =
-        course_on leads.events leads.began mid new event on leads.course (free leads.events)
-        happens;
+    course = course_on leads.events more leads.began mid new on leads.course free happen;
   }
 
   still_finds :
-      (found : Tenants) (event : Event) → GoesOn Since (event ∷ []) Now → IsFree event →
-      IsStill event → MayFind Since found → MayFind Now found
-  still_finds found event on free still f = record {
-    events = f.events ++ event ∷ [];
+      (found : Tenants) (more : List Event) → GoesOn Since more Now → AllByRecursion IsFree more →
+      AllByRecursion IsStill more → MayFind Since found → MayFind Now found
+  still_finds found more on free still f = record {
+    events = f.events ++ more;
     began = f.began;
     last = f.last;
     course =
-        course_on f.events f.began f.last f.last event on f.course (free f.events)
-        (still_happens event f.last still);
+        course_on f.events more f.began f.last f.last on f.course free
+        (still_happen more f.last still);
     deeds = f.deeds;
-    follows = Before f.events event f.follows still;
+    follows = found_since f.deeds f.events more f.follows still;
     happens = f.happens;
   }
 
-  untold_finds :
-      (last found : Tenants) (event : Event) (deed : Deed) (more : List Deed) →
-      GoesOn Since (event ∷ []) Now → IsFree event → untold_in event ≡ deed ∷ more →
-      AreDone (deed ∷ more) last found → Leads Since last → MayFind Now found
-  untold_finds last found event deed more on free untold done leads = record {
-    events = leads.events ++ event ∷ [];
+  round_finds :
+      (mid last found : Tenants) (more before round since : List Event) → GoesOn Since more Now →
+      AllByRecursion IsFree more → more ≡ before ++ (round ++ since) →
+      AllByRecursion IsStill (round ++ since) → HappenInTurn mid before last →
+      AreDone (flat_map untold_in round) last found → Leads Since mid → MayFind Now found
+  round_finds mid last found more before round since on free are still happen done leads = record {
+    events = leads.events ++ more;
     began = leads.began;
     last = last;
     course =
-        course_on leads.events leads.began last last event on leads.course (free leads.events)
-        (untold_happens event deed more last untold);
-    deeds = deed ∷ more;
-    follows = Last leads.events event (sym untold);
+        course_on leads.events more leads.began mid last on leads.course free
+        (subst (λ (all : List Event). HappenInTurn mid all last) (sym are)
+        (happen_then before (round ++ since) mid last last happen
+        (still_happen (round ++ since) last still)));
+    deeds = flat_map untold_in round;
+    follows = record {
+      before = leads.events ++ before;
+      round = round;
+      since = since;
+      are =
+          ap (λ (all : List Event). leads.events ++ all) are
+          ∙ sym (append_assoc leads.events before (round ++ since));
+      still = still;
+      all = refl;
+    };
     happens = done;
   }
 
-  -- nothing more happens
-  course_same :
-      (events : List Event) (began last : Tenants) → GoesOn Since [] Now →
-      CourseSince Since events began last → CourseSince Now (events ++ []) began last
-  course_same events began last on course = record {
-    since = on events began course.since;
-    course =
-        subst (λ (all : List Event). Course began all last) (sym (append-nil events))
-        course.course;
-  }
-
-  same_finds : (found : Tenants) → GoesOn Since [] Now → MayFind Since found → MayFind Now found
-  same_finds found on f = record {
-    events = f.events ++ [];
-    began = f.began;
-    last = f.last;
-    course = course_same f.events f.began f.last on f.course;
-    deeds = f.deeds;
-    follows =
-        subst (MayBeFound f.deeds) (sym (append-nil f.events)) f.follows;
-    happens = f.happens;
-  }
-
   module _ {S : Type 0} (t : RunMeaning S) where
-    found_after :
-        (mid new : S) (event : Event) (found : Tenants) → GoesOn Since (event ∷ []) Now →
-        IsFree event → Moves t mid event new → HasLed t Since mid →
-        FoundAfter t mid event new found → ∥ MayFind Now found ∥₁
-    found_after mid new event found on free moves led (As_now live keeps) =
-        ∥∥₁_map (led.here (moves.lived live)) (λ leads.
-        now_found Now (t.tenants new) found
-        (event_leads (t.tenants mid) (t.tenants new) event on free (moves.happens live) leads)
-        keeps)
-    found_after mid new event found on free moves led (As_before still before) =
-        ∥∥₁_map (led.found found before) (λ f. still_finds found event on free still f)
-    found_after mid new event found on free moves led (As_done deed more untold live done) =
+    -- what is there behind events
+    pub here_more :
+        (mid new : S) (events : List Event) → GoesOn Since events Now →
+        AllByRecursion IsFree events → HappenInTurn (t.tenants mid) events (t.tenants new) →
+        t.is_live mid → HasLed t Since mid → ∥ Leads Now (t.tenants new) ∥₁
+    here_more mid new events on free happen live led =
         ∥∥₁_map (led.here live) (λ leads.
-        untold_finds (t.tenants mid) found event deed more on free untold done leads)
+        events_lead (t.tenants mid) (t.tenants new) events on free happen leads)
 
-    -- behind an event
+    -- what may be found behind them
+    pub found_more :
+        (mid new : S) (events : List Event) (found : Tenants) → GoesOn Since events Now →
+        AllByRecursion IsFree events → (t.is_live new → ∥ Leads Now (t.tenants new) ∥₁) →
+        HasLed t Since mid → FoundAfterAll t mid events new found → ∥ MayFind Now found ∥₁
+    found_more mid new events found on free here led (All_as_now live keeps) =
+        ∥∥₁_map (here live) (λ leads. now_found Now (t.tenants new) found leads keeps)
+    found_more mid new events found on free here led (All_as_before still before) =
+        ∥∥₁_map (led.found found before) (λ f. still_finds found events on free still f)
+    found_more mid new events found on free here led
+        (All_done before round since last are still live happen done) =
+        ∥∥₁_map (led.here live) (λ leads.
+        round_finds (t.tenants mid) last found events before round since on free are still happen
+        done leads)
+
+    -- behind events
+    pub events_more :
+        (mid new : S) (events : List Event) → GoesOn Since events Now →
+        AllByRecursion IsFree events → MovesAll t mid events new → HasLed t Since mid →
+        HasLed t Now new
+    events_more mid new events on free moves led =
+        let here : (t.is_live new → ∥ Leads Now (t.tenants new) ∥₁) =
+        λ live. here_more mid new events on free (moves.happen live) (moves.lived live) led in
+        record {
+          here = here;
+          found = λ found may.
+              found_more mid new events found on free here led (moves.found found may);
+        }
+
+    -- behind one event
     pub event_more :
         (mid new : S) (event : Event) → GoesOn Since (event ∷ []) Now → IsFree event →
         Moves t mid event new → HasLed t Since mid → HasLed t Now new
-    event_more mid new event on free moves led = record {
-      here = λ live.
-          ∥∥₁_map (led.here (moves.lived live)) (λ leads.
-          event_leads (t.tenants mid) (t.tenants new) event on free (moves.happens live) leads);
-      found = λ found may. found_after mid new event found on free moves led (moves.found found may);
-    }
+    event_more mid new event on free moves led =
+        events_more mid new (event ∷ []) on (free, tt) (moves_one t mid new event moves) led
 
     -- where no event is
     pub same_more : (ledgers : S) → GoesOn Since [] Now → HasLed t Since ledgers → HasLed t Now ledgers
-    same_more ledgers on led = record {
-      here = λ live.
-          ∥∥₁_map (led.here live) (λ leads. record {
-            events = leads.events ++ [];
-            began = leads.began;
-            course =
-                course_same leads.events leads.began (t.tenants ledgers) on leads.course;
-          });
-      found = λ found may. ∥∥₁_map (led.found found may) (λ f. same_finds found on f);
-    }
+    same_more ledgers on led = events_more ledgers ledgers [] on tt (moves_none t ledgers) led
 
     opened_here :
         (mid new : S) → ((deeds : List Deed) → GoesOn Since (Reopened deeds ∷ []) Now) →
@@ -200,9 +220,12 @@ module _ (Since Now : List Event → Tenants → Type 0) where
         ∥∥₁_map (led.found (t.tenants new) may) (λ f. record {
           events = f.events ++ Reopened f.deeds ∷ [];
           began = f.began;
-          course =
-              course_on f.events f.began f.last (t.tenants new) (Reopened f.deeds) (on f.deeds)
-              f.course f.follows f.happens;
+          course = record {
+            since = on f.deeds f.events f.began f.course.since;
+            course =
+                Then f.events f.last (Reopened f.deeds) (t.tenants new) f.course.course f.follows
+                f.happens;
+          };
         }))
 
     -- behind an opening
@@ -236,7 +259,7 @@ module _ {S : Type 0} (t : RunMeaning S) (Now : List Event → Tenants → Type 
       last = found;
       course = record { since = since found (inr may); course = Begin };
       deeds = [];
-      follows = Nothing [] refl;
+      follows = nothing_found [];
       happens = λ digest. refl;
     }) ∣₁;
   }
@@ -256,7 +279,7 @@ module _ {S : Type 0} (t : RunMeaning S) (Now : List Event → Tenants → Type 
       last = t.tenants old;
       course = record { since = since; course = Begin };
       deeds = [];
-      follows = Nothing [] refl;
+      follows = nothing_found [];
       happens = settled live found may;
     }) ∣₁;
   }

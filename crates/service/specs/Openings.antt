@@ -1,12 +1,13 @@
 -- Ledgers that are opened again: what they mean, what an event and an opening make of them, and what
 -- has led to them.
 use Rattle.std.specs.Prelude.{◌≡◌, ◌⊎◌, ℕ, List, ◌∷◌, ◌++◌}
+use Rattle.std.specs.List.{AllByRecursion, flat_map}
 use Rattle.chain.specs.Ledgers.{LedgersMeaning, Tenants, KeepsAll, Finds}
 use Rattle.ledger_http.specs.declared.reply.Reply.{Reply}
 use Rattle.ledger_http.specs.Question.{asked_of}
 use Rattle.service.specs.Deeds.{Deed, AreDone}
 use Rattle.service.specs.Responds.{Responds, RefusesEarly, IsAnswered, IsLeftBy}
-use Rattle.service.specs.Courses.{Event, Replied, Happens, Follows, IsStill, untold_in}
+use Rattle.service.specs.Courses.{Event, Replied, Happens, HappenInTurn, Follows, IsStill, untold_in}
 use Rattle.service.specs.Courses.{MayBeFound, Course, IsReplyTo}
 
 -- what ledgers that can be opened again mean: their machines, whether calls are allowed, whether
@@ -48,6 +49,27 @@ pub record Moves {S : Type 0} (t : RunMeaning S) (old : S) (event : Event) (new 
   pub happens : t.is_live new → Happens (t.tenants old) event (t.tenants new)
   pub lived : t.is_live new → t.is_live old
   pub found : (found : Tenants) → t.may_find new found → FoundAfter t old event new found
+
+-- what an opening may find after events, one after the other: what is there; or, where none of them
+-- says anything of any tenant, what might have been found before; or the machines after all that was
+-- untold in a round of them, where nothing was said of any tenant in that round and since
+pub data FoundAfterAll {S : Type 0} (t : RunMeaning S) (old : S) (events : List Event) (new : S)
+    (found : Tenants) : Type 0 where
+  All_as_now : t.is_live new → KeepsAll (t.tenants new) found → FoundAfterAll t old events new found
+  All_as_before :
+      AllByRecursion IsStill events → t.may_find old found → FoundAfterAll t old events new found
+  All_done :
+      (before round since : List Event) (mid : Tenants) → events ≡ before ++ (round ++ since) →
+      AllByRecursion IsStill (round ++ since) → t.is_live old →
+      HappenInTurn (t.tenants old) before mid → AreDone (flat_map untold_in round) mid found →
+      FoundAfterAll t old events new found
+
+-- what events make of the ledgers, one after the other
+pub record MovesAll {S : Type 0} (t : RunMeaning S) (old : S) (events : List Event) (new : S) :
+    Type 0 where
+  pub happen : t.is_live new → HappenInTurn (t.tenants old) events (t.tenants new)
+  pub lived : t.is_live new → t.is_live old
+  pub found : (found : Tenants) → t.may_find new found → FoundAfterAll t old events new found
 
 -- a message is replied to
 pub record Replies {S : Type 0} (t : RunMeaning S) (old : S) (bytes : List ℕ) (moment : ℕ)

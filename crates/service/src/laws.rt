@@ -6,7 +6,9 @@ ghost use Rattle.service.specs.Openings.{ResponsesMove};
 ghost use Rattle.service.specs.OwnDeeds.{EachSeesItself};
 ghost use Rattle.service.specs.Responds.{Isolates, PageTellsNothing, StandsAlone};
 ghost use Rattle.service.specs.Retries.{HasAsked, RetriesAddNothing, FailedStaysFailed};
+ghost use Rattle.service.specs.Seen.{seen};
 ghost use Rattle.service.specs.Sound.{AreSound};
+ghost use Rattle.service.specs.Turns.{EachHearsItsOwn};
 ghost use Rattle.records.specs.Step.{account_rules, transfer_rules};
 ghost use Rattle.records.specs.declared.account_result.AccountResult.TheVariants as for_account;
 ghost use Rattle.records.specs.declared.transfer_result.TransferResult.TheVariants as for_transfer;
@@ -66,6 +68,19 @@ pub fn responses_move<L: Ledgers>()
 {
     meanings_are_unique();
 }
+
+/// So it is at each point of a round.
+pub fn responses_move_within<L: Ledgers>()
+    ensures { ResponsesMove (seen L.means) }
+{
+    meanings_are_unique();
+}
+
+/// In a round each message gets one reply, the one in its place: it is the response to that message
+/// alone, over the ledgers as those before it left them.
+pub fn rounds_answer_each()
+    ensures { EachHearsItsOwn }
+{}
 
 /// The exchanges of a connection are a course, as long as the ledgers are live, and so are those of
 /// several connections, one exchange after the other.

@@ -9,14 +9,21 @@ mod laws;
 mod moments;
 mod reading;
 mod responding;
+mod round;
 mod serving;
+mod settles;
 mod showing;
+mod turns;
 
 pub use laws::{
     connections_are_courses, connections_serve_each_alone, each_tenant_sees_itself,
     failed_in_course_stays_failed, ledgers_are_sound, messages_answered_alone, page_tells_nothing,
-    responses_happen, responses_move, retried_in_course_adds_nothing, tenants_are_isolated,
+    responses_happen, responses_move, responses_move_within, retried_in_course_adds_nothing,
+    rounds_answer_each, tenants_are_isolated,
 };
 pub use moments::Moments;
 pub use responding::respond;
+pub use round::respond_round;
 pub use serving::{ServeFault, serve};
+pub use settles::Settles;
+pub use turns::{Message, Turns};

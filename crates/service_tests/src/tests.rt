@@ -11,5 +11,6 @@ mod messages;
 mod played;
 mod reads;
 mod refusals;
+mod rounds;
 mod scarce;
 mod sockets;

@@ -111,6 +111,11 @@ impl Guests {
         self.is_judging = has_seen_all;
     }
 
+    /// Whether somebody's turn may be left.
+    pub(crate) fn has_turns(&self) -> bool {
+        self.left > 0
+    }
+
     /// The next whose turn it is.
     pub(crate) fn next_ready(&mut self) -> Option<u64> {
         for _ in 0..self.left {

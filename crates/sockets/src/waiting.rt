@@ -170,6 +170,11 @@ impl<K: Clock, O: Operator> Peers for Sockets<'_, K, O> {
         self.told_next(fresh)
     }
 
+    // Who asks for another turn is told behind the next waiting, and waited for by nobody.
+    fn has_more(&self) -> bool {
+        self.guests.has_turns()
+    }
+
     fn wants(&mut self, client: u64, bytes: u64) {
         self.guests.wants(client, bytes);
     }

@@ -1,24 +1,27 @@
 -- What an opening may find after a call, as the machines of tenants.
-use Rattle.std.proofs.Common.{◌≡◌, ◌≢◌, ◌⊎◌, inl, inr, ℕ, Bool, true, false, List, Result, Ok, Err, IsOk, subst, ◌∙◌}
+use Rattle.std.proofs.Common.{◌≡◌, ◌≢◌, ◌⊎◌, inl, inr, ℕ, Bool, true, false, List, Result, Ok, Err, IsOk, sym, subst, ◌∙◌}
 use Rattle.std.proofs.lemmas.Bool.{cases_Bool, both_ways}
 use Rattle.records.specs.declared.unavailable.Unavailable.{Unavailable}
 use Rattle.records.specs.declared.unavailable.Unavailable.TheVariants.{Disk as DiskFailed}
 use Rattle.records.specs.Machine.{Machine}
 use Rattle.sqlite_disk.specs.declared.Disk as disk
+use Rattle.sqlite.specs.Effect.{Database}
+use Rattle.sqlite.specs.Files.{file_state}
 use Rattle.sqlite_trees.specs.Tree.{Trees}
 use Rattle.chain.specs.declared.ledgers.BatchFault.{BatchFault}
 use Rattle.chain.specs.declared.ledgers.BatchFault.TheVariants as batch_fault
 use Rattle.chain.specs.declared.reads.Listed.{Listed}
 use Rattle.chain.specs.declared.reads.ReadFault.{ReadFault}
 use Rattle.chain.specs.declared.reads.ReadFault.TheVariants as fault
-use Rattle.chain.specs.Ledgers.{Tenants, KeepsAll, Finds, IsAnswered, LeadsBy}
+use Rattle.chain.specs.Ledgers.{Tenants, KeepsAll, Finds, IsAnswered, LeadsBy, LeadsByRound}
 use Rattle.chain.specs.LedgerReads.{IsTold}
 use Rattle.stored_ledgers.specs.Directory.{tenants_in}
 use Rattle.stored_ledgers.specs.DueSets.{DueSets}
 use Rattle.stored_ledgers.specs.Outcomes.{IsAfterBatch}
+use Rattle.stored_ledgers.specs.Rounds.{IsAfterRound}
 use Rattle.store.specs.StoreLaws.{store_meaning}
 use Rattle.store.specs.Stores.{IsUsable, IsUsableAt, IsLive, IsLiveAt, IsHonest, IsHonestAt, tenants_of, tenants_at}
-use Rattle.store.specs.Stores.{FindsTenants, Follows, Goes, OfDatabase, OfDatabaseAt, Reads, may_find}
+use Rattle.store.specs.Stores.{FindsTenants, Follows, Goes, OfDatabase, OfDatabaseAt, Answers, Reads, may_find}
 use Rattle.stored_ledgers.specs.TenantReads.{reach_of}
 use Rattle.store.specs.Lookups.{read_answer, LooksUp}
 use Rattle.store.specs.declared.place.Place.{Place}
@@ -78,13 +81,29 @@ module _ {D : Type 0} {g : disk.Ghosts D} where
   )
   leads_at gives digest (at.Shut files) db found agrees after = absurd after
 
-  module _ {O : Type 0} (gives : Machine → O → Machine → Type 0) (digest : List ℕ) (old new : Store D g)
-      (usable : IsUsable old) (follows : Follows old new)
-      (goes : Goes old new (λ db. OfDatabase (λ was. IsAfterBatch gives digest was db) old)) where
+  round_at :
+      {O : Type 0} (gives : Tenants → O → Tenants → Type 0) (place : Place D g) (db : Trees)
+      (found : Tenants) → ((d : List ℕ) → found d ≡ tenants_in db d) →
+      OfDatabaseAt (λ old. IsAfterRound gives old db) place →
+      LeadsByRound gives (tenants_at place) found
+  round_at gives (at.Open conn) db found agrees after =
+      let same : tenants_in db ≡ found = λ i digest. sym (agrees digest) i in (
+        after.output,
+        subst (gives (tenants_in (file_state conn).now.trees) after.output) same after.done,
+      )
+  round_at gives (at.Shut files) db found agrees after = absurd after
+
+  -- what a call may leave in the files leads to the machines of its work
+  module _ (old new : Store D g) (usable : IsUsable old) (follows : Follows old new)
+      (unready : old.ready ≡ false → new ≡ old) (After : Database → Trees → Type 0)
+      (Leads : Tenants → Tenants → Type 0)
+      (leads : (db : Trees) (found : Tenants) → ((d : List ℕ) → found d ≡ tenants_in db d) →
+      OfDatabase (λ was. After was db) old → Leads (tenants_of old) found)
+      (goes : Goes old new (λ db. OfDatabase (λ was. After was db) old)) where
     after_crash :
         (found : Tenants) (f : FindsTenants new found) → old.ready ≡ true →
-        may_find old f.db ⊎ OfDatabase (λ was. IsAfterBatch gives digest was f.db) old →
-        FindsTenants old found ⊎ (IsLive old × LeadsBy gives digest (tenants_of old) found)
+        may_find old f.db ⊎ OfDatabase (λ was. After was f.db) old →
+        FindsTenants old found ⊎ (IsLive old × Leads (tenants_of old) found)
     after_crash found f ready (inl before) = inl (record {
       honest = follows.honest f.honest;
       db = f.db;
@@ -93,21 +112,42 @@ module _ {D : Type 0} {g : disk.Ghosts D} where
     })
     after_crash found f ready (inr after) = inr (
       live_at old.ready old.due old.place ready usable (follows.honest f.honest),
-      leads_at gives digest old.place f.db found f.agrees after,
+      leads f.db found f.agrees after,
     )
 
-    -- after a batch
-    pub finds_batch :
-        (result : Result O BatchFault) → (old.ready ≡ false → new ≡ old)
-        → (IsHonest new → result ≢ Err (batch_fault.Unavailable DiskFailed) → IsLive new)
-        → Finds store_meaning (IsAnswered result) (LeadsBy gives digest) old new
-    finds_batch result unready open_yet = record {
-      found = λ found f. elim (cases_Bool old.ready) [
-        | inl ready ↦ after_crash found f ready (goes f.honest f.db f.may)
-        | inr shut ↦ inl (subst (λ (s : Store D g). FindsTenants s found) (unready shut) f)
-      ];
-      live = λ answered found f. open_yet f.honest (not_failed result answered);
-    }
+    found_after :
+        (found : Tenants) → FindsTenants new found →
+        FindsTenants old found ⊎ (IsLive old × Leads (tenants_of old) found)
+    found_after found f = elim (cases_Bool old.ready) [
+      | inl ready ↦ after_crash found f ready (goes f.honest f.db f.may)
+      | inr shut ↦ inl (subst (λ (s : Store D g). FindsTenants s found) (unready shut) f)
+    ]
+
+  -- after a batch
+  pub finds_batch :
+      {O : Type 0} (gives : Machine → O → Machine → Type 0) (digest : List ℕ) (old new : Store D g) →
+      IsUsable old → Follows old new →
+      Goes old new (λ db. OfDatabase (λ was. IsAfterBatch gives digest was db) old) →
+      (result : Result O BatchFault) → (old.ready ≡ false → new ≡ old)
+      → (IsHonest new → result ≢ Err (batch_fault.Unavailable DiskFailed) → IsLive new)
+      → Finds store_meaning (IsAnswered result) (LeadsBy gives digest) old new
+  finds_batch gives digest old new usable follows goes result unready open_yet = record {
+    found = found_after old new usable follows unready (IsAfterBatch gives digest)
+        (LeadsBy gives digest) (leads_at gives digest old.place) goes;
+    live = λ answered found f. open_yet f.honest (not_failed result answered);
+  }
+
+  -- after a round
+  pub finds_round :
+      {O : Type 0} (gives : Tenants → O → Tenants → Type 0) (old new : Store D g)
+      (result : Result O Unavailable) → IsUsable old → Answers old new result →
+      Goes old new (λ db. OfDatabase (λ was. IsAfterRound gives was db) old) →
+      Finds store_meaning (result ≢ Err DiskFailed) (LeadsByRound gives) old new
+  finds_round gives old new result usable answers goes = record {
+    found = found_after old new usable answers.follows (λ shut. (answers.refuses shut).1)
+        (IsAfterRound gives) (LeadsByRound gives) (round_at gives old.place) goes;
+    live = λ reached found f. answers.open_yet f.honest reached;
+  }
 
   -- after a call that only reads
   pub finds_read :

@@ -1,4 +1,4 @@
--- What a read of a store leaves.
+-- What a call on a store leaves where it answers.
 use Rattle.std.proofs.Common.{◌≡◌, ◌≢◌, ◌⊎◌, Bool, true, not, Result, Err, IsTrue, ◌↔◌, sym, ap, subst, ◌∙◌, arith}
 use Rattle.std.proofs.lemmas.Bool.{both_ways}
 use Rattle.records.specs.declared.unavailable.Unavailable.{Unavailable}
@@ -12,8 +12,8 @@ use Rattle.sqlite.specs.State.{State, HasCleanDisk}
 use Rattle.ledger_sql.specs.Frames.{Live, Follows}
 use Rattle.stored_ledgers.specs.Directory.{tenants_in}
 use Rattle.stored_ledgers.specs.DueSets.{DueSets}
-use Rattle.stored_ledgers.specs.Resting.{IsSame, Serves, HoldsHere}
-use Rattle.store.specs.Stores.{IsUsable, IsUsableAt, IsLiveAt, IsHonestAt, OfDatabaseAt, tenants_at, may_find_at, Reads}
+use Rattle.stored_ledgers.specs.Resting.{IsResting, IsSame, Serves, HoldsHere}
+use Rattle.store.specs.Stores.{IsUsable, IsUsableAt, IsLiveAt, IsHonestAt, OfDatabaseAt, tenants_at, may_find_at, Answers, Reads}
 use Rattle.store.specs.declared.place.Place.{Place}
 use Rattle.store.specs.declared.place.Place.TheVariants as at
 use Rattle.store.specs.declared.store.Store.{Store}
@@ -41,13 +41,11 @@ module _ {D : Type 0} (g : disk.Ghosts D) where
 
   module _ {T : Type 0} (result : Result T Unavailable) (fault : Bool) (old new : Store D g)
       (conn conn' : Held (FileStore D g)) (old_is : old.place ≡ at.Open conn)
-      (new_is : new.place ≡ at.Open conn') (same_due : new.due ≡ old.due)
-      (was_ready : old.ready ≡ true)
+      (new_is : new.place ≡ at.Open conn') (was_ready : old.ready ≡ true)
       (now_ready : new.ready ≡ not fault) (told : IsTrue fault ↔ (result ≡ Err DiskFailed))
-      (usable : IsUsable old) (follows : Follows (file_state conn) (file_state conn'))
-      (same : Live (file_state conn') → IsSame (file_state conn) (file_state conn'))
+      (usable : IsUsable old)
       (is_open : HasCleanDisk (file_state conn') → result ≢ Err DiskFailed → IsTrue (file_state conn').is_open) where
-    abbrev was_usable : IsUsableAt old.ready old.due (at.Open conn)
+    was_usable : IsUsableAt old.ready old.due (at.Open conn)
     was_usable = subst (IsUsableAt old.ready old.due) old_is usable
 
     unless_fault : new.ready ≡ true → result ≢ Err DiskFailed
@@ -55,31 +53,45 @@ module _ {D : Type 0} (g : disk.Ghosts D) where
         let yes_fault : fault ≡ true = told.1 failed in
         absurd (both_ways _ (now_ready ∙ ap not yes_fault) ready)
 
-    usable_here : IsUsableAt new.ready old.due (at.Open conn')
-    usable_here = (
-      λ live. still_rests old.due (file_state conn) (file_state conn')
-          (was_usable.0 (live_before (file_state conn) (file_state conn') follows live)) (same live),
-      λ ready clean. is_open clean (unless_fault ready),
-    )
+    -- a call on the open database, which then rests
+    pub answers_open : (HasCleanDisk (file_state conn') → HasCleanDisk (file_state conn))
+        → (Live (file_state conn') → IsResting new.due (file_state conn')) → Answers old new result
+    answers_open before rests = record {
+      usable = subst (IsUsableAt new.ready new.due) (sym new_is)
+          (rests, λ ready clean. is_open clean (unless_fault ready));
+      follows = record {
+        lived = λ live. subst IsLiveAt (sym old_is)
+            (let clean = before (subst IsLiveAt new_is live).0 in (clean, was_usable.1 was_ready clean));
+        honest = λ honest. subst IsHonestAt (sym old_is) (before (subst IsHonestAt new_is honest));
+        unready = λ ready. was_ready;
+      };
+      open_yet = λ honest no_fault. subst IsLiveAt (sym new_is)
+          (let clean = subst IsHonestAt new_is honest in (clean, is_open clean no_fault));
+      unready = λ failed. now_ready ∙ ap not (told.1 failed);
+      refuses = λ shut. absurd (both_ways _ shut was_ready);
+    }
+
+  module _ {T : Type 0} (result : Result T Unavailable) (fault : Bool) (old new : Store D g)
+      (conn conn' : Held (FileStore D g)) (old_is : old.place ≡ at.Open conn)
+      (new_is : new.place ≡ at.Open conn') (same_due : new.due ≡ old.due)
+      (was_ready : old.ready ≡ true)
+      (now_ready : new.ready ≡ not fault) (told : IsTrue fault ↔ (result ≡ Err DiskFailed))
+      (usable : IsUsable old) (follows : Follows (file_state conn) (file_state conn'))
+      (same : Live (file_state conn') → IsSame (file_state conn) (file_state conn'))
+      (is_open : HasCleanDisk (file_state conn') → result ≢ Err DiskFailed → IsTrue (file_state conn').is_open) where
+    still_resting : Live (file_state conn') → IsResting new.due (file_state conn')
+    still_resting live =
+        let was : IsUsableAt old.ready old.due (at.Open conn) =
+        subst (IsUsableAt old.ready old.due) old_is usable in
+        subst (λ sets. IsResting sets (file_state conn')) (sym same_due)
+        (still_rests old.due (file_state conn) (file_state conn')
+        (was.0 (live_before (file_state conn) (file_state conn') follows live)) (same live))
 
     -- a read of the open database
     pub reads_open : Reads old new result
     reads_open = record {
-      answers = record {
-        usable = subst (λ sets. IsUsableAt new.ready sets new.place) (sym same_due)
-            (subst (IsUsableAt new.ready old.due) (sym new_is) usable_here);
-        follows = record {
-          lived = λ live. subst IsLiveAt (sym old_is)
-              (live_before (file_state conn) (file_state conn') follows (subst IsLiveAt new_is live));
-          honest = λ honest. subst IsHonestAt (sym old_is) (clean_before (file_state conn) (file_state conn')
-              follows (subst IsHonestAt new_is honest));
-          unready = λ ready. was_ready;
-        };
-        open_yet = λ honest no_fault. subst IsLiveAt (sym new_is)
-            (let clean = subst IsHonestAt new_is honest in (clean, is_open clean no_fault));
-        unready = λ failed. now_ready ∙ ap not (told.1 failed);
-        refuses = λ shut. absurd (both_ways _ shut was_ready);
-      };
+      answers = answers_open result fault old new conn conn' old_is new_is was_ready now_ready told usable is_open
+          (clean_before (file_state conn) (file_state conn') follows) still_resting;
       unchanged = λ live.
           subst (λ place. OfDatabaseAt (λ before. OfDatabaseAt (λ after. after ≡ before) new.place) place)
           (sym old_is) (subst (OfDatabaseAt (λ after. after ≡ (file_state conn).now)) (sym new_is)

@@ -1,34 +1,20 @@
 -- What every run of calls on a store keeps, what a live one holds, and what an opening finds.
-use Rattle.std.proofs.Common.{◌≡◌, ℤ, Bool, List, ℕ, Option, Some, None, option_map, refl, sym}
-use Rattle.std.proofs.Common.{ap, ◌∙◌, subst}
+use Rattle.std.proofs.Common.{◌≡◌, Bool, List, ℕ, refl, sym, ap, ◌∙◌}
 use Rattle.std.proofs.Math.Logic.{∥∥₁_map}
 use Rattle.sqlite_disk.specs.declared.Disk as disk
-use Rattle.records.specs.Valid.{IsValid}
 use Rattle.chain.specs.Ledgers.{LedgersMeaning, Tenants, KeepsAll, AreValid}
 use Rattle.sqlite_trees.specs.Tree.{Trees}
 use Rattle.sqlite.specs.Effect.{Database}
 use Rattle.sqlite.specs.Files.{file_state}
-use Rattle.stored_tables.specs.MachineOf.{machine_of}
-use Rattle.stored_ledgers.specs.Directory.{number_of, tenants_in}
+use Rattle.stored_ledgers.specs.Directory.{tenants_in}
 use Rattle.stored_ledgers.specs.DueSets.{DueSets}
-use Rattle.stored_ledgers.specs.Ledger.{HoldsLedgers}
+use Rattle.stored_ledgers.specs.RoundLaws.{valid_in}
 use Rattle.store.specs.Stores.{IsUsable, IsUsableAt, IsLive, IsLiveAt, IsHonest, IsHonestAt, Follows}
 use Rattle.store.specs.Stores.{tenants_of, tenants_at, may_find, may_find_at, FindsTenants, Finds}
 use Rattle.store.specs.Stores.{FindsAt, IsSettledStore, IsSettledAt}
 use Rattle.store.specs.declared.place.Place.{Place}
 use Rattle.store.specs.declared.place.Place.TheVariants as at
 use Rattle.store.specs.declared.store.Store.{Store}
-
--- the machines of a database that holds ledgers are valid
-valid_in : (db : Database) → HoldsLedgers db → AreValid (tenants_in db.trees)
-valid_in db holds digest m is = of (number_of digest db.trees) refl is
-  where
-    of : (found : Option ℤ) → number_of digest db.trees ≡ found
-        → option_map (λ number. machine_of number db.trees) found ≡ Some m → IsValid m
-    of None found none = absurd (cc)
-    of (Some number) found some =
-        let same : machine_of number db.trees ≡ m = cc in
-        subst IsValid same (holds.machines digest number found).valid
 
 module _ {D : Type 0} {g : disk.Ghosts D} where
   -- what a store means as ledgers

@@ -4,7 +4,7 @@ ghost use Rattle.std.specs.Prelude.{◌≡◌, false};
 
 use crate::Store;
 use crate::lookups::{AccountLookup, TransferLookup, read_answer};
-use chain::{BatchFault, Ledgers, Listed, ReadFault, Work};
+use chain::{BatchFault, Ledgers, Listed, ReadFault, RoundWork, Rounds, Work};
 use records::{
     AccountFilter, AccountWithBalances, BalanceAt, Order, RowSink, Transfer, Unavailable,
 };
@@ -82,4 +82,10 @@ impl<D: Disk + Drop> Ledgers for Store<D> {
     ghost lived = { λ a b f live. f.lived live };
 
     ghost valid = { λ a live usable. valid_tenants a live usable };
+}
+
+impl<D: Disk + Drop> Rounds for Store<D> {
+    fn in_round<W: RoundWork + Drop>(&mut self, work: W) -> Result<W::Output, Unavailable> {
+        self.in_round(work)
+    }
 }

@@ -1,8 +1,8 @@
 //! A store: the ledgers of many tenants in two files.
 
-ghost use Rattle.std.specs.Prelude.{◌≡◌, ◌≢◌, false, Err, is_some, IfOk, IfErr, IsTrue};
+ghost use Rattle.std.specs.Prelude.{◌≡◌, ◌≢◌, false, Err, is_some, IfOk, IfErr, OnErr, IsTrue};
 ghost use Rattle.records.specs.declared.unavailable.Unavailable.TheVariants.{Disk as DiskFailed};
-ghost use Rattle.chain.specs.Ledgers.{IsRun};
+ghost use Rattle.chain.specs.Ledgers.{IsRun, KeepsAll};
 ghost use Rattle.chain.specs.declared.ledgers.BatchFault.TheVariants.{Unavailable as AreUnavailable};
 ghost use Rattle.sqlite.specs.Files.{file_state, image_of};
 ghost use Rattle.stored_ledgers.specs.Outcomes.{IsAfterBatch};
@@ -14,12 +14,13 @@ ghost use Rattle.openings.specs.Found.{FindsOurs, LeavesNew};
 ghost use Rattle.stored_ledgers.specs.Joining.{HasJoined, Joined};
 ghost use Rattle.openings.specs.Opened.{LeavesRefused};
 ghost use Rattle.stored_ledgers.specs.Resting.{Serves};
-ghost use Rattle.store.specs.Stores.{IsLive, IsHonest, IsOpenedOn, IsReady, IsStoreOver, tenants_of, GivesBack, IsUsable, Follows, Goes, OfDatabase, OfDatabases, IsSettledStore, Reads, RefusesUnready};
+ghost use Rattle.stored_ledgers.specs.Rounds.{IsAfterRound};
+ghost use Rattle.store.specs.Stores.{IsLive, IsHonest, IsOpenedOn, IsReady, IsStoreOver, tenants_of, GivesBack, IsUsable, Follows, Goes, OfDatabase, OfDatabases, IsSettledStore, Answers, Reads, RefusesUnready};
 ghost use Rattle.openings.specs.Whole.{AreAllRows, AreRowsOf};
 ghost use Rattle.openings.specs.declared.opening.OpenFault.TheVariants.{NotALedger};
 
 use crate::place::Place;
-use chain::{BatchFault, Work};
+use chain::{BatchFault, RoundWork, Work};
 use openings::auditing::Audit;
 use openings::closing::{is_settled, shut};
 use openings::creating::create_ledger;
@@ -37,6 +38,7 @@ use stored_ledgers::batches::{DueSets, batch_answer, in_batch};
 use stored_ledgers::directory::{digest_of, knows};
 use stored_ledgers::joining::{AddTenant, join, joining_answer};
 use stored_ledgers::probe::is_disk_fault;
+use stored_ledgers::rounds::in_round;
 use tenants::TenantName;
 
 /// The ledgers of many tenants in one database, in two files: a log and the database file.
@@ -292,5 +294,30 @@ impl<D: Disk + Drop> Store<D> {
         let done = in_batch(conn, &mut self.due, digest, work);
         self.ready = !is_disk_fault(&done);
         batch_answer(done)
+    }
+
+    /// Does the work of a round, and keeps all of it or nothing. After `Unavailable` nothing has
+    /// changed; only where the disk failed may the next opening find the whole round.
+    pub fn in_round<W: RoundWork + Drop>(&mut self, work: W) -> Result<W::Output, Unavailable>
+        requires { IsUsable self.old }
+        ensures run { IsLive self.new → IfOk result (λ output. W.gives work
+            (tenants_of self.old) output (tenants_of self.new)) }
+        ensures same { IsLive self.new → OnErr result
+            (KeepsAll (tenants_of self.old) (tenants_of self.new)) }
+        ensures directory { IsLive self.new → OfDatabases
+            (λ old new. KeepsDirectory old.trees new.trees) self.old self.new }
+        ensures finds { Goes self.old self.new (λ db. OfDatabase
+            (λ old. IsAfterRound (W.gives work) old db) self.old) }
+        ensures answers { Answers self.old self.new result }
+    {
+        if !self.ready {
+            return Err(Unavailable::Disk);
+        }
+        let Place::Open(conn) = &mut self.place else {
+            return Err(Unavailable::Disk);
+        };
+        let ran = in_round(self.alloc, conn, &mut self.due, work);
+        self.ready = !is_disk_fault(&ran);
+        ran
     }
 }

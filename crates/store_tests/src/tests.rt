@@ -14,6 +14,7 @@ mod opened_files;
 mod playing;
 mod read_answers;
 mod reads;
+mod rounds;
 mod stops;
 mod tables;
 mod taken_rows;

@@ -3,6 +3,8 @@ mod LedgerLemmas
 mod BatchLemmas
 mod ServingLemmas
 mod OutcomeLemmas
+mod WorkLemmas
+mod RoundLemmas
 mod TakenLemmas
 mod JoinLemmas
 mod FreeLemmas

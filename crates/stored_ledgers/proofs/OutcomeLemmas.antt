@@ -1,5 +1,5 @@
 -- What a tenant's batch leaves, by the tenant's digest.
-use Rattle.std.proofs.Common.{◌≡◌, ℤ, inl, inr, false, None, Some, Option, option_map, w64, FitsSigned, to_z, of_z, ℕ, List, [], ◌∷◌, Ok, Err, sym, ap, subst, ◌∙◌}
+use Rattle.std.proofs.Common.{◌≡◌, ℤ, inl, inr, false, Some, Option, option_map, w64, FitsSigned, to_z, of_z, ℕ, ◌≤◌, List, [], ◌∷◌, sym, ap, subst, ◌∙◌, arith}
 use Rattle.std.specs.BTreeMap.{get}
 use Rattle.std.specs.Ordering.{int_cmp, is_eq}
 use Rattle.std.proofs.lemmas.Int.{to_z-of_z}
@@ -7,20 +7,20 @@ use Rattle.records.specs.Machine.{Machine}
 use Rattle.sqlite.specs.Effect.{Database}
 use Rattle.sqlite.specs.State.{State}
 use Rattle.sqlite_trees.specs.Tree.{Trees}
-use Rattle.chain.specs.Ledgers.{IsDone, IsRun, KeepsAll}
+use Rattle.chain.specs.Ledgers.{IsDone, KeepsAll}
 use Rattle.sqlite_value.specs.declared.value.Value.TheVariants.{Int}
 use Rattle.ledger_sql.specs.Effects.{Picks}
 use Rattle.ledger_sql.specs.TableRows.{directory_rows, numbers_with_digest}
 use Rattle.stored_tables.specs.MachineOf.{machine_of}
-use Rattle.stored_ledgers.specs.declared.batches.UnknownKey.{UnknownKey}
 use Rattle.stored_ledgers.specs.Directory.{IsTenant, number_of, tenants_in, KeepsDirectory}
 use Rattle.stored_ledgers.specs.DirectoryLaws.{found_number}
 use Rattle.stored_ledgers.specs.DueSetLaws.{same_number, other_key}
-use Rattle.stored_ledgers.specs.DueSets.{DueSet, DueSets, CoversMachine}
+use Rattle.stored_ledgers.specs.DueSets.{DueSet, DueSets, AreCovered, CoversMachine}
 use Rattle.stored_ledgers.specs.Ledger.{HoldsLedgers}
-use Rattle.stored_ledgers.specs.Outcomes.{batch_answer, CanWork, HasWorked, IsBatchDone, IsAfterBatch}
+use Rattle.stored_ledgers.specs.Outcomes.{CanWork, HasWorked, IsBatchDone, IsBatchTimed, IsAfterBatch, KeepsTime}
 use Rattle.stored_ledgers.specs.Resting.{CanServe, IsSame}
-use Rattle.stored_ledgers.specs.Transactions.{Answer, IfAnswered, UnlessMade, MayLeave}
+use Rattle.stored_ledgers.specs.Transactions.{MayLeave}
+use Rattle.stored_ledgers.specs.declared.working.Worked.{Worked}
 use Rattle.stored_ledgers.proofs.LedgerLemmas.{machine_kept, same_directory, same_of, ledgers_after, others_after}
 
 -- a tenant that was looked up has this number, as it is passed on
@@ -48,28 +48,33 @@ can_work sets number set db serves tenant found =
 -- sets in which one tenant's was replaced
 module _ (sets sets' : DueSets) (number : ℤ) (set : DueSet) (found : get int_cmp sets' number ≡ Some set)
     (others : (other : ℤ) → is_eq (int_cmp number other) ≡ false
-    → get int_cmp sets' other ≡ get int_cmp sets other)
-    (old : Database) (serves : CanServe sets old) where
-  -- serve as before, if the new one covers the tenant's machine
-  pub serves_again : CoversMachine set (machine_of number old.trees) → CanServe sets' old
-  serves_again covers = record {
-    ledgers = serves.ledgers;
-    covered = λ digest other is. elim (same_number other number) [
-      | inl same ↦ (
-        set,
-        ap (get int_cmp sets') same ∙ found,
-        subst (λ n. CoversMachine set (machine_of n old.trees)) (sym same) covers,
-      )
-      | inr differs ↦
-          let was = serves.covered digest other is in
-          (was.0, others other (other_key number other differs) ∙ was.1, was.2)
-    ];
-  }
+    → get int_cmp sets' other ≡ get int_cmp sets other) where
+  -- cover what they covered, if the new one does of that tenant
+  pub sets_again : (before : DueSet) (trees : Trees) → get int_cmp sets number ≡ Some before
+      → (CoversMachine before (machine_of number trees) → CoversMachine set (machine_of number trees))
+      → AreCovered sets trees → AreCovered sets' trees
+  sets_again before trees was again covered digest other is =
+      let there = covered digest other is in
+      elim (same_number other number) [
+        | inl same ↦ (
+          set,
+          ap (get int_cmp sets') same ∙ found,
+          subst (λ n. CoversMachine set (machine_of n trees)) (sym same)
+              (again (subst (λ n. CoversMachine before (machine_of n trees)) same
+              (subst (λ x. CoversMachine x (machine_of other trees)) (same_set there.0 there.1 same)
+              there.2))),
+        )
+        | inr differs ↦
+            (there.0, others other (other_key number other differs) ∙ there.1, there.2)
+      ]
+    where
+      same_set : (x : DueSet) → get int_cmp sets other ≡ Some x → other ≡ number → x ≡ before
+      same_set x is same = let e = ap (get int_cmp sets) same in cc
 
-  module _ {O : Type 0} (gives : Machine → O → Machine → Type 0) (digest : List ℕ) (new : Database)
-      (output : O) (tenant : number_of digest old.trees ≡ Some number)
+  module _ {O : Type 0} (gives : Machine → O → Machine → Type 0) (digest : List ℕ) (old new : Database)
+      (serves : CanServe sets old) (output : O) (tenant : number_of digest old.trees ≡ Some number)
       (worked : HasWorked gives number set old new output) where
-    -- and after the work they serve what it left
+    -- after the work they serve what it left
     pub serves_after : CanServe sets' new
     serves_after = record {
       ledgers = ledgers_after digest number old new tenant serves.ledgers worked.batch;
@@ -109,45 +114,41 @@ module _ (sets sets' : DueSets) (number : ℤ) (set : DueSet) (found : get int_c
       };
     }
 
--- what a batch is told, and that the directory is as before, whatever was answered
-module _ {O : Type 0} (gives : Machine → O → Machine → Type 0) (digest : List ℕ) (sets : DueSets)
-    (old new : State) where
-  abbrev told_batch : Answer O UnknownKey → Type 0
-  told_batch answer =
-      IfAnswered answer (λ output. IsBatchDone gives digest old.now new.now output × CanServe sets new.now)
-      (λ unknown. tenants_in old.now.trees digest ≡ None)
+    -- and no clock has gone back
+    pub time_kept : (clock : ℕ) → clock ≡ (machine_of number old.trees).clock
+        → clock ≤ (machine_of number new.trees).clock → KeepsTime old.trees new.trees
+    time_kept clock was later at = elim (same_number at number) [
+      | inl same ↦ subst (λ n. (machine_of n old.trees).clock ≤ (machine_of n new.trees).clock)
+          (sym same) (omega (arith, was, later))
+      | inr differs ↦
+          let kept = ap (λ (m : Machine). m.clock)
+          (machine_kept at old.trees new.trees (worked.batch.others.others at differs)) in
+          omega (arith, kept)
+    ]
 
-  keeps_all : IsSame old new → KeepsAll (tenants_in old.now.trees) (tenants_in new.now.trees)
-  keeps_all same other = ap (λ (db : Database). tenants_in db.trees other) same.now
+-- where the database is the same, so is each machine
+pub keeps_all : (old new : State) → IsSame old new
+    → KeepsAll (tenants_in old.now.trees) (tenants_in new.now.trees)
+keeps_all old new same other = ap (λ (db : Database). tenants_in db.trees other) same.now
 
-  pub run_after : (answer : Answer O UnknownKey) → told_batch answer
-      → UnlessMade answer (IsSame old new)
-      → IsRun gives digest (tenants_in old.now.trees) (tenants_in new.now.trees) (batch_answer answer)
-  run_after (Ok (Ok output)) told same = told.0.done
-  run_after (Ok (Err unknown)) told same = (told, keeps_all same)
-  run_after (Err why) told same = keeps_all same
-
-  keeps_directory : IsSame old new → KeepsDirectory old.now.trees new.now.trees
-  keeps_directory same = ap (λ (db : Database). directory_rows db.trees) same.now
-
-  pub directory_after : (answer : Answer O UnknownKey) → told_batch answer
-      → UnlessMade answer (IsSame old new) → KeepsDirectory old.now.trees new.now.trees
-  directory_after (Ok (Ok output)) told same = told.0.directory
-  directory_after (Ok (Err unknown)) told same = keeps_directory same
-  directory_after (Err why) told same = keeps_directory same
+-- and the directory
+pub keeps_directory : (old new : State) → IsSame old new
+    → KeepsDirectory old.now.trees new.now.trees
+keeps_directory old new same = ap (λ (db : Database). directory_rows db.trees) same.now
 
 -- what a batch may leave in the files is the database after the whole of it
 pub left_after : {O : Type 0} (gives : Machine → O → Machine → Type 0) (digest : List ℕ)
     (old : Database) (trees : Trees)
-    → MayLeave (λ output sets new. IsBatchDone gives digest old new output × CanServe sets new) trees
+    → MayLeave (λ (worked : Worked O) sets new.
+    IsBatchTimed gives digest old new worked.output worked.past × CanServe sets new) trees
     → IsAfterBatch gives digest old trees
 left_after gives digest old trees left =
-    let done = left.done.0 in
+    let done = left.done.0.batch in
     let same : left.after ≡ record { schema = old.schema; trees = trees } =
     λ i. record { schema = done.schema i; trees = sym left.is i } in record {
       ledgers = subst HoldsLedgers same left.done.1.ledgers;
       directory = subst (KeepsDirectory old.trees) (sym left.is) done.directory;
-      output = left.output;
-      done = subst (λ t. IsDone gives digest (tenants_in old.trees) (tenants_in t) left.output)
+      output = left.output.output;
+      done = subst (λ t. IsDone gives digest (tenants_in old.trees) (tenants_in t) left.output.output)
           (sym left.is) done.done;
     }

@@ -1,5 +1,7 @@
 -- A connection after a change to what it serves.
-use Rattle.std.proofs.Common.{Ok, Err, sym, subst}
+use Rattle.std.proofs.Common.{◌≡◌, ◌≢◌, Result, Ok, Err, sym, ap, subst, ◌∙◌}
+use Rattle.records.specs.declared.unavailable.Unavailable.{Unavailable}
+use Rattle.records.specs.declared.unavailable.Unavailable.TheVariants.{Disk}
 use Rattle.sqlite.specs.State.{State}
 use Rattle.stored_ledgers.specs.DueSets.{DueSets}
 use Rattle.stored_ledgers.specs.Resting.{CanServe, IsResting, IsQuiet, IsSame}
@@ -25,3 +27,33 @@ rests_after answer does refuses sets old new told again same quiet = of answer t
     of (Ok (Ok output)) told again same = serving told.1
     of (Ok (Err refusal)) told again same = still again same
     of (Err why) told again same = still again same
+
+-- after one that was not made it still rests
+pub rests_still : (sets : DueSets) (old new : State) → CanServe sets old.now → IsSame old new
+    → IsQuiet new → IsResting sets new
+rests_still sets old new serves same quiet =
+    let there = subst (CanServe sets) (sym same.now) serves in
+    record { quiet = quiet; ledgers = there.ledgers; covered = there.covered }
+
+-- what is known of a change by what was answered
+module _ {O R : Type 0} (answer : Answer O R) where
+  pub told_made : (does : O → Type 0) (refuses : R → Type 0) (output : O) → answer ≡ Ok (Ok output)
+      → IfAnswered answer does refuses → does output
+  told_made does refuses output is told = subst (λ a. IfAnswered a does refuses) is told
+
+  pub told_refused : (does : O → Type 0) (refuses : R → Type 0) (refusal : R)
+      → answer ≡ Ok (Err refusal) → IfAnswered answer does refuses → refuses refusal
+  told_refused does refuses refusal is told = subst (λ a. IfAnswered a does refuses) is told
+
+  pub unless_refused : (P : Type 0) (refusal : R) → answer ≡ Ok (Err refusal) → UnlessMade answer P
+      → P
+  unless_refused P refusal is unless = subst (λ a. UnlessMade a P) is unless
+
+  pub no_fault : (told : _) → answer ≡ Ok told → answer ≢ Err Disk
+  no_fault told is fault = let both = sym is ∙ fault in cc
+
+-- a fault is another than the disk's, whatever else might have been answered
+pub other_fault : {X Y : Type 0} (why : Unavailable)
+    → ◌≢◌ {A = Result X Unavailable} (Err why) (Err Disk)
+    → ◌≢◌ {A = Result Y Unavailable} (Err why) (Err Disk)
+other_fault why differs fault = let same : why ≡ Disk = cc in differs (ap Err same)

@@ -8,4 +8,6 @@ pub mod Resting
 pub mod RestingLaws
 pub mod Outcomes
 pub mod Joining
+pub mod Rounds
+pub mod RoundLaws
 pub mod TenantReads

@@ -7,5 +7,8 @@ pub mod directory;
 pub mod joining;
 pub mod laws;
 pub mod probe;
+mod round;
+pub mod rounds;
 pub mod tenant_reads;
 pub mod transactions;
+mod working;

@@ -18,32 +18,37 @@ use Rattle.rows.specs.Prescribed.{rows_for, status_row}
 use Rattle.stored_tables.specs.Covers.{DueTest, IsCovered, Covers, CoversBatch}
 
 -- what a call leaves may be called, and is covered
-pub covered : {X : Type 0} (r : Result X Unavailable) (Usable Is : Type 0) (has : DueTest) (new left : State) → OnOk r Usable → (Is → OnOk r (new ≡ left)) → (Is → CoversBatch has left)
-    → OnOk r (Usable × (Is → CoversBatch has new))
-covered (Ok x) Usable Is has new left usable state covers = (usable, λ is. subst (CoversBatch has) (sym (state is)) (covers is))
-covered (Err e) Usable Is has new left usable state covers = tt
+pub covered : {X : Type 0} (r : Result X Unavailable) (Usable Is : Type 0) (has : DueTest) (past : ℕ) (new left : State) → OnOk r Usable → (Is → OnOk r (new ≡ left)) → (Is → CoversBatch has past left)
+    → OnOk r (Usable × (Is → CoversBatch has past new))
+covered (Ok x) Usable Is has past new left usable state covers = (usable, λ is. subst (CoversBatch has past) (sym (state is)) (covers is))
+covered (Err e) Usable Is has past new left usable state covers = tt
 
-module _ (has : DueTest) (s : State) (covers : CoversBatch has s) where
-  pub covers_marking : CoversBatch has (marking s)
-  covers_marking = record { now = covers.now; marked = covers.now }
+module _ (has : DueTest) (past : ℕ) (s : State) (covers : CoversBatch has past s) where
+  pub covers_marking : CoversBatch has past (marking s)
+  covers_marking = record { now = covers.now; marked = covers.now; behind = covers.behind; behind_marked = covers.behind }
 
-  pub covers_unmarked : CoversBatch has (unmarked s)
-  covers_unmarked = record { now = covers.now; marked = tt }
+  pub covers_unmarked : CoversBatch has past (unmarked s)
+  covers_unmarked = record { now = covers.now; marked = tt; behind = covers.behind; behind_marked = tt }
 
-  pub covers_at_mark : CoversBatch has (at_mark s)
-  covers_at_mark = record { now = back s.marked covers.marked; marked = tt }
+  pub covers_at_mark : CoversBatch has past (at_mark s)
+  covers_at_mark = record {
+    now = back (Covers has) covers.now s.marked covers.marked;
+    marked = tt;
+    behind = back (λ m. past ≤ m.clock) covers.behind s.marked covers.behind_marked;
+    behind_marked = tt;
+  }
     where
-      back : (marked : Option Machine) → IfSome marked (Covers has) → Covers has (marked_or s.now marked)
-      back None none = covers.now
-      back (Some m) there = there
+      back : (Is : Machine → Type 0) → Is s.now → (marked : Option Machine) → IfSome marked Is → Is (marked_or s.now marked)
+      back Is now None none = now
+      back Is now (Some m) there = there
 
-  pub covers_account : (account : Account) → CoversBatch has (on_now (λ m. with_account m account) s)
+  pub covers_account : (account : Account) → CoversBatch has past (on_now (λ m. with_account m account) s)
   unfolding rows_for
-  covers_account account = record { now = covers.now; marked = covers.marked }
+  covers_account account = record { now = covers.now; marked = covers.marked; behind = covers.behind; behind_marked = covers.behind_marked }
 
-  pub covers_failed : (id : ℕ) → CoversBatch has (on_now (λ m. with_failed m id) s)
+  pub covers_failed : (id : ℕ) → CoversBatch has past (on_now (λ m. with_failed m id) s)
   unfolding rows_for
-  covers_failed id = record { now = covers.now; marked = covers.marked }
+  covers_failed id = record { now = covers.now; marked = covers.marked; behind = covers.behind; behind_marked = covers.behind_marked }
 
   -- where a set has grown with the machine now, it covers the machine at the mark as before
   pub covers_marked : (more : DueTest) → ((key : ℕ × ℕ) → IsTrue (has key) → IsTrue (more key)) → IfSome s.marked (Covers more)
@@ -78,17 +83,24 @@ module _ (has : DueTest) (m : Machine) (clock : ℕ) (later : m.clock ≤ clock)
   unfolding rows_for
   covers_later covers = later_rows (filter (λ (t : Transfer). is_pending t.flags) m.transfers) covers
 
-pub covers_clock : (has : DueTest) (s : State) → CoversBatch has s → (clock : ℕ) → s.now.clock ≤ clock → CoversBatch has (on_now (λ m. at_clock m clock) s)
-covers_clock has s covers clock later = record { now = covers_later has s.now clock later covers.now; marked = covers.marked }
+pub covers_clock : (has : DueTest) (past : ℕ) (s : State) → CoversBatch has past s → (clock : ℕ) → s.now.clock ≤ clock → CoversBatch has past (on_now (λ m. at_clock m clock) s)
+covers_clock has past s covers clock later = record {
+  now = covers_later has s.now clock later covers.now;
+  marked = covers.marked;
+  behind = omega (arith, covers.behind, later);
+  behind_marked = covers.behind_marked;
+}
 
 -- what a call leaves that made the set grow
-pub grown : {X : Type 0} (r : Result X Unavailable) (Usable Is : Type 0) (has more : DueTest) (old new : State) (change : Machine → Machine) → OnOk r Usable → (Is → OnOk r (new ≡ on_now change old))
-    → (Is → OnOk r (Covers has old.now → Covers more new.now)) → ((key : ℕ × ℕ) → IsTrue (has key) → IsTrue (more key)) → (Is → CoversBatch has old) → OnOk r (Usable × (Is → CoversBatch more new))
-grown (Ok x) Usable Is has more old new change usable state now grows covers = (
+pub grown : {X : Type 0} (r : Result X Unavailable) (Usable Is : Type 0) (has more : DueTest) (past : ℕ) (old new : State) (change : Machine → Machine) → ((m : Machine) → (change m).clock ≡ m.clock) → OnOk r Usable → (Is → OnOk r (new ≡ on_now change old))
+    → (Is → OnOk r (Covers has old.now → Covers more new.now)) → ((key : ℕ × ℕ) → IsTrue (has key) → IsTrue (more key)) → (Is → CoversBatch has past old) → OnOk r (Usable × (Is → CoversBatch more past new))
+grown (Ok x) Usable Is has more past old new change same usable state now grows covers = (
   usable,
   λ is. record {
     now = now is (covers is).now;
-    marked = subst (λ (s : State). IfSome s.marked (Covers more)) (sym (state is)) (covers_marked has old (covers is) more grows);
+    marked = subst (λ (s : State). IfSome s.marked (Covers more)) (sym (state is)) (covers_marked has past old (covers is) more grows);
+    behind = subst (λ (s : State). past ≤ s.now.clock) (sym (state is)) (subst (λ clock. past ≤ clock) (sym (same old.now)) (covers is).behind);
+    behind_marked = subst (λ (s : State). IfSome s.marked (λ m. past ≤ m.clock)) (sym (state is)) (covers is).behind_marked;
   },
 )
-grown (Err e) Usable Is has more old new change usable state now grows covers = tt
+grown (Err e) Usable Is has more past old new change same usable state now grows covers = tt

@@ -1,5 +1,5 @@
 -- The keys of the set of due times up to a clock.
-use Rattle.std.proofs.Common.{◌≡◌, ℕ, ◌≤◌, Bool, true, false, not, eqb, ltb, ◌&&◌, ◌||◌, cond, List, [], ◌∷◌, filter, Ordering, Less, Equal, Greater, is_lt, is_eq, IsTrue, refl, sym, ap, subst, ◌∙◌, arith}
+use Rattle.std.proofs.Common.{◌≡◌, ℕ, ◌<◌, ◌≤◌, Bool, true, false, not, eqb, ltb, ◌&&◌, ◌||◌, cond, List, [], ◌∷◌, filter, Ordering, Less, Equal, Greater, is_lt, is_le, is_eq, IsTrue, refl, sym, ap, subst, ◌∙◌, arith}
 use Rattle.std.specs.List.{AllByRecursion, list_any}
 use Rattle.std.specs.Ordering.{nat_cmp, ordering_then}
 use Rattle.std.proofs.lemmas.Bool.Decides.{Decides-eqb, nat_tests}
@@ -12,9 +12,9 @@ pair_cmp x y = ordering_then (nat_cmp x.0 y.0) (nat_cmp x.1 y.1)
 abbrev pub finds : ℕ × ℕ → ℕ × ℕ → Bool
 finds query key = is_eq (pair_cmp query key)
 
--- whether a key is not past the end
-abbrev pub is_within : ℕ × ℕ → ℕ × ℕ → Bool
-is_within end key = true && not (is_lt (pair_cmp end key))
+-- whether a key is at the start or later, and not past the end
+abbrev pub is_within : ℕ × ℕ → ℕ × ℕ → ℕ × ℕ → Bool
+is_within start end key = is_le (pair_cmp start key) && not (is_lt (pair_cmp end key))
 
 equal_step : (x y : ℕ) (less same : Bool) → eqb x y ≡ same → cond less Less (cond same Equal Greater) ≡ Equal → x ≡ y
 equal_step x y true same is e = absurd (cc)
@@ -44,12 +44,22 @@ neither_less Less p h k = h
 neither_less Equal p h k = k
 neither_less Greater p h k = refl
 
--- a key up to both numbers of the end is within
-within : (end key : ℕ × ℕ) → key.0 ≤ end.0 → key.1 ≤ end.1 → is_within end key ≡ true
-within end key p q = ap not (neither_less (nat_cmp end.0 key.0) (nat_cmp end.1 key.1) (not_less end.0 key.0 p) (not_less end.1 key.1 q))
+is_less : (x y : ℕ) → x < y → is_lt (nat_cmp x y) ≡ true
+is_less x y h = grind (arith, nat_tests)
 
-found_within : (end query key : ℕ × ℕ) → query.0 ≤ end.0 → query.1 ≤ end.1 → finds query key ≡ true → is_within end key ≡ true
-found_within end query key p q e = let same = found_key query key e in ap (is_within end) same ∙ within end query p q
+less_then : (o p : Ordering) → is_lt o ≡ true → is_le (ordering_then o p) ≡ true
+less_then Less p h = refl
+less_then Equal p h = absurd (cc)
+less_then Greater p h = absurd (cc)
+
+-- a key behind the first number of the start, and up to both numbers of the end, is within
+within : (start end key : ℕ × ℕ) → start.0 < key.0 → key.0 ≤ end.0 → key.1 ≤ end.1 → is_within start end key ≡ true
+within start end key l p q = λ i.
+    less_then (nat_cmp start.0 key.0) (nat_cmp start.1 key.1) (is_less start.0 key.0 l) i
+    && not (neither_less (nat_cmp end.0 key.0) (nat_cmp end.1 key.1) (not_less end.0 key.0 p) (not_less end.1 key.1 q) i)
+
+found_within : (start end query key : ℕ × ℕ) → start.0 < query.0 → query.0 ≤ end.0 → query.1 ≤ end.1 → finds query key ≡ true → is_within start end key ≡ true
+found_within start end query key l p q e = let same = found_key query key e in ap (is_within start end) same ∙ within start end query l p q
 
 -- what passes one test passes another, so it is there among those that do
 kept_step : {X : Type 0} (p q : X → Bool) (found kept : Bool) (x : X) (xs : List X) → p x ≡ found → q x ≡ kept → (found ≡ true → kept ≡ true) → (found || list_any p xs) ≡ true → (list_any p xs ≡ true → list_any p (filter q xs) ≡ true)
@@ -72,6 +82,6 @@ holds_there : (P : ℕ × ℕ → Type 0) (query : ℕ × ℕ) (keys : List (ℕ
 holds_there P query [] all any = absurd (cc)
 holds_there P query (key ∷ keys) all any = holds_step P query key (finds query key) (list_any (finds query) keys) refl all.0 any (holds_there P query keys all.1)
 
--- what holds of all keys up to an end holds of each such key that the set has
-pub holds_within : (P : ℕ × ℕ → Type 0) (end query : ℕ × ℕ) (keys : List (ℕ × ℕ)) → query.0 ≤ end.0 → query.1 ≤ end.1 → AllByRecursion P (filter (is_within end) keys) → IsTrue (list_any (finds query) keys) → P query
-holds_within P end query keys p q all has = holds_there P query (filter (is_within end) keys) all (any_kept (finds query) (is_within end) (λ key. found_within end query key p q) keys has)
+-- what holds of all keys from a start up to an end holds of each such key that the set has
+pub holds_within : (P : ℕ × ℕ → Type 0) (start end query : ℕ × ℕ) (keys : List (ℕ × ℕ)) → start.0 < query.0 → query.0 ≤ end.0 → query.1 ≤ end.1 → AllByRecursion P (filter (is_within start end) keys) → IsTrue (list_any (finds query) keys) → P query
+holds_within P start end query keys l p q all has = holds_there P query (filter (is_within start end) keys) all (any_kept (finds query) (is_within start end) (λ key. found_within start end query key l p q) keys has)

@@ -1,5 +1,5 @@
 -- What a call leaves that changes nothing, and one that gives up.
-use Rattle.std.proofs.Common.{◌≡◌, ℤ, Ok, Err, sym, ap, subst₂, ◌∙◌, arith}
+use Rattle.std.proofs.Common.{◌≡◌, ℤ, true, false, IsTrue, Ok, Err, sym, ap, subst, subst₂, ◌∙◌, arith}
 use Rattle.records.specs.declared.unavailable.Unavailable.{Unavailable}
 use Rattle.chain.specs.Tables.{State as Meant, Leaves, same}
 use Rattle.sqlite_trees.specs.declared.store.Store.{Ghosts}
@@ -7,9 +7,9 @@ use Rattle.sqlite.specs.State.{State, HasCleanDisk, IsUnchanged}
 use Rattle.sqlite.specs.Held.{Held, state}
 use Rattle.ledger_sql.specs.Calls.{LeavesOver}
 use Rattle.ledger_sql.specs.Frames.{Live, Follows}
-use Rattle.stored_tables.specs.BatchLaws.{live_before, follows_then}
+use Rattle.stored_tables.specs.BatchLaws.{live_before, follows_then, rest_itself}
 use Rattle.stored_tables.specs.Holds.{HoldsMachine}
-use Rattle.stored_tables.specs.InBatch.{IsInBatchOf, IsBatchOf, AreMarks, IsUsable, shown, marked_in}
+use Rattle.stored_tables.specs.InBatch.{HoldsOwn, KeepsRest, IsInBatchOf, AreMarks, IsUsable, shown, marked_in}
 use Rattle.stored_tables.specs.Idle.{CanRead}
 use Rattle.stored_tables.specs.MachineOf.{machine_of}
 use Rattle.stored_tables.specs.Meaning.{batch_meaning}
@@ -40,9 +40,13 @@ pub same_batch : (tenant : ℤ) (old new : State) → IsUnchanged old new → Is
 same_batch tenant old new is was = record {
   is_open = is.0.is_open;
   mode = is.0.mode ∙ was.mode;
-  now = subst₂ (IsBatchOf tenant) (sym is.0.committed_is) (sym is.0.now_is) was.now;
-  marks = subst₂ (AreMarks tenant) (sym is.0.committed_is) (sym is.2) was.marks;
+  now = subst (HoldsOwn tenant) (sym is.0.now_is) was.now;
+  marks = subst₂ (AreMarks tenant) (sym is.0.now_is) (sym is.2) was.marks;
 }
+
+-- and all else
+pub same_rest : (tenant : ℤ) (old new : State) → IsUnchanged old new → IsTrue new.in_transaction → IsTrue old.in_transaction × KeepsRest tenant old.now new.now
+same_rest tenant old new is mode = (sym is.0.mode ∙ mode, subst (KeepsRest tenant old.now) (sym is.0.now_is) (rest_itself tenant old.now))
 
 module _ {S : Type 0} (store : Ghosts S) (tenant : ℤ) (old new : Held S) where
   pub reads : {X : Type 0} (x : X) → IsUsable tenant (state store old) → Follows (state store old) (state store new) → (HasCleanDisk (state store new) → IsUnchanged (state store old) (state store new))
@@ -51,7 +55,7 @@ module _ {S : Type 0} (store : Ghosts S) (tenant : ℤ) (old new : Held S) where
     state = λ live. same_shown tenant (state store old) (state store new) (is live.0);
     usable = λ clean. same_batch tenant (state store old) (state store new) (is clean) (usable (omega (arith, follows.survives.clean, clean)));
     undone = λ live. tt;
-    follows = follows;
+    follows = record { calls = follows; inside = λ live. same_rest tenant (state store old) (state store new) (is live.0) };
   }
 
   pub gives_up : {X : Type 0} (mid : Held S) (cause : Unavailable) (change : Meant → Meant) → Follows (state store old) (state store mid) → LeavesOver (state store mid) (state store new)
@@ -60,7 +64,10 @@ module _ {S : Type 0} (store : Ghosts S) (tenant : ℤ) (old new : Held S) where
     state = λ live. tt;
     usable = tt;
     undone = undone tenant (state store old) (state store mid) (state store new) f end;
-    follows = follows_then (state store old) (state store mid) (state store new) f end.follows;
+    follows = record {
+      calls = follows_then (state store old) (state store mid) (state store new) f end.follows;
+      inside = λ live mode. absurd (let e : false ≡ true = sym (end.over live).mode ∙ mode in cc);
+    };
   }
 
   -- what was there before a call were the rows of the tenant's machine

@@ -7,7 +7,8 @@ use Rattle.sqlite.specs.State.{State, Savepoint, HasCleanDisk}
 use Rattle.sqlite.specs.Held.{Held, state}
 use Rattle.ledger_sql.specs.Frames.{Live, Follows}
 use Rattle.ledger_sql.specs.Stages.{the_mark, IsMarked, HasMarked, HasGoneBack, HasReleased}
-use Rattle.stored_tables.specs.InBatch.{IsInBatchOf, IsBatchOf, AreMarks, IsUsable, shown, marked_in}
+use Rattle.stored_tables.specs.InBatch.{HoldsOwn, KeepsRest, IsInBatchOf, AreMarks, FollowsInBatch, IsUsable, shown, marked_in}
+use Rattle.stored_tables.specs.BatchLaws.{rest_itself}
 use Rattle.stored_tables.specs.MachineOf.{machine_of}
 use Rattle.stored_tables.specs.Meaning.{batch_meaning}
 
@@ -17,10 +18,10 @@ no_marks tenant [] none = refl
 no_marks tenant (mark ∷ marks) none = absurd (cc)
 
 -- a machine is marked, so there is one
-one_mark : (tenant : ℤ) (begun : Database) (marks : List Savepoint) → AreMarks tenant begun marks → IsSome (marked_in tenant marks)
-    → (db : Database) × (marks ≡ the_mark db ∷ []) × IsBatchOf tenant begun db
-one_mark tenant begun marks (inl none) some = absurd (let e : false ≡ true = subst (λ ms. IsSome (marked_in tenant ms)) none some in cc)
-one_mark tenant begun marks (inr one) some = one
+one_mark : (tenant : ℤ) (now : Database) (marks : List Savepoint) → AreMarks tenant now marks → IsSome (marked_in tenant marks)
+    → (db : Database) × (marks ≡ the_mark db ∷ []) × HoldsOwn tenant db × KeepsRest tenant now db
+one_mark tenant now marks (inl none) some = absurd (let e : false ≡ true = subst (λ ms. IsSome (marked_in tenant ms)) none some in cc)
+one_mark tenant now marks (inr one) some = one
 
 module _ (tenant : ℤ) (old new : State) where
   marked_state : (shown tenant old).marked ≡ None → HasMarked old new → shown tenant new ≡ marking (shown tenant old)
@@ -40,14 +41,14 @@ module _ (tenant : ℤ) (old new : State) where
       record {
         is_open = has.is_open;
         mode = has.mode;
-        now = subst₂ (IsBatchOf tenant) (sym has.committed) (sym has.now) was.now;
-        marks = inr (old.now, alone, subst (λ begun. IsBatchOf tenant begun old.now) (sym has.committed) was.now);
+        now = subst (HoldsOwn tenant) (sym has.now) was.now;
+        marks = inr (old.now, alone, was.now, subst (λ (db : Database). KeepsRest tenant db old.now) (sym has.now) (rest_itself tenant old.now));
       }
 
   -- the mark of a batch in which a machine is marked
-  pub mark_of : IsInBatchOf tenant old → IsSome (shown tenant old).marked → (db : Database) × (old.marks ≡ the_mark db ∷ []) × IsBatchOf tenant old.committed db
+  pub mark_of : IsInBatchOf tenant old → IsSome (shown tenant old).marked → (db : Database) × (old.marks ≡ the_mark db ∷ []) × HoldsOwn tenant db × KeepsRest tenant old.now db
   unfolding shown
-  mark_of was some = one_mark tenant old.committed old.marks was.marks some
+  mark_of was some = one_mark tenant old.now old.marks was.marks some
 
   back_state : (db : Database) → old.marks ≡ the_mark db ∷ [] → HasGoneBack old new
       → shown tenant new ≡ record (shown tenant old) { now = marked_or (shown tenant old).now (shown tenant old).marked }
@@ -61,12 +62,12 @@ module _ (tenant : ℤ) (old new : State) where
         marked = marked_in tenant (has.marks i);
       }
 
-  back_batch : (db : Database) → old.marks ≡ the_mark db ∷ [] → IsBatchOf tenant old.committed db → IsInBatchOf tenant old → HasGoneBack old new → IsInBatchOf tenant new
-  back_batch db marks its was has = record {
+  back_batch : (db : Database) → old.marks ≡ the_mark db ∷ [] → HoldsOwn tenant db → HasGoneBack old new → IsInBatchOf tenant new
+  back_batch db marks its has = record {
     is_open = has.is_open;
     mode = has.mode;
-    now = subst₂ (IsBatchOf tenant) (sym has.committed) (sym (has.back [] db marks)) its;
-    marks = subst₂ (AreMarks tenant) (sym has.committed) (sym has.marks) was.marks;
+    now = subst (HoldsOwn tenant) (sym (has.back [] db marks)) its;
+    marks = subst₂ (AreMarks tenant) (sym (has.back [] db marks)) (sym has.marks) (inr (db, marks, its, rest_itself tenant db));
   }
 
   released_state : (db : Database) → old.marks ≡ the_mark db ∷ [] → HasReleased old new → shown tenant new ≡ unmarked (shown tenant old)
@@ -83,7 +84,7 @@ module _ (tenant : ℤ) (old new : State) where
   released_batch db marks was has = record {
     is_open = has.is_open;
     mode = has.mode;
-    now = subst₂ (IsBatchOf tenant) (sym has.committed) (sym has.now) was.now;
+    now = subst (HoldsOwn tenant) (sym has.now) was.now;
     marks = inl (has.marks [] db marks);
   }
 
@@ -104,26 +105,29 @@ module _ {S : Type 0} (store : Ghosts S) (tenant : ℤ) (old : Held S) (usable :
     was_clean : HasCleanDisk (state store new) → HasCleanDisk (state store old)
     was_clean clean = omega (arith, follows.survives.clean, clean)
 
+    stays : (state store new).now ≡ (state store old).now → KeepsRest tenant (state store old).now (state store new).now
+    stays same = subst (KeepsRest tenant (state store old).now) (sym same) (rest_itself tenant (state store old).now)
+
     pub marks : (Live (state store old) → (shown tenant (state store old)).marked ≡ None) → (HasCleanDisk (state store new) → HasMarked (state store old) (state store new))
         → Leaves {S = Held S} {X = X} (batch_meaning store tenant) old new (Ok x) marking
     marks none has = record {
       state = λ live. marked_state tenant (state store old) (state store new) (none (live_now (was_clean live.0))) (has live.0);
       usable = λ clean. marked_batch tenant (state store old) (state store new) (none (live_now (was_clean clean))) (usable (was_clean clean)) (has clean);
       undone = λ live. tt;
-      follows = follows;
+      follows = record { calls = follows; inside = λ live mode. (inside (was_clean live.0), stays (has live.0).now) };
     }
 
     module _ (some : Live (state store old) → IsSome (shown tenant (state store old)).marked) where
-      the_one : HasCleanDisk (state store new) → (db : Database) × ((state store old).marks ≡ the_mark db ∷ []) × IsBatchOf tenant (state store old).committed db
+      the_one : HasCleanDisk (state store new) → (db : Database) × ((state store old).marks ≡ the_mark db ∷ []) × HoldsOwn tenant db × KeepsRest tenant (state store old).now db
       the_one clean = mark_of tenant (state store old) (state store old) (usable (was_clean clean)) (some (live_now (was_clean clean)))
 
       pub goes_back : (HasCleanDisk (state store new) → HasGoneBack (state store old) (state store new))
           → Leaves {S = Held S} {X = X} (batch_meaning store tenant) old new (Ok x) (λ s. record s { now = marked_or s.now s.marked })
       goes_back has = record {
         state = λ live. let mark = the_one live.0 in back_state tenant (state store old) (state store new) mark.0 mark.1 (has live.0);
-        usable = λ clean. let mark = the_one clean in back_batch tenant (state store old) (state store new) mark.0 mark.1 mark.2 (usable (was_clean clean)) (has clean);
+        usable = λ clean. let mark = the_one clean in back_batch tenant (state store old) (state store new) mark.0 mark.1 mark.2 (has clean);
         undone = λ live. tt;
-        follows = follows;
+        follows = record { calls = follows; inside = λ live mode. let mark = the_one live.0 in (inside (was_clean live.0), subst (KeepsRest tenant (state store old).now) (sym ((has live.0).back [] mark.0 mark.1)) mark.3) };
       }
 
       pub releases : (HasCleanDisk (state store new) → HasReleased (state store old) (state store new))
@@ -132,5 +136,5 @@ module _ {S : Type 0} (store : Ghosts S) (tenant : ℤ) (old : Held S) (usable :
         state = λ live. let mark = the_one live.0 in released_state tenant (state store old) (state store new) mark.0 mark.1 (has live.0);
         usable = λ clean. let mark = the_one clean in released_batch tenant (state store old) (state store new) mark.0 mark.1 (usable (was_clean clean)) (has clean);
         undone = λ live. tt;
-        follows = follows;
+        follows = record { calls = follows; inside = λ live mode. (inside (was_clean live.0), stays (has live.0).now) };
       }

@@ -34,7 +34,7 @@ open_later false true past e = absurd (cc)
 open_later false false true e = absurd (cc)
 open_later false false false e = refl
 
-abbrev IsLater : ℕ → StatusRow → Type 0
+abbrev pub IsLater : ℕ → StatusRow → Type 0
 IsLater clock row = (due : ℕ) → row.state ≡ Open → row.due ≡ Some due → clock < due
 
 open_is_later : (m : Machine) (ts : List Transfer) → AllByRecursion (IsLater m.clock) (map (status_row m) ts)
@@ -43,6 +43,11 @@ open_is_later m (t ∷ ts) = (
   λ due opens is. not_come (due_of t) m.clock due is (open_later (list_any (posts t.id) m.transfers) (list_any (voids t.id) m.transfers) (is_due m.clock t) opens),
   open_is_later m ts,
 )
+
+-- every open row of a machine is due later than its clock
+pub all_later : (m : Machine) → AllByRecursion (IsLater m.clock) (rows_for 3 m).statuses
+unfolding rows_for
+all_later m = open_is_later m (filter (λ (t : Transfer). is_pending t.flags) m.transfers)
 
 still_covered : (had has : DueTest) (clock now : ℕ) → clock ≤ now → ((q : ℕ × ℕ) → clock < q.0 → IsTrue (had q) → IsTrue (has q)) → (rows : List StatusRow) → AllByRecursion (IsLater now) rows → AllByRecursion (IsCovered had) rows → AllByRecursion (IsCovered has) rows
 still_covered had has clock now le keeps [] later covers = tt

@@ -27,11 +27,13 @@ use Rattle.stored_tables.specs.Frames.{AreNumbered}
 use Rattle.stored_tables.specs.Holds.{HoldsRows}
 use Rattle.stored_tables.specs.Moves.{MovesRows}
 use Rattle.stored_tables.specs.Releasing.{AreApart, AreReleased, IsLess, ReleasesOne, ReleasesDue}
+use Rattle.stored_tables.specs.BatchLaws.{others_then}
 use Rattle.stored_tables.proofs.DueKeys.{finds, is_within, holds_within}
 use Rattle.stored_tables.proofs.DueRows.{due_row}
+use Rattle.stored_tables.proofs.PastTimes.{IsLater, all_later}
 use Rattle.stored_tables.proofs.Released.{keeps_itself}
 use Rattle.stored_tables.proofs.RowsTell.{same_themselves}
-use Rattle.stored_tables.proofs.Writing.{inside_then, others_then}
+use Rattle.stored_tables.proofs.Writing.{inside_then}
 
 -- of these keys no transfer is left
 pub record ReleasesSeen (tenant : ℤ) (clock : ℕ) (seen : List (ℕ × ℕ)) (old new : State) : Type 0 where
@@ -118,14 +120,14 @@ behind false b h = h
 itself : (k : ℕ) → eqb k k ≡ true
 itself k = (Decides-eqb k k).1 refl
 
-module _ (clock : ℕ) (m : Machine) (done : List ℕ) (keys : List (ℕ × ℕ)) (fit : All IsStorableStatus (rows_for 3 m).statuses) (covers : Covers (λ key. list_any (finds key) keys) m) (released : AreReleased clock m done)
-    (seen : AllByRecursion (λ key. has_id key.1 (due_ids clock (rows_released m done)) ≡ false) (filter (is_within (clock, 340282366920938463463374607431768211455)) keys)) where
+module _ (from clock : ℕ) (m : Machine) (done : List ℕ) (keys : List (ℕ × ℕ)) (past : from ≤ m.clock) (fit : All IsStorableStatus (rows_for 3 m).statuses) (covers : Covers (λ key. list_any (finds key) keys) m) (released : AreReleased clock m done)
+    (seen : AllByRecursion (λ key. has_id key.1 (due_ids clock (rows_released m done)) ≡ false) (filter (is_within (from, 340282366920938463463374607431768211455) (clock, 340282366920938463463374607431768211455)) keys)) where
   abbrev IsKnown : StatusRow → Type 0
-  IsKnown row = IsCovered (λ key. list_any (finds key) keys) row × IsStorableStatus row
+  IsKnown row = IsCovered (λ key. list_any (finds key) keys) row × IsStorableStatus row × IsLater m.clock row
 
-  known : (rows : List StatusRow) → AllByRecursion (IsCovered (λ key. list_any (finds key) keys)) rows → AllByRecursion IsStorableStatus rows → AllByRecursion IsKnown rows
-  known [] c f = tt
-  known (row ∷ rows) c f = ((c.0, f.0), known rows c.1 f.1)
+  known : (rows : List StatusRow) → AllByRecursion (IsCovered (λ key. list_any (finds key) keys)) rows → AllByRecursion IsStorableStatus rows → AllByRecursion (IsLater m.clock) rows → AllByRecursion IsKnown rows
+  known [] c f l = tt
+  known (row ∷ rows) c f l = ((c.0, f.0, l.0), known rows c.1 f.1 l.1)
 
   not_left : (left : List ℕ) → due_ids clock (rows_released m done) ≡ left → left ≡ []
   not_left [] is = refl
@@ -134,23 +136,24 @@ module _ (clock : ℕ) (m : Machine) (done : List ℕ) (keys : List (ℕ × ℕ)
       let was : has_id k (due_ids clock (rows_for 3 m)) ≡ true =
       list_any-IsPermutation (λ other. eqb other k) (due_ids clock (rows_for 3 m)) (done ++ due_ids clock (rows_released m done)) released.split
       ∙ list_any-append (λ other. eqb other k) done (due_ids clock (rows_released m done)) ∙ behind (has_id k done) (has_id k (due_ids clock (rows_released m done))) there in
-      let it = due_row clock k IsKnown (rows_for 3 m).statuses (known (rows_for 3 m).statuses (recursion_from_All _ (rows_for 3 m).statuses covers) (recursion_from_All IsStorableStatus (rows_for 3 m).statuses fit)) was in
+      let it = due_row clock k IsKnown (rows_for 3 m).statuses (known (rows_for 3 m).statuses (recursion_from_All _ (rows_for 3 m).statuses covers) (recursion_from_All IsStorableStatus (rows_for 3 m).statuses fit) (all_later m)) was in
       let parts = open_row it.row.state (has_come it.row.due clock) it.due in
       let time = due_time it.row.due clock parts.1 in
       let narrow : it.row.transfer < 2 ^ 128 = it.holds.1.transfer in
+      let behind : m.clock < time.0 = it.holds.2 time.0 parts.0 time.1 in
       let gone : has_id it.row.transfer (due_ids clock (rows_released m done)) ≡ false =
-      holds_within (λ key. has_id key.1 (due_ids clock (rows_released m done)) ≡ false) (clock, 340282366920938463463374607431768211455) (time.0, it.row.transfer) keys time.2 (omega arith) seen (it.holds.0 time.0 parts.0 time.1) in
+      holds_within (λ key. has_id key.1 (due_ids clock (rows_released m done)) ≡ false) (from, 340282366920938463463374607431768211455) (clock, 340282366920938463463374607431768211455) (time.0, it.row.transfer) keys (omega arith) time.2 (omega arith) seen (it.holds.0 time.0 parts.0 time.1) in
       absurd (let e : false ≡ true = sym gone ∙ ap (λ id. has_id id (due_ids clock (rows_released m done))) it.transfer ∙ there in cc)
 
   pub all_done : IsPermutation (due_ids clock (rows_for 3 m)) done
   all_done = subst (IsPermutation (due_ids clock (rows_for 3 m))) (ap (λ left. done ++ left) (not_left (due_ids clock (rows_released m done)) refl) ∙ append-nil done) released.split
 
--- where all keys up to the clock were seen, all that is due is released
-pub seen_all : RowsFit → (tenant : ℤ) (clock : ℕ) (keys : List (ℕ × ℕ)) (s0 s1 : State) → ReleasesSeen tenant clock (filter (is_within (clock, 340282366920938463463374607431768211455)) keys) s0 s1
-    → ReleasesDue tenant clock (λ key. list_any (finds key) keys) s0 s1
-seen_all fit tenant clock keys s0 s1 seen = record {
+-- where all keys behind a past moment and up to the clock were seen, all that is due is released
+pub seen_all : RowsFit → (tenant : ℤ) (past from clock : ℕ) (keys : List (ℕ × ℕ)) (s0 s1 : State) → from ≤ past → ReleasesSeen tenant clock (filter (is_within (from, 340282366920938463463374607431768211455) (clock, 340282366920938463463374607431768211455)) keys) s0 s1
+    → ReleasesDue tenant past clock (λ key. list_any (finds key) keys) s0 s1
+seen_all fit tenant past from clock keys s0 s1 le seen = record {
   inside = seen.inside;
-  all = λ m valid covers num held.
+  all = λ m valid later covers num held.
       let it = seen.all m valid num held in
-      (it.0, all_done clock m it.0 keys (fit 3 m valid).statuses covers it.1 it.2, it.3);
+      (it.0, all_done from clock m it.0 keys (omega arith) (fit 3 m valid).statuses covers it.1 it.2, it.3);
 }

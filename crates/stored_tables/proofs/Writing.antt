@@ -1,9 +1,9 @@
 -- Moves of a tenant's rows one after the other, and the batch after them.
-use Rattle.std.proofs.Common.{◌≡◌, ℤ, Ok, refl, sym, ap, subst, subst₂, ◌∙◌, arith}
+use Rattle.std.proofs.Common.{◌≡◌, ℤ, inl, inr, List, Ok, refl, sym, ap, subst, ◌∙◌, arith}
 use Rattle.sqlite_trees.specs.Tree.{Trees}
 use Rattle.sqlite_trees.specs.declared.store.Store.{Ghosts}
 use Rattle.sqlite.specs.Effect.{Database}
-use Rattle.sqlite.specs.State.{State, HasCleanDisk, IsUnchanged}
+use Rattle.sqlite.specs.State.{State, Savepoint, HasCleanDisk, IsUnchanged}
 use Rattle.sqlite.specs.Held.{Held, state}
 use Rattle.records.specs.Machine.{Machine}
 use Rattle.records.specs.Valid.{IsValid}
@@ -12,9 +12,10 @@ use Rattle.rows.specs.Prescribed.{rows_for}
 use Rattle.rows.specs.TypedRows.{TypedRows}
 use Rattle.ledger_sql.specs.Effects.{IsLedger, IsInside, WritesInside}
 use Rattle.ledger_sql.specs.Frames.{Live, Follows}
-use Rattle.stored_tables.specs.Frames.{KeepsRows, KeepsOtherTenants, AreNumbered}
+use Rattle.stored_tables.specs.BatchLaws.{others_then, rest_then, rest_back}
+use Rattle.stored_tables.specs.Frames.{AreNumbered}
 use Rattle.stored_tables.specs.Holds.{HoldsRows, HoldsMachine}
-use Rattle.stored_tables.specs.InBatch.{AreMarks, IsInBatchOf, IsUsable, shown, marked_in}
+use Rattle.stored_tables.specs.InBatch.{HoldsOwn, KeepsRest, AreMarks, IsInBatchOf, IsUsable, shown, marked_in}
 use Rattle.stored_tables.specs.MachineOf.{machine_of}
 use Rattle.stored_tables.specs.Meaning.{batch_meaning}
 use Rattle.stored_tables.specs.Moves.{MovesRows, ChangesRows}
@@ -24,24 +25,6 @@ inside_then a b c f g = record {
   schema = g.schema ∙ f.schema;
   shown = record { was_open = f.shown.was_open; is_open = g.shown.is_open; now_is = refl; committed_is = g.shown.committed_is ∙ f.shown.committed_is; mode = g.shown.mode };
   marks = g.marks ∙ f.marks;
-}
-
-keeps_then : (tenant : ℤ) (a b c : Trees) → KeepsRows tenant a b → KeepsRows tenant b c → KeepsRows tenant a c
-keeps_then tenant a b c f g = record {
-  clock = g.clock ∙ f.clock;
-  accounts = g.accounts ∙ f.accounts;
-  transfers = g.transfers ∙ f.transfers;
-  balances = g.balances ∙ f.balances;
-  statuses = g.statuses ∙ f.statuses;
-  history = g.history ∙ f.history;
-  failed = g.failed ∙ f.failed;
-}
-
-pub others_then : (tenant : ℤ) (a b c : Trees) → KeepsOtherTenants tenant a b → KeepsOtherTenants tenant b c → KeepsOtherTenants tenant a c
-others_then tenant a b c f g = record {
-  version = g.version ∙ f.version;
-  directory = g.directory ∙ f.directory;
-  others = λ u ne. keeps_then u a b c (f.others u ne) (g.others u ne);
 }
 
 -- a write behind a write
@@ -84,6 +67,11 @@ pub record IsChange (can : TypedRows → Type 0) (change : TypedRows → TypedRo
   pub rows : rows_for 3 (step m) ≡ change (rows_for 3 m)
   pub valid : IsValid (step m)
 
+-- the mark still differs in the tenant's rows alone
+marks_kept : (tenant : ℤ) (old new : Database) → KeepsRest tenant old new → (marks : List Savepoint) → AreMarks tenant old marks → AreMarks tenant new marks
+marks_kept tenant old new rest marks (inl none) = inl none
+marks_kept tenant old new rest marks (inr one) = inr (one.0, one.1, one.2, rest_then tenant new old one.0 (rest_back tenant old new rest) one.3)
+
 module _ (held_machines : HeldMachines) (tenant : ℤ) (can : TypedRows → Type 0) (change : TypedRows → TypedRows) (step : Machine → Machine) (old new : State) (batch : IsInBatchOf tenant old) (w : ChangesRows tenant can change old new) (is : IsChange can change step (machine_of tenant old.now.trees)) where
   moved : MovesRows tenant (change (rows_for 3 (machine_of tenant old.now.trees))) old.now.trees new.now.trees
   moved = w.moves (rows_for 3 (machine_of tenant old.now.trees)) is.may batch.now.numbered batch.now.holds.rows
@@ -94,18 +82,19 @@ module _ (held_machines : HeldMachines) (tenant : ℤ) (can : TypedRows → Type
   pub machine_after : machine_of tenant new.now.trees ≡ step (machine_of tenant old.now.trees)
   machine_after = held_machines tenant (step (machine_of tenant old.now.trees)) new.now.trees holds
 
+  pub rest_after : KeepsRest tenant old.now new.now
+  rest_after = record { schema = w.inside.schema; others = moved.others }
+
   pub batch_after : IsInBatchOf tenant new
   batch_after = record {
     is_open = w.inside.shown.is_open;
     mode = w.inside.shown.mode;
     now = record {
       ledger = subst IsLedger (sym w.inside.schema) batch.now.ledger;
-      schema = w.inside.schema ∙ batch.now.schema ∙ ap (λ (db : Database). db.schema) (sym w.inside.shown.committed_is);
       numbered = moved.numbered;
       holds = subst (λ m. HoldsMachine tenant m new.now.trees) (sym machine_after) holds;
-      others = subst (λ (db : Database). KeepsOtherTenants tenant db.trees new.now.trees) (sym w.inside.shown.committed_is) (others_then tenant old.committed.trees old.now.trees new.now.trees batch.now.others moved.others);
     };
-    marks = subst₂ (AreMarks tenant) (sym w.inside.shown.committed_is) (sym w.inside.marks) batch.marks;
+    marks = subst (AreMarks tenant new.now) (sym w.inside.marks) (marks_kept tenant old.now new.now rest_after old.marks batch.marks);
   }
 
 -- what a write leaves of the tenant's tables
@@ -126,5 +115,8 @@ writes_leave store tenant old new x can change step held_machines usable follows
       };
       usable = λ clean. batch_after held_machines tenant can change step (state store old) (state store new) (batch clean) (w clean) (change_is clean);
       undone = λ live. tt;
-      follows = follows;
+      follows = record {
+        calls = follows;
+        inside = λ live mode. ((batch live.0).mode, rest_after held_machines tenant can change step (state store old) (state store new) (batch live.0) (w live.0) (change_is live.0));
+      };
     }

@@ -1,5 +1,5 @@
 -- The due times that are kept in memory beside the tables.
-use Rattle.std.specs.Prelude.{◌≡◌, ℕ, Bool, Some, All, IfSome, IsTrue}
+use Rattle.std.specs.Prelude.{◌≡◌, ◌≤◌, ℕ, Bool, Some, All, IfSome, IsTrue}
 use Rattle.records.specs.declared.facts.PendingState.TheVariants.{Open}
 use Rattle.records.specs.declared.transfer.Transfer.{Transfer}
 use Rattle.records.specs.Due.{due_of}
@@ -25,7 +25,9 @@ Covers has m = All (IsCovered has) (rows_for 3 m).statuses
 abbrev pub HasDue : DueTest → Transfer → Type 0
 HasDue has t = (due : ℕ) → due_of t ≡ Some due → IsTrue (has (due, t.id))
 
--- it does so now and at the mark
-pub record CoversBatch (has : DueTest) (s : State) : Type 0 where
+-- it does so now and at the mark, and no clock of these is before a past moment
+pub record CoversBatch (has : DueTest) (past : ℕ) (s : State) : Type 0 where
   pub now : Covers has s.now
   pub marked : IfSome s.marked (Covers has)
+  pub behind : past ≤ s.now.clock
+  pub behind_marked : IfSome s.marked (λ m. past ≤ m.clock)

@@ -5,13 +5,24 @@ use Rattle.chain.specs.Tables.{State as Meant}
 use Rattle.sqlite.specs.Effect.{Database}
 use Rattle.sqlite.specs.State.{State, Savepoint, HasCleanDisk}
 use Rattle.ledger_sql.specs.Effects.{IsLedger}
+use Rattle.ledger_sql.specs.Frames.{Live, Follows}
 use Rattle.ledger_sql.specs.Stages.{the_mark}
 use Rattle.stored_tables.specs.Frames.{KeepsOtherTenants, AreNumbered}
 use Rattle.stored_tables.specs.Holds.{HoldsMachine}
 use Rattle.stored_tables.specs.MachineOf.{machine_of}
 
--- what a tenant's batch has made of the database that was committed: the tenant's rows are a
--- machine's, and all others are as they were
+-- the tables are a ledger's, and the tenant's rows are those of its machine
+pub record HoldsOwn (tenant : ℤ) (now : Database) : Type 0 where
+  pub ledger : IsLedger now.schema
+  pub numbered : AreNumbered now.trees
+  pub holds : HoldsMachine tenant (machine_of tenant now.trees) now.trees
+
+-- all but the tenant's rows is as it was
+pub record KeepsRest (tenant : ℤ) (old now : Database) : Type 0 where
+  pub schema : now.schema ≡ old.schema
+  pub others : KeepsOtherTenants tenant old.trees now.trees
+
+-- what a tenant's batch has made of a database: both of these
 pub record IsBatchOf (tenant : ℤ) (begun now : Database) : Type 0 where
   pub ledger : IsLedger now.schema
   pub schema : now.schema ≡ begun.schema
@@ -19,17 +30,21 @@ pub record IsBatchOf (tenant : ℤ) (begun now : Database) : Type 0 where
   pub holds : HoldsMachine tenant (machine_of tenant now.trees) now.trees
   pub others : KeepsOtherTenants tenant begun.trees now.trees
 
--- one mark is open, of such a database, or none is
+-- one mark is open, of such a database that differs in the tenant's rows alone, or none is
 abbrev pub AreMarks : ℤ → Database → List Savepoint → Type 0
-AreMarks tenant begun marks =
-    (marks ≡ []) ⊎ ((db : Database) × (marks ≡ the_mark db ∷ []) × IsBatchOf tenant begun db)
+AreMarks tenant now marks =
+    (marks ≡ [])
+    ⊎ ((db : Database)
+    × (marks ≡ the_mark db ∷ [])
+    × HoldsOwn tenant db
+    × KeepsRest tenant now db)
 
--- in a transaction that is such a batch
+-- in a transaction over such a database
 pub record IsInBatchOf (tenant : ℤ) (s : State) : Type 0 where
   pub is_open : IsTrue s.is_open
   pub mode : IsTrue s.in_transaction
-  pub now : IsBatchOf tenant s.committed s.now
-  pub marks : AreMarks tenant s.committed s.marks
+  pub now : HoldsOwn tenant s.now
+  pub marks : AreMarks tenant s.now s.marks
 
 -- so it is as long as the disk was honest
 abbrev pub IsUsable : ℤ → State → Type 0
@@ -47,3 +62,11 @@ shown tenant s = record {
   begun = machine_of tenant s.committed.trees;
   marked = marked_in tenant s.marks;
 }
+
+-- what every run of calls in the batch keeps: nothing is committed, and as long as the transaction
+-- goes on all but the tenant's rows is as it was
+pub record FollowsInBatch (tenant : ℤ) (old new : State) : Type 0 where
+  pub calls : Follows old new
+  pub inside :
+      Live new → IsTrue new.in_transaction →
+      IsTrue old.in_transaction × KeepsRest tenant old.now new.now

@@ -116,18 +116,20 @@ pub record ReleasesOne (tenant : ℤ) (clock id : ℕ) (old new : State) : Type 
       × IsLess clock id m done more
       × MovesRows tenant (rows_released m more) old.now.trees new.now.trees
 
--- all that is due is released, where the set has it
-pub record ReleasesDue (tenant : ℤ) (clock : ℕ) (has : DueTest) (old new : State) : Type 0 where
+-- all that is due is released, where the set has it and the tenant's clock is at the past moment or
+-- later
+pub record ReleasesDue (tenant : ℤ) (past clock : ℕ) (has : DueTest) (old new : State) :
+    Type 0 where
   pub inside : WritesInside old new
   pub all :
-      (m : Machine) → IsValid m → Covers has m → AreNumbered old.now.trees →
+      (m : Machine) → IsValid m → past ≤ m.clock → Covers has m → AreNumbered old.now.trees →
       HoldsRows tenant (rows_for 3 m) old.now.trees →
       (done : List ℕ)
       × IsPermutation (due_ids clock (rows_for 3 m)) done
       × MovesRows tenant (rows_released m done) old.now.trees new.now.trees
 
 -- the clock is later, and what was due at it has expired
-abbrev pub MovesClock : ℤ → ℕ → DueTest → State → State → Type 0
-MovesClock tenant clock has old new =
-    (m : Machine) → IsValid m → m.clock ≤ clock → Covers has m →
+abbrev pub MovesClock : ℤ → ℕ → ℕ → DueTest → State → State → Type 0
+MovesClock tenant past clock has old new =
+    (m : Machine) → IsValid m → past ≤ m.clock → m.clock ≤ clock → Covers has m →
     ChangesRows tenant (λ rows. rows ≡ rows_for 3 m) (λ rows. rows_for 3 (at_clock m clock)) old new

@@ -18,25 +18,28 @@ pub struct Batch<'a, S: Alter> {
     /// It may have others too.
     pub due: &'a mut BTreeSet<(u64, u128)>,
     pub tenant: TenantNumber,
+    /// A moment, in nanoseconds, at which the tenant's clock was already: what fell due by then is
+    /// open no more.
+    pub past: u64,
 }
 
 impl<S: Alter> Tables for Batch<'_, S> {
     ghost use Rattle.std.specs.Prelude.{◌≡◌, ℕ, refl};
-    ghost use Rattle.std.proofs.Common.{◌∙◌};
+    ghost use Rattle.std.proofs.Common.{ap, ◌∙◌};
     ghost use Rattle.std.specs.BTreeSet.{contains, IsSubset};
     ghost use Rattle.sqlite.specs.Held.{state as conn_state};
-    ghost use Rattle.ledger_sql.specs.Frames.{Live, Follows};
-    ghost use Rattle.stored_tables.specs.BatchLaws.{follows_itself, follows_then};
+    ghost use Rattle.ledger_sql.specs.Frames.{Live};
+    ghost use Rattle.stored_tables.specs.BatchLaws.{calls_itself, calls_then_for};
     ghost use Rattle.stored_tables.specs.BatchLaws.{live_before, valid_now};
     ghost use Rattle.stored_tables.specs.Covers.{CoversBatch};
-    ghost use Rattle.stored_tables.specs.InBatch.{IsUsable, shown};
+    ghost use Rattle.stored_tables.specs.InBatch.{IsUsable, FollowsInBatch, shown};
 
     ghost means = { record {
       state = λ b. shown b.tenant.0 (conn_state S.Store b.conn.now);
       is_usable = λ b.
           IsUsable b.tenant.0 (conn_state S.Store b.conn.now)
           × (Live (conn_state S.Store b.conn.now) →
-          CoversBatch (contains ⟦<(u64, u128) as Ord>⟧.cmp b.due.now)
+          CoversBatch (contains ⟦<(u64, u128) as Ord>⟧.cmp b.due.now) b.past
           (shown b.tenant.0 (conn_state S.Store b.conn.now)));
       is_live = λ b. Live (conn_state S.Store b.conn.now);
       follows = λ a b.
@@ -44,7 +47,9 @@ impl<S: Alter> Tables for Batch<'_, S> {
           × (b.due.ghost_name ≡ a.due.ghost_name)
           × (b.tenant ≡ a.tenant)
           × IsSubset ⟦<(u64, u128) as Ord>⟧.cmp a.due.now b.due.now
-          × Follows (conn_state S.Store a.conn.now) (conn_state S.Store b.conn.now);
+          × FollowsInBatch a.tenant.0 (conn_state S.Store a.conn.now)
+          (conn_state S.Store b.conn.now)
+          × (b.past ≡ a.past);
     } };
 
     fn clock(&mut self) -> Result<u64, Unavailable> {
@@ -68,7 +73,7 @@ impl<S: Alter> Tables for Batch<'_, S> {
     }
 
     fn settle(&mut self, clock: u64) -> Result<(), Unavailable> {
-        settling::settle(self.conn, self.due, self.tenant, clock)
+        settling::settle(self.conn, self.due, self.tenant, self.past, clock)
     }
 
     fn accept_account(&mut self, account: &Account) -> Result<(), Unavailable> {
@@ -95,17 +100,18 @@ impl<S: Alter> Tables for Batch<'_, S> {
         marking::release_mark(self.conn, self.tenant)
     }
 
-    ghost stays = { λ a. (refl, refl, refl, λ key has. has, follows_itself _) };
+    ghost stays = { λ a. (refl, refl, refl, λ key has. has, calls_itself _ _, refl) };
 
     ghost then = { λ a b c f g. (
       g.0 ∙ f.0,
       g.1 ∙ f.1,
       g.2 ∙ f.2,
       λ key has. g.3 key (f.3 key has),
-      follows_then _ _ _ f.4 g.4,
+      calls_then_for _ _ _ _ _ (ap (λ t. t.0) f.2) f.4 g.4,
+      g.5 ∙ f.5,
     ) };
 
-    ghost lived = { λ a b follows live. live_before _ _ follows.4 live };
+    ghost lived = { λ a b follows live. live_before _ _ follows.4.calls live };
 
     ghost valid = { λ a live usable. valid_now _ _ live usable.0 };
 }

@@ -25,12 +25,13 @@ use rows::{StatusRow, clock_rows, keys_are_distinct, rows_fit};
 use sqlite::{Alter, Connection};
 use std::collections::BTreeSet;
 
-/// Sets the clock, in nanoseconds, and releases what is due at it: the transfers of the set that
-/// are due alone are looked at.
+/// Sets the clock, in nanoseconds, and releases what is due at it: of the set the transfers alone
+/// are looked at that fell due since a past moment, at which the tenant's clock was already.
 pub(crate) fn settle<S: Alter>(
     conn: &mut Connection<S>,
     due: &BTreeSet<(u64, u128)>,
     tenant: TenantNumber,
+    past: u64,
     clock: u64,
 ) -> Result<(), Unavailable>
     requires usable { (batch_meaning S.Store tenant.0).is_usable conn.old }
@@ -39,6 +40,8 @@ pub(crate) fn settle<S: Alter>(
         ((batch_meaning S.Store tenant.0).state conn.old).now }
     requires unmarked { (batch_meaning S.Store tenant.0).is_live conn.old →
         ((batch_meaning S.Store tenant.0).state conn.old).marked ≡ None }
+    requires past { (batch_meaning S.Store tenant.0).is_live conn.old →
+        past ≤ ((batch_meaning S.Store tenant.0).state conn.old).now.clock }
     requires later { (batch_meaning S.Store tenant.0).is_live conn.old →
         ((batch_meaning S.Store tenant.0).state conn.old).now.clock ≤ clock }
     requires bounded { clock ≤ max_clock }
@@ -46,7 +49,7 @@ pub(crate) fn settle<S: Alter>(
         (on_now (λ m. at_clock m clock)) }
 {
     held_machines();
-    match move_clock(conn, due, tenant, clock) {
+    match move_clock(conn, due, tenant, past, clock) {
         Ok(()) => Ok(()),
         Err(cause) => Err(give_up(conn, cause)),
     }
@@ -57,33 +60,36 @@ fn move_clock<S: Alter>(
     conn: &mut Connection<S>,
     due: &BTreeSet<(u64, u128)>,
     tenant: TenantNumber,
+    past: u64,
     clock: u64,
 ) -> Result<(), Unavailable>
     requires writing { IfClean CanWrite S.Store conn.old }
     requires bounded { clock ≤ max_clock }
-    ensures { Changes (MovesClock tenant.0 clock (contains ⟦<(u64, u128) as Ord>⟧.cmp due.now))
+    ensures { Changes (MovesClock tenant.0 past clock (contains ⟦<(u64, u128) as Ord>⟧.cmp due.now))
         S.Store conn.old conn.new result }
 {
     clock_rows();
-    release_due(conn, due, tenant, clock)?;
+    release_due(conn, due, tenant, past, clock)?;
     set_clock(conn, tenant.0, clock)
 }
 
-/// Releases what is due at the clock.
+/// Releases what is due at the clock, and was not so at the past moment.
 fn release_due<S: Alter>(
     conn: &mut Connection<S>,
     due: &BTreeSet<(u64, u128)>,
     tenant: TenantNumber,
+    past: u64,
     clock: u64,
 ) -> Result<(), Unavailable>
     requires { IfClean CanWrite S.Store conn.old }
-    ensures { Changes (ReleasesDue tenant.0 clock (contains ⟦<(u64, u128) as Ord>⟧.cmp due.now))
+    ensures { Changes (ReleasesDue tenant.0 past clock (contains ⟦<(u64, u128) as Ord>⟧.cmp due.now))
         S.Store conn.old conn.new result }
 {
     clock_rows();
     rows_fit();
     keys_are_distinct();
-    for entry in due.range(..=(clock, u128::MAX)) {
+    let from = past.min(clock);
+    for entry in due.range((from, u128::MAX)..=(clock, u128::MAX)) {
         release_if_due(conn, tenant, clock, entry.1)?;
     }
     Ok(())

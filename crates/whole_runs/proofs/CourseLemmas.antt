@@ -6,65 +6,92 @@ use Rattle.std.specs.List.{AllZip}
 use Rattle.chain.specs.Ledgers.{Tenants}
 use Rattle.service.specs.Deeds.{Deed, Joined}
 use Rattle.service.specs.Courses.{Event, Tried, Reopened}
-use Rattle.service.specs.Openings.{RunMeaning, IsSettled, Moves, GoesOn, IsFree}
+use Rattle.service.specs.Openings.{RunMeaning, IsSettled, Moves, HasLed, GoesOn, IsFree}
 use Rattle.service.specs.OpeningLaws as openings
-use Rattle.service.specs.OpeningLaws.{event_more, opened_more, begun_anew}
+use Rattle.service.specs.OpeningLaws.{event_more, same_more, opened_more, begun_anew}
+use Rattle.service.specs.TurnLaws.{round_more}
 use Rattle.whole_runs.specs.declared.steps.Step.{Step}
 use Rattle.whole_runs.specs.declared.steps.Step.TheVariants as step
 use Rattle.whole_runs.specs.declared.steps.Answer.{Answer}
 use Rattle.whole_runs.specs.declared.steps.Answer.TheVariants as answer
-use Rattle.whole_runs.specs.Courses.{ending_of, IsOf, IsSince, Start, Anew, Onward}
+use Rattle.whole_runs.specs.Courses.{ending_of, AreOf, IsSince, Start, Anew, Onward}
 use Rattle.whole_runs.specs.Reopenings.{StepMakes, HasRun, IsAnswerTo, RunsThrough, Goes_on}
 
--- behind a step there is its event
+-- behind a step there are its events
 step_on :
     (first : Tenants) (steps : List Step) (answers : List Answer) (step : Step) (answer : Answer)
-    (event : Event) → IsOf step answer event →
-    GoesOn (IsSince first steps answers) (event ∷ [])
+    (events : List Event) → AreOf step answer events →
+    GoesOn (IsSince first steps answers) events
     (IsSince first (steps ++ step ∷ []) (answers ++ answer ∷ []))
-step_on first steps answers step answer event is events began since =
-    Onward steps answers events began step answer event since is
+step_on first steps answers step answer more are events began since =
+    Onward steps answers events began step answer more since are
 
 module _ {S : Type 0} (t : RunMeaning S) (old mid new : S) (steps : List Step)
-    (answers : List Answer) where
-  event_step :
-      (step : Step) (answer : Answer) (event : Event) → IsOf step answer event → IsFree event →
-      Moves t mid event new → HasRun t old steps answers mid →
-      HasRun t old (steps ++ step ∷ []) (answers ++ answer ∷ []) new
-  event_step step answer event is free moves run =
-      event_more (IsSince (t.tenants old) steps answers)
-      (IsSince (t.tenants old) (steps ++ step ∷ []) (answers ++ answer ∷ [])) t mid new event
-      (step_on (t.tenants old) steps answers step answer event is) free moves run
+    (answers : List Answer) (run : HasRun t old steps answers mid)
+  where
+    event_step :
+        (step : Step) (answer : Answer) (event : Event) → AreOf step answer (event ∷ []) →
+        IsFree event → Moves t mid event new →
+        HasRun t old (steps ++ step ∷ []) (answers ++ answer ∷ []) new
+    event_step step answer event are free moves =
+        event_more (IsSince (t.tenants old) steps answers)
+        (IsSince (t.tenants old) (steps ++ step ∷ []) (answers ++ answer ∷ [])) t mid new event
+        (step_on (t.tenants old) steps answers step answer (event ∷ []) are) free moves run
 
-  -- one step more
-  step_more :
-      (step : Step) (answer : Answer) → HasRun t old steps answers mid →
-      StepMakes t mid step answer new →
-      HasRun t old (steps ++ step ∷ []) (answers ++ answer ∷ []) new
-  step_more (step.Request bytes moment) (answer.Replied reply) run makes =
-      event_step (step.Request bytes moment) (answer.Replied reply) makes.event makes.is
-      (subst IsFree (sym makes.is.is) (λ events. tt)) makes.moves run
-  step_more (step.Request bytes moment) (answer.Added result) run makes = absurd makes
-  step_more (step.Request bytes moment) (answer.Reopened result) run makes = absurd makes
-  step_more (step.AddTenant name digest) (answer.Added result) run makes =
-      event_step (step.AddTenant name digest) (answer.Added result)
-      (Tried (Joined digest) (ending_of result)) refl (λ events. tt) makes run
-  step_more (step.AddTenant name digest) (answer.Replied reply) run makes = absurd makes
-  step_more (step.AddTenant name digest) (answer.Reopened result) run makes = absurd makes
-  step_more step.Reopen (answer.Reopened (Ok done)) run makes =
-      opened_more (IsSince (t.tenants old) steps answers)
-      (IsSince (t.tenants old) (steps ++ step.Reopen ∷ []) (answers ++ answer.Reopened (Ok tt) ∷ []))
-      t mid new
-      (λ (deeds : List Deed).
-      step_on (t.tenants old) steps answers step.Reopen (answer.Reopened (Ok tt)) (Reopened deeds) tt)
-      makes run
-  step_more step.Reopen (answer.Reopened (Err fault)) run makes =
-      begun_anew t
-      (IsSince (t.tenants old) (steps ++ step.Reopen ∷ [])
-      (answers ++ answer.Reopened (Err fault) ∷ []))
-      new (λ began may. Anew steps answers fault began)
-  step_more step.Reopen (answer.Replied reply) run makes = absurd makes
-  step_more step.Reopen (answer.Added result) run makes = absurd makes
+    -- one step more
+    step_more :
+        (step : Step) (answer : Answer) → StepMakes t mid step answer new →
+        HasRun t old (steps ++ step ∷ []) (answers ++ answer ∷ []) new
+    step_more (step.Request bytes moment) (answer.Replied reply) makes =
+        event_step (step.Request bytes moment) (answer.Replied reply) makes.event makes.is
+        (subst IsFree (sym makes.is.is) (λ events. tt)) makes.moves
+    step_more (step.Request bytes moment) (answer.Round result) makes = absurd makes
+    step_more (step.Request bytes moment) (answer.Added result) makes = absurd makes
+    step_more (step.Request bytes moment) (answer.Reopened result) makes = absurd makes
+    step_more (step.Round messages) (answer.Round (Ok replies)) makes =
+        round_more t (IsSince (t.tenants old) steps answers)
+        (IsSince (t.tenants old) (steps ++ step.Round messages ∷ [])
+        (answers ++ answer.Round (Ok replies) ∷ []))
+        mid new messages.items replies.items
+        (step_on (t.tenants old) steps answers (step.Round messages) (answer.Round (Ok replies)))
+        makes run
+    step_more (step.Round messages) (answer.Round (Err why)) makes =
+        subst
+        (HasLed t
+        (IsSince (t.tenants old) (steps ++ step.Round messages ∷ [])
+        (answers ++ answer.Round (Err why) ∷ [])))
+        (sym makes)
+        (same_more (IsSince (t.tenants old) steps answers)
+        (IsSince (t.tenants old) (steps ++ step.Round messages ∷ [])
+        (answers ++ answer.Round (Err why) ∷ []))
+        t mid
+        (step_on (t.tenants old) steps answers (step.Round messages) (answer.Round (Err why)) [] tt)
+        run)
+    step_more (step.Round messages) (answer.Replied reply) makes = absurd makes
+    step_more (step.Round messages) (answer.Added result) makes = absurd makes
+    step_more (step.Round messages) (answer.Reopened result) makes = absurd makes
+    step_more (step.AddTenant name digest) (answer.Added result) makes =
+        event_step (step.AddTenant name digest) (answer.Added result)
+        (Tried (Joined digest) (ending_of result)) refl (λ events. tt) makes
+    step_more (step.AddTenant name digest) (answer.Replied reply) makes = absurd makes
+    step_more (step.AddTenant name digest) (answer.Round result) makes = absurd makes
+    step_more (step.AddTenant name digest) (answer.Reopened result) makes = absurd makes
+    step_more step.Reopen (answer.Reopened (Ok done)) makes =
+        opened_more (IsSince (t.tenants old) steps answers)
+        (IsSince (t.tenants old) (steps ++ step.Reopen ∷ []) (answers ++ answer.Reopened (Ok tt) ∷ []))
+        t mid new
+        (λ (deeds : List Deed).
+        step_on (t.tenants old) steps answers step.Reopen (answer.Reopened (Ok tt))
+        (Reopened deeds ∷ []) tt)
+        makes run
+    step_more step.Reopen (answer.Reopened (Err fault)) makes =
+        begun_anew t
+        (IsSince (t.tenants old) (steps ++ step.Reopen ∷ [])
+        (answers ++ answer.Reopened (Err fault) ∷ []))
+        new (λ began may. Anew steps answers fault began)
+    step_more step.Reopen (answer.Replied reply) makes = absurd makes
+    step_more step.Reopen (answer.Round result) makes = absurd makes
+    step_more step.Reopen (answer.Added result) makes = absurd makes
 
 -- before the first step
 pub none_yet :
@@ -99,7 +126,7 @@ pub run_on :
     HasRun t old (take (i + 1) steps) more new
 run_on t old mid new steps answers more i step answer below is grown run makes =
     rw (take_step steps i step below is, grown)
-    (step_more t old mid new (take i steps) answers step answer run makes)
+    (step_more t old mid new (take i steps) answers run step answer makes)
 
 pub through_on :
     {S : Type 0} (t : RunMeaning S) (old mid new : S) (steps : List Step)
@@ -110,7 +137,7 @@ pub through_on :
 through_on t old mid new steps answers more i step answer below is grown through run makes =
     rw (take_step steps i step below is, grown)
     (Goes_on (take i steps) answers mid step answer new through makes
-    (step_more t old mid new (take i steps) answers step answer run makes))
+    (step_more t old mid new (take i steps) answers run step answer makes))
 
 pub answered_on :
     (steps : List Step) (answers more : List Answer) (i : ℕ) (step : Step) (answer : Answer) →

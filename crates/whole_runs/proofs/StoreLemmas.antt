@@ -2,7 +2,6 @@
 use Rattle.std.proofs.Common.{◌≡◌, ◌≢◌, ◌⊎◌, inl, inr, ℕ, Bool, true, false, List, [], Result}
 use Rattle.std.proofs.Common.{Ok, Err}
 use Rattle.std.proofs.Common.{OnOk, OnErr, refl, sym, ap, subst, ◌∙◌}
-use Rattle.std.proofs.Math.Logic.{∥∥₁_map}
 use Rattle.std.proofs.lemmas.Bool.{cases_Bool, both_ways}
 use Rattle.records.specs.declared.unavailable.Unavailable.TheVariants.{Disk as DiskFailed}
 use Rattle.sqlite_disk.specs.declared.Disk as disk
@@ -21,9 +20,8 @@ use Rattle.stored_ledgers.specs.DueSets.{DueSets}
 use Rattle.stored_ledgers.specs.Joining.{HasJoined, Joined, JoiningAddsOne}
 use Rattle.store.specs.StoreLaws.{store_meaning, opened_is_found, opened_is_live}
 use Rattle.store.specs.Stores.{IsUsable, IsUsableAt, IsLive, IsLiveAt, IsHonest, IsHonestAt}
-use Rattle.store.specs.Stores.{tenants_of, tenants_at, may_find, may_find_at, FindsTenants, Finds}
-use Rattle.store.specs.Stores.{FindsAt, Follows, Goes, OfDatabase, OfDatabaseAt, OfDatabases}
-use Rattle.store.specs.Stores.{IsSettledStore, IsSettledAt}
+use Rattle.store.specs.Stores.{tenants_of, tenants_at, may_find, FindsTenants, Finds}
+use Rattle.store.specs.Stores.{Follows, Goes, OfDatabase, OfDatabaseAt, OfDatabases}
 use Rattle.service.specs.Deeds as deed
 use Rattle.service.specs.Deeds.{IsDeedDone, joined}
 use Rattle.service.specs.Courses.{Tried, Happens}

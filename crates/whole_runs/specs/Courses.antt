@@ -6,6 +6,7 @@ use Rattle.service.specs.Courses.{Ending, Done, Declined, Unavailable, Event, Tr
 use Rattle.service.specs.Courses.{IsReplyTo}
 use Rattle.service.specs.Openings.{CourseSince}
 use Rattle.service.specs.OwnDeeds.{SeesItself}
+use Rattle.service.specs.Turns.{AreRepliesTo}
 use Rattle.stored_ledgers.specs.declared.joining.AddTenant.{AddTenant}
 use Rattle.stored_ledgers.specs.declared.joining.AddTenant.TheVariants as add
 use Rattle.openings.specs.declared.opening.OpenFault.{OpenFault}
@@ -20,14 +21,18 @@ ending_of (Ok done) = Done
 ending_of (Err (add.Unavailable why)) = Unavailable
 ending_of (Err why) = Declined
 
--- the event is that of a step and its answer
-abbrev pub IsOf : Step → Answer → Event → Type 0
-IsOf (step.Request bytes moment) (answer.Replied reply) event =
+-- the events are those of a step and its answer: one; or of a round one for each message, and none
+-- where nothing was done
+abbrev pub AreOf : Step → Answer → List Event → Type 0
+AreOf (step.Request bytes moment) (answer.Replied reply) (event ∷ []) =
     IsReplyTo bytes.items moment reply event
-IsOf (step.AddTenant name digest) (answer.Added result) event =
+AreOf (step.Round messages) (answer.Round (Ok replies)) events =
+    AreRepliesTo messages.items replies.items events
+AreOf (step.Round messages) (answer.Round (Err why)) [] = Unit {0}
+AreOf (step.AddTenant name digest) (answer.Added result) (event ∷ []) =
     event ≡ Tried (Joined digest) (ending_of result)
-IsOf step.Reopen (answer.Reopened (Ok done)) (Reopened deeds) = Unit {0}
-IsOf step answer event = ⊥
+AreOf step.Reopen (answer.Reopened (Ok done)) (Reopened deeds ∷ []) = Unit {0}
+AreOf step answer events = ⊥
 
 -- the events of steps and their answers since the last opening that was refused, or since the
 -- beginning where none was, and the machines at that time. After a refused opening the machines
@@ -40,9 +45,9 @@ pub data IsSince (first : Tenants) : List Step → List Answer → List Event �
       found
   Onward :
       (steps : List Step) (answers : List Answer) (events : List Event) (began : Tenants)
-      (step : Step) (answer : Answer) (event : Event) →
-      IsSince first steps answers events began → IsOf step answer event →
-      IsSince first (steps ++ step ∷ []) (answers ++ answer ∷ []) (events ++ event ∷ []) began
+      (step : Step) (answer : Answer) (more : List Event) →
+      IsSince first steps answers events began → AreOf step answer more →
+      IsSince first (steps ++ step ∷ []) (answers ++ answer ∷ []) (events ++ more) began
 
 -- a run is the course of these events, from the machines at that time to those now
 abbrev pub RunCourse :

@@ -1,8 +1,11 @@
 -- What each step of a run promises of ledgers that can be opened again, and what a run does.
-use Rattle.std.specs.Prelude.{◌≡◌, ℕ, List, [], ◌∷◌, ◌++◌, Result, Ok, Err}
+use Rattle.std.specs.Prelude.{◌≡◌, List, [], ◌∷◌, ◌++◌, Result, Ok, Err, Vec}
+use Rattle.ledger_http.specs.declared.reply.Reply.{Reply}
+use Rattle.service.specs.declared.turns.Message.{Message}
 use Rattle.service.specs.Deeds.{Joined}
 use Rattle.service.specs.Courses.{Tried}
 use Rattle.service.specs.Openings.{RunMeaning, Moves, Replies, IsOpened, HasLed}
+use Rattle.service.specs.Turns.{MovesInRound}
 use Rattle.openings.specs.declared.opening.OpenFault.{OpenFault}
 use Rattle.whole_runs.specs.declared.steps.Step.{Step}
 use Rattle.whole_runs.specs.declared.steps.Step.TheVariants as step
@@ -15,10 +18,18 @@ abbrev pub Reopens : {S : Type 0} → RunMeaning S → S → Result (Unit {0}) O
 Reopens t old (Ok done) new = IsOpened t old new
 Reopens t old (Err fault) new = t.is_live new → ⊥
 
+-- what a round makes of them; where memory lacks for the replies, nothing was done
+abbrev pub RoundMakes :
+    {S Z E : Type 0} → RunMeaning S → S → List Message → Result (Vec Reply Z) E → S → Type 0
+RoundMakes t old messages (Ok replies) new = MovesInRound t old messages replies.items new
+RoundMakes t old messages (Err why) new = new ≡ old
+
 -- what a step makes of the ledgers
 abbrev pub StepMakes : {S : Type 0} → RunMeaning S → S → Step → Answer → S → Type 0
 StepMakes t old (step.Request bytes moment) (answer.Replied reply) new =
     Replies t old bytes.items moment reply new
+StepMakes t old (step.Round messages) (answer.Round result) new =
+    RoundMakes t old messages.items result new
 StepMakes t old (step.AddTenant name digest) (answer.Added result) new =
     Moves t old (Tried (Joined digest) (ending_of result)) new
 StepMakes t old step.Reopen (answer.Reopened result) new = Reopens t old result new
@@ -44,6 +55,7 @@ pub data RunsThrough {S : Type 0} (t : RunMeaning S) (old : S) : List Step → L
 -- an answer is one to its step
 abbrev pub IsAnswerTo : Step → Answer → Type 0
 IsAnswerTo (step.Request bytes moment) (answer.Replied reply) = Unit {0}
+IsAnswerTo (step.Round messages) (answer.Round result) = Unit {0}
 IsAnswerTo (step.AddTenant name digest) (answer.Added result) = Unit {0}
 IsAnswerTo step.Reopen (answer.Reopened result) = Unit {0}
 IsAnswerTo step answer = ⊥

@@ -7,10 +7,11 @@ use crate::Reopening;
 use ledger_http::Reply;
 use plain::{Book, PlainTables};
 use records::Unavailable;
-use service::{respond, responses_happen};
+use service::{Message, Settles, respond, respond_round, responses_happen};
 use std::alloc::Global;
 use store::{AddTenant, OpenFault};
 use tenants::TenantName;
+use wire::NoMemory;
 
 /// Ledgers over lists, whose tenants have names. They are opened again as they are.
 #[derive(Drop)]
@@ -18,6 +19,13 @@ pub struct NamedBook {
     alloc: Global,
     book: Book,
     names: Vec<TenantName>,
+}
+
+/// Lists, of which an opening finds nothing.
+struct Lists;
+
+impl Settles<Book> for Lists {
+    fn is_settled(_ledgers: &Book) {}
 }
 
 impl NamedBook {
@@ -48,6 +56,14 @@ impl Reopening for NamedBook {
     fn reply_to(&mut self, alloc: Global, bytes: &[u8], moment: u64) -> Reply {
         responses_happen();
         respond(alloc, &mut self.book, bytes, moment)
+    }
+
+    fn reply_to_round(
+        &mut self,
+        alloc: Global,
+        messages: &[Message],
+    ) -> Result<Vec<Reply>, NoMemory> {
+        respond_round::<Book, Lists>(alloc, &mut self.book, messages)
     }
 
     fn join(&mut self, name: &TenantName, digest: &[u8; 32]) -> Result<(), AddTenant> {

@@ -1,19 +1,23 @@
 //! Ledgers that can be closed and opened again.
+ghost use Rattle.std.specs.Prelude.{◌≡◌, IfOk, OnErr};
 ghost use Rattle.service.specs.Deeds.{Joined};
 ghost use Rattle.service.specs.Courses.{Tried};
 ghost use Rattle.service.specs.Openings.{RunMeaning, IsSettled, Replies, Moves};
+ghost use Rattle.service.specs.Turns.{MovesInRound};
 ghost use Rattle.whole_runs.specs.Courses.{ending_of};
 ghost use Rattle.whole_runs.specs.Reopenings.{Reopens};
 
 use ledger_http::Reply;
+use service::Message;
 use std::alloc::Global;
 use store::{AddTenant, OpenFault};
 use tenants::TenantName;
+use wire::NoMemory;
 
 /// The ledgers of many tenants, which can be closed and opened again.
 ///
-/// A fault of what they stand on ends them until they are opened again. A request that came to its
-/// fault may be found done then, or not: no other may.
+/// A fault of what they stand on ends them until they are opened again. The request that came to the
+/// fault, or the round, may be found done then, all of it, or not: no other may.
 pub trait Reopening {
     // The machine of each tenant; whether calls are allowed; whether the ledgers are live; and
     // which machines an opening may find.
@@ -28,6 +32,19 @@ pub trait Reopening {
     fn reply_to(&mut self, alloc: Global, bytes: &[u8], moment: u64) -> Reply
         requires { means.is_usable self.old }
         ensures replies { Replies means self.old bytes.now moment result self.new }
+        ensures usable { means.is_usable self.new };
+
+    /// The replies to messages, in order: they are answered in one round, and where that cannot be,
+    /// one by one. Where memory lacks for the replies, nothing is done.
+    fn reply_to_round(
+        &mut self,
+        alloc: Global,
+        messages: &[Message],
+    ) -> Result<Vec<Reply>, NoMemory>
+        requires { means.is_usable self.old }
+        ensures moves { IfOk result (λ replies.
+            MovesInRound means self.old messages.now replies.items self.new) }
+        ensures undone { OnErr result (self.new ≡ self.old) }
         ensures usable { means.is_usable self.new };
 
     /// Adds a tenant, whose machine is a new one.

@@ -19,6 +19,9 @@ fn run_step<L: Reopening>(alloc: Global, ledgers: &mut L, step: &Step) -> Answer
         Step::Request(bytes, moment) => {
             Answer::Replied(ledgers.reply_to(alloc, bytes.as_slice(), *moment))
         }
+        Step::Round(messages) => {
+            Answer::Round(ledgers.reply_to_round(alloc, messages.as_slice()))
+        }
         Step::AddTenant(name, digest) => Answer::Added(ledgers.join(name, digest)),
         Step::Reopen => Answer::Reopened(ledgers.open_again()),
     }

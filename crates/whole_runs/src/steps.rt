@@ -1,14 +1,18 @@
 //! The steps of a run, and their answers.
 
 use ledger_http::Reply;
+use service::Message;
 use store::{AddTenant, OpenFault};
 use tenants::TenantName;
+use wire::NoMemory;
 
 /// A step of a run.
 #[derive(Drop)]
 pub enum Step {
     /// A message, and its moment in nanoseconds.
     Request(Vec<u8>, u64),
+    /// Messages that are answered in one round.
+    Round(Vec<Message>),
     /// The name of a new tenant, and the digest by which it is to be known.
     AddTenant(TenantName, [u8; 32]),
     /// The ledgers are closed and opened again.
@@ -19,6 +23,8 @@ pub enum Step {
 #[derive(Drop)]
 pub enum Answer {
     Replied(Reply),
+    /// A reply to each message, in order; or memory lacks for the replies, and nothing was done.
+    Round(Result<Vec<Reply>, NoMemory>),
     Added(Result<(), AddTenant>),
     Reopened(Result<(), OpenFault>),
 }

@@ -2,11 +2,21 @@
 
 use crate::reopening::Reopening;
 use ledger_http::Reply;
-use service::{respond, responses_move};
+use service::{Message, Settles, respond, respond_round, responses_move};
 use sqlite_disk::Disk;
 use std::alloc::Global;
 use store::{AddTenant, FullAudit, OpenFault, Store, joining_adds_one};
 use tenants::TenantName;
+use wire::NoMemory;
+
+/// Stores: while one is open, a crash leaves what is there.
+struct Stores;
+
+impl<D: Disk + Drop> Settles<Store<D>> for Stores {
+    fn is_settled(ledgers: &Store<D>) {
+        ledgers.is_settled();
+    }
+}
 
 impl<D: Disk + Drop> Reopening for Store<D> {
     ghost use Rattle.service.specs.Openings.{run_meaning};
@@ -23,6 +33,14 @@ impl<D: Disk + Drop> Reopening for Store<D> {
         let reply = respond(alloc, self, bytes, moment);
         self.is_settled();
         reply
+    }
+
+    fn reply_to_round(
+        &mut self,
+        alloc: Global,
+        messages: &[Message],
+    ) -> Result<Vec<Reply>, NoMemory> {
+        respond_round::<Store<D>, Stores>(alloc, self, messages)
     }
 
     fn join(&mut self, name: &TenantName, digest: &[u8; 32]) -> Result<(), AddTenant> {

@@ -270,7 +270,8 @@ fn refuses_other_lines(rt: HostRuntime) -> Result<(), Fail> {
 #[test]
 fn takes_a_call_for_the_version(rt: HostRuntime) {
     for word in ["--version", "-V"] {
-        let told = command(rt.alloc(), &[word]);
+        let words = [word];
+        let told = command(rt.alloc(), &words);
         assert!(rt; matches!(told, Err(LineFault::Version)), "of {word}");
     }
 }

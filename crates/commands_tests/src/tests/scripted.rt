@@ -131,6 +131,11 @@ impl Peers for Scripted<'_> {
         Told::Nothing
     }
 
+    // Who is told is served before the next one is.
+    fn has_more(&self) -> bool {
+        false
+    }
+
     fn wants(&mut self, _client: u64, _bytes: u64) {}
 
     fn read(&mut self, client: u64, piece: &mut [u8]) -> Read {

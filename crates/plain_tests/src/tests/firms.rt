@@ -2,7 +2,8 @@
 ghost use Rattle.std.specs.Prelude.{◌≡◌, true, false, Err};
 
 use chain::{
-    BatchFault, BatchReply, Ledgers, Listed, ReadFault, Tables, Work, run_accounts, run_transfers,
+    BatchFault, BatchReply, Ledgers, Listed, ReadFault, RoundWork, Rounds, Tables, Work,
+    run_accounts, run_transfers,
 };
 use plain::{Book, PlainTables};
 use records::{
@@ -120,6 +121,11 @@ impl Firms {
         work: W,
     ) -> Result<W::Output, BatchFault> {
         self.book.in_batch(digest, work)
+    }
+
+    /// Does the work of a round.
+    pub fn round<W: RoundWork + Drop>(&mut self, work: W) -> Result<W::Output, Unavailable> {
+        self.book.in_round(work)
     }
 
     /// Sends a batch of transfers at a moment, in nanoseconds.

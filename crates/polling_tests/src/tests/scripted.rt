@@ -14,10 +14,13 @@ pub(crate) struct Peer<'a> {
     is_open: bool,
     /// Whether its next reading or writing would wait.
     waits: bool,
+    never_waits: bool,
     /// How many bytes more it takes before it breaks.
     takes: usize,
     /// How long its messages were told to be, each length once in a row.
     wanted: Vec<u64>,
+    /// Behind how many things that were told it was first written to.
+    written_at: Option<u64>,
 }
 
 impl<'a> Peer<'a> {
@@ -28,8 +31,10 @@ impl<'a> Peer<'a> {
             heard: Vec::new(alloc),
             is_open: true,
             waits: false,
+            never_waits: false,
             takes,
             wanted: Vec::new(alloc),
+            written_at: None,
         }
     }
 
@@ -43,6 +48,17 @@ impl<'a> Peer<'a> {
         &self.wanted
     }
 
+    /// Behind how many things that were told it was first written to.
+    pub(crate) fn written_at(&self) -> Option<u64> {
+        self.written_at
+    }
+
+    /// It never has to wait.
+    pub(crate) fn at_once(mut self) -> Peer<'a> {
+        self.never_waits = true;
+        self
+    }
+
     /// Whether it was not let go.
     pub(crate) fn is_open(&self) -> bool {
         self.is_open
@@ -50,6 +66,9 @@ impl<'a> Peer<'a> {
 
     /// Every other time it waits.
     fn has_to_wait(&mut self) -> bool {
+        if self.never_waits {
+            return false;
+        }
         self.waits = !self.waits;
         self.waits
     }
@@ -62,8 +81,11 @@ pub(crate) struct Scripted<'a> {
     next: u64,
     /// How many bytes are read or taken at once.
     piece: usize,
-    /// Who is told to have had its time, once all have joined.
+    /// Who is told to have had its time, once all have joined and so much was told.
     late: Option<u64>,
+    late_at: u64,
+    /// How many things were told.
+    told: u64,
 }
 
 impl<'a> Scripted<'a> {
@@ -73,12 +95,20 @@ impl<'a> Scripted<'a> {
             next: 0,
             piece,
             late: None,
+            late_at: 0,
+            told: 0,
         }
     }
 
     /// This client has had its time.
     pub(crate) fn is_late(&mut self, number: u64) {
         self.late = Some(number);
+    }
+
+    /// This client has had its time when so much was told.
+    pub(crate) fn is_late_at(&mut self, number: u64, told: u64) {
+        self.late = Some(number);
+        self.late_at = told;
     }
 
     /// Another client comes.
@@ -115,12 +145,15 @@ impl Peers for Scripted<'_> {
 
     fn told(&mut self, fresh: u64) -> Told {
         let count = self.peers.len() as u64;
+        self.told = self.told.saturating_add(1);
         if fresh < count {
             return Told::Joined;
         }
-        if let Some(number) = self.late {
-            self.late = None;
-            return Told::Late(number);
+        if self.told > self.late_at {
+            if let Some(number) = self.late {
+                self.late = None;
+                return Told::Late(number);
+            }
         }
         for _ in 0..count {
             let number = self.next;
@@ -134,6 +167,11 @@ impl Peers for Scripted<'_> {
             }
         }
         Told::Nothing
+    }
+
+    // In each turn round all are told without waiting.
+    fn has_more(&self) -> bool {
+        self.next != 0
     }
 
     fn wants(&mut self, client: u64, bytes: u64) {
@@ -164,9 +202,13 @@ impl Peers for Scripted<'_> {
 
     fn write(&mut self, client: u64, bytes: &[u8]) -> Written {
         let most = self.piece.min(bytes.len());
+        let told = self.told;
         let Some(peer) = self.peer_mut(client) else {
             return Written::Broken;
         };
+        if peer.written_at.is_none() {
+            peer.written_at = Some(told);
+        }
         if peer.has_to_wait() {
             return Written::Waits;
         }

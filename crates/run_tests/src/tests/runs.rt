@@ -3,7 +3,7 @@
 use super::disks::{NEVER, new_store, shut};
 use super::examples::{EXAMPLES, TENANTS};
 use super::requests::{CLOCKS, READS, REFUSALS};
-use super::scripts::{answers, runs};
+use super::scripts::{answers, runs, runs_in_rounds};
 use std::alloc::{AllocError, Global};
 use std::process::Abort;
 use std::test::Fail;
@@ -104,6 +104,41 @@ fn runs_over_disks(rt: HostRuntime) -> Result<(), Fail> {
 fn examples_over_disks(rt: HostRuntime) -> Result<(), Fail> {
     let mut store = new_store(rt.alloc(), NEVER, NEVER)?;
     let ended = examples(&rt, rt.alloc(), &mut store);
+    shut(store);
+    ended
+}
+
+/// The examples in rounds: each firm's requests are told what they are told one by one.
+fn examples_in_rounds<L: Reopening>(
+    rt: &impl Abort,
+    alloc: Global,
+    ledgers: &mut L,
+) -> Result<(), Fail>
+    requires { L.means.is_usable ledgers.old }
+{
+    runs_in_rounds(rt, alloc, ledgers, &tenants(alloc)?)?;
+    runs_in_rounds(rt, alloc, ledgers, EXAMPLES)?;
+    runs(rt, alloc, ledgers, "open = opened")
+}
+
+#[test]
+fn runs_in_rounds_over_lists(rt: HostRuntime) -> Result<(), Fail> {
+    for script in &RUNS {
+        runs_in_rounds(&rt, rt.alloc(), &mut NamedBook::new(rt.alloc()), script)?;
+    }
+    examples_in_rounds(&rt, rt.alloc(), &mut NamedBook::new(rt.alloc()))
+}
+
+#[test]
+fn runs_in_rounds_over_disks(rt: HostRuntime) -> Result<(), Fail> {
+    for script in &RUNS {
+        let mut store = new_store(rt.alloc(), NEVER, NEVER)?;
+        let ended = runs_in_rounds(&rt, rt.alloc(), &mut store, script);
+        shut(store);
+        ended?;
+    }
+    let mut store = new_store(rt.alloc(), NEVER, NEVER)?;
+    let ended = examples_in_rounds(&rt, rt.alloc(), &mut store);
     shut(store);
     ended
 }

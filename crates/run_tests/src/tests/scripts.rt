@@ -10,6 +10,7 @@
 //! A line that begins with two spaces goes on with the one before it.
 
 use super::messages::{Unmade, step, wanted};
+use super::rounds::{in_rounds, one_by_one};
 use std::alloc::{AllocError, Global};
 use std::process::Abort;
 use std::test::Fail;
@@ -21,6 +22,7 @@ use wire::NoMemory;
 pub fn told(answer: &Answer) -> &[u8] {
     match answer {
         Answer::Replied(reply) => reply.bytes(),
+        Answer::Round(_) => b"a round",
         Answer::Added(Ok(())) => b"added",
         Answer::Added(Err(AddTenant::NameTaken)) => b"name_taken",
         Answer::Added(Err(AddTenant::DigestTaken)) => b"digest_taken",
@@ -89,5 +91,21 @@ pub fn runs<L: Reopening>(
     let text = joined(alloc, script)?;
     let steps = steps(alloc, &text)?;
     let answers = answers(alloc, ledgers, &steps)?;
+    are_told(rt, alloc, &text, &answers)
+}
+
+/// Runs a script in which requests that stand side by side are one round: each is told the same.
+pub fn runs_in_rounds<L: Reopening>(
+    rt: &impl Abort,
+    alloc: Global,
+    ledgers: &mut L,
+    script: &str,
+) -> Result<(), Fail>
+    requires { L.means.is_usable ledgers.old }
+    ensures { L.means.is_usable ledgers.new }
+{
+    let text = joined(alloc, script)?;
+    let steps = in_rounds(alloc, steps(alloc, &text)?)?;
+    let answers = one_by_one(alloc, answers(alloc, ledgers, &steps)?)?;
     are_told(rt, alloc, &text, &answers)
 }

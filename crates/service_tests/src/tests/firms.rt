@@ -4,11 +4,18 @@ ghost use Rattle.std.specs.Prelude.{◌≡◌, false};
 use ledger_http::Reply;
 use plain::{Book, PlainTables};
 use records::{Drain, Source};
-use service::{Moments, ServeFault, respond, serve};
-use std::alloc::Global;
+use service::{Message, Moments, ServeFault, Settles, respond, respond_round, serve};
+use std::alloc::{AllocError, Global};
 use std::marker::Model;
 use std::test::Fail;
 use tenants::{Key, digest};
+
+/// Lists, of which an opening finds nothing.
+struct Lists;
+
+impl Settles<Book> for Lists {
+    fn is_settled(_ledgers: &Book) {}
+}
 
 /// The ledgers of several firms.
 #[derive(Drop)]
@@ -60,6 +67,11 @@ impl Firms {
     /// The reply to some bytes.
     pub(crate) fn answer(&mut self, bytes: &[u8], moment: u64) -> Reply {
         respond(self.alloc, &mut self.book, bytes, moment)
+    }
+
+    /// The replies to the messages of one round.
+    pub(crate) fn round(&mut self, messages: &[Message]) -> Result<Vec<Reply>, AllocError> {
+        respond_round::<Book, Lists>(self.alloc, &mut self.book, messages)
     }
 
     /// Serves a connection.

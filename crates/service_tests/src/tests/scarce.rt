@@ -4,17 +4,19 @@ ghost use Rattle.std.proofs.Common.{refl, ◌∙◌};
 ghost use Rattle.chain.specs.Ledgers.{AreValid};
 
 use super::asserting::same;
+use super::events::Sent::New;
 use super::examples::PENDING_AND_POST;
 use super::memory::UNAVAILABLE;
 use super::messages::FIRST;
+use super::played::Asked::{self, Send};
 use super::played::{FOUR_ACCOUNTS, Want, message, wanted};
-use chain::{BatchFault, Ledgers, Listed, ReadFault, Tables, Work};
+use chain::{BatchFault, Ledgers, Listed, ReadFault, RoundWork, Rounds, Tables, Work};
 use plain::PlainTables;
 use records::{
     Accepted, Account, AccountFilter, AccountWithBalances, BalanceAt, Order, PendingState, RowSink,
     Transfer, Unavailable,
 };
-use service::respond;
+use service::{Message, Settles, respond, respond_round};
 use std::alloc::Global;
 use std::process::Abort;
 use std::test::Fail;
@@ -196,6 +198,20 @@ impl Ledgers for ScarceLedger {
     ghost valid = { λ a live usable. usable };
 }
 
+// It refuses all rounds, so that each message is answered by itself.
+impl Rounds for ScarceLedger {
+    fn in_round<W: RoundWork + Drop>(&mut self, _work: W) -> Result<W::Output, Unavailable> {
+        Err(Unavailable::Memory)
+    }
+}
+
+/// Such a ledger, of which an opening finds nothing.
+struct Unkept;
+
+impl Settles<ScarceLedger> for Unkept {
+    fn is_settled(_ledgers: &ScarceLedger) {}
+}
+
 /// The base, with memory for so many transfers.
 fn scarce_base(rt: &impl Abort, alloc: Global, room: u64) -> Result<ScarceLedger, Fail>
     ensures { IfOk result (λ l. AreValid
@@ -235,5 +251,34 @@ fn keeps_nothing_of_a_batch_that_ran_out_of_memory(rt: HostRuntime) -> Result<()
     let reply = respond(rt.alloc(), &mut ledger, &message, 0);
     let want = wanted(rt.alloc(), &Want::Results(6, &[(0, 5), (0, 6)]))?;
     same(&rt, "enough", reply.bytes(), want.as_slice());
+    Ok(())
+}
+
+/// What one firm sends in a round, of which memory suffices for all but the second, and what it is
+/// told.
+const TOO_MUCH: &[(Asked, Want)] = &[
+    (Send(&[New(200, (1, 2), 10)]), Want::Results(8, &[(0, 8)])),
+    (
+        PENDING_AND_POST,
+        Want::Refused("503 Service Unavailable", "unavailable"),
+    ),
+    (Send(&[]), Want::Results(8, &[])),
+];
+
+#[test]
+fn a_message_that_fails_takes_no_other_with_it(rt: HostRuntime) -> Result<(), Fail> {
+    let alloc = rt.alloc();
+    let mut ledger = scarce_base(&rt, alloc, 1)?;
+    let mut messages = Vec::new(alloc);
+    for (asked, _) in TOO_MUCH {
+        let bytes = message(alloc, FIRST, asked)?;
+        messages.push(Message { bytes, moment: 7 })?;
+    }
+    let replies = respond_round::<ScarceLedger, Unkept>(alloc, &mut ledger, &messages)?;
+    same(&rt, "the replies", replies.len(), TOO_MUCH.len());
+    for ((_, want), reply) in TOO_MUCH.iter().zip(&replies) {
+        let want = wanted(alloc, want)?;
+        same(&rt, "a reply", reply.bytes(), want.as_slice());
+    }
     Ok(())
 }

@@ -3,6 +3,7 @@
 use super::driven::Driven;
 use super::events::{accounts, number, ones, transfers};
 use super::reads::read;
+use super::rounds::send_both;
 use super::tables::{directory, table};
 use super::works::{Failing, Looking, Opening, Sending};
 use audit::AuditFault;
@@ -50,7 +51,7 @@ impl<'a> Command<'a> {
     }
 
     /// A moment, and the events behind it.
-    fn batch(&self) -> (u64, &str) {
+    pub fn batch(&self) -> (u64, &str) {
         match self.rest.strip_prefix("at ") {
             None => (0, self.rest),
             Some(rest) => {
@@ -112,6 +113,7 @@ pub fn answer<D: Disk + Drop>(store: &mut Driven<D>, command: &Command<'_>) -> T
     match command.verb {
         "accounts" => open(store, command),
         "transfers" => send(store, command),
+        "both" => send_both(store, command),
         "ones" => fill(store, command),
         "fail" => fail(store, command),
         "see" => see(store, command),
@@ -228,7 +230,7 @@ impl Numbered for TransferResult {
 }
 
 /// The reply to a batch: the clock, and the number and timestamp of each result.
-fn told<R: Numbered>(alloc: Global, reply: Result<BatchReply<R>, BatchFault>) -> Text {
+pub fn told<R: Numbered>(alloc: Global, reply: Result<BatchReply<R>, BatchFault>) -> Text {
     match reply {
         Err(fault) => shown(alloc, &fault),
         Ok(BatchReply::ClockExhausted) => said(alloc, "the clock is exhausted"),

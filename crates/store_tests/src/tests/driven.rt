@@ -1,7 +1,7 @@
 //! A store that may be called at any time. What its clauses ask of a caller ends here.
 
 use super::taken_rows::TakenRows;
-use chain::{BatchFault, Ledgers, Listed, ReadFault, Work};
+use chain::{BatchFault, Ledgers, Listed, ReadFault, RoundWork, Rounds, Work};
 use records::{
     AccountFilter, AccountWithBalances, BalanceAt, Order, StatementRow, Transfer, Unavailable,
 };
@@ -100,6 +100,10 @@ impl<D: Disk + Drop> Driven<D> {
         W::Output: Drop,
     {
         self.store.in_batch(digest, work)
+    }
+
+    pub fn run_round<W: RoundWork + Drop>(&mut self, work: W) -> Result<W::Output, Unavailable> {
+        Rounds::in_round(&mut self.store, work)
     }
 
     pub fn lookup_accounts(

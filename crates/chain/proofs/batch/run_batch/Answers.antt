@@ -2,7 +2,7 @@ use Rattle.std.proofs.Common.{◌+◌, ◌-◌, ◌∙◌, sym, ap, arith, lengt
 use Rattle.records.specs.Chains.{chains_of, after_chains}
 use Rattle.records.specs.Step.{at_clock, step_machine}
 use Rattle.chain.specs.Tables.{on_now, same}
-use Rattle.chain.proofs.TableCalls.{Joins, in_turn, changed_so}
+use Rattle.chain.proofs.TableCalls.{Joins, in_turn, changed_so, leaves_run}
 use Rattle.chain.proofs.StepOutcomes.{outcome_exhausted, machine_exhausted, outcome_answered}
 use Rattle.chain.proofs.StepOutcomes.{machine_answered}
 use Rattle.chain.proofs.EntriesUpToClock.{batch_begins}
@@ -19,12 +19,14 @@ returns-in_default-clause-leaves g c =
     let t = g.T.Tables.means in
     let rules = g.E.BatchEvent.rules in
     let old = t.state c.args.tables.now in
-    changed_so t c.args.tables.now c.clock.new.self _ _ same
+    leaves_run t c.args.tables.now c.clock.new.self _
+    (on_now (λ m. step_machine rules m c.args.batch.now c.args.moment))
+    (changed_so t c.args.tables.now c.clock.new.self _ _ same
     (on_now (λ m. step_machine rules m c.args.batch.now c.args.moment)) c.in_ok-clock.ensures.leaves
     (λ live.
     let late = rw (c.in_ok-clock.ensures.value live) at c.in_default.ensures in
     ap (λ m. on_now (λ n. m) old)
-    (sym (machine_exhausted rules old.now c.args.batch.now c.args.moment late)))
+    (sym (machine_exhausted rules old.now c.args.batch.now c.args.moment late))))
 
 pub run_chains-requires-clause-between : goal.run_chains-requires-clause-between
 run_chains-requires-clause-between g c live =
@@ -78,7 +80,9 @@ returns-clause-leaves g c =
     c.in_ok-clock.ensures.leaves c.in_ok-settle.ensures in
     let ran = in_turn t c.args.tables.now c.settle.new.self c.run_chains.new.tables _ _ settling
     running joins settled c.in_ok-run_chains.ensures.leaves in
-    changed_so t c.args.tables.now c.run_chains.new.tables _ _ (λ s. running (settling s))
+    leaves_run t c.args.tables.now c.run_chains.new.tables _
+    (on_now (λ m. step_machine rules m c.args.batch.now c.args.moment))
+    (changed_so t c.args.tables.now c.run_chains.new.tables _ _ (λ s. running (settling s))
     (on_now (λ m. step_machine rules m c.args.batch.now c.args.moment)) ran (λ live.
     let clocked : t.is_live c.clock.new.self =
     joins.lived _ _
@@ -87,4 +91,4 @@ returns-clause-leaves g c =
     let told = rw (c.in_ok-clock.ensures.value clocked) at c.in-Some.ensures.0 in
     ap (λ m. on_now (λ n. m) old)
     (sym (machine_answered rules old.now c.args.batch.now c.args.moment clock told
-    c.in-Some.ensures.1)))
+    c.in-Some.ensures.1))))

@@ -1,8 +1,10 @@
 use Rattle.std.proofs.Common.{subst}
-use Rattle.service.specs.Openings.{HasLed}
+use Rattle.service.specs.Openings.{run_meaning, HasLed}
+use Rattle.service.specs.Seen.{Whole, seen}
+use Rattle.store.specs.StoreLaws.{store_meaning}
 use Rattle.polling.specs.Courses.{IsSince}
 use Rattle.polling.specs.Laws.{empty_hall}
-use Rattle.commands.specs.Kept.{kept_store, renewal_of}
+use Rattle.commands.specs.Kept.{kept_meaning, renewal_seen}
 use Rattle.commands.specs.declared.kept.Kept.TheVariants.{Open}
 use Rattle.commands.proofs.file_serving.serve_store.Goals as goal
 
@@ -13,10 +15,12 @@ returns-clause-served g c =
       kept = c.serve_clients.new.ledgers;
       served = served;
       course = λ live.
+          let led =
           subst
-          (HasLed kept_store
-          (IsSince renewal_of
-          (empty_hall (Open c.args.store) c.args.moments.now c.args.peers.now) served.deeds
+          (HasLed (run_meaning (seen (kept_meaning store_meaning)))
+          (IsSince renewal_seen
+          (empty_hall (Whole (Open c.args.store)) c.args.moments.now c.args.peers.now) served.deeds
           served.last served.served))
-          served.ledgers_left (served.course renewal_of live);
+          served.ledgers_left (served.course renewal_seen live) in
+          record { here = led.here; found = led.found };
     }

@@ -1,4 +1,5 @@
 use Rattle.std.proofs.Common.{◌≡◌, ◌<◌, [], Ok, Err, arith}
+use Rattle.service.specs.Seen.{Whole}
 use Rattle.polling.specs.Laws.{empty_hall}
 use Rattle.polling.specs.Seating.{held_by}
 use Rattle.polling.specs.Serving.{Begin, rules}
@@ -9,7 +10,7 @@ use Rattle.commands.proofs.serving.serve_clients.Goals as goal
 pub loop-init : goal.loop-init
 loop-init g c = record {
   deeds = [];
-  last = empty_hall c.args.ledgers.now c.args.moments.now c.args.peers.now;
+  last = empty_hall (Whole c.args.ledgers.now) c.args.moments.now c.args.peers.now;
   served = Begin;
   keeps =
       c.serving_begins_empty.ensures c.args.ledgers.now c.args.moments.now c.args.peers.now
@@ -23,7 +24,7 @@ loop-init g c = record {
 pub loop-preserved : goal.loop-preserved
 loop-preserved g c =
     let r = rules g.L.Ledgers.means g.C.Moments.gives g.H.Reopen.renews g.P.Peers.does in
-    let first = empty_hall c.args.ledgers.now c.args.moments.now c.args.peers.now in
+    let first = empty_hall (Whole c.args.ledgers.now) c.args.moments.now c.args.peers.now in
     let before = c.loop.invariant in
     let old = held_by c.loop.ledgers c.loop.moments c.loop.peers c.loop.seats in
     let round = c.serve_ready-left in
@@ -46,7 +47,7 @@ loop-preserved g c =
 
 pub returns-then-left-eq0-clause-served : goal.returns-then-left-eq0-clause-served
 returns-then-left-eq0-clause-served g c =
-    let first = empty_hall c.args.ledgers.now c.args.moments.now c.args.peers.now in
+    let first = empty_hall (Whole c.args.ledgers.now) c.args.moments.now c.args.peers.now in
     let before = c.loop.invariant in
     let old = held_by c.loop.ledgers c.loop.moments c.loop.peers c.loop.seats in
     let round = c.serve_ready-left in
@@ -61,7 +62,8 @@ returns-then-left-eq0-clause-served g c =
     (c.write_rest.ensures.serves round.new.ledgers round.new.moments) in
     serves_so (rules g.L.Ledgers.means g.C.Moments.gives g.H.Reopen.renews g.P.Peers.does)
     c.each_is_served.ensures c.serving_is_a_course.ensures.course
-    c.serving_is_a_course.ensures.alone c.args.ledgers.now c.args.moments.now c.args.peers.now
+    c.serving_is_a_course.ensures.alone (Whole c.args.ledgers.now) c.args.moments.now
+    c.args.peers.now
     c.is_settled.ensures all.last all.deeds all.all new all.keeps c.args.most (Ok tt)
     (omega (
       arith,
@@ -78,7 +80,8 @@ returns-clause-served g c =
     let before = c.loop.invariant in
     serves_so (rules g.L.Ledgers.means g.C.Moments.gives g.H.Reopen.renews g.P.Peers.does)
     c.each_is_served.ensures c.serving_is_a_course.ensures.course
-    c.serving_is_a_course.ensures.alone c.args.ledgers.now c.args.moments.now c.args.peers.now
+    c.serving_is_a_course.ensures.alone (Whole c.args.ledgers.now) c.args.moments.now
+    c.args.peers.now
     c.is_settled.ensures before.last before.deeds before.served
     (held_by c.loop.ledgers c.loop.moments c.loop.peers c.loop.seats) before.keeps c.args.most
     (Err Socket) tt

@@ -1,5 +1,6 @@
 use Rattle.std.proofs.Common.{◌≡◌, ◌≤◌, ◌<◌, ◌+◌, List}
 use Rattle.clients.specs.Deeds.{Deed}
+use Rattle.service.specs.Seen.{Whole}
 use Rattle.polling.specs.Laws.{empty_hall}
 use Rattle.polling.specs.Seating.{Keeps, held_by, replies_in}
 use Rattle.polling.specs.Serving.{Hall, Serves, rules, tellings}
@@ -13,7 +14,7 @@ invariant-loop g l = record {
   served :
       Serves _ _ _
       (rules g.L.Ledgers.means g.C.Moments.gives g.H.Reopen.renews g.P.Peers.does)
-      (empty_hall l.fn.ledgers l.fn.moments l.fn.peers) deeds last;
+      (empty_hall (Whole l.fn.ledgers) l.fn.moments l.fn.peers) deeds last;
   keeps : Keeps (held_by l.ledgers l.moments l.peers l.seats) last;
   left : replies_in deeds + l.left ≡ l.most;
   wanting : 0 < l.counter → 0 < l.left;

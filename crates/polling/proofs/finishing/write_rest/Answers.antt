@@ -1,8 +1,8 @@
 use Rattle.std.proofs.Common.{refl}
 use Rattle.polling.specs.Serving.{rules}
 use Rattle.polling.specs.Seating.{held_by}
-use Rattle.polling.specs.Ending.{Start, Quiet}
-use Rattle.polling.proofs.TurnLemmas.{turns_serve, next_turn, quiet_serves, quiet_then}
+use Rattle.polling.specs.Ending.{AreWritten, Start, Quiet}
+use Rattle.polling.proofs.TurnLemmas.{turns_serve, next_turn, too_long, quiet_serves, quiet_then}
 use Rattle.polling.proofs.finishing.write_rest.Goals as goal
 
 pub loop-init : goal.loop-init
@@ -52,3 +52,11 @@ returns-clause-serves g c ledgers moments =
     (held_by ledgers moments c.args.peers.now c.args.seats.now)
     (held_by ledgers moments c.loop.peers c.loop.seats) c.loop.counter 0
     (c.loop.invariant ledgers moments)
+
+pub returns-clause-ends : goal.returns-clause-ends
+returns-clause-ends g c ledgers moments =
+    too_long (rules g.L.Ledgers.means g.C.Moments.gives g.H.Reopen.renews g.P.Peers.does)
+    (AreWritten c.loop.seats.clients)
+    (held_by ledgers moments c.args.peers.now c.args.seats.now)
+    (held_by ledgers moments c.loop.peers c.loop.seats) c.loop.counter 0 c.loop.auto.counter-end
+    c.loop-test.false (c.loop.invariant ledgers moments)

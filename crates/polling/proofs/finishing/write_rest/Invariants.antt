@@ -1,3 +1,4 @@
+use Rattle.service.specs.Seen.{Seen}
 use Rattle.polling.specs.Serving.{rules}
 use Rattle.polling.specs.Seating.{held_by}
 use Rattle.polling.specs.Ending.{Turns}
@@ -7,7 +8,7 @@ use Rattle.polling.proofs.finishing.write_rest.Given as goal
 abbrev pub invariant-loop : goal.invariant-loop
 invariant-loop g l =
     (ledgers : g.row.L.Denot) (moments : g.row.C.Denot)
-    → Turns g.row.L.Denot g.row.C.Denot g.row.P.Denot
+    → Turns (Seen g.row.L.Denot) g.row.C.Denot g.row.P.Denot
     (rules g.L.Ledgers.means g.C.Moments.gives g.H.Reopen.renews g.P.Peers.does)
     (held_by ledgers moments l.fn.peers l.fn.seats) l.counter 0
     (held_by ledgers moments l.peers l.seats)

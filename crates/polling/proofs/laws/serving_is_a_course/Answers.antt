@@ -5,7 +5,7 @@ use Rattle.polling.proofs.laws.serving_is_a_course.Goals as goal
 pub returns-clause-course : goal.returns-clause-course
 returns-clause-course g c =
     is_course (rules g.L.Ledgers.means g.C.Moments.gives g.H.Reopen.renews g.P.Peers.does)
-    c.responses_move.ensures
+    c.responses_move_within.ensures
 
 pub returns-clause-alone : goal.returns-clause-alone
 returns-clause-alone g c =

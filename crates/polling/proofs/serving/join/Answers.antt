@@ -1,4 +1,5 @@
 use Rattle.std.proofs.Common.{refl, ◌+◌}
+use Rattle.service.specs.Seen.{Whole}
 use Rattle.polling.specs.Serving.{rules}
 use Rattle.polling.specs.Seating.{held, seats_in}
 use Rattle.polling.proofs.AllLemmas.{then_all, stirs_all, passed_over, joined}
@@ -7,13 +8,13 @@ use Rattle.polling.proofs.serving.join.Goals as goal
 pub returns-then-number : goal.returns-then-number
 returns-then-number g c ledgers moments =
     let r = rules g.L.Ledgers.means g.C.Moments.gives g.H.Reopen.renews g.P.Peers.does in
-    stirs_all r ledgers moments c.args.peers.now c.close.new.self (seats_in c.args.seats.now.clients)
+    stirs_all r (Whole ledgers) moments c.args.peers.now c.close.new.self (seats_in c.args.seats.now.clients)
     c.args.seats.now.next c.close.ensures
 
 pub returns-in-Ok : goal.returns-in-Ok
 returns-in-Ok g c ledgers moments =
     let r = rules g.L.Ledgers.means g.C.Moments.gives g.H.Reopen.renews g.P.Peers.does in
-    joined r ledgers moments c.args.peers.now (seats_in c.args.seats.now.clients)
+    joined r (Whole ledgers) moments c.args.peers.now (seats_in c.args.seats.now.clients)
     (seats_in c.seat.new.clients) c.args.seats.now.next c.in-Ok.ensures.ok
 
 pub returns-in-Err : goal.returns-in-Err
@@ -22,9 +23,9 @@ returns-in-Err g c ledgers moments =
     let next = c.args.seats.now.next in
     let seats = seats_in c.args.seats.now.clients in
     let seats_now = seats_in c.seat.new.clients in
-    then_all r (held ledgers moments c.args.peers.now seats next)
-    (held ledgers moments c.args.peers.now seats_now (next + 1))
-    (held ledgers moments c.close-in-Err.new.self seats_now (next + 1)) 0 0 0 refl
-    (passed_over r ledgers moments c.args.peers.now seats seats_now next c.in-Err.ensures.err)
-    (stirs_all r ledgers moments c.args.peers.now c.close-in-Err.new.self seats_now (next + 1)
+    then_all r (held (Whole ledgers) moments c.args.peers.now seats next)
+    (held (Whole ledgers) moments c.args.peers.now seats_now (next + 1))
+    (held (Whole ledgers) moments c.close-in-Err.new.self seats_now (next + 1)) 0 0 0 refl
+    (passed_over r (Whole ledgers) moments c.args.peers.now seats seats_now next c.in-Err.ensures.err)
+    (stirs_all r (Whole ledgers) moments c.args.peers.now c.close-in-Err.new.self seats_now (next + 1)
     c.close-in-Err.ensures)

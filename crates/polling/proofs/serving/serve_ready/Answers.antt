@@ -1,10 +1,9 @@
-use Rattle.std.proofs.Common.{◌≡◌, arith}
+use Rattle.std.proofs.Common.{◌≡◌, ◌+◌, refl, arith}
 use Rattle.polling.specs.Serving.{rules}
 use Rattle.polling.specs.Seating.{held_by}
 use Rattle.polling.specs.Ending.{Start, Enough, Quiet}
 use Rattle.polling.proofs.TurnLemmas.{turns_serve, next_turn, too_long, quiet_serves, quiet_then}
 use Rattle.polling.proofs.serving.serve_ready.Goals as goal
-use Rattle.polling.proofs.serving.serve_ready.Goals.{in-Something, in-Reply}
 
 pub loop-init : goal.loop-init
 loop-init g c = record { turns = Start; few = omega arith; usable = c.requires }
@@ -68,23 +67,14 @@ loop-preserved g c =
     let new =
     held_by c.serve_next.new.ledgers c.serve_next.new.moments c.serve_next.new.peers
     c.serve_next.new.seats in
-    let few = c.loop.invariant.few in
-    let differ = c.if-replies-most.false in
-    elim c.match-serve_next.branch [
-      | in-Something w ↦ record {
-        turns =
-            next_turn r first old new c.loop.counter c.loop.replies 0 c.match-serve_next.replies
-            (let is = w.replies-is in omega arith) c.loop.invariant.turns
-            w.in-Something.ensures.does;
-        few = let is = w.replies-is in grind arith;
-        usable = c.serve_next.ensures.usable;
-      }
-      | in-Reply w ↦ record {
-        turns =
-            next_turn r first old new c.loop.counter c.loop.replies 1 c.match-serve_next.replies
-            (let is = w.replies-is in omega arith) c.loop.invariant.turns
-            w.in-Reply.ensures.does;
-        few = let is = w.replies-is in grind arith;
-        usable = c.serve_next.ensures.usable;
-      }
-    ]
+    record {
+      turns =
+          next_turn r first old new c.loop.counter c.loop.replies c.in-Served.more
+          (c.loop.replies + c.in-Served.more) refl c.loop.invariant.turns
+          c.in-Served.ensures.does;
+      few =
+          let before = c.loop.invariant.few in
+          let more = c.in-Served.ensures.few in
+          omega (arith, before, more);
+      usable = c.serve_next.ensures.usable;
+    }

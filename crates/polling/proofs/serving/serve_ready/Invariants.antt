@@ -1,4 +1,5 @@
 use Rattle.std.proofs.Common.{◌≤◌}
+use Rattle.service.specs.Seen.{Seen}
 use Rattle.polling.specs.Serving.{rules}
 use Rattle.polling.specs.Seating.{held_by}
 use Rattle.polling.specs.Ending.{Turns}
@@ -8,7 +9,7 @@ use Rattle.polling.proofs.serving.serve_ready.Given as goal
 abbrev pub invariant-loop : goal.invariant-loop
 invariant-loop g l = record {
   turns :
-      Turns g.row.L.Denot g.row.C.Denot g.row.P.Denot
+      Turns (Seen g.row.L.Denot) g.row.C.Denot g.row.P.Denot
       (rules g.L.Ledgers.means g.C.Moments.gives g.H.Reopen.renews g.P.Peers.does)
       (held_by l.fn.ledgers l.fn.moments l.fn.peers l.fn.seats) l.counter l.replies
       (held_by l.ledgers l.moments l.peers l.seats);

@@ -1,26 +1,90 @@
+use Rattle.std.proofs.Common.{◌≡◌, Ok, Err, ap, ◌∙◌}
 use Rattle.sqlite.proofs.StateLemmas.{survives_weaker}
-use Rattle.stored_ledgers.proofs.OutcomeLemmas.{run_after, directory_after, left_after}
-use Rattle.stored_ledgers.proofs.ServingLemmas.{rests_after}
+use Rattle.stored_ledgers.proofs.OutcomeLemmas.{keeps_all, keeps_directory, left_after}
+use Rattle.stored_ledgers.proofs.ServingLemmas.{rests_still, told_made, told_refused, unless_refused, no_fault, other_fault}
 use Rattle.stored_ledgers.proofs.batches.in_batch.Goals as goal
 
-pub returns-clause-run : goal.returns-clause-run
-returns-clause-run g c live =
-    run_after (g.W.Work.gives c.args.work) c.args.digest.now c.in_transaction.new.memory _ _
-    c.in_transaction.result (c.in_transaction.ensures.told live) (c.in_transaction.ensures.same live)
+pub returns-in-Ok-Ok-clause-run : goal.returns-in-Ok-Ok-clause-run
+returns-in-Ok-Ok-clause-run g c live =
+    let is : c.in_transaction.result ≡ Ok (Ok c.in-Ok-Ok.worked) =
+    c.in-Ok-Ok.is ∙ ap Ok c.in-Ok-Ok.field-0-is in
+    (told_made c.in_transaction.result _ _ _ is (c.in_transaction.ensures.told live)).0.batch.done
 
-pub returns-clause-directory : goal.returns-clause-directory
-returns-clause-directory g c live =
-    directory_after (g.W.Work.gives c.args.work) c.args.digest.now c.in_transaction.new.memory _ _
-    c.in_transaction.result (c.in_transaction.ensures.told live) (c.in_transaction.ensures.same live)
+pub returns-in-Ok-Ok-clause-directory : goal.returns-in-Ok-Ok-clause-directory
+returns-in-Ok-Ok-clause-directory g c live =
+    let is : c.in_transaction.result ≡ Ok (Ok c.in-Ok-Ok.worked) =
+    c.in-Ok-Ok.is ∙ ap Ok c.in-Ok-Ok.field-0-is in
+    (told_made c.in_transaction.result _ _ _ is (c.in_transaction.ensures.told live)).0.batch.directory
 
-pub returns-clause-resting : goal.returns-clause-resting
-returns-clause-resting g c live =
-    rests_after c.in_transaction.result _ _ _ _ _ (c.in_transaction.ensures.told live)
-    (c.in_transaction.ensures.again live) (c.in_transaction.ensures.same live)
+pub returns-in-Ok-Ok-clause-resting : goal.returns-in-Ok-Ok-clause-resting
+returns-in-Ok-Ok-clause-resting g c live =
+    let is : c.in_transaction.result ≡ Ok (Ok c.in-Ok-Ok.worked) =
+    c.in-Ok-Ok.is ∙ ap Ok c.in-Ok-Ok.field-0-is in
+    let told = told_made c.in_transaction.result _ _ _ is (c.in_transaction.ensures.told live) in record {
+      quiet = c.in_transaction.ensures.quiet live;
+      ledgers = told.1.ledgers;
+      covered = c.forget.ensures _ told.0.behind told.1.covered;
+    }
+
+pub returns-in-Ok-Ok-clause-open : goal.returns-in-Ok-Ok-clause-open
+returns-in-Ok-Ok-clause-open g c clean differs =
+    c.in_transaction.ensures.open clean (no_fault c.in_transaction.result _ c.in-Ok-Ok.is)
+
+pub returns-in-Ok-Ok-clause-survives : goal.returns-in-Ok-Ok-clause-survives
+returns-in-Ok-Ok-clause-survives g c =
+    survives_weaker _ _ _ _
+    (λ clean trees left. left_after (g.W.Work.gives c.args.work) c.args.digest.now _ trees left)
+    c.in_transaction.ensures.survives
+
+pub returns-in-Ok-Err-clause-run : goal.returns-in-Ok-Err-clause-run
+returns-in-Ok-Err-clause-run g c live =
+    let is : c.in_transaction.result ≡ Ok (Err c.in-Ok-Err.unknown) =
+    c.in-Ok-Err.is ∙ ap Ok c.in-Ok-Err.field-0-is in (
+      told_refused c.in_transaction.result _ _ _ is (c.in_transaction.ensures.told live),
+      keeps_all _ _ (unless_refused c.in_transaction.result _ _ is (c.in_transaction.ensures.same live)),
+    )
+
+pub returns-in-Ok-Err-clause-directory : goal.returns-in-Ok-Err-clause-directory
+returns-in-Ok-Err-clause-directory g c live =
+    let is : c.in_transaction.result ≡ Ok (Err c.in-Ok-Err.unknown) =
+    c.in-Ok-Err.is ∙ ap Ok c.in-Ok-Err.field-0-is in
+    keeps_directory _ _ (unless_refused c.in_transaction.result _ _ is (c.in_transaction.ensures.same live))
+
+pub returns-in-Ok-Err-clause-resting : goal.returns-in-Ok-Err-clause-resting
+returns-in-Ok-Err-clause-resting g c live =
+    let is : c.in_transaction.result ≡ Ok (Err c.in-Ok-Err.unknown) =
+    c.in-Ok-Err.is ∙ ap Ok c.in-Ok-Err.field-0-is in
+    rests_still _ _ _ (unless_refused c.in_transaction.result _ _ is (c.in_transaction.ensures.again live))
+    (unless_refused c.in_transaction.result _ _ is (c.in_transaction.ensures.same live))
     (c.in_transaction.ensures.quiet live)
 
-pub returns-clause-survives : goal.returns-clause-survives
-returns-clause-survives g c =
+pub returns-in-Ok-Err-clause-open : goal.returns-in-Ok-Err-clause-open
+returns-in-Ok-Err-clause-open g c clean differs =
+    c.in_transaction.ensures.open clean (no_fault c.in_transaction.result _ c.in-Ok-Err.is)
+
+pub returns-in-Ok-Err-clause-survives : goal.returns-in-Ok-Err-clause-survives
+returns-in-Ok-Err-clause-survives g c =
+    survives_weaker _ _ _ _
+    (λ clean trees left. left_after (g.W.Work.gives c.args.work) c.args.digest.now _ trees left)
+    c.in_transaction.ensures.survives
+
+pub returns-in-Err-clause-run : goal.returns-in-Err-clause-run
+returns-in-Err-clause-run g c live = keeps_all _ _ (c.in-Err.ensures.same live)
+
+pub returns-in-Err-clause-directory : goal.returns-in-Err-clause-directory
+returns-in-Err-clause-directory g c live = keeps_directory _ _ (c.in-Err.ensures.same live)
+
+pub returns-in-Err-clause-resting : goal.returns-in-Err-clause-resting
+returns-in-Err-clause-resting g c live =
+    rests_still _ _ _ (c.in-Err.ensures.again live) (c.in-Err.ensures.same live)
+    (c.in-Err.ensures.quiet live)
+
+pub returns-in-Err-clause-open : goal.returns-in-Err-clause-open
+returns-in-Err-clause-open g c clean differs =
+    c.in-Err.ensures.open clean (other_fault c.in-Err.why differs)
+
+pub returns-in-Err-clause-survives : goal.returns-in-Err-clause-survives
+returns-in-Err-clause-survives g c =
     survives_weaker _ _ _ _
     (λ clean trees left. left_after (g.W.Work.gives c.args.work) c.args.digest.now _ trees left)
     c.in_transaction.ensures.survives

@@ -13,6 +13,6 @@ returns g c = record {
       let s1 = state g.S.Store c.release_due.new.conn in
       let clean1 : HasCleanDisk s1 = omega (arith, c.set_clock.ensures.follows.survives.clean, clean2) in
       let clean0 : HasCleanDisk s0 = omega (arith, c.release_due.ensures.follows.survives.clean, clean1) in
-      clock_moved c.clock_rows.ensures.last t c.args.clock _ s0 s1 (state g.S.Store c.set_clock.new.conn) c.set_clock.result (c.requires.writing clean0).inside (c.in_ok-release_due.ensures.ok clean1) (rw (passed t (search rules)) at (c.set_clock.ensures.ok clean2));
+      clock_moved c.clock_rows.ensures.last t c.args.past c.args.clock _ s0 s1 (state g.S.Store c.set_clock.new.conn) c.set_clock.result (c.requires.writing clean0).inside (c.in_ok-release_due.ensures.ok clean1) (rw (passed t (search rules)) at (c.set_clock.ensures.ok clean2));
   follows = search rules;
 }

@@ -38,9 +38,10 @@ returns g c = record {
       let s0 = state g.S.Store c.args.conn.now in
       let s1 = state g.S.Store c.loop-entry.conn in
       let keys = c.args.due.now.keys in
-      let start = c.into_iter-entry-iterator.ensures.into_iter_gives ∙ c.range-entry-items.ensures.between tt in
-      let end = iter_end deref (filter (is_within (c.args.clock, 340282366920938463463374607431768211455)) keys) c.loop-entry.yielded c.into_iter-entry-iterator.result c.loop-entry.entry-iterator c.next.new.self c.next.result start
+      let start = c.into_iter-entry-iterator.ensures.into_iter_gives ∙ c.range-entry-items.ensures.between (search rules)
+      ∙ (λ i. filter (is_within (c.new.ensures.start i) (c.new.ensures.end i)) keys) in
+      let end = iter_end deref (filter (is_within (c.min-from.result, 340282366920938463463374607431768211455) (c.args.clock, 340282366920938463463374607431768211455)) keys) c.loop-entry.yielded c.into_iter-entry-iterator.result c.loop-entry.entry-iterator c.next.new.self c.next.result start
       c.loop-entry.yielded_by c.in-None.is c.next.ensures.steps in
-      seen_all c.rows_fit.ensures c.args.tenant.0 c.args.clock keys s0 s1 (subst (λ seen. ReleasesSeen c.args.tenant.0 c.args.clock seen s0 s1) end.0 (c.loop-entry.invariant.2 clean));
+      seen_all c.rows_fit.ensures c.args.tenant.0 c.args.past c.min-from.result c.args.clock keys s0 s1 (search (rules, arith)) (subst (λ seen. ReleasesSeen c.args.tenant.0 c.args.clock seen s0 s1) end.0 (c.loop-entry.invariant.2 clean));
   follows = search rules;
 }

@@ -26,5 +26,5 @@ returns-in-Ok g c =
     let live : HasCleanDisk (state g.S.Store c.move_clock.new.conn) → Live s0 = λ clean.
     let clean0 : HasCleanDisk s0 = omega (arith, c.move_clock.ensures.follows.survives.clean, clean) in (clean0, (c.requires.usable clean0).is_open) in
     writes_leave g.S.Store t c.args.conn.now c.move_clock.new.conn _ (λ rows. rows ≡ rows_for 3 m) (λ rows. rows_for 3 (at_clock m clock)) (λ m. at_clock m clock) c.held_machines.ensures c.requires.usable c.move_clock.ensures.follows
-    (λ clean. c.in-Ok.ensures.ok clean m (valid_now t s0 (live clean) c.requires.usable) (c.requires.later (live clean)) (c.requires.covered (live clean)))
+    (λ clean. c.in-Ok.ensures.ok clean m (valid_now t s0 (live clean) c.requires.usable) (c.requires.past (live clean)) (c.requires.later (live clean)) (c.requires.covered (live clean)))
     (λ live0 valid. record { may = refl; rows = refl; valid = later m clock valid (c.requires.later live0) c.requires.bounded })

@@ -6,10 +6,10 @@ use Rattle.stored_tables.proofs.batch.BatchTables.mark.Goals as goal
 
 pub returns : goal.returns
 returns g c =
-    let before = live_before (state g.S.Store c.args.self.now.conn.now) (state g.S.Store c.mark.new.conn) c.mark.ensures.follows in
+    let before = live_before (state g.S.Store c.args.self.now.conn.now) (state g.S.Store c.mark.new.conn) c.mark.ensures.follows.calls in
     record {
       state = c.mark.ensures.state;
-      usable = covered c.mark.result _ _ _ _ _ c.mark.ensures.usable c.mark.ensures.state (λ live. covers_marking _ _ (c.requires.usable.1 (before live)));
+      usable = covered c.mark.result _ _ _ _ _ _ c.mark.ensures.usable c.mark.ensures.state (λ live. covers_marking _ _ _ (c.requires.usable.1 (before live)));
       undone = c.mark.ensures.undone;
-      follows = (refl, refl, refl, λ key has. has, c.mark.ensures.follows);
+      follows = (refl, refl, refl, λ key has. has, c.mark.ensures.follows, refl);
     }

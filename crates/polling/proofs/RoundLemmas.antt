@@ -1,0 +1,286 @@
+-- Replies of a round that was kept.
+use Rattle.std.proofs.Common.{◌≡◌, ◌⊎◌, ◌+◌, inl, inr, refl, ap, sym, ◌∙◌, subst, ℕ, List, [], ◌∷◌}
+use Rattle.std.proofs.Common.{Option, Some, IfSome, arith, ◌<◌, ◌≤◌, length, drop, slice_index_or}
+use Rattle.std.proofs.lemmas.List.{at_drop_more, at_drop_all}
+use Rattle.chain.specs.Ledgers.{LedgersMeaning, Tenants}
+use Rattle.ledger_http.specs.declared.reply.Reply.{Reply}
+use Rattle.ledger_http.specs.Question.{Question}
+use Rattle.service.specs.declared.turns.Message.{Message}
+use Rattle.service.specs.Responds.{Responds}
+use Rattle.service.specs.Seen.{Whole, Within}
+use Rattle.service.specs.Turns.{RespondsTo, RespondInTurn, TakeTurns}
+use Rattle.clients.specs.Talk.{Talk}
+use Rattle.clients.specs.Within.{replied_to, Asks, after_asking, AnswersLeave, RepliesWithin}
+use Rattle.polling.specs.Peers.{Doing}
+use Rattle.polling.specs.Serving.{rules}
+use Rattle.polling.specs.Seating.{SeatsNow, held, ServesAll}
+use Rattle.polling.specs.Round.{IsCopyOf, IsNoneOf, AreCopied, moments_of, AreToBePut, ArePut}
+use Rattle.polling.specs.declared.round.Member.{Member}
+use Rattle.polling.proofs.OneLemmas.{replied}
+use Rattle.polling.proofs.AllLemmas.{then_all, served_at, none_served}
+use Rattle.polling.proofs.RestLemmas.{rests_all}
+
+-- what one client is put does not touch the messages of others
+pub copied_still :
+    (seats seats_now : ℕ → Option Talk) (number : ℕ) (seat : Option Talk) (members : List Member)
+    (messages : List Message) → SeatsNow number seat seats seats_now → IsNoneOf number members →
+    AreCopied seats members messages → AreCopied seats_now members messages
+copied_still seats seats_now number seat [] [] now none copied = tt
+copied_still seats seats_now number seat [] (message ∷ messages) now none copied = absurd copied
+copied_still seats seats_now number seat (member ∷ members) [] now none copied = absurd copied
+copied_still seats seats_now number seat (member ∷ members) (message ∷ messages) now none copied = (
+  (copied.0.0, now.1 member.number none.0 ∙ copied.0.1, copied.0.2),
+  copied.1,
+  copied_still seats seats_now number seat members messages now none.1 copied.2,
+)
+
+pub none_left :
+    (seats : ℕ → Option Talk) (messages : List Message) → AreCopied seats [] messages →
+    messages ≡ []
+none_left seats [] copied = refl
+none_left seats (message ∷ messages) copied = absurd copied
+
+-- the member at an index
+pub member_here :
+    (items members : List Member) (i : ℕ) (d : Member) → items ≡ members → i < length items →
+    drop i members ≡ slice_index_or items i d ∷ drop (i + 1) members
+member_here items members i d are below =
+    subst
+    (λ (ms : List Member). drop i ms ≡ slice_index_or items i d ∷ drop (i + 1) ms) are
+    (at_drop_more (λ (ms : List Member). ms) items i d below)
+
+-- behind the last
+pub nobody_here :
+    (items members : List Member) (i : ℕ) → items ≡ members → length items ≤ i →
+    drop i members ≡ []
+nobody_here items members i are beyond =
+    subst (λ (ms : List Member). drop i ms ≡ []) are
+    (at_drop_all (λ (ms : List Member). ms) items i beyond)
+
+-- its message is there
+pub fits_here :
+    (seats : ℕ → Option Talk) (before : List Member) (member : Member) (members : List Member)
+    (left : List Message) → before ≡ member ∷ members → AreCopied seats before left →
+    IfSome (seats member.number) (λ talk. member.size ≤ length talk.unread.bytes)
+fits_here seats before member members [] here copied =
+    absurd (subst (λ (ms : List Member). AreCopied seats ms []) here copied)
+fits_here seats before member members (message ∷ left) here copied =
+    let first = subst (λ (ms : List Member). AreCopied seats ms (message ∷ left)) here copied in
+    subst
+    (λ (seat : Option Talk). IfSome seat (λ talk. member.size ≤ length talk.unread.bytes))
+    (sym first.0.1) first.0.2.ready.whole.within
+
+pub nothing_left : {X : Type 0} (xs : List X) (n : ℕ) → n ≡ length xs → n ≡ 0 → xs ≡ []
+nothing_left [] n is none = refl
+nothing_left (x ∷ xs) n is none = absurd (omega (arith, is, none))
+
+-- the first of several turns leaves what its question leaves
+turns_leave :
+    AnswersLeave → (last machines : Tenants) (message : Message) (messages : List Message)
+    (reply : Reply) (replies : List Reply) (question : Question) →
+    Asks message.bytes.items question →
+    TakeTurns (message ∷ messages) machines (reply ∷ replies) last →
+    RespondsTo machines message reply (after_asking question message.moment machines)
+    × TakeTurns messages (after_asking question message.moment machines) replies last
+turns_leave leave last machines message messages reply replies question asks turns =
+    let is =
+    leave machines turns.respond.0 message.bytes.items question message.moment reply asks
+    turns.respond.1 turns.available.0 in (
+      subst (λ (mid : Tenants). RespondsTo machines message reply mid) is turns.respond.1,
+      record {
+        respond =
+            subst (λ (mid : Tenants). RespondInTurn mid messages replies last) is turns.respond.2;
+        available = turns.available.1;
+      },
+    )
+
+-- where no message is left, or no reply, no turn is
+turns_over :
+    (last machines : Tenants) (messages : List Message) (replies : List Reply) →
+    (messages ≡ []) ⊎ (replies ≡ []) → RespondInTurn machines messages replies last →
+    last ≡ machines
+turns_over last machines [] [] over same = same
+turns_over last machines [] (reply ∷ replies) over none = absurd none
+turns_over last machines (message ∷ messages) [] over none = absurd none
+turns_over last machines (message ∷ messages) (reply ∷ replies) (inl over) responds = absurd (cc)
+turns_over last machines (message ∷ messages) (reply ∷ replies) (inr over) responds = absurd (cc)
+
+-- the replies so far were put, and these are left
+pub record ArePutSoFar {S C P : Type 0} (t : LedgersMeaning S) (gives : C → ℕ → C → Type 0)
+    (renews : S → S → Type 0) (does : P → Doing → P → Type 0) (messages : List Message)
+    (replies : List Reply) (seats : ℕ → Option Talk) (members : List Member)
+    (replies_left : List Reply) (seats_now : ℕ → Option Talk) (count : ℕ) : Type 0 where
+  pub left : List Message
+  pub copied : AreCopied seats_now members left
+  pub put :
+      (ledgers : S) (machines : Tenants) (moments last : C) (peers : P) (next : ℕ)
+      → t.follows ledgers ledgers
+      → AreToBePut t gives ledgers last machines moments messages replies
+      → (mid : Tenants)
+      × (now : C)
+      × ServesAll (rules t gives renews does)
+      (held (Within ledgers machines) moments peers seats next)
+      (held (Within ledgers mid) now peers seats_now next) count
+      × AreToBePut t gives ledgers last mid now left replies_left
+
+module _ {S C P : Type 0} (t : LedgersMeaning S) (gives : C → ℕ → C → Type 0)
+    (renews : S → S → Type 0) (does : P → Doing → P → Type 0) where
+  put_one_more :
+      RepliesWithin t gives → (ledgers : S) (machines : Tenants) (moments moments_now : C)
+      (peers : P) (seats seats_now : ℕ → Option Talk) (next : ℕ) (member : Member)
+      (message : Message) (reply : Reply) (talk : Talk)
+      (copy : IsCopyOf talk member.size message.bytes.items) → seats member.number ≡ Some talk →
+      SeatsNow member.number (Some (replied_to member.size reply talk)) seats seats_now →
+      t.follows ledgers ledgers → gives moments message.moment moments_now →
+      (t.is_live ledgers →
+      RespondsTo machines message reply (after_asking copy.question message.moment machines)) →
+      ServesAll (rules t gives renews does)
+      (held (Within ledgers machines) moments peers seats next)
+      (held (Within ledgers (after_asking copy.question message.moment machines)) moments_now peers
+      seats_now next) 1
+  put_one_more within ledgers machines moments moments_now peers seats seats_now next member message
+      reply talk copy was now follows given responds =
+      let r = rules t gives renews does in
+      let before = Within ledgers machines in
+      let behind = Within ledgers (after_asking copy.question message.moment machines) in
+      let talk_now = replied_to member.size reply talk in
+      served_at r member.number before behind moments moments_now peers peers seats seats_now next
+      talk talk_now 1 was now
+      (replied r member.number before behind moments moments_now peers talk talk_now reply
+      copy.ready.may
+      (within ledgers machines moments moments_now talk member.size copy.question message.moment
+      reply copy.ready given follows
+      (λ live.
+      subst
+      (λ (bytes : List ℕ).
+      Responds machines (after_asking copy.question message.moment machines) bytes message.moment
+      reply)
+      copy.copied (responds live)))
+      (λ live found may. may.1))
+
+  -- one more is put
+  put_more_of :
+      AnswersLeave → RepliesWithin t gives → (messages : List Message) (replies : List Reply)
+      (seats : ℕ → Option Talk) (member : Member) (members : List Member) (reply : Reply)
+      (replies_left : List Reply) (seats_now seats_then : ℕ → Option Talk) (count : ℕ)
+      (left : List Message) →
+      (so_far :
+      ArePutSoFar t gives renews does messages replies seats (member ∷ members)
+      (reply ∷ replies_left) seats_now count) →
+      so_far.left ≡ left → AreCopied seats_now (member ∷ members) left →
+      ((talk : Talk) → seats_now member.number ≡ Some talk →
+      SeatsNow member.number (Some (replied_to member.size reply talk)) seats_now seats_then) →
+      ArePutSoFar t gives renews does messages replies seats members replies_left seats_then
+      (count + 1)
+  put_more_of leave within messages replies seats member members reply replies_left seats_now
+      seats_then count [] so_far is copied now =
+      absurd copied
+  put_more_of leave within messages replies seats member members reply replies_left seats_now
+      seats_then count (message ∷ left) so_far is copied now =
+      let talk = copied.0.0 in
+      let copy = copied.0.2 in
+      let seated = now talk copied.0.1 in
+      let asks =
+      subst (λ (bytes : List ℕ). Asks bytes copy.question) (sym copy.copied) copy.ready.asks in
+      record {
+        left = left;
+        copied =
+            copied_still seats_now seats_then member.number
+            (Some (replied_to member.size reply talk)) members left seated copied.1 copied.2;
+        put = λ ledgers machines moments last peers next follows all.
+            let so = so_far.put ledgers machines moments last peers next follows all in
+            let mid = so.0 in
+            let rest =
+            subst
+            (λ (ms : List Message).
+            AreToBePut t gives ledgers last mid so.1 ms (reply ∷ replies_left))
+            is so.3 in
+            let behind = after_asking copy.question message.moment mid in (
+              behind,
+              rest.given.0,
+              then_all (rules t gives renews does)
+                  (held (Within ledgers machines) moments peers seats next)
+                  (held (Within ledgers mid) so.1 peers seats_now next)
+                  (held (Within ledgers behind) rest.given.0 peers seats_then next) count 1
+                  (count + 1) refl so.2
+                  (put_one_more within ledgers mid so.1 rest.given.0 peers seats_now seats_then
+                  next member message reply talk copy copied.0.1 seated follows rest.given.1
+                  (λ live.
+                  (turns_leave leave (t.tenants ledgers) mid message left reply replies_left
+                  copy.question asks (rest.turns live)).0)),
+              record {
+                given = rest.given.2;
+                turns = λ live.
+                    (turns_leave leave (t.tenants ledgers) mid message left reply replies_left
+                    copy.question asks (rest.turns live)).1;
+              },
+            );
+      }
+
+  pub put_more :
+      AnswersLeave → RepliesWithin t gives → (messages : List Message) (replies : List Reply)
+      (seats : ℕ → Option Talk) (before : List Member) (member : Member) (members : List Member)
+      (replies_before : List Reply) (reply : Reply) (replies_left : List Reply)
+      (seats_now seats_then : ℕ → Option Talk) (count : ℕ) →
+      before ≡ member ∷ members → replies_before ≡ reply ∷ replies_left →
+      ArePutSoFar t gives renews does messages replies seats before replies_before seats_now count →
+      ((talk : Talk) → seats_now member.number ≡ Some talk →
+      SeatsNow member.number (Some (replied_to member.size reply talk)) seats_now seats_then) →
+      ArePutSoFar t gives renews does messages replies seats members replies_left seats_then
+      (count + 1)
+  put_more leave within messages replies seats before member members replies_before reply replies_left
+      seats_now seats_then count here next so_far now =
+      let so =
+      subst
+      (λ (ms : List Member).
+      ArePutSoFar t gives renews does messages replies seats ms (reply ∷ replies_left) seats_now count)
+      here
+      (subst
+      (λ (rs : List Reply).
+      ArePutSoFar t gives renews does messages replies seats before rs seats_now count)
+      next so_far) in
+      put_more_of leave within messages replies seats member members reply replies_left seats_now
+      seats_then count so.left so refl so.copied now
+
+  -- none is put yet
+  pub put_none :
+      (messages : List Message) (replies : List Reply) (seats : ℕ → Option Talk)
+      (members : List Member) → AreCopied seats members messages →
+      ArePutSoFar t gives renews does messages replies seats members replies seats 0
+  put_none messages replies seats members copied = record {
+    left = messages;
+    copied = copied;
+    put = λ ledgers machines moments last peers next follows all. (
+      machines,
+      moments,
+      none_served (rules t gives renews does)
+          (held (Within ledgers machines) moments peers seats next),
+      all,
+    );
+  }
+
+  -- all are put
+  pub put_over :
+      (messages : List Message) (replies : List Reply) (seats : ℕ → Option Talk)
+      (members : List Member) (replies_left : List Reply) (seats_now : ℕ → Option Talk) (count : ℕ)
+      (so_far :
+      ArePutSoFar t gives renews does messages replies seats members replies_left seats_now count) →
+      (so_far.left ≡ []) ⊎ (replies_left ≡ []) →
+      ArePut t gives renews does messages replies seats seats_now count
+  put_over messages replies seats members replies_left seats_now count so_far over ledgers machines
+      moments last peers next follows again all =
+      let so = so_far.put ledgers machines moments last peers next follows all in
+      then_all (rules t gives renews does) (held (Within ledgers machines) moments peers seats next)
+      (held (Within ledgers so.0) so.1 peers seats_now next)
+      (held (Whole ledgers) last peers seats_now next) count 0 count (omega arith) so.2
+      (rests_all (rules t gives renews does) (Within ledgers so.0) (Whole ledgers) so.1 last
+      (moments_of so_far.left) peers seats_now next
+      (record {
+        lived = λ live. live;
+        same = λ live digest.
+            ap (λ (machines : Tenants). machines digest)
+            (turns_over (t.tenants ledgers) so.0 so_far.left replies_left over
+            (so.3.turns live).respond);
+        found = again;
+      })
+      so.3.given)

@@ -1,0 +1,15 @@
+use Rattle.std.proofs.Common.{◌≤◌}
+use Rattle.polling.specs.Serving.{rules}
+use Rattle.polling.specs.Seating.{ServesAll, held_by}
+use Rattle.polling.proofs.gathered.finish_each.Given as goal
+
+-- The clients so far were served, with so many replies.
+abbrev pub invariant-loop-number : goal.invariant-loop-number
+invariant-loop-number g l = record {
+  serves :
+      ServesAll (rules g.L.Ledgers.means g.C.Moments.gives g.H.Reopen.renews g.P.Peers.does)
+      (held_by l.fn.ledgers l.fn.moments l.fn.peers l.fn.seats)
+      (held_by l.ledgers l.moments l.peers l.seats) l.replies;
+  few : l.replies ≤ l.most;
+  usable : g.L.Ledgers.means.is_usable l.ledgers;
+}

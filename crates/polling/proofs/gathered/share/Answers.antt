@@ -1,0 +1,10 @@
+use Rattle.service.specs.Seen.{Whole}
+use Rattle.polling.specs.Serving.{rules}
+use Rattle.polling.specs.Seating.{held, seats_in}
+use Rattle.polling.proofs.AllLemmas.{none_served}
+use Rattle.polling.proofs.gathered.share.Goals as goal
+
+pub returns-then-numbers-lt2-clause-serves : goal.returns-then-numbers-lt2-clause-serves
+returns-then-numbers-lt2-clause-serves g c peers next =
+    none_served (rules g.L.Ledgers.means g.C.Moments.gives g.H.Reopen.renews g.P.Peers.does)
+    (held (Whole c.args.ledgers.now) c.args.moments.now peers (seats_in c.args.clients.now) next)

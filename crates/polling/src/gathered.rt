@@ -1,0 +1,180 @@
+//! Serving those who are gathered.
+ghost use Rattle.std.specs.Prelude.{◌≡◌, ◌≤◌, ℕ, false, IfSome, IfNone};
+ghost use Rattle.service.specs.Seen.{Whole};
+ghost use Rattle.polling.specs.Serving.{rules};
+ghost use Rattle.polling.specs.Seating.{HadTurn, HadNone, ServesAll, count_of, held, held_by, seats_in};
+
+use crate::gathering::Gathered;
+use crate::seats::Seats;
+use crate::serving::follow;
+use crate::sharing::share_round;
+use crate::turn::{Turned, finish};
+use crate::{Peers, Reopen};
+use chain::Rounds;
+use clients::Client;
+use service::Moments;
+use std::alloc::Global;
+use std::collections::BTreeMap;
+
+/// Writes what is left of the reply to the client with a number, where it is seated. Where nothing
+/// is, it has its turn, if it may be answered.
+fn finish_in<L: Rounds, H: Reopen<L>, C: Moments, P: Peers>(
+    alloc: Global,
+    peers: &mut P,
+    clients: &mut BTreeMap<u64, Client>,
+    number: u64,
+    ledgers: &mut L,
+    moments: &mut C,
+    piece: &mut [u8],
+    answers: bool,
+) -> Option<Turned>
+    requires usable { L.means.is_usable ledgers.old }
+    ensures turn { IfSome result (λ turned. HadTurn (rules L.means C.gives H.renews P.does) number
+        (Whole ledgers.old) moments.old peers.old (seats_in clients.old)
+        (Whole ledgers.new) moments.new peers.new (seats_in clients.new)
+        turned.step (count_of turned.replied)) }
+    ensures few { IfSome result (λ turned. answers ≡ false → turned.replied ≡ false) }
+    ensures none { IfNone result (HadNone
+        (Whole ledgers.old) moments.old peers.old (seats_in clients.old)
+        (Whole ledgers.new) moments.new peers.new (seats_in clients.new)) }
+    ensures usable { L.means.is_usable ledgers.new }
+{
+    match clients.get_mut(&number) {
+        Some(client) => Some(finish::<L, H, C, P>(
+            alloc, peers, number, client, ledgers, moments, piece, answers,
+        )),
+        None => None,
+    }
+}
+
+/// Does so, and lets the client go where it is to. Of so many replies that are wanted it says how many
+/// there were.
+fn finish_one<L: Rounds, H: Reopen<L>, C: Moments, P: Peers>(
+    alloc: Global,
+    peers: &mut P,
+    seats: &mut Seats,
+    number: u64,
+    ledgers: &mut L,
+    moments: &mut C,
+    piece: &mut [u8],
+    most: u64,
+) -> u64
+    requires { L.means.is_usable ledgers.old }
+    ensures serves { ServesAll (rules L.means C.gives H.renews P.does)
+        (held_by ledgers.old moments.old peers.old seats.old)
+        (held_by ledgers.new moments.new peers.new seats.new) result }
+    ensures few { result ≤ most }
+    ensures usable { L.means.is_usable ledgers.new }
+{
+    match finish_in::<L, H, C, P>(
+        alloc,
+        peers,
+        &mut seats.clients,
+        number,
+        ledgers,
+        moments,
+        piece,
+        most > 0,
+    ) {
+        Some(turned) => {
+            follow::<L, H, C, P>(peers, &mut seats.clients, number, turned.step);
+            if turned.replied { 1 } else { 0 }
+        }
+        None => 0,
+    }
+}
+
+/// Does so for each of these clients.
+fn finish_each<L: Rounds, H: Reopen<L>, C: Moments, P: Peers>(
+    alloc: Global,
+    peers: &mut P,
+    seats: &mut Seats,
+    numbers: &[u64],
+    ledgers: &mut L,
+    moments: &mut C,
+    piece: &mut [u8],
+    most: u64,
+) -> u64
+    requires { L.means.is_usable ledgers.old }
+    ensures serves { ServesAll (rules L.means C.gives H.renews P.does)
+        (held_by ledgers.old moments.old peers.old seats.old)
+        (held_by ledgers.new moments.new peers.new seats.new) result }
+    ensures few { result ≤ most }
+    ensures usable { L.means.is_usable ledgers.new }
+{
+    let mut replies = 0;
+    for number in numbers {
+        replies += finish_one::<L, H, C, P>(
+            alloc,
+            peers,
+            seats,
+            *number,
+            ledgers,
+            moments,
+            piece,
+            most - replies,
+        );
+    }
+    replies
+}
+
+/// Answers the messages of these clients in one round, if they are several. Where none is answered so,
+/// the next clients are served alone.
+fn share<L: Rounds, H: Reopen<L>, C: Moments, P: Peers>(
+    alloc: Global,
+    clients: &mut BTreeMap<u64, Client>,
+    numbers: &[u64],
+    ledgers: &mut L,
+    moments: &mut C,
+    gathered: &mut Gathered,
+    most: u64,
+) -> u64
+    requires { L.means.is_usable ledgers.old }
+    ensures serves { (peers : P) → (next : ℕ) →
+        ServesAll (rules L.means C.gives H.renews P.does)
+        (held (Whole ledgers.old) moments.old peers (seats_in clients.old) next)
+        (held (Whole ledgers.new) moments.new peers (seats_in clients.new) next) result }
+    ensures few { result ≤ most }
+    ensures usable { L.means.is_usable ledgers.new }
+{
+    if numbers.len() < 2 {
+        return 0;
+    }
+    let replies = share_round::<L, H, C, P>(alloc, clients, numbers, ledgers, moments, most);
+    if replies == 0 {
+        gathered.serve_alone();
+    }
+    replies
+}
+
+/// Serves those who are gathered where nobody more is to be waited for, with so many replies at most,
+/// and says how many there were.
+pub(crate) fn serve_due<L: Rounds, H: Reopen<L>, C: Moments, P: Peers>(
+    alloc: Global,
+    peers: &mut P,
+    seats: &mut Seats,
+    ledgers: &mut L,
+    moments: &mut C,
+    piece: &mut [u8],
+    gathered: &mut Gathered,
+    most: u64,
+) -> u64
+    requires { L.means.is_usable ledgers.old }
+    ensures serves { ServesAll (rules L.means C.gives H.renews P.does)
+        (held_by ledgers.old moments.old peers.old seats.old)
+        (held_by ledgers.new moments.new peers.new seats.new) result }
+    ensures few { result ≤ most }
+    ensures usable { L.means.is_usable ledgers.new }
+{
+    if !gathered.is_due(peers.has_more(), most) {
+        return 0;
+    }
+    let numbers = gathered.take(alloc);
+    let clients = &mut seats.clients;
+    let shared = share::<L, H, C, P>(alloc, clients, &numbers, ledgers, moments, gathered, most);
+    let room = most - shared;
+    let more = finish_each::<L, H, C, P>(
+        alloc, peers, seats, &numbers, ledgers, moments, piece, room,
+    );
+    shared + more
+}

@@ -1,0 +1,72 @@
+//! Replies to the clients of a round.
+ghost use Rattle.std.specs.Prelude.{◌≡◌, ◌≤◌, Some, length, IfSome};
+ghost use Rattle.clients.specs.Talk.{Talk};
+ghost use Rattle.clients.specs.Within.{replied_to};
+ghost use Rattle.polling.specs.Round.{AreCopied, ArePut, AreTold};
+ghost use Rattle.polling.specs.Seating.{SeatsNow, seats_in};
+
+use crate::round::{Member, Round};
+use crate::{Peers, Reopen};
+use chain::Ledgers;
+use clients::{Client, rounds_reply};
+use ledger_http::{Refusal, Reply, meanings_are_unique};
+use service::Moments;
+use std::collections::BTreeMap;
+
+/// Puts the reply to the message of a client, which is taken.
+fn put_one(clients: &mut BTreeMap<u64, Client>, member: Member, reply: Reply)
+    requires { IfSome (seats_in clients.old member.number) (λ talk.
+        member.size ≤ length talk.unread.bytes) }
+    ensures { (talk : Talk) → seats_in clients.old member.number ≡ Some talk →
+        SeatsNow member.number (Some (replied_to member.size reply talk))
+        (seats_in clients.old) (seats_in clients.new) }
+{
+    match clients.get_mut(&member.number) {
+        Some(client) => client.put_reply(member.size, reply),
+        None => {}
+    }
+}
+
+/// Puts the replies of a round that was kept, and says how many there were.
+pub(crate) fn put_all<L: Ledgers, H: Reopen<L>, C: Moments, P: Peers>(
+    clients: &mut BTreeMap<u64, Client>,
+    round: &Round,
+    replies: Vec<Reply>,
+) -> u64
+    requires { AreCopied (seats_in clients.old) round.now.members.items round.now.messages.items }
+    ensures put { ArePut L.means C.gives H.renews P.does round.now.messages.items replies.items
+        (seats_in clients.old) (seats_in clients.new) result }
+    ensures few { result ≤ length round.now.members.items }
+{
+    rounds_reply::<L, C>();
+    let mut rest = replies.into_iter();
+    let mut count = 0;
+    for member in &round.members {
+        let Some(reply) = rest.next() else {
+            return count;
+        };
+        put_one(clients, *member, reply);
+        count += 1;
+    }
+    count
+}
+
+/// Tells all clients of a round that the ledgers are unavailable, and says how many there are.
+pub(crate) fn tell_all<L: Ledgers, H: Reopen<L>, C: Moments, P: Peers>(
+    clients: &mut BTreeMap<u64, Client>,
+    round: &Round,
+) -> u64
+    requires { AreCopied (seats_in clients.old) round.now.members.items round.now.messages.items }
+    ensures told { AreTold L.means C.gives H.renews P.does round.now.messages.items
+        (seats_in clients.old) (seats_in clients.new) result }
+    ensures few { result ≤ length round.now.members.items }
+{
+    rounds_reply::<L, C>();
+    meanings_are_unique();
+    let mut count = 0;
+    for member in &round.members {
+        put_one(clients, *member, Reply::Fixed(Refusal::Unavailable));
+        count += 1;
+    }
+    count
+}

@@ -1,0 +1,51 @@
+//! Messages of several clients, answered in one round.
+ghost use Rattle.std.specs.Prelude.{◌≤◌, ℕ};
+ghost use Rattle.service.specs.Seen.{Whole};
+ghost use Rattle.polling.specs.Serving.{rules};
+ghost use Rattle.polling.specs.Seating.{ServesAll, held, seats_in};
+
+use crate::putting::{put_all, tell_all};
+use crate::round::copy_all;
+use crate::{Peers, Reopen};
+use chain::Rounds;
+use clients::Client;
+use records::Unavailable;
+use service::{Moments, Turns};
+use std::alloc::Global;
+use std::collections::BTreeMap;
+
+/// Answers the next messages of clients in one round, of so many at most, and says how many are
+/// answered. There are none where the round is refused for want of memory or size, or would be of one
+/// message alone. Where the disk fails with it, each is told that the ledgers are unavailable.
+pub(crate) fn share_round<L: Rounds, H: Reopen<L>, C: Moments, P: Peers>(
+    alloc: Global,
+    clients: &mut BTreeMap<u64, Client>,
+    numbers: &[u64],
+    ledgers: &mut L,
+    moments: &mut C,
+    most: u64,
+) -> u64
+    requires { L.means.is_usable ledgers.old }
+    ensures serves { (peers : P) → (next : ℕ) →
+        ServesAll (rules L.means C.gives H.renews P.does)
+        (held (Whole ledgers.old) moments.old peers (seats_in clients.old) next)
+        (held (Whole ledgers.new) moments.new peers (seats_in clients.new) next) result }
+    ensures few { result ≤ most }
+    ensures usable { L.means.is_usable ledgers.new }
+{
+    let round = copy_all(alloc, clients, numbers, moments, most);
+    if round.members.len() < 2 {
+        return 0;
+    }
+    let messages = round.messages.as_slice();
+    let replies = ledgers.in_round(Turns { alloc, messages });
+    H::is_settled(ledgers);
+    match replies {
+        Ok(replies) => put_all::<L, H, C, P>(clients, &round, replies),
+        Err(why) => match why {
+            Unavailable::Disk => tell_all::<L, H, C, P>(clients, &round),
+            Unavailable::Memory => 0,
+            Unavailable::Size => 0,
+        },
+    }
+}

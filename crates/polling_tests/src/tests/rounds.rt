@@ -1,0 +1,113 @@
+use super::firms::Firms;
+use super::messages::{FIRST, OF_FIRST, OF_SECOND, SECOND, TO_SECOND};
+use super::scripted::{Peer, Scripted};
+use std::test::Fail;
+
+const KEYS: [&str; 2] = [FIRST, SECOND];
+
+// A statement of the second firm, which is no batch.
+const READ: &str = concat!(
+    "GET /accounts/1/statement HTTP/1.1\r\nx-ledger-key: ",
+    "abababababababababababababababababababababababababababababababab",
+    "\r\n\r\n"
+);
+
+// Clients that send these, read and written at once.
+fn clients(rt: &impl AllocGlobal, texts: &[&'static str]) -> Result<Scripted<'static>, Fail> {
+    let mut peers = Vec::new(rt.alloc());
+    for text in texts {
+        peers.push(Peer::new(rt.alloc(), text.as_bytes(), 10000).at_once())?;
+    }
+    Ok(Scripted::new(peers, 1000))
+}
+
+fn written_at(peers: &Scripted, number: usize) -> Option<u64> {
+    peers.peer(number)?.written_at()
+}
+
+fn has_heard(peers: &Scripted, number: usize, text: &[u8]) -> bool {
+    match peers.peer(number) {
+        Some(peer) => peer.heard() == text,
+        None => false,
+    }
+}
+
+#[test]
+fn two_that_are_ready_at_once_are_written_behind_one_round(rt: HostRuntime) -> Result<(), Fail> {
+    let to_first = Firms::with(rt.alloc(), &KEYS)?.serve(OF_FIRST.as_bytes());
+    let mut firms = Firms::with(rt.alloc(), &KEYS)?;
+    let mut peers = clients(&rt, &[OF_FIRST, OF_SECOND])?;
+    assert!(rt; firms.serve_ready(&mut peers, 99) == 6);
+    assert!(rt; written_at(&peers, 0).is_some());
+    assert!(rt; written_at(&peers, 0) == written_at(&peers, 1));
+    assert!(rt; has_heard(&peers, 0, to_first.as_slice()));
+    assert!(rt; has_heard(&peers, 1, TO_SECOND.as_bytes()));
+    Ok(())
+}
+
+#[test]
+fn many_share_rounds_and_hear_what_each_hears_alone(rt: HostRuntime) -> Result<(), Fail> {
+    let mut firms = Firms::with(rt.alloc(), &KEYS)?;
+    let mut texts = [OF_SECOND; 40];
+    texts[7] = OF_FIRST;
+    let to_first = Firms::with(rt.alloc(), &KEYS)?.serve(OF_FIRST.as_bytes());
+    let mut peers = clients(&rt, &texts)?;
+    assert!(rt; firms.serve_ready(&mut peers, 999) == 120);
+    for number in 0..40 {
+        let text = if number == 7 {
+            to_first.as_slice()
+        } else {
+            TO_SECOND.as_bytes()
+        };
+        assert!(rt; has_heard(&peers, number, text));
+    }
+    assert!(rt; written_at(&peers, 0) == written_at(&peers, 31));
+    assert!(rt; written_at(&peers, 31) < written_at(&peers, 32));
+    assert!(rt; written_at(&peers, 32) == written_at(&peers, 39));
+    Ok(())
+}
+
+#[test]
+fn what_is_no_batch_waits_for_no_round(rt: HostRuntime) -> Result<(), Fail> {
+    let mut firms = Firms::with(rt.alloc(), &KEYS)?;
+    let mut peers = clients(&rt, &[OF_FIRST, READ, OF_SECOND])?;
+    assert!(rt; firms.serve_ready(&mut peers, 99) == 7);
+    assert!(rt; written_at(&peers, 1) < written_at(&peers, 0));
+    assert!(rt; written_at(&peers, 0) == written_at(&peers, 2));
+    assert!(rt; has_heard(&peers, 2, TO_SECOND.as_bytes()));
+    Ok(())
+}
+
+// All have joined when three were told, and each was read twice when nine were. The tenth gathers the
+// first client, and then that one has had its time.
+#[test]
+fn who_goes_while_it_is_gathered_is_left_out(rt: HostRuntime) -> Result<(), Fail> {
+    let mut firms = Firms::with(rt.alloc(), &KEYS)?;
+    let mut peers = clients(&rt, &[OF_SECOND, OF_FIRST, OF_SECOND])?;
+    peers.is_late_at(0, 10);
+    assert!(rt; firms.serve_ready(&mut peers, 99) == 6);
+    assert!(rt; has_heard(&peers, 0, &[]));
+    assert!(rt; written_at(&peers, 1).is_some());
+    assert!(rt; written_at(&peers, 1) == written_at(&peers, 2));
+    assert!(rt; has_heard(&peers, 2, TO_SECOND.as_bytes()));
+    Ok(())
+}
+
+#[test]
+fn a_round_stops_behind_so_many_replies(rt: HostRuntime) -> Result<(), Fail> {
+    let texts = [OF_SECOND; 5];
+    let first = TO_SECOND.as_bytes().get(..100).unwrap_or(&[]);
+    for most in [1, 2, 3, 4] {
+        let mut firms = Firms::with(rt.alloc(), &KEYS)?;
+        let mut peers = clients(&rt, &texts)?;
+        assert!(rt; firms.serve_ready(&mut peers, most) == most);
+        let mut heard: u64 = 0;
+        for number in 0..5 {
+            if has_heard(&peers, number, first) {
+                heard = heard.saturating_add(1);
+            }
+        }
+        assert!(rt; heard == most);
+    }
+    Ok(())
+}

@@ -1,0 +1,7 @@
+use Rattle.store.proofs.FindsLemmas.{finds_round}
+use Rattle.store.proofs.ledgers.StoreRounds.in_round.Goals as goal
+
+pub returns-clause-finds : goal.returns-clause-finds
+returns-clause-finds g c =
+    finds_round (g.W.RoundWork.gives c.args.work) c.args.self.now c.in_round.new.self c.in_round.result
+    c.requires c.in_round.ensures.answers c.in_round.ensures.finds

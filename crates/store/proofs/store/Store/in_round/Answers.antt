@@ -1,0 +1,35 @@
+use Rattle.std.proofs.Common.{◌≡◌, ◌⊎◌, true, Result, Ok, Err, OnErr, refl, sym, ap, subst, ◌∙◌, rules, arith}
+use Rattle.sqlite.specs.Effect.{Database}
+use Rattle.sqlite.specs.Files.{file_state}
+use Rattle.stored_ledgers.specs.Directory.{tenants_in}
+use Rattle.stored_ledgers.specs.Resting.{IsSame}
+use Rattle.stored_ledgers.specs.Rounds.{IsAfterRound}
+use Rattle.store.specs.Stores.{may_find_at, tenants_at, OfDatabaseAt}
+use Rattle.store.proofs.ReadLemmas.{answers_open}
+use Rattle.store.proofs.store.Store.in_round.Goals as goal
+
+on_err : {T E P Q : Type 0} (result : Result T E) → (P → Q) → OnErr result P → OnErr result Q
+on_err (Ok value) weaker holds = tt
+on_err (Err why) weaker holds = weaker holds
+
+pub returns-clause-same : goal.returns-clause-same
+returns-clause-same g c live =
+    on_err c.in_round-ran.result
+    (λ (same : IsSame (file_state c.in-Open.conn) (file_state c.in_round-ran.new.conn)) digest.
+    ap (λ (db : Database). tenants_in db.trees digest) same.now
+    ∙ sym (ap (λ place. tenants_at place digest) c.in-Open.is))
+    (c.in_round-ran.ensures.same live)
+
+pub returns-clause-finds : goal.returns-clause-finds
+returns-clause-finds g c honest db may =
+    subst (λ place. may_find_at place db
+    ⊎ OfDatabaseAt (λ old. IsAfterRound (g.W.RoundWork.gives c.args.work) old db) place)
+    (sym c.in-Open.is) (c.in_round-ran.ensures.survives.crash honest db may)
+
+pub returns-clause-answers : goal.returns-clause-answers
+returns-clause-answers g c =
+    let answers : c.args.self.now.ready ≡ true = search rules in
+    answers_open g.D.Disk c.in_round-ran.result c.is_disk_fault.result c.args.self.now _ c.in-Open.conn
+    c.in_round-ran.new.conn c.in-Open.is refl answers refl c.is_disk_fault.ensures c.requires
+    c.in_round-ran.ensures.open (λ clean. omega (arith, c.in_round-ran.ensures.survives.clean, clean))
+    c.in_round-ran.ensures.resting

@@ -1,0 +1,63 @@
+use Rattle.std.proofs.Common.{◌≡◌, Ok, ap, sym, subst, ◌∙◌}
+use Rattle.sqlite.specs.Held.{state}
+use Rattle.sqlite.proofs.StateLemmas.{survives_weaker}
+use Rattle.stored_ledgers.specs.Outcomes.{ArePast}
+use Rattle.stored_ledgers.proofs.OutcomeLemmas.{keeps_directory}
+use Rattle.stored_ledgers.proofs.RoundLemmas.{left_round}
+use Rattle.stored_ledgers.proofs.ServingLemmas.{rests_still, told_made, no_fault, other_fault}
+use Rattle.stored_ledgers.proofs.rounds.in_round.Goals as goal
+
+pub returns-in-Ok-Ok-clause-run : goal.returns-in-Ok-Ok-clause-run
+returns-in-Ok-Ok-clause-run g c live =
+    let is : c.in_transaction.result ≡ Ok (Ok c.in-Ok-Ok.done) =
+    c.in-Ok-Ok.is ∙ ap Ok c.in-Ok-Ok.field-0-is in
+    (told_made c.in_transaction.result _ _ _ is (c.in_transaction.ensures.told live)).0.done
+
+pub returns-in-Ok-Ok-clause-directory : goal.returns-in-Ok-Ok-clause-directory
+returns-in-Ok-Ok-clause-directory g c live =
+    let is : c.in_transaction.result ≡ Ok (Ok c.in-Ok-Ok.done) =
+    c.in-Ok-Ok.is ∙ ap Ok c.in-Ok-Ok.field-0-is in
+    (told_made c.in_transaction.result _ _ _ is (c.in_transaction.ensures.told live)).0.keeps.directory
+
+pub returns-in-Ok-Ok-clause-resting : goal.returns-in-Ok-Ok-clause-resting
+returns-in-Ok-Ok-clause-resting g c live =
+    let is : c.in_transaction.result ≡ Ok (Ok c.in-Ok-Ok.done) =
+    c.in-Ok-Ok.is ∙ ap Ok c.in-Ok-Ok.field-0-is in
+    let new = state g.S.Store c.in_transaction.new.conn in
+    let told = told_made c.in_transaction.result _ _ _ is (c.in_transaction.ensures.told live) in record {
+      quiet = c.in_transaction.ensures.quiet live;
+      ledgers = told.1.ledgers;
+      covered = c.forget_all.ensures _ (subst (λ pasts. ArePast pasts new.now.trees)
+          (sym c.deref.ensures.value) told.0.past) told.1.covered;
+    }
+
+pub returns-in-Ok-Ok-clause-open : goal.returns-in-Ok-Ok-clause-open
+returns-in-Ok-Ok-clause-open g c clean differs =
+    c.in_transaction.ensures.open clean (no_fault c.in_transaction.result _ c.in-Ok-Ok.is)
+
+pub returns-in-Ok-Ok-clause-survives : goal.returns-in-Ok-Ok-clause-survives
+returns-in-Ok-Ok-clause-survives g c =
+    survives_weaker _ _ _ _
+    (λ clean trees left. left_round (g.W.RoundWork.gives c.args.work) _ trees left)
+    c.in_transaction.ensures.survives
+
+pub returns-in-Err-clause-directory : goal.returns-in-Err-clause-directory
+returns-in-Err-clause-directory g c live = keeps_directory _ _ (c.in-Err.ensures.same live)
+
+pub returns-in-Err-clause-resting : goal.returns-in-Err-clause-resting
+returns-in-Err-clause-resting g c live =
+    rests_still _ _ _ (c.in-Err.ensures.again live) (c.in-Err.ensures.same live)
+    (c.in-Err.ensures.quiet live)
+
+pub returns-in-Err-clause-open : goal.returns-in-Err-clause-open
+returns-in-Err-clause-open g c clean differs =
+    c.in-Err.ensures.open clean (other_fault c.in-Err.why differs)
+
+pub returns-in-Err-clause-same : goal.returns-in-Err-clause-same
+returns-in-Err-clause-same g c live = c.in-Err.ensures.same live
+
+pub returns-in-Err-clause-survives : goal.returns-in-Err-clause-survives
+returns-in-Err-clause-survives g c =
+    survives_weaker _ _ _ _
+    (λ clean trees left. left_round (g.W.RoundWork.gives c.args.work) _ trees left)
+    c.in_transaction.ensures.survives

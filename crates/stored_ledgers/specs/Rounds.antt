@@ -1,0 +1,71 @@
+-- A connection in a round: a transaction in which work of several tenants is done.
+use Rattle.std.specs.Prelude.{◌≡◌, ℕ, List, [], Option, None, IsTrue}
+use Rattle.records.specs.declared.unavailable.Unavailable.{Unavailable}
+use Rattle.chain.specs.Ledgers.{Tenants}
+use Rattle.sqlite.specs.Effect.{Database}
+use Rattle.sqlite.specs.State.{State, HasCleanDisk}
+use Rattle.sqlite_trees.specs.Tree.{Trees}
+use Rattle.ledger_sql.specs.Frames.{Live, Follows}
+use Rattle.stored_ledgers.specs.Directory.{tenants_in, KeepsDirectory}
+use Rattle.stored_ledgers.specs.DueSets.{DueSets, AreCovered}
+use Rattle.stored_ledgers.specs.Ledger.{HoldsLedgers}
+use Rattle.stored_ledgers.specs.Outcomes.{ArePast}
+use Rattle.stored_ledgers.specs.Resting.{CanServe}
+use Rattle.stored_ledgers.specs.declared.working.Past.{Past}
+
+-- in a transaction without a mark, whose database holds ledgers that the sets cover
+pub record IsInRound (sets : DueSets) (s : State) : Type 0 where
+  pub is_open : IsTrue s.is_open
+  pub mode : IsTrue s.in_transaction
+  pub unmarked : s.marks ≡ []
+  pub serves : CanServe sets s.now
+
+-- the tables and the directory are as they were
+pub record KeepsTables (old new : Database) : Type 0 where
+  pub schema : new.schema ≡ old.schema
+  pub directory : KeepsDirectory old.trees new.trees
+
+-- what the sets covered is still covered, so they serve what a rollback leads back to
+abbrev pub GrowsSets : DueSets → DueSets → Type 0
+GrowsSets old new = (trees : Trees) → AreCovered old trees → AreCovered new trees
+
+-- what every run of calls in a round keeps: nothing is committed, and as long as the transaction
+-- goes on the tables and the directory stay
+pub record FollowsHere (old new : State) : Type 0 where
+  pub calls : Follows old new
+  pub inside :
+      Live new → IsTrue new.in_transaction → IsTrue old.in_transaction × KeepsTables old.now new.now
+
+-- and where it has failed it stays so
+pub record FollowsInRound (sets sets' : DueSets) (failure failure' : Option Unavailable)
+    (old new : State) : Type 0 where
+  pub here : FollowsHere old new
+  pub unfailed : failure' ≡ None → failure ≡ None
+  pub grows : GrowsSets sets sets'
+
+-- a round may go on, unless it has failed; what it keeps of clocks lies behind them
+abbrev pub CanGoOn : Option Unavailable → DueSets → List Past → State → Type 0
+CanGoOn failure sets pasts s =
+    failure ≡ None → HasCleanDisk s → IsInRound sets s × ArePast pasts s.now.trees
+
+-- the machines of a database that an opening may find: until the commit none that the round made
+pub record FindsHere (s : State) (found : Tenants) : Type 0 where
+  pub honest : HasCleanDisk s
+  pub trees : Trees
+  pub may : s.may_leave trees
+  pub agrees : (digest : List ℕ) → found digest ≡ tenants_in trees digest
+
+-- the work of a round was done, and clocks have these moments behind them
+pub record IsRoundDone {O : Type 0} (gives : Tenants → O → Tenants → Type 0) (old new : Database)
+    (output : O) (pasts : List Past) : Type 0 where
+  pub keeps : KeepsTables old new
+  pub done : gives (tenants_in old.trees) output (tenants_in new.trees)
+  pub past : ArePast pasts new.trees
+
+-- the database after it, which holds ledgers, as a crash may leave it
+pub record IsAfterRound {O : Type 0} (gives : Tenants → O → Tenants → Type 0) (old : Database)
+    (trees : Trees) : Type 0 where
+  pub ledgers : HoldsLedgers (record { schema = old.schema; trees = trees })
+  pub directory : KeepsDirectory old.trees trees
+  pub output : O
+  pub done : gives (tenants_in old.trees) output (tenants_in trees)

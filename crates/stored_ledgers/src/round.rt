@@ -1,0 +1,151 @@
+//! The ledgers of many tenants inside one transaction.
+
+ghost use Rattle.std.specs.Prelude.{◌≡◌, Some, unwrap_or};
+
+use crate::batches::{DueSets, UnknownKey};
+use crate::working::{Past, work_here};
+use chain::{BatchFault, Ledgers, Listed, ReadFault, Work};
+use ledger_sql::finding::find_tenant;
+use records::{
+    AccountFilter, AccountWithBalances, BalanceAt, Order, RowSink, Transfer, Unavailable,
+};
+use sqlite::{Alter, Connection};
+use std::alloc::Global;
+
+/// The ledgers of a connection in an open transaction.
+///
+/// Once a call has answered `Unavailable`, each answers so, and whoever lent the ledgers takes all of
+/// the round back. A read of a tenant's rows is such a call: a round is for work.
+#[derive(Drop)]
+pub(crate) struct Round<'a, S: Alter> {
+    pub(crate) conn: &'a mut Connection<S>,
+    pub(crate) due: &'a mut DueSets,
+    pub(crate) failure: Option<Unavailable>,
+    /// The clocks before the batches that were run.
+    pub(crate) pasts: &'a mut Vec<Past>,
+}
+
+impl<S: Alter> Ledgers for Round<'_, S> {
+    ghost use Rattle.std.specs.Prelude.{◌≡◌, None, refl};
+    ghost use Rattle.std.proofs.Common.{◌∙◌};
+    ghost use Rattle.sqlite.specs.Held.{state as conn_state};
+    ghost use Rattle.ledger_sql.specs.Frames.{Live};
+    ghost use Rattle.stored_ledgers.specs.Directory.{tenants_in};
+    ghost use Rattle.stored_ledgers.specs.Rounds.{CanGoOn, FindsHere, FollowsInRound};
+    ghost use Rattle.stored_ledgers.specs.RoundLaws.{round_itself, round_then, round_lived, valid_here};
+
+    ghost means = { record {
+      tenants = λ r. tenants_in (conn_state S.Store r.conn.now).now.trees;
+      is_usable = λ r.
+          CanGoOn r.failure r.due.now r.pasts.now.items (conn_state S.Store r.conn.now);
+      is_live = λ r. (r.failure ≡ None) × Live (conn_state S.Store r.conn.now);
+      follows = λ a b.
+          (b.conn.ghost_name ≡ a.conn.ghost_name)
+          × (b.due.ghost_name ≡ a.due.ghost_name)
+          × (b.pasts.ghost_name ≡ a.pasts.ghost_name)
+          × FollowsInRound a.due.now b.due.now a.failure b.failure
+          (conn_state S.Store a.conn.now) (conn_state S.Store b.conn.now);
+      may_find = λ r found. FindsHere (conn_state S.Store r.conn.now) found;
+    } };
+
+    fn in_batch<W: Work + Drop>(
+        &mut self,
+        digest: &[u8; 32],
+        work: W,
+    ) -> Result<W::Output, BatchFault> {
+        if let Some(why) = self.failure {
+            return Err(BatchFault::Unavailable(why));
+        }
+        match work_here(self.conn, self.due, digest, work) {
+            Ok(Ok(worked)) => match self.pasts.push(worked.past) {
+                Ok(()) => Ok(worked.output),
+                Err(why) => Err(BatchFault::Unavailable(fail(
+                    &mut self.failure,
+                    Unavailable::from(why),
+                ))),
+            },
+            Ok(Err(UnknownKey)) => Err(BatchFault::UnknownKey),
+            Err(why) => Err(BatchFault::Unavailable(fail(&mut self.failure, why))),
+        }
+    }
+
+    fn knows(&mut self, digest: &[u8; 32]) -> Result<bool, Unavailable> {
+        if let Some(why) = self.failure {
+            return Err(why);
+        }
+        match find_tenant(self.conn, digest) {
+            Ok(number) => Ok(number.is_some()),
+            Err(why) => Err(fail(&mut self.failure, why)),
+        }
+    }
+
+    fn lookup_accounts(
+        &mut self,
+        _alloc: Global,
+        _digest: &[u8; 32],
+        _ids: &[u128],
+    ) -> Result<Listed<AccountWithBalances>, ReadFault> {
+        Err(ReadFault::Unavailable(fail(&mut self.failure, Unavailable::Memory)))
+    }
+
+    fn lookup_transfers(
+        &mut self,
+        _alloc: Global,
+        _digest: &[u8; 32],
+        _ids: &[u128],
+    ) -> Result<Listed<Transfer>, ReadFault> {
+        Err(ReadFault::Unavailable(fail(&mut self.failure, Unavailable::Memory)))
+    }
+
+    fn history_transfers(
+        &mut self,
+        _alloc: Global,
+        _digest: &[u8; 32],
+        _asked: &AccountFilter,
+    ) -> Result<Listed<Transfer>, ReadFault> {
+        Err(ReadFault::Unavailable(fail(&mut self.failure, Unavailable::Memory)))
+    }
+
+    fn history_balances(
+        &mut self,
+        _alloc: Global,
+        _digest: &[u8; 32],
+        _asked: &AccountFilter,
+    ) -> Result<Listed<BalanceAt>, ReadFault> {
+        Err(ReadFault::Unavailable(fail(&mut self.failure, Unavailable::Memory)))
+    }
+
+    fn each_statement_row<K: RowSink>(
+        &mut self,
+        _alloc: Global,
+        _digest: &[u8; 32],
+        _account: u128,
+        _order: Order,
+        _sink: &mut K,
+    ) -> Result<(), ReadFault> {
+        Err(ReadFault::Unavailable(fail(&mut self.failure, Unavailable::Memory)))
+    }
+
+    ghost stays = { λ a. (refl, refl, refl, round_itself _ _ _) };
+
+    ghost then = { λ a b c f g. (
+      g.0 ∙ f.0,
+      g.1 ∙ f.1,
+      g.2 ∙ f.2,
+      round_then _ _ _ _ _ _ _ _ _ f.3 g.3,
+    ) };
+
+    ghost lived = { λ a b follows live. round_lived _ _ _ _ _ _ follows.3 live };
+
+    ghost valid = { λ a live usable. valid_here _ _ _ _ live usable };
+}
+
+/// Keeps why a round has failed: for the first reason of all.
+fn fail(failure: &mut Option<Unavailable>, why: Unavailable) -> Unavailable
+    ensures first { result ≡ unwrap_or failure.old why }
+    ensures kept { failure.new ≡ Some result }
+{
+    let first = failure.unwrap_or(why);
+    *failure = Some(first);
+    first
+}

@@ -1,0 +1,136 @@
+//! Rounds: work of several tenants in one transaction.
+
+ghost use Rattle.std.specs.Prelude.{◌≡◌, ◌≢◌, None, Err, IfOk, OnOk, OnErr, IsTrue};
+ghost use Rattle.sqlite.specs.State.{HasCleanDisk, Survives};
+ghost use Rattle.sqlite.specs.Held.{state};
+ghost use Rattle.sqlite_trees.specs.Tree.{Trees};
+ghost use Rattle.records.specs.declared.unavailable.Unavailable.TheVariants.{Disk};
+ghost use Rattle.ledger_sql.specs.Frames.{Live};
+ghost use Rattle.stored_ledgers.specs.Directory.{tenants_in, KeepsDirectory};
+ghost use Rattle.stored_ledgers.specs.DueSets.{AreCovered};
+ghost use Rattle.stored_ledgers.specs.Outcomes.{ArePast};
+ghost use Rattle.stored_ledgers.specs.Resting.{IsResting, IsSame, Serves, CanServe};
+ghost use Rattle.stored_ledgers.specs.Rounds.{CanGoOn, FollowsHere, GrowsSets, IsAfterRound, IsRoundDone};
+
+use crate::batches::DueSets;
+use crate::round::Round;
+use crate::transactions::{Change, in_transaction};
+use crate::working::{Past, forget};
+use chain::RoundWork;
+use records::Unavailable;
+use sqlite::{Alter, Connection};
+use std::alloc::Global;
+use std::convert::Infallible;
+
+/// Does the work of a round, and commits all of it or nothing.
+pub fn in_round<S: Alter, W: RoundWork + Drop>(
+    alloc: Global,
+    conn: &mut Connection<S>,
+    due: &mut DueSets,
+    work: W,
+) -> Result<W::Output, Unavailable>
+    requires { Serves due.old (state S.Store conn.old) }
+    ensures run { Live (state S.Store conn.new) → IfOk result (λ output. W.gives work
+        (tenants_in (state S.Store conn.old).now.trees) output
+        (tenants_in (state S.Store conn.new).now.trees)) }
+    ensures directory { Live (state S.Store conn.new) → KeepsDirectory
+        (state S.Store conn.old).now.trees (state S.Store conn.new).now.trees }
+    ensures resting { Live (state S.Store conn.new)
+        → IsResting due.new (state S.Store conn.new) }
+    ensures open { HasCleanDisk (state S.Store conn.new) → result ≢ Err Disk
+        → IsTrue (state S.Store conn.new).is_open }
+    ensures same { Live (state S.Store conn.new) → OnErr result
+        (IsSame (state S.Store conn.old) (state S.Store conn.new)) }
+    ensures survives { Survives (state S.Store conn.old) (state S.Store conn.new)
+        (IsAfterRound (W.gives work) (state S.Store conn.old).now) }
+{
+    match in_transaction(conn, due, WholeRound { alloc, work }) {
+        Ok(Ok(done)) => {
+            // Behind the commit nothing leads back to the clocks before it.
+            forget_all(due, &done.pasts);
+            Ok(done.output)
+        }
+        Ok(Err(never)) => match never {},
+        Err(why) => Err(why),
+    }
+}
+
+/// The work of a round.
+#[derive(Drop)]
+struct WholeRound<W> {
+    alloc: Global,
+    work: W,
+}
+
+/// What a round came to, and the clocks before each of its batches.
+#[derive(Drop)]
+struct RoundDone<O> {
+    output: O,
+    pasts: Vec<Past>,
+}
+
+impl<W: RoundWork + Drop> Change for WholeRound<W> {
+    type Output = RoundDone<W::Output>;
+
+    type Refusal = Infallible;
+
+    type Memory = DueSets;
+
+    ghost needs = { λ round. CanServe };
+
+    ghost does = { λ round sets old done sets' new.
+        IsRoundDone (W.gives round.work) old new done.output done.pasts.items
+        × CanServe sets' new };
+
+    ghost refuses = { λ round sets old never. ⊥ };
+
+    fn run<S: Alter>(
+        self,
+        conn: &mut Connection<S>,
+        due: &mut DueSets,
+    ) -> Result<Result<RoundDone<W::Output>, Infallible>, Unavailable> {
+        let mut pasts = Vec::new(self.alloc);
+        let output = run_round(conn, due, &mut pasts, self.work)?;
+        Ok(Ok(RoundDone { output, pasts }))
+    }
+}
+
+/// Does the work in an open transaction, and keeps the clocks before each of its batches.
+fn run_round<S: Alter, W: RoundWork + Drop>(
+    conn: &mut Connection<S>,
+    due: &mut DueSets,
+    pasts: &mut Vec<Past>,
+    work: W,
+) -> Result<W::Output, Unavailable>
+    requires { CanGoOn None due.old pasts.old.items (state S.Store conn.old) }
+    ensures given { Live (state S.Store conn.new) → IfOk result (λ output. W.gives work
+        (tenants_in (state S.Store conn.old).now.trees) output
+        (tenants_in (state S.Store conn.new).now.trees)) }
+    ensures goes_on { OnOk result
+        (CanGoOn None due.new pasts.new.items (state S.Store conn.new)) }
+    ensures grows { GrowsSets due.old due.new }
+    ensures follows { FollowsHere (state S.Store conn.old) (state S.Store conn.new) }
+{
+    let mut round = Round {
+        conn,
+        due,
+        failure: None,
+        pasts,
+    };
+    let ran = work.run(&mut round);
+    // The first fault says why, whatever the work made of it.
+    match round.failure {
+        Some(why) => Err(why),
+        None => ran,
+    }
+}
+
+/// Drops what fell due by moments that clocks have behind them.
+fn forget_all(due: &mut DueSets, pasts: &[Past])
+    ensures { (trees : Trees) → ArePast pasts.now trees → AreCovered due.old trees →
+        AreCovered due.new trees }
+{
+    for past in pasts {
+        forget(due, *past);
+    }
+}

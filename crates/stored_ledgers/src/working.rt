@@ -1,0 +1,109 @@
+//! Work on one tenant's tables inside a transaction.
+
+ghost use Rattle.std.specs.Prelude.{◌≡◌, None, IfOk, OnOk};
+ghost use Rattle.std.specs.BTreeSet.{IsSubset};
+ghost use Rattle.sqlite.specs.State.{HasCleanDisk};
+ghost use Rattle.sqlite.specs.Held.{state};
+ghost use Rattle.sqlite_trees.specs.Tree.{Trees};
+ghost use Rattle.ledger_sql.specs.Frames.{Live};
+ghost use Rattle.stored_tables.specs.InBatch.{FollowsInBatch};
+ghost use Rattle.stored_ledgers.specs.Directory.{tenants_in};
+ghost use Rattle.stored_ledgers.specs.DueSets.{AreCovered, due_cmp};
+ghost use Rattle.stored_ledgers.specs.Outcomes.{IsBatchTimed, IsWorkable, HasWorkedHere, IsPast};
+ghost use Rattle.stored_ledgers.specs.Rounds.{IsInRound, FollowsHere, GrowsSets};
+ghost use Rattle.stored_ledgers.specs.Transactions.{IfAnswered};
+
+use crate::batches::{DueSets, UnknownKey};
+use chain::{Tables, Work};
+use ledger_sql::finding::find_tenant;
+use records::Unavailable;
+use sqlite::{Alter, Connection};
+use std::collections::BTreeSet;
+use stored_tables::{Batch, TenantNumber, forget_past};
+
+/// A moment, in nanoseconds, that a tenant's clock has behind it.
+#[derive(Clone, Copy)]
+pub(crate) struct Past {
+    tenant: TenantNumber,
+    clock: u64,
+}
+
+/// What work on a tenant's tables came to, and the tenant's clock before it.
+#[derive(Drop)]
+pub(crate) struct Worked<O> {
+    pub(crate) output: O,
+    pub(crate) past: Past,
+}
+
+/// Does the work on the tables of the tenant with this digest, if there is one, inside a
+/// transaction. What fell due by the tenant's clock is passed over, and stays in the sets: a
+/// rollback may lead back to where it was open.
+pub(crate) fn work_here<S: Alter, W: Work + Drop>(
+    conn: &mut Connection<S>,
+    due: &mut DueSets,
+    digest: &[u8; 32],
+    work: W,
+) -> Result<Result<Worked<W::Output>, UnknownKey>, Unavailable>
+    requires { HasCleanDisk (state S.Store conn.old)
+        → IsInRound due.old (state S.Store conn.old) }
+    ensures told { Live (state S.Store conn.new) → IfAnswered result
+        (λ worked. IsBatchTimed (W.gives work) digest.now (state S.Store conn.old).now
+        (state S.Store conn.new).now worked.output worked.past)
+        (λ unknown. (tenants_in (state S.Store conn.old).now.trees digest.now ≡ None)
+        × ((state S.Store conn.new).now ≡ (state S.Store conn.old).now)) }
+    ensures here { HasCleanDisk (state S.Store conn.new)
+        → OnOk result (IsInRound due.new (state S.Store conn.new)) }
+    ensures grows { GrowsSets due.old due.new }
+    ensures follows { FollowsHere (state S.Store conn.old) (state S.Store conn.new) }
+{
+    let Some(number) = find_tenant(conn, digest)? else {
+        return Ok(Err(UnknownKey));
+    };
+    // Every tenant has a set; one without it is a lie of the disk.
+    let Some(set) = due.get_mut(&number) else {
+        return Err(Unavailable::Disk);
+    };
+    let worked = run_work(conn, set, TenantNumber(number), work)?;
+    Ok(Ok(worked))
+}
+
+/// Does the work on a tenant's tables.
+#[tactic(auto, unfolding(stored_tables::specs::InBatch::shown))]
+fn run_work<S: Alter, W: Work + Drop>(
+    conn: &mut Connection<S>,
+    due: &mut BTreeSet<(u64, u128)>,
+    tenant: TenantNumber,
+    work: W,
+) -> Result<Worked<W::Output>, Unavailable>
+    requires { HasCleanDisk (state S.Store conn.old)
+        → IsWorkable tenant.0 due.old (state S.Store conn.old) }
+    ensures worked { HasCleanDisk (state S.Store conn.new) → IfOk result
+        (λ worked. HasWorkedHere (W.gives work) tenant.0 due.new (state S.Store conn.old)
+        (state S.Store conn.new) worked.output worked.past) }
+    ensures grows { IsSubset due_cmp due.old due.new }
+    ensures follows { FollowsInBatch tenant.0 (state S.Store conn.old) (state S.Store conn.new) }
+{
+    let mut batch = Batch {
+        conn,
+        due,
+        tenant,
+        past: 0,
+    };
+    let clock = batch.clock()?;
+    batch.past = clock;
+    let output = work.run(&mut batch)?;
+    Ok(Worked {
+        output,
+        past: Past { tenant, clock },
+    })
+}
+
+/// Drops what fell due for a tenant by a moment that its clock has behind it.
+pub(crate) fn forget(due: &mut DueSets, past: Past)
+    ensures { (trees : Trees) → IsPast trees past → AreCovered due.old trees →
+        AreCovered due.new trees }
+{
+    if let Some(set) = due.get_mut(&past.tenant.0) {
+        forget_past(set, past.clock);
+    }
+}
