@@ -1,6 +1,5 @@
 mod asserting;
 mod connections;
-mod console;
 mod events;
 mod examples;
 mod exchanges;
@@ -8,6 +7,7 @@ mod firms;
 mod looked_up;
 mod memory;
 mod messages;
+mod page;
 mod played;
 mod reads;
 mod refusals;
