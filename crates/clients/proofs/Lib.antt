@@ -5,5 +5,4 @@ pub mod EventLemmas
 pub mod TurnLemmas
 pub mod DeedLemmas
 pub mod WritingLemmas
-pub mod RoundLemmas
 pub mod SeenLemmas

@@ -2,6 +2,4 @@ pub mod Talk
 pub mod Answering
 pub mod Turns
 pub mod Deeds
-pub mod Rounds
-pub mod Places
 pub mod Within

@@ -1,7 +1,6 @@
 //! Laws of many clients. The functions do nothing; their contracts are the laws.
 ghost use Rattle.clients.specs.Answering.{GivesUp};
 ghost use Rattle.clients.specs.Deeds.{MightCome, AreExchanges, AreWritten, AreServed};
-ghost use Rattle.clients.specs.Rounds.{RoundsAreLives};
 ghost use Rattle.clients.specs.Turns.{TurnsLeadOn, ServeEachAlone, HearTheirOwn};
 ghost use Rattle.clients.specs.Within.{AreSeen, AnswersLeave, RepliesWithin, TellsUnavailable};
 ghost use Rattle.service.specs.Seen.{seen};
@@ -46,25 +45,20 @@ pub fn clients_are_served<L: Ledgers, C: Moments>()
     clients_hear_their_own::<L, C>();
 }
 
-/// A client that gives up has replied to the message whose body is due, whatever comes later.
-pub fn giving_up_replies<L: Ledgers, C: Moments>()
-    ensures { GivesUp L.means C.gives }
-{
-    later_bytes_change_nothing();
-}
-
-/// Turns of all clients in a round are deeds, one after the other.
-pub fn rounds_are_deeds<L: Ledgers, C: Moments>()
-    ensures { RoundsAreLives L.means C.gives }
-{}
-
-/// So it is where messages are answered in rounds.
+/// It is so where messages are answered in rounds.
 pub fn clients_are_served_in_rounds<L: Ledgers, C: Moments>()
     ensures come { MightCome (seen L.means) C.gives }
     ensures hear { HearTheirOwn (seen L.means) C.gives }
     ensures exchanges { AreExchanges (seen L.means) C.gives }
     ensures written { AreWritten (seen L.means) C.gives }
 {}
+
+/// A client that gives up has replied to the message whose body is due, whatever comes later.
+pub fn giving_up_replies<L: Ledgers, C: Moments>()
+    ensures { GivesUp L.means C.gives }
+{
+    later_bytes_change_nothing();
+}
 
 /// What is replied to between transactions is so at points of rounds as well.
 pub fn whole_ledgers_are_seen<L: Ledgers, C: Moments>()

@@ -6,12 +6,9 @@ mod client;
 mod exchanging;
 mod laws;
 mod outbox;
-mod room;
 
 pub use client::{Answered, Client};
 pub use laws::{
     clients_are_courses, clients_are_served, clients_are_served_in_rounds, clients_hear_their_own,
-    clients_serve_each_alone, giving_up_replies, rounds_are_deeds, rounds_reply,
-    whole_ledgers_are_seen,
+    clients_serve_each_alone, giving_up_replies, rounds_reply, whole_ledgers_are_seen,
 };
-pub use room::{answer_each, answer_to, end_of, receive_from, wrote_to};

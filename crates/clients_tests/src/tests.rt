@@ -1,4 +1,3 @@
 mod firms;
 mod messages;
-mod rounds;
 mod talking;

@@ -1,4 +1,6 @@
+mod failing;
 mod firms;
+mod frail;
 mod messages;
 mod rounds;
 mod scripted;

@@ -1,11 +1,11 @@
 //! Firms whose ledgers are kept in memory.
 ghost use Rattle.std.specs.Prelude.{◌≡◌};
 
-use clients::{Answered, Client, answer_each, answer_to, end_of, receive_from, wrote_to};
+use clients::{Answered, Client};
 use plain::{Book, PlainTables};
 use records::Streamed;
 use service::{Moments, serve};
-use std::alloc::{AllocError, Global};
+use std::alloc::Global;
 use std::marker::Model;
 use std::test::Fail;
 use tenants::{Key, digest};
@@ -73,19 +73,6 @@ impl Firms {
         Some(client.answer(self.alloc, &mut self.book, &mut Always(1000)))
     }
 
-    /// Gives each client of a list a turn.
-    pub(crate) fn answer_each(&mut self, clients: &mut [Client]) {
-        answer_each(self.alloc, clients, &mut self.book, &mut Always(1000));
-    }
-
-    /// Gives one client of a list a turn.
-    pub(crate) fn answer_to(&mut self, clients: &mut [Client], at: usize) -> Option<Answered> {
-        if at >= clients.len() {
-            return None;
-        }
-        answer_to(self.alloc, clients, at, &mut self.book, &mut Always(1000))
-    }
-
     /// What a connection is written that sends this and nothing else.
     pub(crate) fn serve(&mut self, sent: &[u8]) -> Vec<u8> {
         let mut reader = Streamed::new(sent);
@@ -100,28 +87,4 @@ impl Firms {
         );
         writer.into_inner()
     }
-}
-
-/// A client of a list has sent this, and nothing more comes from it.
-pub(crate) fn send_to(clients: &mut [Client], at: usize, sent: &[u8]) -> Result<(), AllocError> {
-    if at < clients.len() && !clients[at].has_ended() {
-        receive_from::<Book, Always>(clients, at, sent)?;
-        end_of::<Book, Always>(clients, at);
-    }
-    Ok(())
-}
-
-/// A client of a list takes all that is to be written to it.
-pub(crate) fn hear_from(
-    clients: &mut [Client],
-    at: usize,
-    heard: &mut Vec<u8>,
-) -> Result<(), AllocError> {
-    if at < clients.len() {
-        let unsent = clients[at].unsent();
-        let count = unsent.len();
-        heard.extend_from_slice(unsent)?;
-        wrote_to::<Book, Always>(clients, at, count);
-    }
-    Ok(())
 }

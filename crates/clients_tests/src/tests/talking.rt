@@ -79,6 +79,31 @@ fn writes_each_what_its_own_connection_is_written(rt: HostRuntime) -> Result<(),
 }
 
 #[test]
+fn answers_one_message_of_each_client_a_turn(rt: HostRuntime) -> Result<(), Fail> {
+    let keys = [FIRST, SECOND];
+    let to_first = Firms::with(rt.alloc(), &keys)?.serve(OF_FIRST.as_bytes());
+    let mut firms = Firms::with(rt.alloc(), &keys)?;
+    let mut one = Talker::new(&rt, OF_FIRST.as_bytes());
+    let mut other = Talker::new(&rt, OF_SECOND.as_bytes());
+    one.send(4096)?;
+    other.send(4096)?;
+    for _ in 0..3 {
+        let (first, second) = (one.heard.len(), other.heard.len());
+        assert!(rt; firms.answer(&mut one.client) == Some(Answered::Replied));
+        assert!(rt; firms.answer(&mut other.client) == Some(Answered::Replied));
+        assert!(rt; firms.answer(&mut one.client) == None);
+        one.hear(4096)?;
+        other.hear(4096)?;
+        assert!(rt; first < one.heard.len() && second < other.heard.len());
+    }
+    assert!(rt; one.heard.as_slice() == to_first.as_slice());
+    assert!(rt; other.heard.as_slice() == TO_SECOND.as_bytes());
+    assert!(rt; firms.answer(&mut one.client) == Some(Answered::Over));
+    assert!(rt; firms.answer(&mut other.client) == None);
+    Ok(())
+}
+
+#[test]
 fn answers_nothing_before_the_reply_is_written(rt: HostRuntime) -> Result<(), Fail> {
     let mut firms = Firms::with(rt.alloc(), &[FIRST])?;
     let mut talker = Talker::new(&rt, OF_FIRST.as_bytes());

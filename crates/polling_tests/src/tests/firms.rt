@@ -1,6 +1,7 @@
 //! Firms whose ledgers are kept in memory.
 ghost use Rattle.std.specs.Prelude.{◌≡◌};
 
+use super::frail::{Fate, Frail, Opens};
 use super::scripted::{Peer, Scripted};
 use plain::{Book, PlainTables};
 use polling::{Reopen, Seats, serve_ready, write_rest};
@@ -97,6 +98,25 @@ impl Firms {
         peers.joins(another)?;
         write_rest::<Book, Never, Always, Scripted<'a>>(peers, &mut seats);
         Ok(replies)
+    }
+
+    /// Serves clients over ledgers of which the first round has a fate. Says how many messages were
+    /// replied to, and how many rounds were begun.
+    pub(crate) fn serve_frail(self, peers: &mut Scripted, fate: Fate) -> (u64, u64) {
+        let mut seats = Seats::new(self.alloc);
+        let mut ledgers = Frail::new(self.book, fate);
+        let mut piece = [0; 100];
+        let replies = serve_ready(
+            self.alloc,
+            peers,
+            &mut seats,
+            &mut ledgers,
+            &mut Opens,
+            &mut Always(1000),
+            &mut piece,
+            99,
+        );
+        (replies, ledgers.rounds())
     }
 
     fn serve_seated(&mut self, peers: &mut Scripted, seats: &mut Seats, most: u64) -> u64 {

@@ -41,3 +41,34 @@ pub(crate) const TO_SECOND: &str = concat!(
     "HTTP/1.1 400 Bad Request\r\ncontent-length: 21\r\ncontent-type: application/json\r\n\r\n",
     "{\"error\":\"truncated\"}"
 );
+
+/// Accounts of the first firm, and the same again.
+pub(crate) const TWICE_OF_FIRST: &str = concat!(
+    "POST /accounts HTTP/1.1\r\nx-ledger-key: ",
+    "0000000000000000000000000000000000000000000000000000000000000000",
+    "\r\ncontent-length: 63\r\n\r\n",
+    "[{\"id\":\"1\",\"ledger\":7,\"code\":1},{\"id\":\"2\",\"ledger\":7,\"code\":1}]",
+    "POST /accounts HTTP/1.1\r\nx-ledger-key: ",
+    "0000000000000000000000000000000000000000000000000000000000000000",
+    "\r\ncontent-length: 63\r\n\r\n",
+    "[{\"id\":\"1\",\"ledger\":7,\"code\":1},{\"id\":\"2\",\"ledger\":7,\"code\":1}]"
+);
+
+/// Accounts of the second firm, and the same again.
+pub(crate) const TWICE_OF_SECOND: &str = concat!(
+    "POST /accounts HTTP/1.1\r\nx-ledger-key: ",
+    "abababababababababababababababababababababababababababababababab",
+    "\r\ncontent-length: 63\r\n\r\n",
+    "[{\"id\":\"1\",\"ledger\":7,\"code\":1},{\"id\":\"2\",\"ledger\":7,\"code\":1}]",
+    "POST /accounts HTTP/1.1\r\nx-ledger-key: ",
+    "abababababababababababababababababababababababababababababababab",
+    "\r\ncontent-length: 63\r\n\r\n",
+    "[{\"id\":\"1\",\"ledger\":7,\"code\":1},{\"id\":\"2\",\"ledger\":7,\"code\":1}]"
+);
+
+/// What is told where the ledgers are unavailable.
+pub(crate) const UNAVAILABLE: &str = concat!(
+    "HTTP/1.1 503 Service Unavailable\r\ncontent-length: 23\r\n",
+    "content-type: application/json\r\n\r\n",
+    "{\"error\":\"unavailable\"}"
+);

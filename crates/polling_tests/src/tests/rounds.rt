@@ -12,8 +12,11 @@ const READ: &str = concat!(
     "\r\n\r\n"
 );
 
-// Clients that send these, read and written at once.
-fn clients(rt: &impl AllocGlobal, texts: &[&'static str]) -> Result<Scripted<'static>, Fail> {
+/// Clients that send these, read and written at once.
+pub(crate) fn clients(
+    rt: &impl AllocGlobal,
+    texts: &[&'static str],
+) -> Result<Scripted<'static>, Fail> {
     let mut peers = Vec::new(rt.alloc());
     for text in texts {
         peers.push(Peer::new(rt.alloc(), text.as_bytes(), 10000).at_once())?;
@@ -21,11 +24,13 @@ fn clients(rt: &impl AllocGlobal, texts: &[&'static str]) -> Result<Scripted<'st
     Ok(Scripted::new(peers, 1000))
 }
 
-fn written_at(peers: &Scripted, number: usize) -> Option<u64> {
+/// Behind how many things that were told a client was first written to.
+pub(crate) fn written_at(peers: &Scripted, number: usize) -> Option<u64> {
     peers.peer(number)?.written_at()
 }
 
-fn has_heard(peers: &Scripted, number: usize, text: &[u8]) -> bool {
+/// Whether a client was written this, and nothing more.
+pub(crate) fn has_heard(peers: &Scripted, number: usize, text: &[u8]) -> bool {
     match peers.peer(number) {
         Some(peer) => peer.heard() == text,
         None => false,
