@@ -18,7 +18,7 @@ from keyboard import try_keyboard
 from ledger import Ledger
 from looks import try_looks
 from trial import Trial, want
-from views import (account_row, try_accounts, try_many, try_met, try_pages, try_statement,
+from views import (account_row, try_accounts, try_all, try_many, try_met, try_pages, try_statement,
                    try_transfer, try_trial_balance)
 
 
@@ -148,8 +148,8 @@ def try_silence(trial):
     trial.quiet()
 
 
-TRIALS = (try_page, try_key, try_accounts, try_met, try_many, try_statement, try_pages,
-          try_transfer, try_trial_balance, try_keyboard, try_looks, try_following, try_policy,
+TRIALS = (try_page, try_key, try_accounts, try_met, try_all, try_many, try_statement,
+          try_pages, try_transfer, try_trial_balance, try_keyboard, try_looks, try_following, try_policy,
           try_silence)
 
 

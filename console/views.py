@@ -58,6 +58,17 @@ def try_met(trial):
     trial.quiet()
 
 
+def try_all(trial):
+    """all accounts that the ledger has"""
+    trial.open()
+    trial.go("accounts")
+    trial.browser.click("#all")
+    trial.told("6 accounts found.")
+    want([row[0] for row in trial.rows("#accounts-out")],
+         [str(2**64 + 1), str(2**128 - 2), "1", "2", "3", "50"], "all accounts")
+    trial.quiet()
+
+
 def try_many(trial):
     """more accounts than one request may ask for"""
     accounts = [{"id": str(10_000 + each), "ledger": 13, "code": 1} for each in range(1_001)]
