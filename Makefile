@@ -50,9 +50,12 @@ session: ledgerd
 test:
 	rt ci
 
-# The client for Python: its own tests, and the program killed under it.
+# The client for Python: its own tests, and the program killed under it. Then the examples that
+# follow a ledger and sum it up.
 python: ledgerd
 	LEDGERD=$(LEDGERD) python3 -m unittest discover clients/python
+	python3 examples/following/try_following.py $(LEDGERD)
+	python3 examples/trial-balance/try_trial_balance.py $(LEDGERD)
 
 # The page for the browser, in chromium; the pictures in docs/ are made anew.
 console: ledgerd

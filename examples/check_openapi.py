@@ -46,9 +46,9 @@ def exchanges(text):
     """The requests of a session: method, path, body, status and the reply's body."""
     request = re.compile(r"^> \S+ (GET|POST) (/\S+)\n((?:> .*\n)*)< (\d+)\n((?:< .*\n?)*)", re.M)
     for method, path, body, status, reply in request.findall(text):
-        told = re.sub(r"C\d+(-\d+)?", "1", reply)
-        yield method, path, re.sub("^> ", "", body, flags=re.M), status, \
-            re.sub("^< ", "", told, flags=re.M)
+        body, reply = (re.sub(r"C\d+(-\d+|\+1s?)?", "1", re.sub("^[<>] ", "", text, flags=re.M))
+                       for text in (body, reply))
+        yield method, path, body, status, reply
 
 
 def session_bodies(description):

@@ -22,6 +22,7 @@ import damaged
 import limits
 import many
 import paused
+import queries
 import refused
 import refusing
 import reopened
@@ -32,8 +33,9 @@ import use
 import worked
 
 TRIALS = {
-    "model": lambda trial: f"{worked.check()} worked examples are as docs/MODEL.md has them",
+    "model": lambda trial: f"{worked.check()} worked examples are answered as they stand",
     "runs": runs.long_runs,
+    "queries": queries.queries,
     "many": many.many,
     "rounds": rounds.rounds,
     "crowd": rounds.killed_crowd,

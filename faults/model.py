@@ -7,12 +7,16 @@ FAILS_FOR_GOOD = {24, 44, 45, 55, 56}
 LINKED = 1
 DEBITS_LIMITED, CREDITS_LIMITED, HISTORY = 2, 4, 8
 PENDING, POST, VOID, BALANCING_DEBIT, BALANCING_CREDIT = 2, 4, 8, 16, 32
+NEWEST_FIRST = 1
+# The most records that a page looks at, those that it shows among them.
+MOST_LOOKED_AT = 2000
 
 ACCOUNT_FIELDS = ("id", "user_data_128", "user_data_64", "user_data_32", "ledger", "code", "flags")
 TRANSFER_FIELDS = ("id", "debit_account_id", "credit_account_id", "amount", "pending_id",
                    "user_data_128", "user_data_64", "user_data_32", "timeout", "ledger", "code",
                    "flags")
 BALANCES = ("debits_pending", "debits_posted", "credits_pending", "credits_posted")
+TAGS = ("user_data_128", "user_data_64", "user_data_32", "ledger", "code")
 
 
 class Ledger:
@@ -247,6 +251,49 @@ class Ledger:
             told = (each["timestamp"], each["id"], side, kind_of(each), each["amount"])
             lines.append(",".join(map(str, told + tuple(sums[name] for name in BALANCES))))
         return lines
+
+    def query_accounts(self, asked):
+        """The accounts of a page, and its `next`. What is not asked for is 0 or missing."""
+        return page(self.accounts.values(), asked, lambda each: has_tags(asked, each))
+
+    def query_transfers(self, asked):
+        """The same of transfers."""
+        return page(self.transfers.values(), asked, lambda each: has_tags(asked, each))
+
+    def open_holds(self, asked):
+        """The same of pending transfers that are open."""
+        return page(self.transfers.values(), asked, lambda each: self.fate(each) == "open")
+
+    def holds(self, ids):
+        """The pending transfers with these ids."""
+        found = (self.transfers[number] for number in ids if number in self.transfers)
+        return [each for each in found if self.fate(each)]
+
+    def fate(self, transfer):
+        """What has become of it, if it is a pending one."""
+        return self.ending(transfer, self.clock) if transfer["flags"] & PENDING else None
+
+
+def has_tags(asked, record):
+    """Whether a record has each value that is asked for."""
+    return all(asked.get(tag, 0) in (0, record[tag]) for tag in TAGS)
+
+
+def page(records, asked, shows):
+    """Those of some records that a page shows, and the time to ask for the next one with."""
+    first, last = asked.get("timestamp_min", 0), asked.get("timestamp_max", 0) or 2**64 - 1
+    is_turned = bool(asked.get("flags", 0) & NEWEST_FIRST)
+    within = [each for each in records if first <= each["timestamp"] <= last]
+    within.sort(key=lambda each: each["timestamp"], reverse=is_turned)
+    looked_at = within[:MOST_LOOKED_AT]
+    chosen = [each for each in looked_at if shows(each)][:asked["limit"]]
+    if len(chosen) == asked["limit"]:
+        end = chosen[-1]
+    elif len(looked_at) == MOST_LOOKED_AT:
+        end = looked_at[-1]
+    else:
+        return chosen, 0
+    return chosen, end["timestamp"] + (-1 if is_turned else 1)
 
 
 def due_of(transfer):

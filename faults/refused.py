@@ -4,6 +4,7 @@ import json
 import re
 import socket
 
+import pages
 from runs import House
 from service import TOP, Connection, message, want
 
@@ -65,6 +66,10 @@ def routes(key):
     yield "POST /statement/1", post("/statement/1", b"", key), "bad_method"
     yield "POST /", post("/", b"", key), "bad_method"
     yield "HEAD / with no key", b"HEAD / HTTP/1.1\r\ncontent-length: 0\r\n\r\n", "bad_method"
+    for path in pages.PATHS:
+        yield f"{path}/", post(f"{path}/", b"[]", key), "no_route"
+        yield f"GET {path}", message("GET", path, key), "bad_method"
+        yield f"{path} with no key", post(path, b"[", ""), "unknown_key"
     yield "GET /?", message("GET", "/?", key), "no_route"
     no_key = b"POST /x HTTP/1.1\r\ncontent-length: 0\r\n\r\n"
     yield "POST /x with no key", no_key, "no_route"
@@ -97,13 +102,33 @@ def bodies(key):
     yield "balances of account 1", post("/history/balances", balances, key), "no_history"
 
 
+def queries(key):
+    """The same of the routes that name no account."""
+    ids = json.dumps([str(place) for place in range(1001)]).encode()
+    yield "holds by 1,001 ids", post(pages.HOLDS, ids, key), "too_many_events"
+    yield "holds by a number", post(pages.HOLDS, b"[1]", key), "bad_field"
+    yield "holds by an object", post(pages.HOLDS, b'{"limit":1}', key), "bad_field"
+    yield "holds by {", post(pages.HOLDS, b"{", key), "body_not_json"
+    wrong = ({}, {"limit": 0}, {"limit": 1001}, {"limit": "1"}, {"flags": 2}, {"flags": 4},
+             {"flags": -1}, {"timestamp_min": 1}, {"timestamp_max": str(2**64)},
+             {"timestamp_min": "01"}, {"account_id": "1"}, {"id": "1"}, {"timestamp": "1"})
+    marks = ({"user_data_128": str(2**128)}, {"user_data_64": 1}, {"user_data_32": 2**32},
+             {"ledger": "7"}, {"code": 65536}, {"amount": "1"})
+    for path in (pages.ACCOUNTS, pages.TRANSFERS, pages.OPEN):
+        for fields in (*wrong, *marks, *([{"ledger": 7}] if path == pages.OPEN else [])):
+            body = json.dumps({"limit": 1, **fields} if fields else {}).encode()
+            yield f"{path} with {fields}", post(path, body, key), "bad_field"
+        yield f"{path} with a list", post(path, b"[]", key), "bad_field"
+        yield f"{path} with nothing", post(path, b"", key), "body_not_json"
+
+
 def statements(key):
     for account_id, name in (("01", "bad_field"), ("1?x", "bad_field"), ("9", "no_account")):
         yield f"/statement/{account_id}", message("GET", f"/statement/{account_id}", key), name
 
 
 def table(key):
-    for part in (heads, routes, bodies, statements):
+    for part in (heads, routes, bodies, queries, statements):
         yield from part(key)
 
 

@@ -1,5 +1,6 @@
 """Memory and calls of the disk, refused one by one to the running service."""
 
+import pages
 from control import ALL, DISK, MEMORY, Control, places
 from drawn import LEDGER, account, transfer
 from runs import House
@@ -45,7 +46,16 @@ class Cases:
         return (("POST", "/accounts/lookup", b'["1","2","9"]'),
                 ("POST", "/transfers/lookup", b'["1000000002"]'),
                 ("POST", "/history/transfers", page), ("POST", "/history/balances", page),
-                ("GET", "/statement/1", b""))
+                ("GET", "/statement/1", b""), *self.queries())
+
+
+    def queries(self):
+        """Pages that are read in several pieces, and what became of holds."""
+        marked = {"code": 1, "flags": 1, "limit": 3}
+        return (pages.request(pages.ACCOUNTS, {"ledger": LEDGER, "limit": 2}),
+                pages.request(pages.TRANSFERS, {**marked, "user_data_64": 2**64 - 1}),
+                pages.request(pages.TRANSFERS, marked), pages.request(pages.OPEN, {"limit": 1}),
+                pages.request(pages.HOLDS, [10**9 + number for number in range(1, 200)]))
 
 
 def refused_memory(trial):

@@ -17,7 +17,7 @@ class House:
     def __init__(self, trial, tenants=2, options=()):
         self.program, self.random, self.options = trial.program, trial.random, options
         self.db = os.path.join(trial.folder, "ledger.db")
-        self.desks, self.requests, self.service = [], [], None
+        self.desks, self.requests, self.service, self.openings = [], [], None, 0
         for place, name in enumerate(NAMES[:tenants]):
             desk = Desk(f"{self.random.getrandbits(256):064x}")
             add_tenant(self.program, self.db, name, desk.key)
@@ -25,6 +25,7 @@ class House:
             self.requests.append(Requests(self.random, 10**6 * (place + 1)))
 
     def start(self, env=None):
+        self.openings += 1
         self.service = Service(self.program, self.db, env, self.options)
 
     def stop(self):

@@ -12,12 +12,12 @@ import socket
 import subprocess
 import time
 
+import pages
 from model import ACCOUNT_FIELDS, BALANCES, HISTORY, TRANSFER_FIELDS, Ledger
+from pages import STRINGS, shown
 
 TOP = pathlib.Path(__file__).resolve().parent.parent
 PATIENCE = 60
-STRINGS = {"id", "debit_account_id", "credit_account_id", "amount", "pending_id", "user_data_128",
-           "user_data_64", "timestamp", *BALANCES}
 # What a command tells that memory or the disk has failed; a file whose first page cannot be read is
 # told as the second.
 UNAVAILABLE = (3, "", "ledgerd: unavailable\n")
@@ -210,13 +210,6 @@ def body_of(events):
     return json.dumps(listed, separators=(",", ":")).encode()
 
 
-def shown(record, fields, more=()):
-    """A record as a reply shows it."""
-    whole = {**{field: record[field] for field in fields}, "timestamp": record["timestamp"],
-             **dict(more)}
-    return {field: str(value) if field in STRINGS else value for field, value in whole.items()}
-
-
 class Desk:
     """A tenant of a service, and the plain ledger beside it."""
 
@@ -239,12 +232,14 @@ class Desk:
         return self.answer(method, path)
 
     def answer(self, method, path):
-        """The next reply of the connection, likewise."""
+        """The next reply of the connection, likewise: its bytes, where they are compared."""
         status, kind, told = self.connection.reply()
         if told == b'{"error":"unavailable"}':
             want(status == "503 Service Unavailable", f"unavailable comes with {status}")
             return None
         want(status == "200 OK", f"{method} {path}: {status} {told!r}")
+        if path in pages.PATHS:
+            return told
         return told.decode() if kind == "text/csv" else json.loads(told)
 
     def batch(self, events, transfers=True):
@@ -302,6 +297,7 @@ class Desk:
             yield ("GET", f"/statement/{number}", b""), lines
             if account["flags"] & HISTORY:
                 yield newest(number), [line.split(",") for line in lines[:-11:-1]]
+        yield from pages.expected(ledger, asked)
 
     def compare(self, service):
         """Compares all that the tenant can see."""

@@ -4,11 +4,13 @@ import json
 import socket
 import time
 
+import pages
 from drawn import LEDGER, account, transfer
 from model import TRANSFER_FIELDS
 from refused import post, routes, statements
 from runs import House
-from service import (Connection, Desk, Lost, add_tenant, body_of, check, message, shown, want)
+from service import (Connection, Desk, Lost, add_tenant, body_of, check, lookup, message, shown,
+                     want)
 
 MOST_LENGTH = 2_097_152
 # So many bytes of a hostile message are sent ahead, behind a good one.
@@ -37,8 +39,8 @@ class Hostile:
         """A message, and whether it is sent slowly."""
         good = post("/transfers", json.dumps(self.events(self.random.randint(1, 3))).encode(),
                     self.key)
-        kind = self.random.choices(("cut", "doubled", "mixed", "noise", "slow", "huge", "refused"),
-                                   (20, 15, 25, 15, 0.2, 0.5, 15))[0]
+        kinds = ("cut", "doubled", "mixed", "noise", "slow", "huge", "refused", "asked")
+        kind = self.random.choices(kinds, (20, 15, 25, 15, 0.2, 0.5, 15, 5))[0]
         return getattr(self, kind)(good), kind == "slow"
 
     def cut(self, good):
@@ -68,6 +70,12 @@ class Hostile:
             return b"GET /" + b"a" * 20_000
         body = b'[{"id":"' + b"6" * (MOST_LENGTH - 11) + b'"}]'
         return post("/transfers", body, self.key)
+
+    def asked(self, _good):
+        """A page of what it has, or what became of another's transfers."""
+        path = self.random.choice(pages.PATHS)
+        asked = [GOOD_ID, GOOD_ID + 1] if path == pages.HOLDS else {"limit": 100}
+        return post(path, pages.request(path, asked)[2], self.key)
 
     def refused(self, _good):
         sent = self.random.choice([*statements(self.key), *routes(self.key)])
@@ -120,21 +128,30 @@ def good(house, place, hostile):
     marked = transfer(GOOD_ID + place // 30, debit_account_id=1, credit_account_id=2,
                       amount=int(GOOD_MARK), ledger=LEDGER, code=1)
     desk.asked.add(marked["id"])
-    if place % 30 == 20:
-        sent = message("POST", "/transfers/lookup", desk.key, b'["%d"]' % marked["id"])
-    else:
-        sent = message("POST", "/transfers", desk.key, body_of([marked]))
-    desk.connection.send(sent + hostile[:MOST_AHEAD])
+    is_read = place % 30 == 20
+    asked, reply = (read(desk.ledger, place, marked["id"]) if is_read
+                    else (("POST", "/transfers", body_of([marked])), None))
+    desk.connection.send(message(*asked[:2], desk.key, asked[2]) + hostile[:MOST_AHEAD])
     status, _, told = desk.connection.reply()
     want(status == "200 OK", f"a good message is answered {status} {told!r}")
     want(HOSTILE_MARK not in told, f"another tenant's marks in a reply: {told!r}")
-    told = json.loads(told)
-    if place % 30 == 20:
-        kept = [shown(desk.ledger.transfers[marked["id"]], TRANSFER_FIELDS)]
-        want(told["transfers"] == kept, f"a lookup: {told}, not {kept}")
+    if is_read:
+        want(told == reply, f"{asked}: {told}, not {reply}")
     else:
-        desk.judge([marked], True, told)
+        desk.judge([marked], True, json.loads(told))
     desk.leave()
+
+
+def read(ledger, place, number):
+    """A read, in turn of each kind, and its reply's body."""
+    listed = ((pages.TRANSFERS, {"limit": 3, "flags": 1}), (pages.ACCOUNTS, {"limit": 3}),
+              (pages.OPEN, {"limit": 3}), (pages.HOLDS, [number]))
+    turn = place // 30 % (len(listed) + 1)
+    if turn < len(listed):
+        return pages.request(*listed[turn]), pages.reply(ledger, *listed[turn])
+    kept = [shown(ledger.transfers[number], TRANSFER_FIELDS)]
+    told = {"clock": str(ledger.clock), "transfers": kept}
+    return lookup("/transfers/lookup", [number]), pages.compact(told)
 
 
 def beside(house, sent, is_slow):

@@ -1,11 +1,15 @@
 """The worked examples of docs/MODEL.md, asked of the plain ledger of `model.py`, so that what the
-campaign compares with is itself compared with the page that it is written from.
+campaign compares with is itself compared with the page that it is written from; and pages of
+records, worked by hand.
 
     python3 faults/worked.py"""
 
+import json
+import pathlib
 import re
 
-from model import ACCOUNT_FIELDS, BALANCES, MAX, TRANSFER_FIELDS, Ledger
+from model import ACCOUNT_FIELDS, BALANCES, MAX, TRANSFER_FIELDS, Ledger, page
+from pages import HOLDS, OPEN, PATHS, TRANSFERS, reply
 
 # From the base, batches that are parted by `|` and events that are parted by `;`: what they answer,
 # and where `=` follows, account:balances (debits pending and posted, credits pending and posted).
@@ -43,6 +47,41 @@ EXAMPLES = (
      "103: 1>2 1 f1 ; 104: 3>2 1 | 104: 1>2 1 ; 103: 1>2 1 | 104: 1>2 1 f64 ; 104: 1>2 1 f6",
      "44@5 0@6 60@7 0@8 24@9 60@10 2@11 55@12 60@13 0@14 4@15 60@16"),
 )
+
+# Behind the base: 100@5 pending for a second, 101@6 posts 40 of it, 102@7 single, 103@8 pending,
+# and 104@9 pending for a second. The times of a page's records, and its next.
+HELD = ("100: 1>2 100 f2 t1 | 101: post 100 40 | 102: 1>2 5 | 103: 2>1 7 f2 | 104: 2>1 7 f2 t1")
+PAGES = (
+    ({"limit": 2}, [5, 6], 7),
+    ({"limit": 2, "timestamp_min": 7}, [7, 8], 9),
+    ({"limit": 2, "timestamp_min": 9}, [9], 0),
+    ({"limit": 5}, [5, 6, 7, 8, 9], 10),
+    ({"limit": 5, "timestamp_min": 10}, [], 0),
+    ({"limit": 2, "flags": 1}, [9, 8], 7),
+    ({"limit": 9, "flags": 1, "timestamp_max": 7}, [7, 6, 5], 0),
+    ({"limit": 9, "timestamp_min": 6, "timestamp_max": 8}, [6, 7, 8], 0),
+    ({"limit": 9, "timestamp_min": 7, "timestamp_max": 6}, [], 0),
+    ({"limit": 9, "code": 2}, [], 0),
+)
+HOLDS_TOLD = (b'{"clock":"9","pending":[{"due":"1000000005","id":"100","state":"posted"},'
+              b'{"due":"0","id":"103","state":"open"},'
+              b'{"due":"1000000009","id":"104","state":"open"},'
+              b'{"due":"0","id":"103","state":"open"}]}')
+OPEN_TOLD = (b'{"clock":"9","next":"9","pending":[{"due":"0","id":"103","state":"open",'
+             b'"timestamp":"8"}]}')
+# Later, at 1000000010, the open one that was for a second has expired.
+OPEN_LATER = (b'{"clock":"1000000010","next":"0","pending":[{"due":"0","id":"103","state":"open",'
+              b'"timestamp":"8"}]}')
+# Of 4,500 records at 1 to 4500 those at 1999, 2000 and 4001 have a mark: the times of each page,
+# and its next.
+MARKED = {1999, 2000, 4001}
+FORWARD = (([1999, 2000], 2001), ([], 4001), ([4001], 0))
+BACK = (([4001], 2500), ([2000, 1999], 500), ([], 0))
+
+# The batch behind which docs/MESSAGES.md shows requests and replies.
+MESSAGES = pathlib.Path(__file__).resolve().parent.parent / "docs/MESSAGES.md"
+SHOWN_BEHIND = ("100: 1>2 100 f2 ; 101: 1>2 10 f2 t1 ; 102: 4>2 7 f2 ; 103: post 100 40 ; "
+                "104: void 102 0")
 
 STATEMENT = ["5,100,debit,pending,100,100,0,0,0", "6,101,debit,post,40,0,40,0,0"]
 
@@ -112,8 +151,46 @@ def check():
     ledger = base()
     run(ledger, "100: 1>2 100 f2 | 101: post 100 40 | 102: post 100 60")
     assert ledger.statement(1) == STATEMENT
-    return len(EXAMPLES) + 1
+    return len(EXAMPLES) + 1 + check_pages() + check_shown()
+
+
+def check_pages():
+    """The same of pages, which are written from the rules by hand."""
+    ledger = base()
+    run(ledger, HELD)
+    for asked, times, behind in PAGES:
+        found, told = ledger.query_transfers(asked)
+        assert ([each["timestamp"] for each in found], told) == (times, behind), asked
+    assert reply(ledger, HOLDS, [100, 9, 101, 103, 104, 103]) == HOLDS_TOLD
+    assert reply(ledger, OPEN, {"limit": 1}) == OPEN_TOLD
+    ledger.batch([], 1000000010, True)
+    assert reply(ledger, OPEN, {"limit": 9}) == OPEN_LATER
+    assert reply(ledger, TRANSFERS, {"limit": 1, "timestamp_min": 2**63}) \
+        == b'{"clock":"1000000010","next":"0","transfers":[]}'
+    for flags, bound, listed in ((0, "timestamp_min", FORWARD), (1, "timestamp_max", BACK)):
+        behind = 0
+        for times, then in listed:
+            asked = {"limit": 2 if flags == 0 else 3, "flags": flags, bound: behind}
+            found, behind = page([{"timestamp": time} for time in range(1, 4501)], asked,
+                                 lambda each: each["timestamp"] in MARKED)
+            assert ([each["timestamp"] for each in found], behind) == (times, then), asked
+    return len(PAGES) + 4 + len(FORWARD) + len(BACK)
+
+
+def check_shown():
+    """The same of those that docs/MESSAGES.md shows: one at least for each of the routes that it
+    tells of."""
+    text, ledger = MESSAGES.read_text(), base()
+    run(ledger, SHOWN_BEHIND)
+    shown = re.findall(r"^    POST (/\S+) +(\S+)\n    (\{.*\})$", text, re.M)
+    for path, body, told in shown:
+        asked = json.loads(body)
+        asked = ([int(each) for each in asked] if path == HOLDS
+                 else {name: int(value) for name, value in asked.items()})
+        assert reply(ledger, path, asked) == told.encode(), f"{path} {body}"
+    assert {path for path in PATHS if f"`{path}`" in text} <= {path for path, _, _ in shown}
+    return len(shown)
 
 
 if __name__ == "__main__":
-    print(f"{check()} worked examples are as docs/MODEL.md has them")
+    print(f"{check()} worked examples, of docs/MODEL.md and by hand, are answered so")

@@ -5,8 +5,9 @@
 
 PLAYED is what `play.sh` has printed, or a Markdown page with it in a block ```session; with
 `--requests` it is what `try.sh` has, the requests alone. The expected session is `expected.txt`.
-Since clocks are those of the day, the clock that the k-th batch was told becomes `Ck`, and a
-timestamp n nanoseconds before it `Ck-n`; all else stays as it is. With `--blocks` each paragraph of
+Since clocks are those of the day, the clock that the k-th batch was told becomes `Ck`, a timestamp
+n nanoseconds before it `Ck-n`, and what is a nanosecond or a second behind it `Ck+1` or `Ck+1s`;
+all else stays as it is. With `--blocks` each paragraph of
 the session in PAGE has to stand in the session of README.md beside this file."""
 
 import bisect
@@ -17,6 +18,8 @@ import sys
 
 HERE = pathlib.Path(__file__).resolve().parent
 MOST_EVENTS = 1000
+# The next page is asked for with the one, and a hold for a second is due at the other.
+BEHIND = {1: "1", 10**9: "1s"}
 
 
 def session_of(path):
@@ -63,10 +66,13 @@ def marked(line, clocks):
     def mark(found):
         moment = int(found.group())
         place = bisect.bisect_left(clocks, moment)
-        if place == len(clocks) or clocks[place] - moment >= MOST_EVENTS:
-            return found.group()
-        before = clocks[place] - moment
-        return f"C{place + 1}-{before}" if before else f"C{place + 1}"
+        if place < len(clocks) and clocks[place] - moment < MOST_EVENTS:
+            before = clocks[place] - moment
+            return f"C{place + 1}-{before}" if before else f"C{place + 1}"
+        for behind, word in BEHIND.items():
+            if moment - behind in clocks:
+                return f"C{clocks.index(moment - behind) + 1}+{word}"
+        return found.group()
     return re.sub(r"\b\d{19}\b", mark, line)
 
 

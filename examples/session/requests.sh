@@ -2,7 +2,7 @@
 # `north_key`, `south_key` and `scratch`, a folder for what comes and goes.
 
 # How many replies the requests below get.
-requests=19
+requests=22
 
 # Says what comes next.
 title() {
@@ -103,4 +103,12 @@ send_requests() {
     title 'The same numbers asked with the other tenant'\''s key'
     south POST /accounts/lookup '["1","3"]'
     south GET /statement/3
+
+    title 'What has code 2, whatever the account, two a page: next is what the next page is asked with'
+    north POST /query/transfers '{"code":2,"limit":2}'
+    next=$(sed 's/.*"next":"\([0-9]*\)".*/\1/' "$scratch/reply")
+    north POST /query/transfers '{"code":2,"limit":2,"timestamp_min":"'"$next"'"}'
+
+    title 'What became of the two holds; 100 is none'
+    north POST /pending/lookup '["101","103","100"]'
 }

@@ -27,7 +27,13 @@ from .records import (
     Balance,
     Entry,
     FilterFlag,
+    Hold,
+    OpenHold,
     Page,
+    PageFilter,
+    QueryFilter,
+    QueryFlag,
+    QueryPage,
     Transfer,
     check_number,
 )
@@ -35,6 +41,7 @@ from .results import AccountResult, Outcome, Result, Results, TransferResult
 from .transport import Message, Transport, refusal_in
 
 R = TypeVar("R")
+Asked = TypeVar("Asked", bound=PageFilter)
 Dated = TypeVar("Dated", Transfer, Balance)
 
 _UNREADABLE = (ValueError, KeyError, TypeError, AttributeError, csv.Error)
@@ -138,6 +145,67 @@ class Ledger:
         """All balances that the filter asks for, fetched in the same way."""
         return _all_of(asked, self.get_account_balances)
 
+    def query_accounts(self, asked: QueryFilter) -> QueryPage[Account]:
+        """A page of the accounts that the filter asks for, in the order in which they were opened.
+        Balances are those at the ledger's clock, as of a look-up."""
+        return self._query("/query/accounts", asked, "accounts", wire.account_in)
+
+    def query_transfers(self, asked: QueryFilter) -> QueryPage[Transfer]:
+        """A page of the transfers that the filter asks for, in the order in which they were
+        accepted."""
+        return self._query("/query/transfers", asked, "transfers", wire.transfer_in)
+
+    def lookup_pending(self, ids: Iterable[int]) -> Page[Hold]:
+        """What has become of the pending transfers with these ids, at most 1,000, in the order
+        asked. What is no pending transfer is left out. A hold expires by the ledger's clock, which
+        only batches move."""
+        return self._look_up("/pending/lookup", ids, "pending", wire.hold_in)
+
+    def open_pending(self, asked: PageFilter = PageFilter()) -> QueryPage[OpenHold]:
+        """A page of the pending transfers that are open, in the order in which they were
+        accepted."""
+        return self._query("/pending/open", asked, "pending", wire.open_hold_in)
+
+    def iter_accounts(self, asked: QueryFilter = QueryFilter()) -> Iterator[Account]:
+        """All accounts that the filter asks for. Pages are fetched as they are needed, and each has
+        the balances of its own time."""
+        return _all_pages(asked, self.query_accounts)
+
+    def iter_transfers(self, asked: QueryFilter = QueryFilter()) -> Iterator[Transfer]:
+        """All transfers that the filter asks for, fetched in the same way."""
+        return _all_pages(asked, self.query_transfers)
+
+    def iter_open_pending(self, asked: PageFilter = PageFilter()) -> Iterator[OpenHold]:
+        """All pending transfers that are open, fetched in the same way."""
+        return _all_pages(asked, self.open_pending)
+
+    def follow(
+        self, number: int = 0, limit: int = MAX_EVENTS
+    ) -> Iterator[Tuple[Tuple[Transfer, ...], int]]:
+        """The transfers that were accepted since `number` was told, each once and in order: pages
+        of at most `limit`, each with the number to keep once it is dealt with. It begins with 0.
+
+            for transfers, number in ledger.follow(number):
+                ...  # deal with them, and keep the number: both or neither
+
+        It ends where there is no more for now, and is called again later with the number that was
+        kept last. Who keeps it together with what was done, in one step, loses and doubles nothing
+        by a kill. A hold that expires is no transfer: its due time tells.
+
+        `LedgerError` where the ledger's clock is behind the number. Then an older copy of its file
+        was put back, entries may be others, and who follows it begins anew.
+        """
+        while True:
+            page = self.query_transfers(QueryFilter(timestamp_min=number, limit=limit))
+            later = page.next or page.clock + 1
+            if later < number:
+                raise LedgerError(f"the clock {page.clock} is behind {number}: an older ledger")
+            if later > number:
+                yield page.items, later
+            if page.next == 0:
+                return
+            number = later
+
     def statement(self, account_id: int) -> Iterator[Entry]:
         """All entries of an account, the oldest first. `Refused`: `no_account`.
 
@@ -226,6 +294,15 @@ class Ledger:
         (clock, items), _ = self._ask(message, until, lambda body: wire.page_in(body, name, read))
         return Page(clock, items)
 
+    def _query(
+        self, path: str, asked: PageFilter, name: str, read: Callable[[Dict[str, Any]], R]
+    ) -> QueryPage[R]:
+        message = Message("POST", path, wire.filter_body(asked))
+        page, _ = self._ask(
+            message, self._transport.deadline(), lambda body: wire.query_page_in(body, name, read)
+        )
+        return page
+
     def _ask(
         self, message: Message, until: float, read: Callable[[bytes], R]
     ) -> Tuple[R, bool]:
@@ -273,6 +350,19 @@ def _all_of(
             asked = replace(asked, timestamp_max=last - 1)
         else:
             return
+
+
+def _all_pages(asked: Asked, page_of: Callable[[Asked], QueryPage[R]]) -> Iterator[R]:
+    """The items of a page, and of all pages behind it."""
+    while True:
+        page = page_of(asked)
+        yield from page
+        if page.next == 0:
+            return
+        if asked.flags & QueryFlag.NEWEST_FIRST:
+            asked = replace(asked, timestamp_max=page.next)
+        else:
+            asked = replace(asked, timestamp_min=page.next)
 
 
 def _entries(body: bytes) -> Iterator[Entry]:

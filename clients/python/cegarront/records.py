@@ -34,6 +34,8 @@ _BITS = {
     "timestamp": 64,
     "timestamp_min": 64,
     "timestamp_max": 64,
+    "due": 64,
+    "next": 64,
     "timeout": 32,
     "ledger": 32,
     "code": 16,
@@ -98,6 +100,21 @@ class FilterFlag(IntFlag):
     DEBITS = 1
     CREDITS = 2
     NEWEST_FIRST = 4
+
+
+class QueryFlag(IntFlag):
+    """In which order records are asked for."""
+
+    NEWEST_FIRST = 1
+
+
+class HoldState(Enum):
+    """What has become of a pending transfer, by the ledger's clock."""
+
+    OPEN = "open"
+    POSTED = "posted"
+    VOIDED = "voided"
+    EXPIRED = "expired"
 
 
 class Side(Enum):
@@ -177,10 +194,59 @@ class AccountFilter(_Record):
 
     def __post_init__(self) -> None:
         super().__post_init__()
-        if not 1 <= self.limit <= MAX_EVENTS:
-            raise ValueError(f"AccountFilter.limit: {self.limit} is not from 1 to {MAX_EVENTS}")
-        if self.flags > 7:
-            raise ValueError(f"AccountFilter.flags: {int(self.flags)} is not from 0 to 7")
+        _check_page("AccountFilter", self.limit, self.flags, 7)
+
+
+@dataclass(frozen=True)
+class PageFilter(_Record):
+    """Of what times records are asked for, and in which order.
+
+    The bounds are nanoseconds, inclusive, and 0 is none. `limit` is 1 to 1,000 records a page.
+    """
+
+    timestamp_min: int = 0
+    timestamp_max: int = 0
+    limit: int = MAX_EVENTS
+    flags: QueryFlag = QueryFlag(0)
+
+    def __post_init__(self) -> None:
+        super().__post_init__()
+        _check_page(type(self).__name__, self.limit, self.flags, 1)
+
+
+@dataclass(frozen=True)
+class QueryFilter(PageFilter):
+    """Which accounts or transfers are asked for: those that have each value given. 0 is any."""
+
+    user_data_128: int = 0
+    user_data_64: int = 0
+    user_data_32: int = 0
+    ledger: int = 0
+    code: int = 0
+
+
+def _check_page(kind: str, limit: int, flags: int, most: int) -> None:
+    if not 1 <= limit <= MAX_EVENTS:
+        raise ValueError(f"{kind}.limit: {limit} is not from 1 to {MAX_EVENTS}")
+    if flags > most:
+        raise ValueError(f"{kind}.flags: {int(flags)} is not from 0 to {most}")
+
+
+@dataclass(frozen=True)
+class Hold(_Record):
+    """What has become of the pending transfer `id`. `due` is when it expires (nanoseconds), or was
+    to expire if it was posted or voided before; 0 is never."""
+
+    id: int
+    due: int
+    state: HoldState
+
+
+@dataclass(frozen=True)
+class OpenHold(Hold):
+    """A hold that is open, with the time at which it was accepted (nanoseconds)."""
+
+    timestamp: int
 
 
 @dataclass(frozen=True)
@@ -227,3 +293,12 @@ class Page(Generic[T]):
 
     def __getitem__(self, place: int) -> T:
         return self.items[place]
+
+
+@dataclass(frozen=True)
+class QueryPage(Page[T]):
+    """A page of a query, and the time with which the one behind it is asked for: as
+    `timestamp_min`, or the newest first as `timestamp_max`. It is 0 where there is no more. A page
+    may have fewer than `limit` items, or none, and another behind it."""
+
+    next: int

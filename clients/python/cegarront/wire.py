@@ -6,7 +6,7 @@ import csv
 import io
 import json
 from dataclasses import fields
-from typing import Any, Callable, Dict, Iterable, Iterator, Sequence, Tuple, TypeVar
+from typing import Any, Callable, Dict, Iterable, Iterator, Sequence, Tuple, TypeVar, Union
 
 from .records import (
     Account,
@@ -15,6 +15,11 @@ from .records import (
     Balance,
     Entry,
     EntryKind,
+    Hold,
+    HoldState,
+    OpenHold,
+    PageFilter,
+    QueryPage,
     Side,
     Transfer,
     TransferFlag,
@@ -52,8 +57,8 @@ def ids_body(ids: Sequence[int]) -> bytes:
     return compact([str(each) for each in ids])
 
 
-def filter_body(asked: AccountFilter) -> bytes:
-    """The body of a history."""
+def filter_body(asked: Union[AccountFilter, PageFilter]) -> bytes:
+    """The body of a history or a query."""
     return compact(record_of(asked))
 
 
@@ -105,6 +110,17 @@ def balance_in(told: Dict[str, Any]) -> Balance:
     return Balance(**_numbers(Balance, told))
 
 
+def hold_in(told: Dict[str, Any]) -> Hold:
+    """What a reply says of a hold."""
+    return Hold(number_in(told, "id"), number_in(told, "due"), HoldState(told["state"]))
+
+
+def open_hold_in(told: Dict[str, Any]) -> OpenHold:
+    """An open hold of a reply."""
+    hold, timestamp = hold_in(told), number_in(told, "timestamp")
+    return OpenHold(hold.id, hold.due, hold.state, timestamp)
+
+
 def result_in(told: Dict[str, Any]) -> Result:
     """The result of an event, as if it had not been sent before."""
     number, name = told["number"], told["result"]
@@ -119,10 +135,20 @@ def page_in(
 ) -> Tuple[int, Tuple[R, ...]]:
     """The clock of a reply, and the records of the list with that name."""
     told = object_in(body)
+    return digits_in(told["clock"]), _listed(told, name, read)
+
+
+def query_page_in(body: bytes, name: str, read: Callable[[Dict[str, Any]], R]) -> QueryPage[R]:
+    """The page that a reply to a query is."""
+    told = object_in(body)
+    return QueryPage(digits_in(told["clock"]), _listed(told, name, read), number_in(told, "next"))
+
+
+def _listed(told: Dict[str, Any], name: str, read: Callable[[Dict[str, Any]], R]) -> Tuple[R, ...]:
     listed = told[name]
     if not isinstance(listed, list):
         raise ValueError(f"{name} is no list")
-    return digits_in(told["clock"]), tuple(read(each) for each in listed)
+    return tuple(read(each) for each in listed)
 
 
 def entries_in(body: bytes) -> Iterator[Entry]:

@@ -39,7 +39,8 @@ def routes():
 
 def objects():
     """The string fields and the number fields of each object of a request."""
-    rows = re.findall(r"^\| (account|transfer|filter) \| ([^|]+) \| ([^|]+) \|$", MESSAGES, re.M)
+    kinds = "account|transfer|filter|query|page"
+    rows = re.findall(rf"^\| ({kinds}) \| ([^|]+) \| ([^|]+) \|$", MESSAGES, re.M)
     words = r"[a-z][a-z_0-9]+(?=,|$| \()"
     return {kind: (set(re.findall(words, strings.strip())), set(re.findall(words, whole.strip())))
             for kind, strings, whole in rows}

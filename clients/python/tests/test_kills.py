@@ -16,8 +16,10 @@ from cegarront import (
     Account,
     AccountFilter,
     AccountFlag,
+    HoldState,
     Ledger,
     Outcome,
+    QueryFilter,
     Transfer,
     TransferFlag,
     Unanswered,
@@ -136,6 +138,30 @@ class Desk(threading.Thread):
         return Transfer(id=new_id(), pending_id=hold.id, amount=amount, flags=flags)
 
 
+class Follower(threading.Thread):
+    """Follows the ledger, and has each accepted transfer once."""
+
+    def __init__(self, ledger, until):
+        super().__init__(daemon=True)
+        self.ledger, self.until = ledger, until
+        self.had, self.number, self.failure = [], 0, None
+
+    def run(self):
+        try:
+            while time.monotonic() < self.until:
+                self.take(self.ledger)
+                time.sleep(0.05)
+        except BaseException as error:
+            self.failure = error
+
+    def take(self, ledger):
+        try:
+            for transfers, self.number in ledger.follow(self.number, limit=50):
+                self.had += transfers
+        except Unanswered:
+            pass
+
+
 def linked(event):
     fields = {**vars(event), "flags": event.flags | LINKED}
     return Transfer(**fields)
@@ -181,9 +207,10 @@ class Killed(unittest.TestCase):
             relay = Relay(service.port, self.random.random(), one_in=12)
             self.addCleanup(relay.close)
             self.open_accounts(service)
-            desks, kills = self.storm(service, relay)
+            desks, follower, kills = self.storm(service, relay)
             with Ledger(service.url, KEY) as ledger:
                 self.compare(ledger, desks)
+                self.compare_follower(ledger, follower)
             service.kill()
             self.assertEqual(service.check(), (0, "ok\n", ""))
         self.tell(desks, kills, relay)
@@ -203,7 +230,8 @@ class Killed(unittest.TestCase):
         alone = Ledger(relay.url, KEY, timeout=0.5, deadline=1.5, max_idle=0)
         desks = [Desk(ledger, self.random.random(), until)
                  for ledger in (shared, shared, shared, alone)]
-        for each in desks:
+        follower = Follower(shared, until)
+        for each in (*desks, follower):
             each.start()
         kills = 0
         while time.monotonic() < until:
@@ -212,14 +240,30 @@ class Killed(unittest.TestCase):
             kills += 1
             time.sleep(self.random.choice((0, 0, 0.3)))
             service.start()
-        for each in desks:
+        for each in (*desks, follower):
             each.join(120)
             self.assertFalse(each.is_alive(), "a call takes longer than its deadline")
             if each.failure:
                 raise each.failure
         shared.close()
         alone.close()
-        return desks, kills
+        return desks, follower, kills
+
+    def compare_follower(self, ledger, follower):
+        """It has had what a query tells now, each transfer once and in order; and a hold is ended
+        where a post or void of it is there."""
+        before = len(follower.had)
+        follower.take(ledger)
+        self.assertGreater(before, 0)
+        self.assertEqual(follower.had, list(ledger.iter_transfers(QueryFilter(limit=999))))
+        ended = {each.pending_id: each.flags for each in follower.had if each.flags & (POST | VOID)}
+        holds = [each.id for each in follower.had if each.flags & PENDING]
+        for first in range(0, len(holds), 1000):
+            for hold in ledger.lookup_pending(holds[first:first + 1000]):
+                by = ended.get(hold.id, PENDING) & (POST | VOID)
+                self.assertIs(hold.state, {POST: HoldState.POSTED, VOID: HoldState.VOIDED}.get(
+                    by, HoldState.OPEN))
+        self.assertEqual({each.id for each in ledger.iter_open_pending()}, {*holds} - {*ended})
 
     def compare(self, ledger, desks):
         standing, outcomes = {}, {}

@@ -17,6 +17,8 @@ from cegarront import (
     FilterFlag,
     Ledger,
     Outcome,
+    PageFilter,
+    QueryFilter,
     Refused,
     Side,
     Transfer,
@@ -55,8 +57,9 @@ class Messages(unittest.TestCase):
 
     def test_each_route(self):
         asked = AccountFilter(account_id=9)
-        empty = {"clock": "0", "results": [], "accounts": [], "transfers": [], "balances": []}
-        script = [say(ok(empty)) for _ in range(6)] + [say(reply_bytes(200, pages.statement()))]
+        empty = {"clock": "0", "next": "0", "results": [], "accounts": [], "transfers": [],
+                 "balances": [], "pending": []}
+        script = [say(ok(empty)) for _ in range(10)] + [say(reply_bytes(200, pages.statement()))]
         with Fake(script) as fake:
             ledger = fake.ledger()
             ledger.create_accounts([])
@@ -65,11 +68,15 @@ class Messages(unittest.TestCase):
             ledger.lookup_transfers([])
             ledger.get_account_transfers(asked)
             ledger.get_account_balances(asked)
+            ledger.query_accounts(QueryFilter())
+            ledger.query_transfers(QueryFilter())
+            ledger.lookup_pending([])
+            ledger.open_pending()
             ledger.statement(9)
         sent = [re.match(rb"(\w+) (\S+) HTTP/1.1\r\n", each).groups() for each in fake.messages]
         wanted = [(method.encode(), path.replace("{account}", "9").encode())
                   for method, path in pages.routes()]
-        self.assertEqual(sent, wanted)
+        self.assertEqual(sorted(sent), sorted(wanted))
         self.assertNotIn(b"content-length", fake.messages[-1])
 
     def test_bodies(self):
@@ -170,7 +177,8 @@ class Tables(unittest.TestCase):
 
     def test_fields(self):
         told = pages.objects()
-        for name, kind in (("account", Account), ("transfer", Transfer), ("filter", AccountFilter)):
+        for name, kind in (("account", Account), ("transfer", Transfer), ("filter", AccountFilter),
+                           ("query", QueryFilter), ("page", PageFilter)):
             names = {each.name for each in dataclasses.fields(kind)}
             strings = {each for each in names if is_string(each)}
             self.assertEqual((strings, names - strings), told[name])

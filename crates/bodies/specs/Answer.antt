@@ -11,7 +11,7 @@ use Rattle.wire.specs.declared.outcome.Outcome.TheVariants as told
 use Rattle.wire.specs.declared.request.Request.{Request}
 use Rattle.wire.specs.Meaning.{meaning_of}
 use Rattle.wire.specs.Reply.{account_batch_data, transfer_batch_data, accounts_data}
-use Rattle.wire.specs.Reply.{transfers_data, balances_data, refusal_data}
+use Rattle.wire.specs.Reply.{transfers_data, balances_data, page_data, holds_data, refusal_data}
 use Rattle.service.specs.Served.{served_by, served_to}
 use Rattle.bodies.specs.declared.plain_reply.PlainReply.{PlainReply}
 use Rattle.bodies.specs.declared.plain_reply.PlainReply.TheVariants.{Body, Refused, Unavailable}
@@ -28,6 +28,8 @@ shown (told.TransferResults clock results) = Ok (compact_text (transfer_batch_da
 shown (told.Accounts clock accounts) = Ok (compact_text (accounts_data clock accounts))
 shown (told.Transfers clock transfers) = Ok (compact_text (transfers_data clock transfers))
 shown (told.Balances clock balances) = Ok (compact_text (balances_data clock balances))
+shown (told.Page clock next entries) = Ok (compact_text (page_data clock next entries))
+shown (told.Holds clock holds) = Ok (compact_text (holds_data clock holds))
 shown (told.Statement text) = Ok text
 
 -- what a tenant is told: the reply's body, or why there is none

@@ -3,6 +3,11 @@ pub mod ChainCutting
 pub mod ChainOutcomes
 pub mod EntriesUpToClock
 pub mod EventTrials
+pub mod HoldLemmas
+pub mod LookLemmas
+pub mod PageSpans
+pub mod PageSteps
+pub mod PageWalks
 pub mod ResultTimestamps
 pub mod StaysInBatch
 pub mod StepOutcomes

@@ -3,8 +3,10 @@ use Rattle.std.specs.Prelude.{◌≡◌, ℕ, Bool, true, false, List, [], take,
 use Rattle.std.specs.Prelude.{Result, Ok, Err}
 use Rattle.records.specs.Machine.{Machine}
 use Rattle.records.specs.Reads.{AccountAnswer, NoAccount, NoHistory, Found}
+use Rattle.records.specs.Queries.{Page}
 use Rattle.records.specs.Streams.{TakesRows}
 use Rattle.chain.specs.declared.reads.Listed.{Listed}
+use Rattle.chain.specs.declared.reads.QueryPage.{QueryPage}
 use Rattle.chain.specs.declared.reads.ReadFault.{ReadFault}
 use Rattle.chain.specs.declared.reads.ReadFault.TheVariants as fault
 use Rattle.chain.specs.Ledgers.{LedgersMeaning, KeepsAll}
@@ -31,17 +33,37 @@ abbrev pub rows_of : {A : Type 0} → Result (Seen (List A)) ReadFault → List 
 rows_of (Ok seen) = seen.shown
 rows_of (Err why) = []
 
--- a list that is what is seen, or the fault that there is; want of memory, size or disk says
+-- an answer that shows what is seen, or the fault that there is; want of memory, size or disk says
 -- nothing of the tenant
+abbrev pub IsShown :
+    {A X : Type 0} → (X → Seen A) → Result (Seen A) ReadFault → Result X ReadFault → Type 0
+IsShown shows seen (Ok answer) = seen ≡ Ok (shows answer)
+IsShown shows seen (Err (fault.Unavailable why)) = Unit {0}
+IsShown shows seen (Err (fault.Sink why)) = ⊥
+IsShown shows seen (Err fault.UnknownKey) = seen ≡ Err fault.UnknownKey
+IsShown shows seen (Err fault.NoAccount) = seen ≡ Err fault.NoAccount
+IsShown shows seen (Err fault.NoHistory) = seen ≡ Err fault.NoHistory
+
+-- what a list shows
+abbrev pub seen_of_list : {A : Type 0} → Listed A → Seen (List A)
+seen_of_list listed = record { clock = listed.clock; shown = listed.entries.items }
+
+-- what a page shows
+abbrev pub seen_of_page : {A : Type 0} → QueryPage A → Seen (Page A)
+seen_of_page page = record {
+  clock = page.clock;
+  shown = record { entries = page.entries.items; next = page.next };
+}
+
+-- a list that is what is seen, or the fault that there is
 abbrev pub IsListed :
     {A : Type 0} → Result (Seen (List A)) ReadFault → Result (Listed A) ReadFault → Type 0
-IsListed seen (Ok listed) =
-    seen ≡ Ok (record { clock = listed.clock; shown = listed.entries.items })
-IsListed seen (Err (fault.Unavailable why)) = Unit {0}
-IsListed seen (Err (fault.Sink why)) = ⊥
-IsListed seen (Err fault.UnknownKey) = seen ≡ Err fault.UnknownKey
-IsListed seen (Err fault.NoAccount) = seen ≡ Err fault.NoAccount
-IsListed seen (Err fault.NoHistory) = seen ≡ Err fault.NoHistory
+IsListed = IsShown seen_of_list
+
+-- a page that is what is seen, or the fault that there is
+abbrev pub IsPaged :
+    {A : Type 0} → Result (Seen (Page A)) ReadFault → Result (QueryPage A) ReadFault → Type 0
+IsPaged = IsShown seen_of_page
 
 -- a sink took the rows that are seen, all of them, and nothing else
 pub record IsHanded {S A : Type 0} (takes : S → A → S → Type 0)

@@ -4,3 +4,6 @@ pub mod LedgerReads
 pub mod InBatch
 pub mod EventLaws
 pub mod Chains
+pub mod Looks
+pub mod Pages
+pub mod Records

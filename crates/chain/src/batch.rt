@@ -17,7 +17,7 @@ use records::{BatchReply, EventResult, Refusal, Unavailable};
 use std::alloc::Global;
 
 /// The latest clock, in nanoseconds: the due time of each transfer fits 64 bits.
-const MAX_CLOCK: u64 = 1 << 62;
+pub(crate) const MAX_CLOCK: u64 = 1 << 62;
 
 /// Runs a batch at a moment, in nanoseconds. All memory for the reply is taken before the first
 /// change.

@@ -1,14 +1,21 @@
 ghost use Rattle.std.specs.Prelude.{◌≡◌, false, IfOk, IsOk, is_some};
 ghost use Rattle.records.specs.Reads.{Found, found_accounts, found_transfers};
+ghost use Rattle.records.specs.Queries.{found_holds, open_holds, queried_accounts};
+ghost use Rattle.records.specs.Queries.{queried_transfers};
 ghost use Rattle.records.specs.Reads.{history_answer, history_balances_answer, statement_answer};
 ghost use Rattle.chain.specs.Ledgers.{LedgersMeaning, AreValid, KeepsAll, IsRun, Finds};
 ghost use Rattle.chain.specs.Ledgers.{IsAnswered, LeadsBy, LeadsNowhere};
-ghost use Rattle.chain.specs.LedgerReads.{seen_in, IsListed, HandsOut, is_refused, Reads, IsTold};
+ghost use Rattle.chain.specs.LedgerReads.{seen_in, IsListed, IsPaged, HandsOut, is_refused, Reads, IsTold};
 ghost use Rattle.chain.specs.declared.ledgers.BatchFault.TheVariants as batch_fault;
 
-use crate::{Listed, ReadFault, Work};
+use crate::lookups::{AccountsById, HoldsById, Lookup, TransfersById};
+use crate::pages::PageOf;
+use crate::query::{AccountQuery, OpenHolds, TransferQuery};
+use crate::reading::read_answer;
+use crate::{Listed, QueryPage, ReadFault, Work};
 use records::{
-    AccountFilter, AccountWithBalances, BalanceAt, Order, RowSink, Transfer, Unavailable,
+    AccountFilter, AccountWithBalances, BalanceAt, Hold, Order, PageFilter, QueryFilter, RowSink,
+    Transfer, Unavailable,
 };
 use std::alloc::Global;
 
@@ -77,7 +84,11 @@ pub trait Ledgers {
             (seen_in (λ m. Found (found_accounts m ids.now)) (means.tenants self.old digest.now))
             result }
         ensures finds { Finds means (IsTold result) KeepsAll self.old self.new }
-        ensures reads { Reads means self.old self.new };
+        ensures reads { Reads means self.old self.new }
+    {
+        let by = AccountsById;
+        read_answer(self.in_batch(digest, Lookup { alloc, by, ids }))
+    }
 
     /// The transfers with these ids, in the order asked. An id asked twice is answered twice.
     fn lookup_transfers(
@@ -91,7 +102,84 @@ pub trait Ledgers {
             (seen_in (λ m. Found (found_transfers m ids.now)) (means.tenants self.old digest.now))
             result }
         ensures finds { Finds means (IsTold result) KeepsAll self.old self.new }
-        ensures reads { Reads means self.old self.new };
+        ensures reads { Reads means self.old self.new }
+    {
+        let by = TransfersById;
+        read_answer(self.in_batch(digest, Lookup { alloc, by, ids }))
+    }
+
+    /// What has become of the holds with these ids, in the order asked; an id that is none is left
+    /// out. An id asked twice is answered twice.
+    fn lookup_pending(
+        &mut self,
+        alloc: Global,
+        digest: &[u8; 32],
+        ids: &[u128],
+    ) -> Result<Listed<Hold>, ReadFault>
+        requires { means.is_usable self.old }
+        ensures told { means.is_live self.new → IsListed
+            (seen_in (λ m. Found (found_holds m ids.now)) (means.tenants self.old digest.now))
+            result }
+        ensures finds { Finds means (IsTold result) KeepsAll self.old self.new }
+        ensures reads { Reads means self.old self.new }
+    {
+        let by = HoldsById;
+        read_answer(self.in_batch(digest, Lookup { alloc, by, ids }))
+    }
+
+    /// A page of the holds that are open at the clock.
+    fn open_pending(
+        &mut self,
+        alloc: Global,
+        digest: &[u8; 32],
+        asked: &PageFilter,
+    ) -> Result<QueryPage<Hold>, ReadFault>
+        requires { means.is_usable self.old }
+        ensures told { means.is_live self.new → IsPaged
+            (seen_in (λ m. Found (open_holds m asked.now)) (means.tenants self.old digest.now))
+            result }
+        ensures finds { Finds means (IsTold result) KeepsAll self.old self.new }
+        ensures reads { Reads means self.old self.new }
+    {
+        let query = OpenHolds { asked: *asked };
+        read_answer(self.in_batch(digest, PageOf { alloc, query }))
+    }
+
+    /// A page of the accounts that a query asks for, with their balances at the clock.
+    fn query_accounts(
+        &mut self,
+        alloc: Global,
+        digest: &[u8; 32],
+        asked: &QueryFilter,
+    ) -> Result<QueryPage<AccountWithBalances>, ReadFault>
+        requires { means.is_usable self.old }
+        ensures told { means.is_live self.new → IsPaged
+            (seen_in (λ m. Found (queried_accounts m asked.now)) (means.tenants self.old digest.now))
+            result }
+        ensures finds { Finds means (IsTold result) KeepsAll self.old self.new }
+        ensures reads { Reads means self.old self.new }
+    {
+        let query = AccountQuery { asked: *asked };
+        read_answer(self.in_batch(digest, PageOf { alloc, query }))
+    }
+
+    /// A page of the transfers that a query asks for.
+    fn query_transfers(
+        &mut self,
+        alloc: Global,
+        digest: &[u8; 32],
+        asked: &QueryFilter,
+    ) -> Result<QueryPage<Transfer>, ReadFault>
+        requires { means.is_usable self.old }
+        ensures told { means.is_live self.new → IsPaged
+            (seen_in (λ m. Found (queried_transfers m asked.now))
+            (means.tenants self.old digest.now)) result }
+        ensures finds { Finds means (IsTold result) KeepsAll self.old self.new }
+        ensures reads { Reads means self.old self.new }
+    {
+        let query = TransferQuery { asked: *asked };
+        read_answer(self.in_batch(digest, PageOf { alloc, query }))
+    }
 
     /// The transfers that a filter asks for.
     fn history_transfers(

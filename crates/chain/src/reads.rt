@@ -14,6 +14,16 @@ pub struct Listed<T> {
     pub entries: Vec<T>,
 }
 
+/// A page of what a query found, the clock at which it was judged, and where the next one begins.
+#[derive(Debug, Drop)]
+pub struct QueryPage<T> {
+    /// In nanoseconds.
+    pub clock: u64,
+    pub entries: Vec<T>,
+    /// The time with which the next page is asked for, in nanoseconds; 0 where there is none.
+    pub next: u64,
+}
+
 /// Why a read has no answer, in the order in which the faults are tested. Nothing has changed.
 #[derive(Clone, Copy, Debug, PartialEq, Eq)]
 pub enum ReadFault {

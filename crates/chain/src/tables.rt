@@ -1,13 +1,15 @@
-ghost use Rattle.std.specs.Prelude.{◌≡◌, ◌≤◌, None, IsSome};
+ghost use Rattle.std.specs.Prelude.{◌≡◌, ◌≤◌, None, IsSome, IfOk};
 ghost use Rattle.records.specs.Machine.{transfer_with, has_id, with_failed};
 ghost use Rattle.records.specs.Facts.{account_in};
+ghost use Rattle.records.specs.Queries.{accounts_within, transfers_within};
 ghost use Rattle.records.specs.Step.{at_clock, max_clock};
 ghost use Rattle.records.specs.Valid.{IsValid, IsNextAccount, with_account, with_transfer};
 ghost use Rattle.records.specs.Accepted.{IsAccepted};
 ghost use Rattle.chain.specs.Tables.{Meaning, Tells, Leaves, pending_state_of, FailsNow, on_now};
 ghost use Rattle.chain.specs.Tables.{marking, at_mark, unmarked, same};
 
-use records::{Accepted, Account, AccountWithBalances, PendingState, Transfer, Unavailable};
+use records::{Accepted, Account, AccountWithBalances, PendingState, Span, Transfer, Unavailable};
+use std::alloc::Global;
 
 /// One tenant's accounts, transfers and failed ids inside one open batch.
 ///
@@ -47,6 +49,20 @@ pub trait Tables {
     fn failed(&mut self, id: u128) -> Result<bool, Unavailable>
         requires { means.is_usable self.old }
         ensures value { Tells means self.old self.new result (λ m. has_id id m.failed) }
+        ensures leaves { Leaves means self.old self.new result same };
+
+    /// The accounts within a span of time.
+    fn accounts_within(&mut self, alloc: Global, span: &Span) -> Result<Vec<Account>, Unavailable>
+        requires { means.is_usable self.old }
+        ensures value { means.is_live self.new → IfOk result (λ found.
+            found.items ≡ accounts_within (means.state self.old).now span.now) }
+        ensures leaves { Leaves means self.old self.new result same };
+
+    /// The transfers within a span of time.
+    fn transfers_within(&mut self, alloc: Global, span: &Span) -> Result<Vec<Transfer>, Unavailable>
+        requires { means.is_usable self.old }
+        ensures value { means.is_live self.new → IfOk result (λ found.
+            found.items ≡ transfers_within (means.state self.old).now span.now) }
         ensures leaves { Leaves means self.old self.new result same };
 
     /// Sets the clock, in nanoseconds, and releases what is due at it.

@@ -2,9 +2,7 @@
 ghost use Rattle.commands.specs.Kept.{kept_meaning, kept_stays, kept_then, kept_lived, kept_valid};
 
 use chain::{BatchFault, Ledgers, Listed, ReadFault, RoundWork, Rounds, Work};
-use records::{
-    AccountFilter, AccountWithBalances, BalanceAt, Order, RowSink, Transfer, Unavailable,
-};
+use records::{AccountFilter, BalanceAt, Order, RowSink, Transfer, Unavailable};
 use std::alloc::Global;
 
 /// Ledgers, or none where they cannot be opened.
@@ -33,30 +31,6 @@ impl<L: Ledgers> Ledgers for Kept<L> {
         match self {
             Kept::Open(ledgers) => ledgers.knows(digest),
             Kept::Closed => Err(Unavailable::Disk),
-        }
-    }
-
-    fn lookup_accounts(
-        &mut self,
-        alloc: Global,
-        digest: &[u8; 32],
-        ids: &[u128],
-    ) -> Result<Listed<AccountWithBalances>, ReadFault> {
-        match self {
-            Kept::Open(ledgers) => ledgers.lookup_accounts(alloc, digest, ids),
-            Kept::Closed => Err(ReadFault::Unavailable(Unavailable::Disk)),
-        }
-    }
-
-    fn lookup_transfers(
-        &mut self,
-        alloc: Global,
-        digest: &[u8; 32],
-        ids: &[u128],
-    ) -> Result<Listed<Transfer>, ReadFault> {
-        match self {
-            Kept::Open(ledgers) => ledgers.lookup_transfers(alloc, digest, ids),
-            Kept::Closed => Err(ReadFault::Unavailable(Unavailable::Disk)),
         }
     }
 

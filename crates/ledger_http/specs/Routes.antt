@@ -8,7 +8,11 @@ use Rattle.matchit.specs.Router.{RouteOf, route_from}
 use Rattle.matchit.specs.declared.error.InsertError.{InsertError}
 use Rattle.matchit.specs.Seek.{first}
 use Rattle.ledger_http.specs.declared.route.Route.{Route}
-use Rattle.ledger_http.specs.declared.route.Route.TheVariants.{Accounts, Transfers, LookupAccounts, LookupTransfers, HistoryTransfers, HistoryBalances, Statement}
+use Rattle.ledger_http.specs.declared.route.Route.TheVariants.{Accounts, Transfers, LookupAccounts}
+use Rattle.ledger_http.specs.declared.route.Route.TheVariants.{LookupTransfers, HistoryTransfers}
+use Rattle.ledger_http.specs.declared.route.Route.TheVariants.{HistoryBalances, QueryAccounts}
+use Rattle.ledger_http.specs.declared.route.Route.TheVariants.{QueryTransfers, LookupPending}
+use Rattle.ledger_http.specs.declared.route.Route.TheVariants.{OpenPending, Statement}
 
 -- the path of each route
 abbrev pub path_of : Route → List ℕ
@@ -18,6 +22,10 @@ path_of LookupAccounts = codes "/accounts/lookup"
 path_of LookupTransfers = codes "/transfers/lookup"
 path_of HistoryTransfers = codes "/history/transfers"
 path_of HistoryBalances = codes "/history/balances"
+path_of QueryAccounts = codes "/query/accounts"
+path_of QueryTransfers = codes "/query/transfers"
+path_of LookupPending = codes "/pending/lookup"
+path_of OpenPending = codes "/pending/open"
 path_of Statement = codes "/statement/{account}"
 
 -- the method of each route
@@ -28,13 +36,17 @@ method_of LookupAccounts = codes "POST"
 method_of LookupTransfers = codes "POST"
 method_of HistoryTransfers = codes "POST"
 method_of HistoryBalances = codes "POST"
+method_of QueryAccounts = codes "POST"
+method_of QueryTransfers = codes "POST"
+method_of LookupPending = codes "POST"
+method_of OpenPending = codes "POST"
 method_of Statement = codes "GET"
 
 -- all of them
 abbrev pub all_routes : List Route
 all_routes =
     Accounts ∷ Transfers ∷ LookupAccounts ∷ LookupTransfers ∷ HistoryTransfers ∷ HistoryBalances
-    ∷ Statement ∷ []
+    ∷ QueryAccounts ∷ QueryTransfers ∷ LookupPending ∷ OpenPending ∷ Statement ∷ []
 
 -- the rows of a router with one more; a path that is none adds none
 abbrev pub rows_with :

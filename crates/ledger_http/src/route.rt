@@ -16,6 +16,14 @@ pub enum Route {
     HistoryTransfers,
     /// An account's balances after its transfers.
     HistoryBalances,
+    /// A page of accounts by what they are marked with.
+    QueryAccounts,
+    /// A page of transfers by what they are marked with.
+    QueryTransfers,
+    /// What has become of pending transfers, by their ids.
+    LookupPending,
+    /// A page of the pending transfers that are open.
+    OpenPending,
     /// An account's statement.
     Statement,
 }
@@ -32,6 +40,10 @@ impl Route {
             Route::LookupTransfers => "/transfers/lookup",
             Route::HistoryTransfers => "/history/transfers",
             Route::HistoryBalances => "/history/balances",
+            Route::QueryAccounts => "/query/accounts",
+            Route::QueryTransfers => "/query/transfers",
+            Route::LookupPending => "/pending/lookup",
+            Route::OpenPending => "/pending/open",
             Route::Statement => "/statement/{account}",
         }
     }

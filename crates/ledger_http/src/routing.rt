@@ -32,6 +32,10 @@ fn service_router(alloc: Global) -> Result<Router<Route>, Refusal>
     add(&mut router, Route::LookupTransfers)?;
     add(&mut router, Route::HistoryTransfers)?;
     add(&mut router, Route::HistoryBalances)?;
+    add(&mut router, Route::QueryAccounts)?;
+    add(&mut router, Route::QueryTransfers)?;
+    add(&mut router, Route::LookupPending)?;
+    add(&mut router, Route::OpenPending)?;
     add(&mut router, Route::Statement)?;
     Ok(router)
 }

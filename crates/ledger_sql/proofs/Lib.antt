@@ -25,6 +25,8 @@ pub mod EntryTexts
 pub mod HandLemmas
 pub mod EntryLemmas
 pub mod EntryAnswers
+pub mod SpanTexts
+pub mod SpanLemmas
 pub mod VersionText
 pub mod StreamLemmas
 pub mod FillLemmas

@@ -64,13 +64,13 @@ pub record HandsEntries {K E : Type 0} (takes : K → EntryCells → K → Type 
   pub ended : IsHonest → OnOk result ((is_full new ≡ true) ⊎ ReadsAll entries InOrder handed)
   pub wants : OnErr result (is_full new ≡ false)
 
--- so many of these entries were read, the first in order, or all, if there are no more
-pub record ReadsUpTo (count : ℕ) (entries : List Row) (InOrder : List Row → Type 0)
-    (read : List EntryCells) : Type 0 where
+-- so many of these rows were read, the first in order, or all, if there are no more
+pub record ReadsUpTo {R : Type 0} (values : R → Row) (count : ℕ) (rows : List Row)
+    (InOrder : List Row → Type 0) (read : List R) : Type 0 where
   pub ordered : List Row
-  pub all : IsPermutation entries ordered
+  pub all : IsPermutation rows ordered
   pub order : InOrder ordered
-  pub read_is : map entry_values read ≡ take count ordered
+  pub read_is : map values read ≡ take count ordered
 
 -- The first of some entries were handed to a sink, one after the other, and no more than a number
 -- of them. While the disk was honest they are none or the first of these entries in order, and
@@ -82,5 +82,6 @@ pub record HandsUpTo {K E : Type 0} (takes : K → EntryCells → K → Type 0)
   pub taken : TakesRows takes old handed new
   pub within : IsHonest → length handed ≤ count
   pub first : IsHonest → (handed ≡ []) ⊎ ReadsFirst entries InOrder handed
-  pub ended : IsHonest → OnOk result ((is_full new ≡ true) ⊎ ReadsUpTo count entries InOrder handed)
+  pub ended : IsHonest → OnOk result
+      ((is_full new ≡ true) ⊎ ReadsUpTo entry_values count entries InOrder handed)
   pub wants : OnErr result (is_full new ≡ false)

@@ -10,6 +10,7 @@ pub mod Queries
 pub mod Reading
 pub mod Rowids
 pub mod Schema
+pub mod Spans
 pub mod Stages
 pub mod TableFaults
 pub mod TableRows

@@ -13,6 +13,7 @@ mod owned;
 mod query;
 mod read;
 pub mod setting;
+pub mod spans;
 pub mod stages;
 mod table_fault;
 pub mod upgrading;

@@ -1,6 +1,6 @@
 //! Queries, whatever their text is.
 
-ghost use Rattle.std.specs.Prelude.{◌≡◌, Err, map, IfOk};
+ghost use Rattle.std.specs.Prelude.{◌≡◌, All, Err, map, IfOk};
 ghost use Rattle.sqlite.specs.Values.{bound};
 ghost use Rattle.sqlite.specs.State.{HasCleanDisk, Shown};
 ghost use Rattle.sqlite.specs.Held.{state};
@@ -40,6 +40,7 @@ pub(crate) fn all_rows<S: Alter, T: ReadRow>(
     ensures ok { HasCleanDisk (state S.Store conn.new) → IfOk result
         (λ read. Shown text.now (bound params.now) (state S.Store conn.old) (state S.Store conn.new)
         (map T.values read.items)) }
+    ensures fits { IfOk result (λ read. All T.is_storable read.items) }
     ensures reads { Reads S.Store conn.old conn.new result }
 {
     let mut read = Vec::new(alloc);

@@ -13,18 +13,29 @@ mod runs;
 mod sample;
 mod scenarios;
 mod shapes;
+mod spanned;
+mod spans;
 mod statements;
 mod unclaimed;
 
 use grown::GROWN;
 use places::run_both;
 use scenarios::SCENARIOS;
+use spanned::SPANNED;
 use std::test::Fail;
 
 #[test]
 fn texts_read_and_write_real_tables(rt: HostRuntime) -> Result<(), Fail> {
     for scenario in SCENARIOS {
         run_both(&rt, &rt, "scenarios", *scenario)?;
+    }
+    Ok(())
+}
+
+#[test]
+fn rows_of_a_span_of_time_come_from_either_end(rt: HostRuntime) -> Result<(), Fail> {
+    for scenario in SPANNED {
+        run_both(&rt, &rt, "spanned", *scenario)?;
     }
     Ok(())
 }

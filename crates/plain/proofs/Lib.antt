@@ -2,7 +2,6 @@ mod AscendingIds
 mod NewTenant
 mod Tenants
 mod BatchLemmas
-mod BookReads
 mod EntryRows
 mod Handing
 mod KeptLists

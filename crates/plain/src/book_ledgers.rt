@@ -5,9 +5,7 @@ ghost use Rattle.plain.specs.BookLedgers.{book_meaning};
 use crate::Book;
 use crate::hand_out::hand_out;
 use chain::{BatchFault, Ledgers, Listed, ReadFault, RoundWork, Rounds, Work};
-use records::{
-    AccountFilter, AccountWithBalances, BalanceAt, Order, RowSink, Transfer, Unavailable,
-};
+use records::{AccountFilter, BalanceAt, Order, RowSink, Transfer, Unavailable};
 use std::alloc::Global;
 
 impl Ledgers for Book {
@@ -23,30 +21,6 @@ impl Ledgers for Book {
 
     fn knows(&mut self, digest: &[u8; 32]) -> Result<bool, Unavailable> {
         Ok(self.holds(digest))
-    }
-
-    fn lookup_accounts(
-        &mut self,
-        alloc: Global,
-        digest: &[u8; 32],
-        ids: &[u128],
-    ) -> Result<Listed<AccountWithBalances>, ReadFault> {
-        let Some(tables) = self.tables_of(digest) else {
-            return Err(ReadFault::UnknownKey);
-        };
-        Ok(tables.listed(tables.found_accounts(alloc, ids)?))
-    }
-
-    fn lookup_transfers(
-        &mut self,
-        alloc: Global,
-        digest: &[u8; 32],
-        ids: &[u128],
-    ) -> Result<Listed<Transfer>, ReadFault> {
-        let Some(tables) = self.tables_of(digest) else {
-            return Err(ReadFault::UnknownKey);
-        };
-        Ok(tables.listed(tables.found_transfers(alloc, ids)?))
     }
 
     fn history_transfers(

@@ -14,7 +14,7 @@ use crate::search::{find_account, find_id, find_transfer};
 use chain::Tables;
 use engine::sums_fit;
 use records::{
-    Accepted, Account, AccountWithBalances, Balances, PendingState, Transfer, Unavailable,
+    Accepted, Account, AccountWithBalances, Balances, PendingState, Span, Transfer, Unavailable,
 };
 use std::alloc::{AllocError, Global};
 use std::marker::Model;
@@ -208,6 +208,26 @@ impl Tables for PlainTables {
 
     fn failed(&mut self, id: u128) -> Result<bool, Unavailable> {
         Ok(find_id(&self.failed, id))
+    }
+
+    fn accounts_within(&mut self, alloc: Global, span: &Span) -> Result<Vec<Account>, Unavailable> {
+        let Ok(found) = self.accounts_in(alloc, span) else {
+            self.abandon();
+            return Err(Unavailable::Memory);
+        };
+        Ok(found)
+    }
+
+    fn transfers_within(
+        &mut self,
+        alloc: Global,
+        span: &Span,
+    ) -> Result<Vec<Transfer>, Unavailable> {
+        let Ok(found) = self.transfers_in(alloc, span) else {
+            self.abandon();
+            return Err(Unavailable::Memory);
+        };
+        Ok(found)
     }
 
     fn settle(&mut self, clock: u64) -> Result<(), Unavailable> {

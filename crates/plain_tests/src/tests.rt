@@ -3,6 +3,7 @@
 mod asserting;
 mod batches;
 mod firms;
+mod queries;
 mod reads;
 mod rounds;
 mod statements;

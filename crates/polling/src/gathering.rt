@@ -16,6 +16,9 @@ const FULL_BYTES: usize = 128 * 1024;
 /// How many clients are served alone behind a round that was not kept.
 const ALONE: u64 = 32;
 
+/// How many queries are answered while others are gathered. Each looks at 2,000 records at most.
+const MOST_QUERIES: u64 = 5;
+
 /// Those whose next messages are to be answered in one round.
 #[derive(Drop)]
 pub(crate) struct Gathered {
@@ -26,22 +29,42 @@ pub(crate) struct Gathered {
     is_closed: bool,
     // So many more are served alone.
     alone: u64,
+    // How many queries were answered since the last round.
+    queries: u64,
 }
 
-/// How long a client's next message is, where it may be answered, is whole, and begins as a batch
-/// does. The other ones need no commit, and so no round.
-fn batch_size(client: &mut Client) -> Option<usize>
+/// What a client's next message is to a round.
+#[derive(Clone, Copy, Debug, PartialEq, Eq)]
+enum Kind {
+    /// A batch of so many bytes, which may share it.
+    Batch(usize),
+    /// A page of records, which takes as long as it looks at.
+    Query,
+    /// Any other, or none that may be answered and is whole. It needs no commit, and so no round.
+    Other,
+}
+
+/// What a message is, by its beginning.
+fn kind_of(front: &[u8]) -> Kind {
+    if front.starts_with(b"POST /transfers ") || front.starts_with(b"POST /accounts ") {
+        Kind::Batch(front.len())
+    } else if front.starts_with(b"POST /query/") || front.starts_with(b"POST /pending/open ") {
+        Kind::Query
+    } else {
+        Kind::Other
+    }
+}
+
+/// What a client's next message is.
+fn next_kind(client: &mut Client) -> Kind
     ensures { client.new ≡ client.old }
 {
     if !client.may_answer() {
-        return None;
+        return Kind::Other;
     }
-    let size = client.next_size()?;
-    let front = client.front(size);
-    if front.starts_with(b"POST /transfers ") || front.starts_with(b"POST /accounts ") {
-        Some(size)
-    } else {
-        None
+    match client.next_size() {
+        Some(size) => kind_of(client.front(size)),
+        None => Kind::Other,
     }
 }
 
@@ -52,6 +75,7 @@ impl Gathered {
             bytes: 0,
             is_closed: false,
             alone: 0,
+            queries: 0,
         }
     }
 
@@ -84,11 +108,17 @@ impl Gathered {
         let Some(client) = clients.get_mut(&number) else {
             return false;
         };
-        let Some(size) = batch_size(client) else {
-            return false;
-        };
-        self.bytes = self.bytes.saturating_add(size);
-        self.numbers.push(number).is_ok()
+        match next_kind(client) {
+            Kind::Batch(size) => {
+                self.bytes = self.bytes.saturating_add(size);
+                self.numbers.push(number).is_ok()
+            }
+            Kind::Query => {
+                self.queries = self.queries.saturating_add(1);
+                false
+            }
+            Kind::Other => false,
+        }
     }
 
     /// Whether those who are gathered are to be served now, where so many replies are wanted, and there
@@ -100,12 +130,14 @@ impl Gathered {
                 || !has_more
                 || count >= MOST_MEMBERS
                 || self.bytes >= FULL_BYTES
+                || self.queries >= MOST_QUERIES
                 || count as u64 >= most)
     }
 
     /// Lets those go who are gathered, and hands them out.
     pub(crate) fn take(&mut self, alloc: Global) -> Vec<u64> {
         self.bytes = 0;
+        self.queries = 0;
         self.is_closed = false;
         mem::replace(&mut self.numbers, Vec::new(alloc))
     }

@@ -3,4 +3,5 @@ pub mod WorkedExamples
 pub mod WorkedChains
 pub mod WorkedFailedIds
 pub mod WorkedReads
+pub mod WorkedQueries
 pub mod WorkedEntries

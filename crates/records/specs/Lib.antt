@@ -15,6 +15,7 @@ pub mod StoredRecord
 pub mod Chains
 pub mod Step
 pub mod Reads
+pub mod Queries
 pub mod Widths
 pub mod Valid
 pub mod EntryByEntry

@@ -11,6 +11,8 @@ mod balances;
 mod drain;
 mod facts;
 mod filter;
+mod hold;
+mod query;
 mod reply;
 mod row_sink;
 mod side;
@@ -35,6 +37,8 @@ pub use facts::{
     AccountWithBalances, ExistingTransfer, PendingState, PendingTransfer, TransferFacts,
 };
 pub use filter::{AccountFilter, FilterFlags, Order};
+pub use hold::Hold;
+pub use query::{MOST_LOOKED_AT, PageFilter, PageFlags, QueryFilter, Span, Tags};
 pub use reply::{BatchReply, EventResult, Refusal};
 pub use row_sink::{RowSink, SinkFault};
 pub use side::Side;

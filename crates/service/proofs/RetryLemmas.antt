@@ -33,6 +33,8 @@ left_later laws m moment (asks.LookupAccounts ids) = laws.itself m
 left_later laws m moment (asks.LookupTransfers ids) = laws.itself m
 left_later laws m moment (asks.HistoryTransfers asked) = laws.itself m
 left_later laws m moment (asks.HistoryBalances asked) = laws.itself m
+left_later laws m moment (asks.Query asked) = laws.itself m
+left_later laws m moment (asks.LookupPending ids) = laws.itself m
 left_later laws m moment (asks.Statement account) = laws.itself m
 
 served_later :

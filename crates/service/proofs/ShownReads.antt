@@ -1,12 +1,12 @@
 -- What reads tell.
 use Rattle.std.specs.Result.{IsErrAnd}
-use Rattle.std.proofs.Common.{subst, ◌≡◌, ℕ, List, Option, Some, None, Result, Ok, Err, refl, sym}
+use Rattle.std.proofs.Common.{subst, ◌≡◌, ℕ, Option, Some, None, Result, Ok, Err, refl, sym}
 use Rattle.std.proofs.Common.{ap, ◌∙◌}
 use Rattle.records.specs.Machine.{Machine}
 use Rattle.records.specs.Reads.{AccountAnswer, NoAccount, NoHistory, Found}
 use Rattle.chain.specs.declared.reads.ReadFault.{ReadFault}
 use Rattle.chain.specs.declared.reads.ReadFault.TheVariants as fault
-use Rattle.chain.specs.LedgerReads.{Seen, seen_by, seen_in, IsListed}
+use Rattle.chain.specs.LedgerReads.{Seen, seen_by, seen_in, IsShown}
 use Rattle.wire.specs.declared.outcome.Outcome.{Outcome}
 use Rattle.wire.specs.declared.outcome.Outcome.TheVariants.{Refused}
 use Rattle.wire.specs.declared.request.Request.{Request}
@@ -49,20 +49,20 @@ told_as_seen request moment answers shows tenant seen read is =
 
 -- a fault of the tenant is told
 pub told_as_fault :
-    {A : Type 0} (request : Request) (moment : ℕ) (answers : Machine → AccountAnswer (List A))
-    (shows : ℕ → List A → Outcome) (tenant : Option Machine) (why : ReadFault) →
+    {A X : Type 0} (request : Request) (moment : ℕ) (answers : Machine → AccountAnswer A)
+    (shows : ℕ → A → Outcome) (sees : X → Seen A) (tenant : Option Machine) (why : ReadFault) →
     IsRead request moment answers shows →
-    IsListed (seen_in answers tenant) (Err why) →
+    IsShown sees (seen_in answers tenant) (Err why) →
     Shows (served_to tenant (Ok request) moment).told (Err why)
-told_as_fault request moment answers shows tenant fault.UnknownKey read is =
+told_as_fault request moment answers shows sees tenant fault.UnknownKey read is =
     λ ne. told_as_seen request moment answers shows tenant (Err fault.UnknownKey) read is
-told_as_fault request moment answers shows tenant (fault.Unavailable why) read is =
+told_as_fault request moment answers shows sees tenant (fault.Unavailable why) read is =
     λ ne. absurd (ne refl)
-told_as_fault request moment answers shows tenant fault.NoAccount read is =
+told_as_fault request moment answers shows sees tenant fault.NoAccount read is =
     λ ne. told_as_seen request moment answers shows tenant (Err fault.NoAccount) read is
-told_as_fault request moment answers shows tenant fault.NoHistory read is =
+told_as_fault request moment answers shows sees tenant fault.NoHistory read is =
     λ ne. told_as_seen request moment answers shows tenant (Err fault.NoHistory) read is
-told_as_fault request moment answers shows tenant (fault.Sink why) read is = absurd is
+told_as_fault request moment answers shows sees tenant (fault.Sink why) read is = absurd is
 
 -- a fault that is handed on
 pub told_on :

@@ -9,12 +9,18 @@ use Rattle.records.specs.Step.{step_outcome, step_machine}
 use Rattle.records.specs.Reads as reads
 use Rattle.records.specs.Reads.{AccountAnswer, Found, found_accounts, found_transfers}
 use Rattle.records.specs.Reads.{history_answer, history_balances_answer, statement_answer}
+use Rattle.records.specs.Queries.{Page, queried_accounts, queried_transfers, open_holds}
+use Rattle.records.specs.Queries.{found_holds}
 use Rattle.ledger_http.specs.declared.refusal.Refusal.{Refusal}
 use Rattle.ledger_http.specs.declared.refusal.Refusal.TheVariants.{UnknownKey, NoAccount, NoHistory}
 use Rattle.ledger_http.specs.declared.refusal.Refusal.TheVariants.{ClockExhausted}
 use Rattle.ledger_http.specs.declared.route.Route.{Route}
+use Rattle.wire.specs.declared.outcome.Entries.{Entries}
+use Rattle.wire.specs.declared.outcome.Entries.TheVariants as entries
 use Rattle.wire.specs.declared.outcome.Outcome.{Outcome}
 use Rattle.wire.specs.declared.outcome.Outcome.TheVariants as told
+use Rattle.wire.specs.declared.request.Query.{Query}
+use Rattle.wire.specs.declared.request.Query.TheVariants as query
 use Rattle.wire.specs.declared.request.Request.{Request}
 use Rattle.wire.specs.declared.request.Request.TheVariants as asks
 use Rattle.wire.specs.Meaning.{meaning_of}
@@ -37,6 +43,19 @@ answer_told shows reads.NoAccount = told.Refused NoAccount
 answer_told shows reads.NoHistory = told.Refused NoHistory
 answer_told shows (Found answer) = shows answer
 
+-- what a page is told as, whose entries are shown so
+abbrev pub page_told : {A : Type 0} → (List A → Entries) → ℕ → Page A → Outcome
+page_told shows clock page = told.Page clock page.next (shows page.entries)
+
+-- what a machine tells a query
+abbrev pub query_told : Machine → Query → Outcome
+query_told m (query.Accounts asked) =
+    page_told entries.Accounts m.clock (queried_accounts m asked)
+query_told m (query.Transfers asked) =
+    page_told entries.Transfers m.clock (queried_transfers m asked)
+query_told m (query.OpenPending asked) =
+    page_told entries.OpenHolds m.clock (open_holds m asked)
+
 -- what a machine tells a request at a moment
 abbrev pub told_by : Machine → ℕ → Request → Outcome
 told_by m moment (asks.Accounts events) =
@@ -49,6 +68,8 @@ told_by m moment (asks.HistoryTransfers asked) =
     answer_told (told.Transfers m.clock) (history_answer m asked)
 told_by m moment (asks.HistoryBalances asked) =
     answer_told (told.Balances m.clock) (history_balances_answer m asked)
+told_by m moment (asks.Query asked) = query_told m asked
+told_by m moment (asks.LookupPending ids) = told.Holds m.clock (found_holds m ids)
 told_by m moment (asks.Statement account) =
     answer_told (λ rows. told.Statement (statement_text rows)) (statement_answer m account Oldest)
 
@@ -60,6 +81,8 @@ left_by m moment (asks.LookupAccounts ids) = m
 left_by m moment (asks.LookupTransfers ids) = m
 left_by m moment (asks.HistoryTransfers asked) = m
 left_by m moment (asks.HistoryBalances asked) = m
+left_by m moment (asks.Query asked) = m
+left_by m moment (asks.LookupPending ids) = m
 left_by m moment (asks.Statement account) = m
 
 -- what a machine tells and what it is after a request, or after one that is refused

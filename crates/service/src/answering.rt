@@ -11,8 +11,10 @@ ghost use Rattle.service.specs.Deeds.{IsDeedDone};
 ghost use Rattle.service.specs.Replies.{Serves, batch_reply, unavailable};
 
 use crate::batches::{AccountBatch, TransferBatch};
+use crate::querying::queried;
 use crate::reading::{
-    history_of_balances, history_of_transfers, looked_up_accounts, looked_up_transfers, statement,
+    history_of_balances, history_of_transfers, looked_up_accounts, looked_up_holds,
+    looked_up_transfers, statement,
 };
 use crate::showing::reply_to_read;
 use chain::{BatchFault, Ledgers};
@@ -101,22 +103,23 @@ fn serve_request<L: Ledgers>(
         Request::Accounts(events) => accounts(alloc, ledgers, digest, events, moment),
         Request::Transfers(events) => transfers(alloc, ledgers, digest, events, moment),
         Request::LookupAccounts(ids) => {
-            reply_to_read(
-                alloc,
-                looked_up_accounts(alloc, ledgers, digest, ids.as_slice()),
-            )
+            let found = looked_up_accounts(alloc, ledgers, digest, ids.as_slice());
+            reply_to_read(alloc, found)
         }
         Request::LookupTransfers(ids) => {
-            reply_to_read(
-                alloc,
-                looked_up_transfers(alloc, ledgers, digest, ids.as_slice()),
-            )
+            let found = looked_up_transfers(alloc, ledgers, digest, ids.as_slice());
+            reply_to_read(alloc, found)
         }
         Request::HistoryTransfers(asked) => {
             reply_to_read(alloc, history_of_transfers(alloc, ledgers, digest, &asked))
         }
         Request::HistoryBalances(asked) => {
             reply_to_read(alloc, history_of_balances(alloc, ledgers, digest, &asked))
+        }
+        Request::Query(query) => { reply_to_read(alloc, queried(alloc, ledgers, digest, &query)) }
+        Request::LookupPending(ids) => {
+            let found = looked_up_holds(alloc, ledgers, digest, ids.as_slice());
+            reply_to_read(alloc, found)
         }
         Request::Statement(account) => {
             reply_to_read(alloc, statement(alloc, ledgers, digest, account))

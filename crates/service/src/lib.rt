@@ -7,6 +7,7 @@ mod batches;
 mod exchanging;
 mod laws;
 mod moments;
+mod querying;
 mod reading;
 mod responding;
 mod round;

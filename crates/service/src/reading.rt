@@ -1,5 +1,6 @@
 //! Reads of one tenant's ledger, as the outcomes that replies show.
 ghost use Rattle.wire.specs.declared.request.Request.TheVariants.{LookupAccounts, LookupTransfers};
+ghost use Rattle.wire.specs.declared.request.Request.TheVariants.{LookupPending};
 ghost use Rattle.wire.specs.declared.request.Request.TheVariants.{HistoryTransfers};
 ghost use Rattle.wire.specs.declared.request.Request.TheVariants.{HistoryBalances, Statement};
 ghost use Rattle.chain.specs.Ledgers.{Finds, KeepsAll};
@@ -47,6 +48,25 @@ pub(crate) fn looked_up_transfers<L: Ledgers>(
     Ok(Outcome::Transfers {
         clock: found.clock,
         transfers: found.entries.into(),
+    })
+}
+
+pub(crate) fn looked_up_holds<L: Ledgers>(
+    alloc: Global,
+    ledgers: &mut L,
+    digest: &[u8; 32],
+    ids: &[u128],
+) -> Result<Outcome, ReadFault>
+    requires { L.means.is_usable ledgers.old }
+    ensures told { L.means.is_live ledgers.new
+        → ShowsTo (L.means.tenants ledgers.old digest.now) (LookupPending ids.now) result }
+    ensures finds { Finds L.means (IsTold result) KeepsAll ledgers.old ledgers.new }
+    ensures reads { Reads L.means ledgers.old ledgers.new }
+{
+    let found = ledgers.lookup_pending(alloc, digest, ids)?;
+    Ok(Outcome::Holds {
+        clock: found.clock,
+        holds: found.entries.into(),
     })
 }
 

@@ -9,6 +9,7 @@ mod memory;
 mod messages;
 mod page;
 mod played;
+mod queries;
 mod reads;
 mod refusals;
 mod rounds;

@@ -23,11 +23,9 @@ use Rattle.store.specs.StoreLaws.{store_meaning}
 use Rattle.store.specs.Stores.{IsUsable, IsUsableAt, IsLive, IsLiveAt, IsHonest, IsHonestAt, tenants_of, tenants_at}
 use Rattle.store.specs.Stores.{FindsTenants, Follows, Goes, OfDatabase, OfDatabaseAt, Answers, Reads, may_find}
 use Rattle.stored_ledgers.specs.TenantReads.{reach_of}
-use Rattle.store.specs.Lookups.{read_answer, LooksUp}
 use Rattle.store.specs.declared.place.Place.{Place}
 use Rattle.store.specs.declared.place.Place.TheVariants as at
 use Rattle.store.specs.declared.store.Store.{Store}
-use Rattle.store.proofs.LookupLemmas.{looks_up_keeps}
 
 not_failed :
     {O : Type 0} (result : Result O BatchFault) → IsAnswered result →
@@ -48,12 +46,6 @@ told_reached (Err fault.NoHistory) told is = cc
 ok_reached : {A : Type 0} (result : Result A Unavailable) → IsOk result → result ≢ Err DiskFailed
 ok_reached (Ok answer) ok is = cc
 ok_reached (Err why) ok is = absurd (cc)
-
-looked_answered :
-    {A : Type 0} (result : Result A BatchFault) → IsTold (read_answer result) → IsAnswered result
-looked_answered (Ok answer) told = tt
-looked_answered (Err batch_fault.UnknownKey) told = tt
-looked_answered (Err (batch_fault.Unavailable why)) told = told
 
 module _ {D : Type 0} {g : disk.Ghosts D} where
   -- a store whose calls are answered is open
@@ -179,22 +171,3 @@ module _ {D : Type 0} {g : disk.Ghosts D} where
       Finds store_meaning (IsTold result) Leads old new
   finds_told old new result Leads =
       finds_read old new (reach_of result) (IsTold result) Leads (told_reached result)
-
-  -- after a look-up
-  pub finds_looked :
-      {A : Type 0} (found : Machine → List ℕ → List A) (ids digest : List ℕ) (old new : Store D g)
-      (result : Result (Listed A) BatchFault) (answer : Result (Listed A) ReadFault) →
-      answer ≡ read_answer result →
-      Finds store_meaning (IsAnswered result) (LeadsBy (LooksUp found ids) digest) old new →
-      Finds store_meaning (IsTold answer) KeepsAll old new
-  finds_looked {A} looks ids digest old new result answer is finds = record {
-    found = λ found f. elim (finds.found found f) [
-      | inl before ↦ inl before
-      | inr done ↦ inr (
-        done.0,
-        looks_up_keeps looks ids digest (tenants_of old) found (Ok done.1.0) done.1.1,
-      )
-    ];
-    live = λ told. finds.live (looked_answered result
-        (subst (λ (r : Result (Listed A) ReadFault). IsTold r) is told));
-  }

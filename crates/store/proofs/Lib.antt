@@ -1,4 +1,3 @@
 mod ReadLemmas
 mod ReopenLemmas
-mod LookupLemmas
 mod FindsLemmas

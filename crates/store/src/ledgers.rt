@@ -3,11 +3,8 @@
 ghost use Rattle.std.specs.Prelude.{◌≡◌, false};
 
 use crate::Store;
-use crate::lookups::{AccountLookup, TransferLookup, read_answer};
 use chain::{BatchFault, Ledgers, Listed, ReadFault, RoundWork, Rounds, Work};
-use records::{
-    AccountFilter, AccountWithBalances, BalanceAt, Order, RowSink, Transfer, Unavailable,
-};
+use records::{AccountFilter, BalanceAt, Order, RowSink, Transfer, Unavailable};
 use sqlite_disk::Disk;
 use std::alloc::Global;
 
@@ -26,24 +23,6 @@ impl<D: Disk + Drop> Ledgers for Store<D> {
 
     fn knows(&mut self, digest: &[u8; 32]) -> Result<bool, Unavailable> {
         self.knows(digest)
-    }
-
-    fn lookup_accounts(
-        &mut self,
-        alloc: Global,
-        digest: &[u8; 32],
-        ids: &[u128],
-    ) -> Result<Listed<AccountWithBalances>, ReadFault> {
-        read_answer(self.in_batch(digest, AccountLookup { alloc, ids }))
-    }
-
-    fn lookup_transfers(
-        &mut self,
-        alloc: Global,
-        digest: &[u8; 32],
-        ids: &[u128],
-    ) -> Result<Listed<Transfer>, ReadFault> {
-        read_answer(self.in_batch(digest, TransferLookup { alloc, ids }))
     }
 
     fn history_transfers(

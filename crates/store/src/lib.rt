@@ -3,7 +3,6 @@
 
 mod at_path;
 mod ledgers;
-mod lookups;
 mod place;
 mod reads;
 mod reopening;

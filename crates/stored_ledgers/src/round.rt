@@ -6,9 +6,7 @@ use crate::batches::{DueSets, UnknownKey};
 use crate::working::{Past, work_here};
 use chain::{BatchFault, Ledgers, Listed, ReadFault, Work};
 use ledger_sql::finding::find_tenant;
-use records::{
-    AccountFilter, AccountWithBalances, BalanceAt, Order, RowSink, Transfer, Unavailable,
-};
+use records::{AccountFilter, BalanceAt, Order, RowSink, Transfer, Unavailable};
 use sqlite::{Alter, Connection};
 use std::alloc::Global;
 
@@ -77,24 +75,6 @@ impl<S: Alter> Ledgers for Round<'_, S> {
             Ok(number) => Ok(number.is_some()),
             Err(why) => Err(fail(&mut self.failure, why)),
         }
-    }
-
-    fn lookup_accounts(
-        &mut self,
-        _alloc: Global,
-        _digest: &[u8; 32],
-        _ids: &[u128],
-    ) -> Result<Listed<AccountWithBalances>, ReadFault> {
-        Err(ReadFault::Unavailable(fail(&mut self.failure, Unavailable::Memory)))
-    }
-
-    fn lookup_transfers(
-        &mut self,
-        _alloc: Global,
-        _digest: &[u8; 32],
-        _ids: &[u128],
-    ) -> Result<Listed<Transfer>, ReadFault> {
-        Err(ReadFault::Unavailable(fail(&mut self.failure, Unavailable::Memory)))
     }
 
     fn history_transfers(

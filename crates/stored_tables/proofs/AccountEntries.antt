@@ -153,7 +153,7 @@ module _ {K : Type 0} (takes : K → EntryCells → K → Type 0) (is_full : K �
     few_fit (suc n) [] all = tt
     few_fit (suc n) (e ∷ es) all = (all.0, few_fit n es all.1)
 
-    ended_few : {E : Type 0} (result : Result (Unit {0}) E) (handed : List EntryCells) → H → OnOk result ((is_full new ≡ true) ⊎ ReadsUpTo count entries InOrder handed) → OnOk result ((is_full new ≡ true) ⊎ AreAll account (take count es) handed)
+    ended_few : {E : Type 0} (result : Result (Unit {0}) E) (handed : List EntryCells) → H → OnOk result ((is_full new ≡ true) ⊎ ReadsUpTo entry_values count entries InOrder handed) → OnOk result ((is_full new ≡ true) ⊎ AreAll account (take count es) handed)
     ended_few (Err e) handed honest ended = tt
     ended_few (Ok u) handed honest (inl full) = inl full
     ended_few (Ok u) handed honest (inr few) =

@@ -81,7 +81,7 @@ time_in row = whole (column row 1)
 abbrev HasTime : Row → Type 0
 HasTime row = column row 1 ≡ Int (pos (time_in row))
 
-is_lt_int : (a b : ℕ) → is_lt (int_cmp (pos a) (pos b)) ≡ false → b ≤ a
+pub is_lt_int : (a b : ℕ) → is_lt (int_cmp (pos a) (pos b)) ≡ false → b ≤ a
 is_lt_int a b e = elim (cases_Bool (ltb a b)) [
   | inl below ↦ absurd (let h = rw below at e in cc)
   | inr above ↦ ltb-false a b above

@@ -32,6 +32,7 @@ pub mod RowMoves
 pub mod RowsTell
 pub mod SameValues
 pub mod SortedBack
+pub mod SpanRows
 pub mod StatementRows
 pub mod StatementValue
 pub mod Statements

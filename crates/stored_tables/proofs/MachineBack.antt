@@ -61,7 +61,7 @@ id_back : (id : ℕ) → id < 2 ^ 128 → wide (column (id_values (column_of id)
 unfolding column_of
 id_back id p = from_be_bytes-to_be_bytes_16 id p
 
-map_back : {R : Type 0} (values : R → Row) (back : Row → R) (xs : List R) → AllByRecursion (λ x. back (values x) ≡ x) xs → map back (map values xs) ≡ xs
+pub map_back : {R : Type 0} (values : R → Row) (back : Row → R) (xs : List R) → AllByRecursion (λ x. back (values x) ≡ x) xs → map back (map values xs) ≡ xs
 map_back values back [] all = refl
 map_back values back (x ∷ xs) all = λ i. all.0 i ∷ map_back values back xs all.1 i
 

@@ -7,7 +7,7 @@ use Rattle.sqlite.specs.State.{State, Savepoint, HasCleanDisk}
 use Rattle.sqlite.specs.Held.{Held, state}
 use Rattle.ledger_sql.specs.Frames.{Live, Follows}
 use Rattle.ledger_sql.specs.Stages.{the_mark, IsMarked, HasMarked, HasGoneBack, HasReleased}
-use Rattle.stored_tables.specs.InBatch.{HoldsOwn, KeepsRest, IsInBatchOf, AreMarks, FollowsInBatch, IsUsable, shown, marked_in}
+use Rattle.stored_tables.specs.InBatch.{HoldsOwn, KeepsRest, IsInBatchOf, AreMarks, IsUsable, shown, marked_in}
 use Rattle.stored_tables.specs.BatchLaws.{rest_itself}
 use Rattle.stored_tables.specs.MachineOf.{machine_of}
 use Rattle.stored_tables.specs.Meaning.{batch_meaning}

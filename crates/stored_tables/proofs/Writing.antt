@@ -15,7 +15,7 @@ use Rattle.ledger_sql.specs.Frames.{Live, Follows}
 use Rattle.stored_tables.specs.BatchLaws.{others_then, rest_then, rest_back}
 use Rattle.stored_tables.specs.Frames.{AreNumbered}
 use Rattle.stored_tables.specs.Holds.{HoldsRows, HoldsMachine}
-use Rattle.stored_tables.specs.InBatch.{HoldsOwn, KeepsRest, AreMarks, IsInBatchOf, IsUsable, shown, marked_in}
+use Rattle.stored_tables.specs.InBatch.{KeepsRest, AreMarks, IsInBatchOf, IsUsable, shown, marked_in}
 use Rattle.stored_tables.specs.MachineOf.{machine_of}
 use Rattle.stored_tables.specs.Meaning.{batch_meaning}
 use Rattle.stored_tables.specs.Moves.{MovesRows, ChangesRows}

@@ -1,7 +1,8 @@
-use crate::{accepting, marking, reading, settling};
+use crate::{accepting, marking, reading, settling, spans};
 use chain::Tables;
-use records::{Accepted, Account, AccountWithBalances, PendingState, Transfer, Unavailable};
+use records::{Accepted, Account, AccountWithBalances, PendingState, Span, Transfer, Unavailable};
 use sqlite::{Alter, Connection};
+use std::alloc::Global;
 use std::collections::BTreeSet;
 
 /// The number under which the tables keep a tenant's rows.
@@ -70,6 +71,18 @@ impl<S: Alter> Tables for Batch<'_, S> {
 
     fn failed(&mut self, id: u128) -> Result<bool, Unavailable> {
         reading::failed(self.conn, self.tenant, id)
+    }
+
+    fn accounts_within(&mut self, alloc: Global, span: &Span) -> Result<Vec<Account>, Unavailable> {
+        spans::accounts(alloc, self.conn, self.tenant, span)
+    }
+
+    fn transfers_within(
+        &mut self,
+        alloc: Global,
+        span: &Span,
+    ) -> Result<Vec<Transfer>, Unavailable> {
+        spans::transfers(alloc, self.conn, self.tenant, span)
     }
 
     fn settle(&mut self, clock: u64) -> Result<(), Unavailable> {

@@ -20,6 +20,7 @@ mod marking;
 mod page;
 mod reading;
 mod settling;
+mod spans;
 mod statement;
 mod stored_entry;
 

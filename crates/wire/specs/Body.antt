@@ -1,4 +1,4 @@
--- What a body means: a list of events or ids, a filter, or why it is none.
+-- What a body means: a list of events or ids, a filter or a query, or why it is none.
 use Rattle.std.specs.Prelude.{ℕ, nat_lt, ◌^◌, List, [], ◌∷◌, length, Option, Some, None, option_map}
 use Rattle.std.specs.Prelude.{option_and_then, ok_or, Result, Ok, Err, if◌then◌else◌}
 use Rattle.std.specs.Str.{is_utf8}
@@ -7,6 +7,8 @@ use Rattle.serde_json.specs.Find.{as_array, as_str}
 use Rattle.serde_json.specs.Read.{read}
 use Rattle.records.specs.declared.account.AccountEvent.{AccountEvent}
 use Rattle.records.specs.declared.filter.AccountFilter.{AccountFilter}
+use Rattle.records.specs.declared.query.PageFilter.{PageFilter}
+use Rattle.records.specs.declared.query.QueryFilter.{QueryFilter}
 use Rattle.records.specs.declared.transfer.TransferEvent.{TransferEvent}
 use Rattle.ledger_http.specs.declared.refusal.Refusal.{Refusal}
 use Rattle.ledger_http.specs.declared.refusal.Refusal.TheVariants.{BodyNotJson, BadField}
@@ -15,6 +17,7 @@ use Rattle.wire.specs.Fields.{number_below}
 use Rattle.wire.specs.TransferBody.{transfer_of}
 use Rattle.wire.specs.AccountBody.{account_of}
 use Rattle.wire.specs.FilterBody.{filter_of}
+use Rattle.wire.specs.QueryBody.{query_of, page_of}
 
 -- the value that the bytes are as JSON
 unfoldable pub json_of : List ℕ → Option Data
@@ -58,7 +61,19 @@ id_of d = option_and_then (number_below (2 ^ 128)) (as_str d)
 abbrev pub ids_in : List ℕ → Result (List ℕ) Refusal
 ids_in body = list_in id_of body
 
+-- one object: first the value, then its fields
+abbrev pub object_in : {E : Type 0} → (Data → Option E) → List ℕ → Result E Refusal
+object_in meant_by body =
+    and_then (ok_or (json_of body) BodyNotJson) (λ d. ok_or (meant_by d) BadField)
+
 -- the filter of a history
 abbrev pub filter_in : List ℕ → Result AccountFilter Refusal
-filter_in body =
-    and_then (ok_or (json_of body) BodyNotJson) (λ d. ok_or (filter_of d) BadField)
+filter_in body = object_in filter_of body
+
+-- a query
+abbrev pub query_in : List ℕ → Result QueryFilter Refusal
+query_in body = object_in query_of body
+
+-- which page of the open holds is asked for
+abbrev pub page_in : List ℕ → Result PageFilter Refusal
+page_in body = object_in page_of body

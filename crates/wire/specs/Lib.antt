@@ -2,6 +2,7 @@ pub mod Fields
 pub mod TransferBody
 pub mod AccountBody
 pub mod FilterBody
+pub mod QueryBody
 pub mod Body
 pub mod Meaning
 pub mod Reply

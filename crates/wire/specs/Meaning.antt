@@ -7,9 +7,12 @@ use Rattle.ledger_http.specs.declared.route.Route.TheVariants as route
 use Rattle.wire.specs.declared.request.Request.{Request}
 use Rattle.wire.specs.declared.request.Request.TheVariants.{Accounts, Transfers, LookupAccounts}
 use Rattle.wire.specs.declared.request.Request.TheVariants.{LookupTransfers, HistoryTransfers}
-use Rattle.wire.specs.declared.request.Request.TheVariants.{HistoryBalances, Statement}
+use Rattle.wire.specs.declared.request.Request.TheVariants.{HistoryBalances, Query}
+use Rattle.wire.specs.declared.request.Request.TheVariants.{LookupPending, Statement}
+use Rattle.wire.specs.declared.request.Query.TheVariants as query
 use Rattle.wire.specs.Fields.{number_below}
 use Rattle.wire.specs.Body.{and_then, accounts_in, transfers_in, ids_in, filter_in}
+use Rattle.wire.specs.Body.{query_in, page_in}
 
 -- the account in the path of a statement
 abbrev pub account_in : List ℕ → Result ℕ Refusal
@@ -27,6 +30,13 @@ meaning_of route.LookupAccounts account body = request_for LookupAccounts (ids_i
 meaning_of route.LookupTransfers account body = request_for LookupTransfers (ids_in body)
 meaning_of route.HistoryTransfers account body = request_for HistoryTransfers (filter_in body)
 meaning_of route.HistoryBalances account body = request_for HistoryBalances (filter_in body)
+meaning_of route.QueryAccounts account body =
+    request_for (λ asked. Query (query.Accounts asked)) (query_in body)
+meaning_of route.QueryTransfers account body =
+    request_for (λ asked. Query (query.Transfers asked)) (query_in body)
+meaning_of route.LookupPending account body = request_for LookupPending (ids_in body)
+meaning_of route.OpenPending account body =
+    request_for (λ asked. Query (query.OpenPending asked)) (page_in body)
 meaning_of route.Statement account body = request_for Statement (account_in account)
 
 -- a list has at most 1,000 events or ids
@@ -37,4 +47,6 @@ HasFew (LookupAccounts ids) = length ids ≤ 1000
 HasFew (LookupTransfers ids) = length ids ≤ 1000
 HasFew (HistoryTransfers asked) = Unit {0}
 HasFew (HistoryBalances asked) = Unit {0}
+HasFew (Query asked) = Unit {0}
+HasFew (LookupPending ids) = length ids ≤ 1000
 HasFew (Statement account) = Unit {0}

@@ -7,9 +7,14 @@ use Rattle.amount.specs.Decimal.{decimal_of}
 use Rattle.records.specs.declared.account_result.AccountResult.{AccountResult}
 use Rattle.records.specs.declared.balances.BalanceAt.{BalanceAt}
 use Rattle.records.specs.declared.facts.AccountWithBalances.{AccountWithBalances}
+use Rattle.records.specs.declared.facts.PendingState.{PendingState}
+use Rattle.records.specs.declared.facts.PendingState.TheVariants.{Open, Posted, Voided, Expired}
+use Rattle.records.specs.declared.hold.Hold.{Hold}
 use Rattle.records.specs.declared.reply.EventResult.{EventResult}
 use Rattle.records.specs.declared.transfer.Transfer.{Transfer}
 use Rattle.records.specs.declared.transfer_result.TransferResult.{TransferResult}
+use Rattle.wire.specs.declared.outcome.Entries.{Entries}
+use Rattle.wire.specs.declared.outcome.Entries.TheVariants.{Accounts, Transfers, OpenHolds}
 use Rattle.records.specs.AccountResultNames as account
 use Rattle.records.specs.TransferResultNames as transfer
 
@@ -95,6 +100,30 @@ balance_data row = object_with (
     ∷ (codes "timestamp", wide_data row.timestamp)
     ∷ [])
 
+-- the name of what has become of a pending transfer
+abbrev pub state_name : PendingState → List ℕ
+state_name Open = codes "open"
+state_name Posted = codes "posted"
+state_name Voided = codes "voided"
+state_name Expired = codes "expired"
+
+-- a hold
+abbrev pub hold_data : Hold → Data
+hold_data hold = object_with (
+    (codes "due", wide_data hold.due)
+    ∷ (codes "id", wide_data hold.id)
+    ∷ (codes "state", string (state_name hold.state))
+    ∷ [])
+
+-- a hold with the time at which it was accepted
+abbrev pub timed_hold_data : Hold → Data
+timed_hold_data hold = object_with (
+    (codes "due", wide_data hold.due)
+    ∷ (codes "id", wide_data hold.id)
+    ∷ (codes "state", string (state_name hold.state))
+    ∷ (codes "timestamp", wide_data hold.timestamp)
+    ∷ [])
+
 -- a clock and a list under a name that comes after `clock`
 abbrev pub clock_and_list : {A : Type 0} → (A → Data) → ℕ → List ℕ → List A → Data
 clock_and_list shows clock name values =
@@ -104,6 +133,25 @@ clock_and_list shows clock name values =
 abbrev pub list_and_clock : {A : Type 0} → (A → Data) → ℕ → List ℕ → List A → Data
 list_and_clock shows clock name values =
     object_with ((name, list_data shows values) ∷ (codes "clock", wide_data clock) ∷ [])
+
+-- a clock, the time with which the next page is asked for, and a list under a name that comes after
+-- `next`
+abbrev pub next_and_list : {A : Type 0} → (A → Data) → ℕ → ℕ → List ℕ → List A → Data
+next_and_list shows clock next name values =
+    object_with (
+    (codes "clock", wide_data clock)
+    ∷ (codes "next", wide_data next)
+    ∷ (name, list_data shows values)
+    ∷ [])
+
+-- the same under a name that comes before `clock`
+abbrev pub list_and_next : {A : Type 0} → (A → Data) → ℕ → ℕ → List ℕ → List A → Data
+list_and_next shows clock next name values =
+    object_with (
+    (name, list_data shows values)
+    ∷ (codes "clock", wide_data clock)
+    ∷ (codes "next", wide_data next)
+    ∷ [])
 
 -- the clock after a batch of accounts, and the results of its events in their order
 abbrev pub account_batch_data : ℕ → List (EventResult AccountResult) → Data
@@ -126,6 +174,19 @@ transfers_data clock transfers = clock_and_list transfer_data clock (codes "tran
 -- the balances of a history
 abbrev pub balances_data : ℕ → List BalanceAt → Data
 balances_data clock balances = list_and_clock balance_data clock (codes "balances") balances
+
+-- the holds that a lookup finds
+abbrev pub holds_data : ℕ → List Hold → Data
+holds_data clock holds = clock_and_list hold_data clock (codes "pending") holds
+
+-- a page of what a query finds
+abbrev pub page_data : ℕ → ℕ → Entries → Data
+page_data clock next (Accounts accounts) =
+    list_and_next account_data clock next (codes "accounts") accounts
+page_data clock next (Transfers transfers) =
+    next_and_list transfer_data clock next (codes "transfers") transfers
+page_data clock next (OpenHolds holds) =
+    next_and_list timed_hold_data clock next (codes "pending") holds
 
 -- a refusal by its name
 abbrev pub refusal_data : List ℕ → Data

@@ -7,9 +7,9 @@ use Rattle.ledger_http.specs.ReplyText.{body_text, refusal_text}
 use Rattle.wire.specs.declared.outcome.Outcome.{Outcome}
 use Rattle.wire.specs.declared.outcome.Outcome.TheVariants.{Refused, AccountResults}
 use Rattle.wire.specs.declared.outcome.Outcome.TheVariants.{TransferResults, Accounts, Transfers}
-use Rattle.wire.specs.declared.outcome.Outcome.TheVariants.{Balances, Statement}
+use Rattle.wire.specs.declared.outcome.Outcome.TheVariants.{Balances, Page, Holds, Statement}
 use Rattle.wire.specs.Reply.{account_batch_data, transfer_batch_data, accounts_data, transfers_data}
-use Rattle.wire.specs.Reply.{balances_data}
+use Rattle.wire.specs.Reply.{balances_data, page_data, holds_data}
 
 -- a reply whose body is this value as compact JSON
 abbrev pub json_text : Data → List ℕ
@@ -23,4 +23,6 @@ outcome_text (TransferResults clock results) = json_text (transfer_batch_data cl
 outcome_text (Accounts clock accounts) = json_text (accounts_data clock accounts)
 outcome_text (Transfers clock transfers) = json_text (transfers_data clock transfers)
 outcome_text (Balances clock balances) = json_text (balances_data clock balances)
+outcome_text (Page clock next entries) = json_text (page_data clock next entries)
+outcome_text (Holds clock holds) = json_text (holds_data clock holds)
 outcome_text (Statement text) = body_text Csv text

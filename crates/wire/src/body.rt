@@ -3,12 +3,13 @@ ghost use Rattle.std.specs.Prelude.{IfErr};
 ghost use Rattle.serde_json.specs.Errors.{IsMemory};
 ghost use Rattle.serde_json.specs.View.{view, items_view};
 ghost use Rattle.wire.specs.Body.{json_of, each_of, list_in, transfers_in, accounts_in, ids_in};
-ghost use Rattle.wire.specs.Body.{filter_in};
+ghost use Rattle.wire.specs.Body.{object_in};
+ghost use Rattle.wire.specs.Fields.{object_of};
 
 use crate::item::Item;
-use crate::object::read_object;
+use crate::object::{Object, read_object};
 use ledger_http::Refusal;
-use records::{AccountEvent, AccountFilter, TransferEvent};
+use records::{AccountEvent, TransferEvent};
 use serde_json::Value;
 use std::alloc::Global;
 
@@ -42,10 +43,12 @@ pub(crate) fn read_ids(alloc: Global, body: &[u8]) -> Result<Vec<u128>, Refusal>
     read_list(alloc, body)
 }
 
-/// Reads the body of a history: a filter as a JSON object.
-pub(crate) fn read_filter(alloc: Global, body: &[u8]) -> Result<AccountFilter, Refusal>
-    ensures ok { IfOk result (λ asked. filter_in body.now ≡ Ok asked) }
-    ensures err { IfErr result (λ e. e ≢ Refusal.Unavailable → filter_in body.now ≡ Err e) }
+/// Reads the body of a history or a query: one JSON object.
+pub(crate) fn read_one<O: Object>(alloc: Global, body: &[u8]) -> Result<O, Refusal>
+    ensures ok { IfOk result (λ asked.
+        object_in (object_of O.names O.from_fields) body.now ≡ Ok asked) }
+    ensures err { IfErr result (λ e. e ≢ Refusal.Unavailable
+        → object_in (object_of O.names O.from_fields) body.now ≡ Err e) }
 {
     let value = read_json(alloc, body)?;
     read_object(&value).ok_or(Refusal::BadField)

@@ -52,7 +52,8 @@ fn read_flags(object: &Value) -> Option<u16>
     }
 }
 
-fn read_limit(object: &Value) -> Option<u32>
+/// How many entries are asked for: 1 to 1,000.
+pub(crate) fn read_limit(object: &Value) -> Option<u32>
     ensures { result ≡ limit_of (get (codes "limit") (view object.now)) }
 {
     let limit = u32_field(object, "limit")?;

@@ -1,8 +1,16 @@
 use crate::Items;
 use ledger_http::Refusal;
 use records::{
-    AccountResult, AccountWithBalances, BalanceAt, EventResult, Transfer, TransferResult,
+    AccountResult, AccountWithBalances, BalanceAt, EventResult, Hold, Transfer, TransferResult,
 };
+
+/// What a page shows.
+#[derive(Debug, Drop)]
+pub enum Entries {
+    Accounts(Items<AccountWithBalances>),
+    Transfers(Items<Transfer>),
+    OpenHolds(Items<Hold>),
+}
 
 /// What became of a request: all that its reply shows. Each clock is in nanoseconds.
 #[derive(Debug, Drop)]
@@ -32,6 +40,17 @@ pub enum Outcome {
     Balances {
         clock: u64,
         balances: Items<BalanceAt>,
+    },
+    /// A page of what a query found, and the time with which the next one is asked for.
+    Page {
+        clock: u64,
+        next: u64,
+        entries: Entries,
+    },
+    /// The holds that a lookup found.
+    Holds {
+        clock: u64,
+        holds: Items<Hold>,
     },
     /// A statement, as CSV.
     Statement(Items<u8>),

@@ -1,9 +1,9 @@
 ghost use Rattle.std.specs.Prelude.{◌≡◌, ◌≢◌, Ok, Err, IfOk, IfErr};
 ghost use Rattle.wire.specs.Meaning.{meaning_of, account_in, HasFew};
 
-use crate::body::{read_accounts, read_filter, read_ids, read_transfers};
+use crate::body::{read_accounts, read_ids, read_one, read_transfers};
 use crate::fields::read_number;
-use crate::{Items, Request};
+use crate::{Items, Query, Request};
 use ledger_http::{Asked, Refusal, Route};
 use std::alloc::Global;
 
@@ -22,8 +22,12 @@ pub fn meaning(alloc: Global, asked: &Asked) -> Result<Request, Refusal>
         Route::Transfers => Request::Transfers(read_transfers(alloc, asked.body)?.into()),
         Route::LookupAccounts => Request::LookupAccounts(read_ids(alloc, asked.body)?.into()),
         Route::LookupTransfers => Request::LookupTransfers(read_ids(alloc, asked.body)?.into()),
-        Route::HistoryTransfers => Request::HistoryTransfers(read_filter(alloc, asked.body)?),
-        Route::HistoryBalances => Request::HistoryBalances(read_filter(alloc, asked.body)?),
+        Route::HistoryTransfers => Request::HistoryTransfers(read_one(alloc, asked.body)?),
+        Route::HistoryBalances => Request::HistoryBalances(read_one(alloc, asked.body)?),
+        Route::QueryAccounts => Request::Query(Query::Accounts(read_one(alloc, asked.body)?)),
+        Route::QueryTransfers => Request::Query(Query::Transfers(read_one(alloc, asked.body)?)),
+        Route::LookupPending => Request::LookupPending(read_ids(alloc, asked.body)?.into()),
+        Route::OpenPending => Request::Query(Query::OpenPending(read_one(alloc, asked.body)?)),
         Route::Statement => Request::Statement(read_account(asked.account)?),
     })
 }

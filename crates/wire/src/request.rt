@@ -1,5 +1,14 @@
 use crate::Items;
-use records::{AccountEvent, AccountFilter, TransferEvent};
+use records::{AccountEvent, AccountFilter, PageFilter, QueryFilter, TransferEvent};
+
+/// Which records a page is asked for.
+#[derive(Clone, Copy, Debug, PartialEq, Eq)]
+pub enum Query {
+    Accounts(QueryFilter),
+    Transfers(QueryFilter),
+    /// The pending transfers that are open.
+    OpenPending(PageFilter),
+}
 
 /// What a request asks for, route by route.
 #[derive(Debug, Drop)]
@@ -13,6 +22,9 @@ pub enum Request {
     LookupTransfers(Items<u128>),
     HistoryTransfers(AccountFilter),
     HistoryBalances(AccountFilter),
+    Query(Query),
+    /// The ids of the pending transfers that are looked up.
+    LookupPending(Items<u128>),
     /// The id of the account.
     Statement(u128),
 }

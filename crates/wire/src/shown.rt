@@ -2,11 +2,12 @@ ghost use Rattle.std.specs.Prelude.{◌≡◌, ◌++◌, OnOk};
 ghost use Rattle.json.specs.Tree.{json_tokens};
 ghost use Rattle.serde_json.specs.Data.{Data};
 ghost use Rattle.serde_json.specs.Written.{outline};
+ghost use Rattle.wire.specs.Reply.{state_name};
 
 use crate::members::{write_text, write_u64, write_u128, write_whole};
 use crate::reply_result::ReplyResult;
 use json::Writer;
-use records::{AccountWithBalances, BalanceAt, EventResult, Transfer};
+use records::{AccountWithBalances, BalanceAt, EventResult, Hold, PendingState, Transfer};
 use std::alloc::AllocError;
 
 /// What a reply's list shows as an object.
@@ -17,6 +18,45 @@ pub(crate) trait Shown {
         ensures ok { OnOk result (writer.new.tokens
             ≡ writer.old.tokens ++ json_tokens (outline (shows self.now))) }
         ensures before { writer.new.before ≡ writer.old.before };
+}
+
+/// A form in which a reply's list shows values as objects.
+pub(crate) trait Form<T> {
+    ghost shows: { T → Data };
+
+    fn write(value: &T, writer: &mut Writer) -> Result<(), AllocError>
+        ensures ok { OnOk result (writer.new.tokens
+            ≡ writer.old.tokens ++ json_tokens (outline (shows value.now))) }
+        ensures before { writer.new.before ≡ writer.old.before };
+}
+
+/// Values as they show themselves.
+pub(crate) struct Plain;
+
+impl<S: Shown> Form<S> for Plain {
+    ghost shows = { S.shows };
+
+    fn write(value: &S, writer: &mut Writer) -> Result<(), AllocError> {
+        value.write(writer)
+    }
+}
+
+/// Holds with the time at which they were accepted, by which a page of them goes.
+pub(crate) struct Timed;
+
+impl Form<Hold> for Timed {
+    ghost use Rattle.wire.specs.Reply.{timed_hold_data};
+
+    ghost shows = { timed_hold_data };
+
+    fn write(hold: &Hold, writer: &mut Writer) -> Result<(), AllocError> {
+        writer.begin_object()?;
+        write_u64(writer, "due", hold.due)?;
+        write_u128(writer, "id", hold.id)?;
+        write_text(writer, "state", state_name(hold.state))?;
+        write_u64(writer, "timestamp", hold.timestamp)?;
+        writer.end_object()
+    }
 }
 
 impl<R: ReplyResult> Shown for EventResult<R> {
@@ -106,5 +146,30 @@ impl Shown for BalanceAt {
         write_u128(writer, "debits_posted", self.balances.debits.posted.value())?;
         write_u64(writer, "timestamp", self.timestamp)?;
         writer.end_object()
+    }
+}
+
+impl Shown for Hold {
+    ghost use Rattle.wire.specs.Reply.{hold_data};
+
+    ghost shows = { hold_data };
+
+    fn write(&self, writer: &mut Writer) -> Result<(), AllocError> {
+        writer.begin_object()?;
+        write_u64(writer, "due", self.due)?;
+        write_u128(writer, "id", self.id)?;
+        write_text(writer, "state", state_name(self.state))?;
+        writer.end_object()
+    }
+}
+
+fn state_name(state: PendingState) -> &'static str
+    ensures { result.now ≡ state_name state }
+{
+    match state {
+        PendingState::Open => "open",
+        PendingState::Posted => "posted",
+        PendingState::Voided => "voided",
+        PendingState::Expired => "expired",
     }
 }

@@ -1,10 +1,12 @@
 ghost use Rattle.std.specs.Prelude.{◌≡◌, Ok, IfOk};
 ghost use Rattle.ledger_http.specs.ReplyText.{reply_text};
-ghost use Rattle.wire.specs.Told.{outcome_text};
+ghost use Rattle.wire.specs.Reply.{page_data};
+ghost use Rattle.wire.specs.Told.{json_text, outcome_text};
 
-use crate::Outcome;
 use crate::batch_text::{batch_text_accounts, batch_text_transfers};
 use crate::list_text::{clock_then_list, list_then_clock};
+use crate::page_text::page_text;
+use crate::{Entries, Outcome};
 use ledger_http::{ContentType, Refusal, Reply};
 use std::alloc::{AllocError, Global};
 
@@ -39,6 +41,23 @@ pub fn reply_bytes(alloc: Global, outcome: &Outcome) -> Result<Reply, NoMemory>
             let body = list_then_clock(alloc, *clock, "balances", balances.as_slice())?;
             Reply::of_body(alloc, ContentType::Json, &body)
         }
+        Outcome::Page {
+            clock,
+            next,
+            entries,
+        } => page_reply(alloc, *clock, *next, entries),
+        Outcome::Holds { clock, holds } => {
+            let body = clock_then_list(alloc, *clock, "pending", holds.as_slice())?;
+            Reply::of_body(alloc, ContentType::Json, &body)
+        }
         Outcome::Statement(text) => Reply::of_body(alloc, ContentType::Csv, text.as_slice()),
     }
+}
+
+fn page_reply(alloc: Global, clock: u64, next: u64, entries: &Entries) -> Result<Reply, NoMemory>
+    ensures { IfOk result (λ reply.
+        reply_text reply ≡ json_text (page_data clock next entries.now)) }
+{
+    let body = page_text(alloc, clock, next, entries)?;
+    Reply::of_body(alloc, ContentType::Json, &body)
 }

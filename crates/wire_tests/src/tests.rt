@@ -1,2 +1,4 @@
+mod deep;
+mod pages;
 mod reading;
 mod writing;

@@ -63,9 +63,13 @@ fn request(case: u8) -> Option<(&'static str, Route, &'static str)> {
         3 => ("POST /transfers/lookup", Route::LookupTransfers, ""),
         4 => ("POST /history/transfers", Route::HistoryTransfers, ""),
         5 => ("POST /history/balances", Route::HistoryBalances, ""),
-        6 => ("GET /statement/1", Route::Statement, "1"),
-        7 => ("GET /statement/1?x", Route::Statement, "1?x"),
-        8 => ("GET /statement/é%2f", Route::Statement, "é%2f"),
+        6 => ("POST /query/accounts", Route::QueryAccounts, ""),
+        7 => ("POST /query/transfers", Route::QueryTransfers, ""),
+        8 => ("POST /pending/lookup", Route::LookupPending, ""),
+        9 => ("POST /pending/open", Route::OpenPending, ""),
+        10 => ("GET /statement/1", Route::Statement, "1"),
+        11 => ("GET /statement/1?x", Route::Statement, "1?x"),
+        12 => ("GET /statement/é%2f", Route::Statement, "é%2f"),
         _ => return None,
     })
 }
@@ -92,7 +96,7 @@ fn is_read(rt: &impl AllocGlobal, case: u8) -> Result<bool, AllocError> {
 
 #[test]
 fn reads_requests(rt: HostRuntime) -> Result<(), AllocError> {
-    for case in 0..9 {
+    for case in 0..13 {
         assert!(rt; is_read(&rt, case)?, "case {case}");
     }
     Ok(())

@@ -268,6 +268,35 @@ pub(crate) fn refused(case: u8) -> Option<Refused> {
         49 => ("GET //", "", "", Refusal::NoRoute),
         50 => ("GET /index.html", "", "", Refusal::NoRoute),
         51 => ("GET http://127.0.0.1/", "", "", Refusal::NoRoute),
+        // What is near the paths of queries and holds, and those paths by another method.
+        52 => ("POST /query", "content-length: 0\r\n", "", Refusal::NoRoute),
+        53 => (
+            "POST /query/accounts/",
+            "content-length: 0\r\n",
+            "",
+            Refusal::NoRoute,
+        ),
+        54 => (
+            "POST /query/pending",
+            "content-length: 0\r\n",
+            "",
+            Refusal::NoRoute,
+        ),
+        55 => (
+            "POST /pending",
+            "content-length: 0\r\n",
+            "",
+            Refusal::NoRoute,
+        ),
+        56 => ("GET /query/accounts", "", "", Refusal::BadMethod),
+        57 => ("GET /query/transfers", "", "", Refusal::BadMethod),
+        58 => ("GET /pending/lookup", "", "", Refusal::BadMethod),
+        59 => (
+            "PUT /pending/open",
+            "content-length: 0\r\n",
+            "",
+            Refusal::BadMethod,
+        ),
         _ => return None,
     })
 }

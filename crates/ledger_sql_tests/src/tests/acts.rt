@@ -96,6 +96,19 @@ pub enum Asked {
     Until(u128, i64),
 }
 
+/// Which rows of a tenant are asked for: the first and the last time, and how many at most.
+#[derive(Clone, Copy)]
+pub struct Spanned(pub i64, pub (i64, i64), pub u32);
+
+/// The ids and times of the rows that are found, in order.
+#[derive(Clone, Copy)]
+pub enum Times {
+    OldestAccounts(&'static [(u128, u32)]),
+    NewestAccounts(&'static [(u128, u32)]),
+    OldestTransfers(&'static [(u128, u32)]),
+    NewestTransfers(&'static [(u128, u32)]),
+}
+
 /// Times of entries, each with the last byte of its transfer's id.
 pub type Told = &'static [(i64, u8)];
 
@@ -122,6 +135,8 @@ pub enum Act {
     FirstTwo(Asked, (Option<i64>, Option<i64>)),
     /// The times of the first entries, so many at most.
     Page(Asked, u32, &'static [i64]),
+    /// The accounts or transfers in a span of time.
+    Span(Spanned, Times),
     /// Whether the store is told to be open, as it is not inside a transaction.
     IsOpen(bool),
     /// Adds so many rows to each table of tenant 1.

@@ -1,19 +1,20 @@
 //! What is read of tables that grow.
 
-use super::acts::Act;
 use super::acts::Act::*;
 use super::acts::Asked::{From, Until};
 use super::acts::Call::*;
 use super::acts::Change::*;
 use super::acts::Row::*;
 use super::acts::Stage::*;
+use super::acts::Times::*;
+use super::acts::{Act, Spanned};
 use super::scenarios::{BASE, COMMIT, NONE, Scenario};
 use records::PendingState::{Open, Voided};
 
 /// Texts by a whole key and pages, over few rows in each table and over many.
 pub const GROWN: &[Scenario] = &[
-    ("over few rows", &[OVER_FEW, BY_KEY, PAGES]),
-    ("over many rows", &[OVER_MANY, BY_KEY, PAGES]),
+    ("over few rows", &[OVER_FEW, BY_KEY, PAGES, SPANS]),
+    ("over many rows", &[OVER_MANY, BY_KEY, PAGES, SPANS]),
 ];
 
 const OVER_FEW: &[Act] = &[Does(BASE), AddMany(100), Does(COMMIT)];
@@ -64,5 +65,26 @@ const PAGES: &[Act] = &[
         Until(2, 1009),
         10,
         &[1009, 1008, 1007, 1006, 1005, 1004, 1003, 1002, 1001, 1000],
+    ),
+];
+
+/// A part of a span takes as many steps as it has rows, whatever the span has more.
+const SPANS: &[Act] = &[
+    LimitSteps(20),
+    Span(
+        Spanned(1, (5, i64::MAX), 4),
+        OldestAccounts(&[(5, 5), (1000, 1000), (1001, 1001), (1002, 1002)]),
+    ),
+    Span(
+        Spanned(1, (0, 1009), 4),
+        NewestAccounts(&[(1009, 1009), (1008, 1008), (1007, 1007), (1006, 1006)]),
+    ),
+    Span(
+        Spanned(1, (6, i64::MAX), 4),
+        OldestTransfers(&[(100, 6), (1000, 1000), (1001, 1001), (1002, 1002)]),
+    ),
+    Span(
+        Spanned(1, (0, 1009), 4),
+        NewestTransfers(&[(1009, 1009), (1008, 1008), (1007, 1007), (1006, 1006)]),
     ),
 ];

@@ -6,6 +6,7 @@ use super::entries::{tells, tells_page, tells_two};
 use super::finds::{Found, find, number_of};
 use super::lists::{lists, lists_cells};
 use super::many::add_many;
+use super::spans::tells_span;
 use super::unclaimed::Unclaimed;
 use ledger_sql::stages::is_open;
 use records::Unavailable;
@@ -48,6 +49,7 @@ fn first_wrong<S: Unclaimed>(
         Act::Entries(asked, told) => said(tells(alloc, conn, asked, told)),
         Act::FirstTwo(asked, times) => said(tells_two(conn, asked, times)),
         Act::Page(asked, count, times) => said(tells_page(alloc, conn, asked, *count, times)),
+        Act::Span(asked, told) => said(tells_span(alloc, conn, asked, *told)),
         Act::IsOpen(open) => Ok(unless(is_open(conn) == *open)),
         Act::AddMany(rows) => Ok(unless(add_many(alloc, conn, *rows)?)),
         Act::LimitSteps(steps) => {

@@ -1,19 +1,16 @@
 //! Reads over plain lists: everything is searched and summed anew.
 ghost use Rattle.std.specs.Prelude.{◌≡◌, IfOk};
-ghost use Rattle.records.specs.Facts.{account_in};
 ghost use Rattle.records.specs.Machine.{account_with};
-ghost use Rattle.records.specs.Reads.{found_accounts, found_transfers, history_of, in_order};
-ghost use Rattle.records.specs.Reads.{history_balances_of, statement_of};
+ghost use Rattle.records.specs.Queries.{accounts_within, transfers_within};
+ghost use Rattle.records.specs.Reads.{history_of, history_balances_of, in_order, statement_of};
 
 use super::PlainTables;
 use crate::entries::{balance_rows, statement_rows};
-use crate::page::page;
-use crate::search::{find_account, find_transfer};
+use crate::page::{first_of_span, page};
+use crate::search::find_account;
 use chain::Listed;
 use engine::sums_fit;
-use records::{
-    Account, AccountFilter, AccountWithBalances, BalanceAt, Order, StatementRow, Transfer,
-};
+use records::{Account, AccountFilter, BalanceAt, Order, Span, StatementRow, Transfer};
 use std::alloc::{AllocError, Global};
 
 impl PlainTables {
@@ -35,38 +32,34 @@ impl PlainTables {
         }
     }
 
-    fn account_with_balances(&self, id: u128) -> Option<AccountWithBalances>
-        ensures { result ≡ account_in self.now.now id }
+    /// The accounts within a span of time.
+    pub(crate) fn accounts_in(&self, alloc: Global, span: &Span) -> Result<Vec<Account>, AllocError>
+        ensures { IfOk result (λ found. found.items ≡ accounts_within self.now.now span.now) }
     {
-        let Some(account) = find_account(&self.accounts, id) else {
-            return None;
-        };
-        let balances = self.balances(account.id);
-        Some(AccountWithBalances { account, balances })
+        let found = self
+            .accounts
+            .iter()
+            .copied()
+            .filter(|account| span.is_within(account.timestamp))
+            .collect(alloc)?;
+        Ok(first_of_span(span, found))
     }
 
-    pub(crate) fn found_accounts(
+    /// The transfers within a span of time.
+    pub(crate) fn transfers_in(
         &self,
         alloc: Global,
-        ids: &[u128],
-    ) -> Result<Vec<AccountWithBalances>, AllocError>
-        ensures { IfOk result (λ found. found.items ≡ found_accounts self.now.now ids.now) }
-    {
-        ids.iter()
-            .filter_map(|id| self.account_with_balances(*id))
-            .collect(alloc)
-    }
-
-    pub(crate) fn found_transfers(
-        &self,
-        alloc: Global,
-        ids: &[u128],
+        span: &Span,
     ) -> Result<Vec<Transfer>, AllocError>
-        ensures { IfOk result (λ found. found.items ≡ found_transfers self.now.now ids.now) }
+        ensures { IfOk result (λ found. found.items ≡ transfers_within self.now.now span.now) }
     {
-        ids.iter()
-            .filter_map(|id| find_transfer(&self.transfers, *id))
-            .collect(alloc)
+        let found = self
+            .transfers
+            .iter()
+            .copied()
+            .filter(|transfer| span.is_within(transfer.timestamp))
+            .collect(alloc)?;
+        Ok(first_of_span(span, found))
     }
 
     pub(crate) fn history(

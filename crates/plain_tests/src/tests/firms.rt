@@ -2,13 +2,14 @@
 ghost use Rattle.std.specs.Prelude.{◌≡◌, true, false, Err};
 
 use chain::{
-    BatchFault, BatchReply, Ledgers, Listed, ReadFault, RoundWork, Rounds, Tables, Work,
+    BatchFault, BatchReply, Ledgers, Listed, QueryPage, ReadFault, RoundWork, Rounds, Tables, Work,
     run_accounts, run_transfers,
 };
 use plain::{Book, PlainTables};
 use records::{
-    AccountEvent, AccountFilter, AccountResult, AccountWithBalances, BalanceAt, Order, RowSink,
-    SinkFault, StatementRow, Transfer, TransferEvent, TransferResult, Unavailable,
+    AccountEvent, AccountFilter, AccountResult, AccountWithBalances, BalanceAt, Hold, Order,
+    PageFilter, QueryFilter, RowSink, SinkFault, StatementRow, Transfer, TransferEvent,
+    TransferResult, Unavailable,
 };
 use samples::{KEEPS_HISTORY, LIMITS_DEBITS, account};
 use std::alloc::Global;
@@ -160,6 +161,38 @@ impl Firms {
         ids: &[u128],
     ) -> Result<Listed<Transfer>, ReadFault> {
         self.book.lookup_transfers(self.alloc, digest, ids)
+    }
+
+    /// What has become of the holds with these ids.
+    pub fn pending(&mut self, digest: &[u8; 32], ids: &[u128]) -> Result<Listed<Hold>, ReadFault> {
+        self.book.lookup_pending(self.alloc, digest, ids)
+    }
+
+    /// A page of the holds that are open.
+    pub fn open_pending(
+        &mut self,
+        digest: &[u8; 32],
+        asked: &PageFilter,
+    ) -> Result<QueryPage<Hold>, ReadFault> {
+        self.book.open_pending(self.alloc, digest, asked)
+    }
+
+    /// A page of the accounts that a query asks for.
+    pub fn query_accounts(
+        &mut self,
+        digest: &[u8; 32],
+        asked: &QueryFilter,
+    ) -> Result<QueryPage<AccountWithBalances>, ReadFault> {
+        self.book.query_accounts(self.alloc, digest, asked)
+    }
+
+    /// A page of the transfers that a query asks for.
+    pub fn query_transfers(
+        &mut self,
+        digest: &[u8; 32],
+        asked: &QueryFilter,
+    ) -> Result<QueryPage<Transfer>, ReadFault> {
+        self.book.query_transfers(self.alloc, digest, asked)
     }
 
     /// The transfers that a filter asks for.

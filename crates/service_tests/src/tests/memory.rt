@@ -12,13 +12,28 @@ pub(crate) const UNAVAILABLE: &str = concat!(
     "content-type: application/json\r\n\r\n{\"error\":\"unavailable\"}"
 );
 
-const STEPS: [Step; 3] = [
+const STEPS: [Step; 5] = [
     FOUR_ACCOUNTS,
     (PENDING_AND_POST, 0, Want::Results(6, &[(0, 5), (0, 6)])),
     (
         Asked::Get("/statement/1"),
         0,
         Want::Statement("5,100,debit,pending,70,70,0,0,0\n6,101,debit,post,70,0,70,0,0\n"),
+    ),
+    (
+        Asked::Post("/pending/lookup", r#"["100"]"#),
+        0,
+        Want::Json(r#"{"clock":"6","pending":[{"due":"0","id":"100","state":"posted"}]}"#),
+    ),
+    (
+        Asked::Post("/query/accounts", r#"{"limit":1,"timestamp_min":"4"}"#),
+        0,
+        Want::Json(concat!(
+            r#"{"accounts":[{"code":10,"credits_pending":"0","credits_posted":"0","#,
+            r#""debits_pending":"0","debits_posted":"0","flags":0,"id":"4","ledger":7,"#,
+            r#""timestamp":"4","user_data_128":"0","user_data_32":0,"user_data_64":"0"}],"#,
+            r#""clock":"6","next":"5"}"#
+        )),
     ),
 ];
 

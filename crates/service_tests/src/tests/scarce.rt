@@ -14,7 +14,7 @@ use chain::{BatchFault, Ledgers, Listed, ReadFault, RoundWork, Rounds, Tables, W
 use plain::PlainTables;
 use records::{
     Accepted, Account, AccountFilter, AccountWithBalances, BalanceAt, Order, PendingState, RowSink,
-    Transfer, Unavailable,
+    Span, Transfer, Unavailable,
 };
 use service::{Message, Settles, respond, respond_round};
 use std::alloc::Global;
@@ -59,6 +59,18 @@ impl Tables for Scarce {
         self.tables.failed(id)
     }
 
+    fn accounts_within(&mut self, alloc: Global, span: &Span) -> Result<Vec<Account>, Unavailable> {
+        self.tables.accounts_within(alloc, span)
+    }
+
+    fn transfers_within(
+        &mut self,
+        alloc: Global,
+        span: &Span,
+    ) -> Result<Vec<Transfer>, Unavailable> {
+        self.tables.transfers_within(alloc, span)
+    }
+
     fn settle(&mut self, clock: u64) -> Result<(), Unavailable> {
         self.tables.settle(clock)
     }
@@ -101,7 +113,7 @@ impl Tables for Scarce {
     ghost valid = { λ a live usable. usable };
 }
 
-/// The ledger of one firm over such tables. It refuses all reads.
+/// The ledger of one firm over such tables. It refuses histories and statements.
 #[derive(Drop)]
 struct ScarceLedger {
     digest: [u8; 32],
@@ -140,24 +152,6 @@ impl Ledgers for ScarceLedger {
 
     fn knows(&mut self, digest: &[u8; 32]) -> Result<bool, Unavailable> {
         Ok(*digest == self.digest)
-    }
-
-    fn lookup_accounts(
-        &mut self,
-        _alloc: Global,
-        _digest: &[u8; 32],
-        _ids: &[u128],
-    ) -> Result<Listed<AccountWithBalances>, ReadFault> {
-        Err(ReadFault::Unavailable(Unavailable::Memory))
-    }
-
-    fn lookup_transfers(
-        &mut self,
-        _alloc: Global,
-        _digest: &[u8; 32],
-        _ids: &[u128],
-    ) -> Result<Listed<Transfer>, ReadFault> {
-        Err(ReadFault::Unavailable(Unavailable::Memory))
     }
 
     fn history_transfers(

@@ -10,13 +10,17 @@ use std::test::Fail;
 use tenants::Key;
 use wire::{Request, meaning, read_accounts, read_transfers};
 
-const POSTS: [Route; 6] = [
+pub(super) const POSTS: [Route; 10] = [
     Route::Accounts,
     Route::Transfers,
     Route::LookupAccounts,
     Route::LookupTransfers,
     Route::HistoryTransfers,
     Route::HistoryBalances,
+    Route::QueryAccounts,
+    Route::QueryTransfers,
+    Route::LookupPending,
+    Route::OpenPending,
 ];
 
 const NOT_JSON: [&[u8]; 10] = [
@@ -115,11 +119,12 @@ const BAD_FILTERS: [&[u8]; 19] = [
 ];
 
 /// A field that is missing is 0, and escapes are resolved in names and in numbers.
-const LISTS: [(Route, &[u8], &[u128]); 4] = [
+const LISTS: [(Route, &[u8], &[u128]); 5] = [
     (Route::Accounts, EVENTS, &[0, 1]),
     (Route::Transfers, EVENTS, &[0, 1]),
     (Route::LookupAccounts, IDS, &[2, 0, 2, u128::MAX]),
     (Route::LookupTransfers, IDS, &[2, 0, 2, u128::MAX]),
+    (Route::LookupPending, IDS, &[2, 0, 2, u128::MAX]),
 ];
 
 const EVENTS: &[u8] = br#" [{}, {"\u0069d":"\u0031"}] "#;
@@ -167,7 +172,11 @@ const STATEMENTS: [(&str, Option<u128>); 9] = [
 ];
 
 // What a body that is posted to a route means.
-fn meant<R: Abort + AllocGlobal>(rt: &R, route: Route, body: &[u8]) -> Result<Request, Refusal> {
+pub(super) fn meant<R: Abort + AllocGlobal>(
+    rt: &R,
+    route: Route,
+    body: &[u8],
+) -> Result<Request, Refusal> {
     meaning(rt.alloc(), &posted(rt, route, body))
 }
 
@@ -189,6 +198,7 @@ fn listed(alloc: Global, request: Request) -> Result<Option<(Route, Vec<u128>)>,
         }
         Request::LookupAccounts(ids) => Some((Route::LookupAccounts, ids.into_vec())),
         Request::LookupTransfers(ids) => Some((Route::LookupTransfers, ids.into_vec())),
+        Request::LookupPending(ids) => Some((Route::LookupPending, ids.into_vec())),
         _ => None,
     })
 }
@@ -301,7 +311,11 @@ fn refuses_bad_bodies(rt: HostRuntime) {
     refuses(&rt, Route::Accounts, &BAD_ACCOUNTS, Refusal::BadField);
     refuses(&rt, Route::Transfers, &BAD_EVENTS, Refusal::BadField);
     refuses(&rt, Route::Transfers, &BAD_TRANSFERS, Refusal::BadField);
-    for route in [Route::LookupAccounts, Route::LookupTransfers] {
+    for route in [
+        Route::LookupAccounts,
+        Route::LookupTransfers,
+        Route::LookupPending,
+    ] {
         refuses(&rt, route, &BAD_IDS, Refusal::BadField);
     }
     for route in [Route::HistoryTransfers, Route::HistoryBalances] {
@@ -310,11 +324,12 @@ fn refuses_bad_bodies(rt: HostRuntime) {
 }
 
 /// A route, an item that is well formed, and one that is not.
-const ITEMS: [(Route, &[u8], &[u8]); 4] = [
+const ITEMS: [(Route, &[u8], &[u8]); 5] = [
     (Route::Accounts, b"{}", b"{\"id\":\"01\"}"),
     (Route::Transfers, b"{}", b"{\"amount\":\"01\"}"),
     (Route::LookupAccounts, b"\"1\"", b"1"),
     (Route::LookupTransfers, b"\"1\"", b"1"),
+    (Route::LookupPending, b"\"1\"", b"1"),
 ];
 
 // Only a list whose items are all well formed has too many.
@@ -330,22 +345,12 @@ fn refuses_long_bodies(rt: HostRuntime) -> Result<(), Fail> {
     Ok(())
 }
 
-#[test]
-fn refuses_deep_bodies(rt: HostRuntime) -> Result<(), Fail> {
-    for (levels, refusal) in [
-        (127, Refusal::BadField),
-        (128, Refusal::BodyNotJson),
-        (100_000, Refusal::BodyNotJson),
-    ] {
-        let deep = nested(rt.alloc(), levels)?;
-        for route in POSTS {
-            refuses(&rt, route, &[&deep], refusal);
-        }
-    }
-    Ok(())
-}
-
-fn refuses<R: Abort + AllocGlobal>(rt: &R, route: Route, bodies: &[&[u8]], refusal: Refusal) {
+pub(super) fn refuses<R: Abort + AllocGlobal>(
+    rt: &R,
+    route: Route,
+    bodies: &[&[u8]],
+    refusal: Refusal,
+) {
     for body in bodies {
         let told = meaning(rt.alloc(), &posted(rt, route, body)).err();
         assert_eq!(rt; told, Some(refusal), "{route:?} {body:?}");
@@ -370,16 +375,5 @@ fn list(alloc: Global, item: &[u8], count: usize, last: &[u8]) -> Result<Vec<u8>
     }
     text.extend_from_slice(last)?;
     text.extend_from_slice(b"]")?;
-    Ok(text)
-}
-
-fn nested(alloc: Global, levels: usize) -> Result<Vec<u8>, AllocError> {
-    let mut text = Vec::new(alloc);
-    for _ in 0..levels {
-        text.extend_from_slice(b"[")?;
-    }
-    for _ in 0..levels {
-        text.extend_from_slice(b"]")?;
-    }
     Ok(text)
 }

@@ -116,7 +116,7 @@ fn tells_accounts(rt: HostRuntime) -> Result<(), Fail> {
 }
 
 /// A post.
-const SMALL: Transfer = Transfer {
+pub(super) const SMALL: Transfer = Transfer {
     id: 5,
     debit_account_id: 3,
     credit_account_id: 2,
@@ -256,7 +256,7 @@ fn is_text(rt: &impl Abort, text: &[u8], wanted: &str) {
     assert_eq!(rt; text, wanted.as_bytes());
 }
 
-fn items<T: Copy>(alloc: Global, values: &[T]) -> Result<Items<T>, AllocError> {
+pub(super) fn items<T: Copy>(alloc: Global, values: &[T]) -> Result<Items<T>, AllocError> {
     Ok(Vec::from_slice(alloc, values)?.into())
 }
 
@@ -280,7 +280,7 @@ fn balances(sums: [u128; 4]) -> Balances {
     }
 }
 
-fn is_json<R: Abort + AllocGlobal>(
+pub(super) fn is_json<R: Abort + AllocGlobal>(
     rt: &R,
     outcome: &Outcome,
     length: &str,

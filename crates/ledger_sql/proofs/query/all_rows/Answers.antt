@@ -1,4 +1,6 @@
 use Rattle.std.proofs.Common.{◌≡◌, List, map, Some, refl, sym, subst, ◌∙◌, rules}
+use Rattle.std.specs.Prelude.{All}
+use Rattle.std.proofs.lemmas.List.Elements.{All-nil, All-push}
 use Rattle.sqlite_value.specs.Order.{Row}
 use Rattle.sqlite.specs.Values.{bound}
 use Rattle.sqlite.specs.Given.{Advances}
@@ -18,7 +20,7 @@ returns-in_err-rows-clause-reads g c =
 pub rows-init : goal.rows-init
 rows-init g c =
     let made = c.in_ok-rows.ensures in
-    (refl, rw c.new-read.ensures.items (starts g.S.Store c.args.text.now (bound c.args.params.now) c.args.conn.now c.in_ok-rows.rows.conn.now c.requires (quiet c.args.text.now (bound c.args.params.now) _ _ c.requires made.survives) made.begun))
+    (refl, rw c.new-read.ensures.items (starts g.S.Store c.args.text.now (bound c.args.params.now) c.args.conn.now c.in_ok-rows.rows.conn.now c.requires (quiet c.args.text.now (bound c.args.params.now) _ _ c.requires made.survives) made.begun), rw c.new-read.ensures.items (All-nil g.T.ReadRow.is_storable))
 
 pub rows-preserved : goal.rows-preserved
 rows-preserved g c =
@@ -31,7 +33,7 @@ rows-preserved g c =
     let row : c.in-Some.row.now ≡ values c.in_ok-read_row.field-0 = c.in_ok-read_row.ensures.values in
     let way = moves g.S.Store c.args.text.now (bound c.args.params.now) c.args.conn.now c.rows.rows.conn.now now _ it moved.survives (values c.in_ok-read_row.field-0) (λ clean. subst (λ r. Advances g.S.Store c.rows.rows.conn.now now (Some r)) row (ok clean)) same in
     let under : List Row → Type 0 = IsUnderWay g.S.Store c.args.text.now (bound c.args.params.now) c.args.conn.now now in
-    (moved.same_reference ∙ c.rows.invariant.0, subst (λ items. under (map values items)) (sym c.in_ok-push.ensures.items) (subst under (sym (values_more values c.rows.read.items c.in_ok-read_row.field-0)) way))
+    (moved.same_reference ∙ c.rows.invariant.0, subst (λ items. under (map values items)) (sym c.in_ok-push.ensures.items) (subst under (sym (values_more values c.rows.read.items c.in_ok-read_row.field-0)) way), subst (All g.T.ReadRow.is_storable) (sym c.in_ok-push.ensures.items) (All-push g.T.ReadRow.is_storable c.rows.read.items c.in_ok-read_row.field-0 c.rows.invariant.2 c.in_ok-read_row.ensures.fits))
 
 pub returns-in_default-clause-ok : goal.returns-in_default-clause-ok
 returns-in_default-clause-ok g c =

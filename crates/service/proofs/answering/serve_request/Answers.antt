@@ -1,5 +1,6 @@
 use Rattle.std.proofs.Common.{refl, ◌∙◌, ap, sym}
 use Rattle.wire.specs.declared.request.Request.TheVariants.{LookupAccounts, LookupTransfers}
+use Rattle.wire.specs.declared.request.Request.TheVariants.{LookupPending}
 use Rattle.service.proofs.FindingLemmas.{finds_by_read}
 use Rattle.service.proofs.ServedReads.{serves_by_read}
 use Rattle.service.proofs.answering.serve_request.Goals as goal
@@ -7,16 +8,16 @@ use Rattle.service.proofs.answering.serve_request.Goals as goal
 pub returns-in-LookupAccounts-clause-serves : goal.returns-in-LookupAccounts-clause-serves
 returns-in-LookupAccounts-clause-serves g c live =
     serves_by_read _ _ _ _ _ _ _ (c.in-LookupAccounts.is ∙ ap LookupAccounts
-    (sym c.as_slice.ensures)) (λ m. refl) (c.looked_up_accounts.ensures.reads.same live)
-    (λ ne. c.reply_to_read.ensures.shows _ (c.looked_up_accounts.ensures.told live _) ne)
+    (sym c.as_slice.ensures)) (λ m. refl) (c.looked_up_accounts-found.ensures.reads.same live)
+    (λ ne. c.reply_to_read.ensures.shows _ (c.looked_up_accounts-found.ensures.told live _) ne)
 
 pub returns-in-LookupTransfers-clause-serves : goal.returns-in-LookupTransfers-clause-serves
 returns-in-LookupTransfers-clause-serves g c live =
     serves_by_read _ _ _ _ _ _ _ (c.in-LookupTransfers.is ∙ ap LookupTransfers
     (sym c.as_slice-in-LookupTransfers.ensures)) (λ m. refl)
-    (c.looked_up_transfers.ensures.reads.same live)
+    (c.looked_up_transfers-found.ensures.reads.same live)
     (λ ne. c.reply_to_read-in-LookupTransfers.ensures.shows _
-    (c.looked_up_transfers.ensures.told live _) ne)
+    (c.looked_up_transfers-found.ensures.told live _) ne)
 
 pub returns-in-HistoryTransfers-clause-serves : goal.returns-in-HistoryTransfers-clause-serves
 returns-in-HistoryTransfers-clause-serves g c live =
@@ -32,6 +33,19 @@ returns-in-HistoryBalances-clause-serves g c live =
     (λ ne. c.reply_to_read-in-HistoryBalances.ensures.shows _
     (c.history_of_balances.ensures.told live _) ne)
 
+pub returns-in-Query-clause-serves : goal.returns-in-Query-clause-serves
+returns-in-Query-clause-serves g c live =
+    serves_by_read _ _ _ _ _ _ _ c.in-Query.is (λ m. refl) (c.queried.ensures.reads.same live)
+    (λ ne. c.reply_to_read-in-Query.ensures.shows _ (c.queried.ensures.told live _) ne)
+
+pub returns-in-LookupPending-clause-serves : goal.returns-in-LookupPending-clause-serves
+returns-in-LookupPending-clause-serves g c live =
+    serves_by_read _ _ _ _ _ _ _ (c.in-LookupPending.is ∙ ap LookupPending
+    (sym c.as_slice-in-LookupPending.ensures)) (λ m. refl)
+    (c.looked_up_holds-found.ensures.reads.same live)
+    (λ ne. c.reply_to_read-in-LookupPending.ensures.shows _
+    (c.looked_up_holds-found.ensures.told live _) ne)
+
 pub returns-in-Statement-clause-serves : goal.returns-in-Statement-clause-serves
 returns-in-Statement-clause-serves g c live =
     serves_by_read _ _ _ _ _ _ _ c.in-Statement.is (λ m. refl) (c.statement.ensures.reads.same live)
@@ -41,14 +55,14 @@ pub returns-in-LookupAccounts-clause-finds : goal.returns-in-LookupAccounts-clau
 returns-in-LookupAccounts-clause-finds g c =
     finds_by_read g.L.Ledgers.means _ _ _ _ _ _ _ _
     (c.in-LookupAccounts.is ∙ ap LookupAccounts (sym c.as_slice.ensures))
-    (λ m. refl) c.reply_to_read.ensures.told c.looked_up_accounts.ensures.finds
+    (λ m. refl) c.reply_to_read.ensures.told c.looked_up_accounts-found.ensures.finds
 
 pub returns-in-LookupTransfers-clause-finds : goal.returns-in-LookupTransfers-clause-finds
 returns-in-LookupTransfers-clause-finds g c =
     finds_by_read g.L.Ledgers.means _ _ _ _ _ _ _ _
     (c.in-LookupTransfers.is
     ∙ ap LookupTransfers (sym c.as_slice-in-LookupTransfers.ensures))
-    (λ m. refl) c.reply_to_read-in-LookupTransfers.ensures.told c.looked_up_transfers.ensures.finds
+    (λ m. refl) c.reply_to_read-in-LookupTransfers.ensures.told c.looked_up_transfers-found.ensures.finds
 
 pub returns-in-HistoryTransfers-clause-finds : goal.returns-in-HistoryTransfers-clause-finds
 returns-in-HistoryTransfers-clause-finds g c =
@@ -62,6 +76,18 @@ returns-in-HistoryBalances-clause-finds g c =
     finds_by_read g.L.Ledgers.means _ _ _ _ _ _ _ _
     c.in-HistoryBalances.is
     (λ m. refl) c.reply_to_read-in-HistoryBalances.ensures.told c.history_of_balances.ensures.finds
+
+pub returns-in-Query-clause-finds : goal.returns-in-Query-clause-finds
+returns-in-Query-clause-finds g c =
+    finds_by_read g.L.Ledgers.means _ _ _ _ _ _ _ _
+    c.in-Query.is
+    (λ m. refl) c.reply_to_read-in-Query.ensures.told c.queried.ensures.finds
+
+pub returns-in-LookupPending-clause-finds : goal.returns-in-LookupPending-clause-finds
+returns-in-LookupPending-clause-finds g c =
+    finds_by_read g.L.Ledgers.means _ _ _ _ _ _ _ _
+    (c.in-LookupPending.is ∙ ap LookupPending (sym c.as_slice-in-LookupPending.ensures))
+    (λ m. refl) c.reply_to_read-in-LookupPending.ensures.told c.looked_up_holds-found.ensures.finds
 
 pub returns-in-Statement-clause-finds : goal.returns-in-Statement-clause-finds
 returns-in-Statement-clause-finds g c =

@@ -2,6 +2,7 @@ use Rattle.std.proofs.Common.{refl, sym, ap, ◌∙◌}
 use Rattle.records.specs.declared.balances.BalanceAt.{BalanceAt}
 use Rattle.records.specs.Reads.{history_balances_answer}
 use Rattle.chain.specs.declared.reads.Listed.{Listed}
+use Rattle.chain.specs.LedgerReads.{seen_of_list}
 use Rattle.wire.specs.declared.outcome.Outcome.TheVariants as told
 use Rattle.wire.specs.declared.request.Request.TheVariants.{HistoryBalances}
 use Rattle.service.proofs.FindingLemmas as finding
@@ -13,7 +14,7 @@ returns-in_err-found-clause-told g c live moment =
     told_on _ c.from_residual.result _ c.from_residual.ensures.1
     (told_as_fault (HistoryBalances c.args.asked.now) moment
     (λ m. history_balances_answer m c.args.asked.now)
-    told.Balances _ _ (record { tells = λ m. refl })
+    told.Balances seen_of_list _ _ (record { tells = λ m. refl })
     (c.in_err-found.ensures.told live))
 
 pub returns-clause-told : goal.returns-clause-told

@@ -2,6 +2,7 @@ use Rattle.std.proofs.Common.{refl, sym, ap, ◌∙◌}
 use Rattle.records.specs.declared.transfer.Transfer.{Transfer}
 use Rattle.records.specs.Reads.{history_answer}
 use Rattle.chain.specs.declared.reads.Listed.{Listed}
+use Rattle.chain.specs.LedgerReads.{seen_of_list}
 use Rattle.wire.specs.declared.outcome.Outcome.TheVariants as told
 use Rattle.wire.specs.declared.request.Request.TheVariants.{HistoryTransfers}
 use Rattle.service.proofs.FindingLemmas as finding
@@ -13,7 +14,7 @@ returns-in_err-found-clause-told g c live moment =
     told_on _ c.from_residual.result _ c.from_residual.ensures.1
     (told_as_fault (HistoryTransfers c.args.asked.now) moment
     (λ m. history_answer m c.args.asked.now)
-    told.Transfers _ _ (record { tells = λ m. refl })
+    told.Transfers seen_of_list _ _ (record { tells = λ m. refl })
     (c.in_err-found.ensures.told live))
 
 pub returns-clause-told : goal.returns-clause-told

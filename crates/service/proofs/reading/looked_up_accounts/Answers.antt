@@ -2,6 +2,7 @@ use Rattle.std.proofs.Common.{refl, sym, ap, ◌∙◌}
 use Rattle.records.specs.declared.facts.AccountWithBalances.{AccountWithBalances}
 use Rattle.records.specs.Reads.{Found, found_accounts}
 use Rattle.chain.specs.declared.reads.Listed.{Listed}
+use Rattle.chain.specs.LedgerReads.{seen_of_list}
 use Rattle.wire.specs.declared.outcome.Outcome.TheVariants as told
 use Rattle.wire.specs.declared.request.Request.TheVariants.{LookupAccounts}
 use Rattle.service.proofs.FindingLemmas as finding
@@ -13,7 +14,7 @@ returns-in_err-found-clause-told g c live moment =
     told_on _ c.from_residual.result _ c.from_residual.ensures.1
     (told_as_fault (LookupAccounts c.args.ids.now) moment
     (λ m. Found (found_accounts m c.args.ids.now))
-    told.Accounts _ _ (record { tells = λ m. refl })
+    told.Accounts seen_of_list _ _ (record { tells = λ m. refl })
     (c.in_err-found.ensures.told live))
 
 pub returns-clause-told : goal.returns-clause-told

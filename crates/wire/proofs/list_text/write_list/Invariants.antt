@@ -11,7 +11,7 @@ abbrev pub invariant-loop-shown : goal.invariant-loop-shown
 invariant-loop-shown g l = record {
   before : l.writer.before ≡ l.fn.writer.before;
   tokens : l.writer.tokens
-      ++ items_tokens (items_outline (items_of (map g.S.Shown.shows (drop l.shown-index l.list))))
+      ++ items_tokens (items_outline (items_of (map g.F.Form.shows (drop l.shown-index l.list))))
       ≡ l.fn.writer.tokens
-      ++ key l.fn.name ∷ json_tokens (outline (list_data g.S.Shown.shows l.list));
+      ++ key l.fn.name ∷ json_tokens (outline (list_data g.F.Form.shows l.list));
 }

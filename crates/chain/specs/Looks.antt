@@ -1,0 +1,29 @@
+-- Work that only reads: what it gives, what it leaves, and how its answer is told.
+use Rattle.std.specs.Prelude.{◌≡◌, Result, Ok, Err, OnOk}
+use Rattle.records.specs.declared.unavailable.Unavailable.{Unavailable}
+use Rattle.records.specs.Machine.{Machine}
+use Rattle.chain.specs.declared.ledgers.BatchFault.{BatchFault}
+use Rattle.chain.specs.declared.ledgers.BatchFault.TheVariants as batch_fault
+use Rattle.chain.specs.declared.reads.ReadFault.{ReadFault}
+use Rattle.chain.specs.declared.reads.ReadFault.TheVariants as fault
+use Rattle.chain.specs.LedgerReads.{Seen}
+use Rattle.chain.specs.Tables.{Meaning}
+
+-- an output that shows this of the machine, at its clock; the machine stays
+pub record Shows {A X : Type 0} (shows : X → Seen A) (answer : Machine → A)
+    (before : Machine) (output : X) (after : Machine) : Type 0 where
+  pub is : shows output ≡ record { clock = before.clock; shown = answer before }
+  pub same : after ≡ before
+
+-- what calls that only look leave: if they answer, the very state
+pub record LeavesSame {S X : Type 0} (t : Meaning S) (old new : S) (result : Result X Unavailable) :
+    Type 0 where
+  pub same : t.is_live new → OnOk result (t.state new ≡ t.state old)
+  pub usable : OnOk result (t.is_usable new)
+  pub follows : t.follows old new
+
+-- the answer of a batch, as a read
+abbrev pub read_answer : {A : Type 0} → Result A BatchFault → Result A ReadFault
+read_answer (Ok answer) = Ok answer
+read_answer (Err batch_fault.UnknownKey) = Err fault.UnknownKey
+read_answer (Err (batch_fault.Unavailable why)) = Err (fault.Unavailable why)

@@ -1,0 +1,232 @@
+//! What can be asked for in pages: accounts, transfers and open holds.
+
+ghost use Rattle.std.specs.Prelude.{◌≡◌, ℕ, List, Option, Some, IfOk};
+ghost use Rattle.std.specs.Option.{option_and_then};
+ghost use Rattle.records.specs.Machine.{Machine, account_with, transfer_with};
+ghost use Rattle.records.specs.Queries.{asked_account, asked_transfer, hold_of, if_open, within};
+ghost use Rattle.records.specs.Valid.{IsValid};
+ghost use Rattle.records.specs.declared.query.PageFilter.{PageFilter as Asked};
+ghost use Rattle.chain.specs.Looks.{LeavesSame};
+ghost use Rattle.chain.specs.Pages.{AreRecords};
+ghost use Rattle.chain.specs.Records.{account_records, transfer_records};
+ghost use Rattle.chain.specs.Tables.{Tells};
+
+use crate::Tables;
+use crate::lookups::hold_of;
+use records::{
+    Account, AccountWithBalances, Hold, PageFilter, PendingState, QueryFilter, Span, Tags,
+    Transfer, Unavailable,
+};
+use std::alloc::Global;
+
+/// A question that is answered in pages.
+pub(crate) trait Query {
+    type Record: Copy;
+
+    type Shown: Drop;
+
+    // The records of a machine that it looks at, oldest first; what holds of each of them; when a
+    // record was accepted; what is shown of one, if it is asked for; and which page is asked for.
+    ghost records_in: { Machine → List Self.Record };
+
+    ghost is_kept: { Machine → Self.Record → Type 0 };
+
+    ghost time_of: { Self.Record → ℕ };
+
+    ghost shown_in: { Self → Machine → Self.Record → Option Self.Shown };
+
+    ghost asks: { Self → Asked };
+
+    /// Which page is asked for.
+    fn page(&self) -> PageFilter
+        ensures { result ≡ asks self.now };
+
+    /// When a record was accepted, in nanoseconds.
+    fn time(&self, record: &Self::Record) -> u64
+        ensures { result ≡ time_of record.now };
+
+    /// The records within a span of time.
+    fn within<T: Tables>(
+        &self,
+        alloc: Global,
+        tables: &mut T,
+        span: &Span,
+    ) -> Result<Vec<Self::Record>, Unavailable>
+        requires { T.means.is_usable tables.old }
+        ensures value { T.means.is_live tables.new → IfOk result (λ found.
+            found.items ≡ within time_of span.now
+            (records_in (T.means.state tables.old).now)) }
+        ensures leaves { LeavesSame T.means tables.old tables.new result };
+
+    /// What is shown of a record of the tables, if it is asked for.
+    fn show<T: Tables>(
+        &self,
+        tables: &mut T,
+        record: &Self::Record,
+    ) -> Result<Option<Self::Shown>, Unavailable>
+        requires usable { T.means.is_usable tables.old }
+        requires kept { T.means.is_live tables.old →
+            is_kept (T.means.state tables.old).now record.now }
+        ensures value { Tells T.means tables.old tables.new result
+            (λ m. shown_in self.now m record.now) }
+        ensures leaves { LeavesSame T.means tables.old tables.new result };
+
+    /// The records of a valid machine stand in order of time.
+    ghost in_turn: { (m : Machine) → IsValid m → AreRecords time_of (is_kept m) (records_in m) };
+}
+
+/// The accounts that a query asks for, with their balances at the clock.
+#[derive(Drop)]
+pub(crate) struct AccountQuery {
+    pub(crate) asked: QueryFilter,
+}
+
+impl Query for AccountQuery {
+    type Record = Account;
+
+    type Shown = AccountWithBalances;
+
+    ghost records_in = { λ m. m.accounts };
+
+    ghost is_kept = { λ m account. account_with account.id m.accounts ≡ Some account };
+
+    ghost time_of = { λ account. account.timestamp };
+
+    ghost shown_in = { λ query m account. asked_account m query.asked.tags account };
+
+    ghost asks = { λ query. query.asked.page };
+
+    fn page(&self) -> PageFilter {
+        self.asked.page
+    }
+
+    fn time(&self, account: &Account) -> u64 {
+        account.timestamp
+    }
+
+    fn within<T: Tables>(
+        &self,
+        alloc: Global,
+        tables: &mut T,
+        span: &Span,
+    ) -> Result<Vec<Account>, Unavailable> {
+        tables.accounts_within(alloc, span)
+    }
+
+    fn show<T: Tables>(
+        &self,
+        tables: &mut T,
+        account: &Account,
+    ) -> Result<Option<AccountWithBalances>, Unavailable> {
+        if self.asked.tags.asks(&Tags::of_account(account)) {
+            tables.account(account.id)
+        } else {
+            Ok(None)
+        }
+    }
+
+    ghost in_turn = { account_records };
+}
+
+/// The transfers that a query asks for.
+#[derive(Drop)]
+pub(crate) struct TransferQuery {
+    pub(crate) asked: QueryFilter,
+}
+
+impl Query for TransferQuery {
+    type Record = Transfer;
+
+    type Shown = Transfer;
+
+    ghost records_in = { λ m. m.transfers };
+
+    ghost is_kept = { λ m transfer. transfer_with transfer.id m.transfers ≡ Some transfer };
+
+    ghost time_of = { λ transfer. transfer.timestamp };
+
+    ghost shown_in = { λ query m transfer. asked_transfer query.asked.tags transfer };
+
+    ghost asks = { λ query. query.asked.page };
+
+    fn page(&self) -> PageFilter {
+        self.asked.page
+    }
+
+    fn time(&self, transfer: &Transfer) -> u64 {
+        transfer.timestamp
+    }
+
+    fn within<T: Tables>(
+        &self,
+        alloc: Global,
+        tables: &mut T,
+        span: &Span,
+    ) -> Result<Vec<Transfer>, Unavailable> {
+        tables.transfers_within(alloc, span)
+    }
+
+    fn show<T: Tables>(
+        &self,
+        _tables: &mut T,
+        transfer: &Transfer,
+    ) -> Result<Option<Transfer>, Unavailable> {
+        if self.asked.tags.asks(&Tags::of_transfer(transfer)) {
+            Ok(Some(*transfer))
+        } else {
+            Ok(None)
+        }
+    }
+
+    ghost in_turn = { transfer_records };
+}
+
+/// The holds that are open at the clock.
+#[derive(Drop)]
+pub(crate) struct OpenHolds {
+    pub(crate) asked: PageFilter,
+}
+
+impl Query for OpenHolds {
+    type Record = Transfer;
+
+    type Shown = Hold;
+
+    ghost records_in = { λ m. m.transfers };
+
+    ghost is_kept = { λ m transfer. transfer_with transfer.id m.transfers ≡ Some transfer };
+
+    ghost time_of = { λ transfer. transfer.timestamp };
+
+    ghost shown_in = { λ query m transfer. option_and_then if_open (hold_of m transfer) };
+
+    ghost asks = { λ query. query.asked };
+
+    fn page(&self) -> PageFilter {
+        self.asked
+    }
+
+    fn time(&self, transfer: &Transfer) -> u64 {
+        transfer.timestamp
+    }
+
+    fn within<T: Tables>(
+        &self,
+        alloc: Global,
+        tables: &mut T,
+        span: &Span,
+    ) -> Result<Vec<Transfer>, Unavailable> {
+        tables.transfers_within(alloc, span)
+    }
+
+    fn show<T: Tables>(
+        &self,
+        tables: &mut T,
+        transfer: &Transfer,
+    ) -> Result<Option<Hold>, Unavailable> {
+        let hold = hold_of(tables, transfer)?;
+        Ok(hold.filter(|hold| hold.state == PendingState::Open))
+    }
+
+    ghost in_turn = { transfer_records };
+}

@@ -1,0 +1,105 @@
+//! A tenant's accounts and transfers in a span of time, in its batch.
+
+ghost use Rattle.std.specs.Prelude.{◌≡◌, IfOk};
+ghost use Rattle.records.specs.Queries.{accounts_within, transfers_within};
+ghost use Rattle.chain.specs.Tables.{Leaves, same};
+ghost use Rattle.sqlite.specs.Held.{state};
+ghost use Rattle.ledger_sql.specs.Calls.{Learns};
+ghost use Rattle.stored_tables.specs.Idle.{CanRead};
+ghost use Rattle.stored_tables.specs.MachineOf.{machine_of};
+ghost use Rattle.stored_tables.specs.Meaning.{batch_meaning};
+
+use crate::batch::TenantNumber;
+use crate::bounds::{span_first, span_last};
+use crate::failing::give_up;
+use ledger_sql::spans::{newest_accounts, newest_transfers, oldest_accounts, oldest_transfers};
+use records::{Account, Order, Span, Transfer, Unavailable};
+use rows::{read_in_order, rows_fit, rows_stand_in_order};
+use sqlite::{Alter, Connection};
+use std::alloc::Global;
+
+/// The accounts in a span of time, in its order, at most so many.
+pub(crate) fn accounts<S: Alter>(
+    alloc: Global,
+    conn: &mut Connection<S>,
+    tenant: TenantNumber,
+    span: &Span,
+) -> Result<Vec<Account>, Unavailable>
+    requires { (batch_meaning S.Store tenant.0).is_usable conn.old }
+    ensures value { (batch_meaning S.Store tenant.0).is_live conn.new → IfOk result
+        (λ found. found.items
+        ≡ accounts_within ((batch_meaning S.Store tenant.0).state conn.old).now span.now) }
+    ensures leaves { Leaves (batch_meaning S.Store tenant.0) conn.old conn.new result same }
+{
+    match read_accounts(alloc, conn, tenant, span) {
+        Ok(found) => Ok(found),
+        Err(cause) => Err(give_up(conn, cause)),
+    }
+}
+
+/// The same, without giving up.
+fn read_accounts<S: Alter>(
+    alloc: Global,
+    conn: &mut Connection<S>,
+    tenant: TenantNumber,
+    span: &Span,
+) -> Result<Vec<Account>, Unavailable>
+    requires { CanRead tenant.0 (state S.Store conn.old) }
+    ensures { Learns (λ trees found. found.items ≡ accounts_within (machine_of tenant.0 trees) span.now)
+        S.Store conn.old conn.new result }
+{
+    rows_fit();
+    rows_stand_in_order();
+    read_in_order::<Account>();
+    let Some(first) = span_first(span) else {
+        return Ok(Vec::new(alloc));
+    };
+    let last = span_last(span);
+    match span.order {
+        Order::Oldest => oldest_accounts(alloc, conn, tenant.0, first, last, span.most),
+        Order::Newest => newest_accounts(alloc, conn, tenant.0, first, last, span.most),
+    }
+}
+
+/// The transfers in a span of time, in its order, at most so many.
+pub(crate) fn transfers<S: Alter>(
+    alloc: Global,
+    conn: &mut Connection<S>,
+    tenant: TenantNumber,
+    span: &Span,
+) -> Result<Vec<Transfer>, Unavailable>
+    requires { (batch_meaning S.Store tenant.0).is_usable conn.old }
+    ensures value { (batch_meaning S.Store tenant.0).is_live conn.new → IfOk result
+        (λ found. found.items
+        ≡ transfers_within ((batch_meaning S.Store tenant.0).state conn.old).now span.now) }
+    ensures leaves { Leaves (batch_meaning S.Store tenant.0) conn.old conn.new result same }
+{
+    match read_transfers(alloc, conn, tenant, span) {
+        Ok(found) => Ok(found),
+        Err(cause) => Err(give_up(conn, cause)),
+    }
+}
+
+/// The same, without giving up.
+fn read_transfers<S: Alter>(
+    alloc: Global,
+    conn: &mut Connection<S>,
+    tenant: TenantNumber,
+    span: &Span,
+) -> Result<Vec<Transfer>, Unavailable>
+    requires { CanRead tenant.0 (state S.Store conn.old) }
+    ensures { Learns (λ trees found. found.items ≡ transfers_within (machine_of tenant.0 trees) span.now)
+        S.Store conn.old conn.new result }
+{
+    rows_fit();
+    rows_stand_in_order();
+    read_in_order::<Transfer>();
+    let Some(first) = span_first(span) else {
+        return Ok(Vec::new(alloc));
+    };
+    let last = span_last(span);
+    match span.order {
+        Order::Oldest => oldest_transfers(alloc, conn, tenant.0, first, last, span.most),
+        Order::Newest => newest_transfers(alloc, conn, tenant.0, first, last, span.most),
+    }
+}
