@@ -20,7 +20,7 @@ python-calls = rt python3
 console-calls = rt python3 curl chromium chromedriver
 faults-calls = rt python3 cc
 faults-long-calls = $(faults-calls)
-test-calls = rt
+test-calls = rt python3
 lacks = $(if $(shell command -v $(1) 2>/dev/null),,$(1))
 refused = $(shell python3 examples/session/port.py '$(PORT)' >/dev/null 2>&1 || echo $(PORT))
 goals = $(or $(MAKECMDGOALS),run)
@@ -47,8 +47,9 @@ session: ledgerd
 	python3 examples/session/compare.py examples/session/README.md
 	python3 examples/session/compare.py --blocks README.md
 
+# The estimate of memory by which the gate's lanes go is too high for these crates: build/lanes.py.
 test:
-	rt ci
+	RT_JOBS=$$(python3 build/lanes.py) rt ci
 
 # The client for Python: its own tests, and the program killed under it. Then the examples that
 # follow a ledger and sum it up.
