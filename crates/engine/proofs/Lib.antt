@@ -26,7 +26,11 @@ pub mod EarlierLemmas
 pub mod EntriesInTurn
 pub mod EntriesOfValid
 pub mod ValidFromEntries
+pub mod StepByStep
 pub mod LaterSteps
+pub mod Following
+pub mod CutLists
+pub mod Followers
 pub mod ExtendedLists
 pub mod StoredWidths
 pub mod ValidSteps

@@ -7,3 +7,5 @@ pub mod StepLaws
 pub mod EndingLaw
 pub mod RetryLaws
 pub mod FailedLaws
+pub mod Following
+pub mod Follower

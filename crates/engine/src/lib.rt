@@ -9,6 +9,7 @@ mod amounts;
 mod decision;
 mod ending_law;
 mod entries_law;
+mod following_laws;
 mod laws;
 mod pending;
 mod refusals;
@@ -20,6 +21,10 @@ pub use accounts::decide_account;
 pub use decision::{AccountDecision, Decision};
 pub use ending_law::endings_are_told;
 pub use entries_law::{entries_come_in_turn, valid_exactly_entry_by_entry};
+pub use following_laws::{
+    continued_of_continued_continues, followers_get_each_once, steps_continue,
+    steps_tell_their_clock, what_was_told_stays,
+};
 pub use laws::{
     account_changes_nothing, books_balance, ends_once, failed_ids_hold, limits_hold,
     release_is_without, sent_again_is_same, sums_fit,

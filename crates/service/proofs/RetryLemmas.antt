@@ -1,12 +1,13 @@
--- A tenant's machine in a course is later than the one that it had before.
+-- What each step of a machine leads to, the course of a tenant leads to.
 use Rattle.std.proofs.Common.{◌≡◌, ℕ, List, [], ◌∷◌, Option, Some, Result, Ok, Err, refl, sym}
 use Rattle.std.proofs.Common.{ap, ◌∙◌, subst}
 use Rattle.std.specs.List.{AllZip}
+use Rattle.records.specs.declared.account.AccountEvent.{AccountEvent}
 use Rattle.records.specs.declared.reply.EventResult.{EventResult}
+use Rattle.records.specs.declared.transfer.TransferEvent.{TransferEvent}
 use Rattle.records.specs.Machine.{Machine}
-use Rattle.records.specs.Later.{IsLater}
 use Rattle.records.specs.Step.{Outcome, Answered, Exhausted, account_rules, transfer_rules}
-use Rattle.engine.specs.StepLaws.{LeadsToLater}
+use Rattle.records.specs.Step.{step_machine}
 use Rattle.engine.specs.FailedLaws.{OfEach}
 use Rattle.ledger_http.specs.declared.refusal.Refusal.{Refusal}
 use Rattle.wire.specs.declared.request.Request.{Request}
@@ -16,57 +17,6 @@ use Rattle.service.specs.Deeds.{Deed, Asked, Joined, after_deed}
 use Rattle.service.specs.OwnDeeds.{Happening, deed_of, own_happenings, after_all}
 use Rattle.service.specs.Retries.{IsAsked, HasAsked}
 use Rattle.service.proofs.OwnDeedLemmas.{after_more, sees_itself}
-
--- batches lead to later machines, and so do steps one after the other
-pub record LaterLaws : Type 0 where
-  pub accounts : LeadsToLater account_rules
-  pub transfers : LeadsToLater transfer_rules
-  pub itself : (m : Machine) → IsLater m m
-  pub onward : (m next last : Machine) → IsLater m next → IsLater next last → IsLater m last
-
-left_later :
-    LaterLaws → (m : Machine) (moment : ℕ) (request : Request) →
-    IsLater m (left_by m moment request)
-left_later laws m moment (asks.Accounts events) = laws.accounts m events moment
-left_later laws m moment (asks.Transfers events) = laws.transfers m events moment
-left_later laws m moment (asks.LookupAccounts ids) = laws.itself m
-left_later laws m moment (asks.LookupTransfers ids) = laws.itself m
-left_later laws m moment (asks.HistoryTransfers asked) = laws.itself m
-left_later laws m moment (asks.HistoryBalances asked) = laws.itself m
-left_later laws m moment (asks.Query asked) = laws.itself m
-left_later laws m moment (asks.LookupPending ids) = laws.itself m
-left_later laws m moment (asks.Statement account) = laws.itself m
-
-served_later :
-    LaterLaws → (m : Machine) (meaning : Result Request Refusal) (moment : ℕ) →
-    IsLater m (served_by m meaning moment).left
-served_later laws m (Ok request) moment = left_later laws m moment request
-served_later laws m (Err refusal) moment = laws.itself m
-
--- a later machine
-record Goes (m : Machine) (tenant : Option Machine) : Type 0 where
-  pub next : Machine
-  pub is : tenant ≡ Some next
-  pub later : IsLater m next
-
-deed_later : LaterLaws → (deed : Deed) (m : Machine) → Goes m (after_deed deed (Some m))
-deed_later laws (Asked digest meaning moment) m = record {
-  next = (served_by m meaning moment).left;
-  is = refl;
-  later = served_later laws m meaning moment;
-}
-deed_later laws (Joined digest) m = record { next = m; is = refl; later = laws.itself m }
-
-all_later :
-    LaterLaws → (owns : List Happening) (m now : Machine) → after_all (Some m) owns ≡ Some now →
-    IsLater m now
-all_later laws [] m now is =
-    let same : m ≡ now = cc in subst (λ (n : Machine). IsLater m n) same (laws.itself m)
-all_later laws (own ∷ owns) m now is =
-    let goes = deed_later laws (deed_of own) m in
-    laws.onward m goes.next now goes.later
-    (all_later laws owns goes.next now
-    (sym (ap (λ (tenant : Option Machine). after_all tenant owns) goes.is) ∙ is))
 
 -- what comes behind a request finds the machine that it left
 asked_then :
@@ -79,15 +29,69 @@ asked_then began owns request moment m asked =
     ∙ (ap (λ (tenant : Option Machine). after_all tenant (asked.own ∷ asked.since)) asked.held
     ∙ ap (λ (deed : Deed). after_all (after_deed deed (Some m)) asked.since) asked.asks))
 
--- a tenant's machine is later than the one that a request of its own has left
-pub asked_later :
-    LaterLaws → (digest : List ℕ) (request : Request) (moment : ℕ) (m now : Machine) →
-    HasAsked digest request moment m now → IsLater (left_by m moment request) now
-asked_later laws digest request moment m now h =
-    let seen = sees_itself h.began h.last h.events h.course digest in
-    all_later laws h.asked.since (left_by m moment request) now
-    (sym (asked_then (h.began digest) (own_happenings digest h.events) request moment m h.asked)
-    ∙ (sym seen.left ∙ h.held))
+-- batches lead from a machine to another one, and so do steps one after the other
+pub record StepLaws (Leads : Machine → Machine → Type 0) : Type 0 where
+  pub accounts :
+      (m : Machine) (batch : List AccountEvent) (moment : ℕ) →
+      Leads m (step_machine account_rules m batch moment)
+  pub transfers :
+      (m : Machine) (batch : List TransferEvent) (moment : ℕ) →
+      Leads m (step_machine transfer_rules m batch moment)
+  pub itself : (m : Machine) → Leads m m
+  pub onward : (m next last : Machine) → Leads m next → Leads next last → Leads m last
+
+module _ (Leads : Machine → Machine → Type 0) (laws : StepLaws Leads)
+  where
+    left_leads : (m : Machine) (moment : ℕ) (request : Request) → Leads m (left_by m moment request)
+    left_leads m moment (asks.Accounts events) = laws.accounts m events moment
+    left_leads m moment (asks.Transfers events) = laws.transfers m events moment
+    left_leads m moment (asks.LookupAccounts ids) = laws.itself m
+    left_leads m moment (asks.LookupTransfers ids) = laws.itself m
+    left_leads m moment (asks.HistoryTransfers asked) = laws.itself m
+    left_leads m moment (asks.HistoryBalances asked) = laws.itself m
+    left_leads m moment (asks.Query asked) = laws.itself m
+    left_leads m moment (asks.LookupPending ids) = laws.itself m
+    left_leads m moment (asks.Statement account) = laws.itself m
+
+    served_leads :
+        (m : Machine) (meaning : Result Request Refusal) (moment : ℕ) →
+        Leads m (served_by m meaning moment).left
+    served_leads m (Ok request) moment = left_leads m moment request
+    served_leads m (Err refusal) moment = laws.itself m
+
+    -- a machine that a tenant's leads to
+    record Goes (m : Machine) (tenant : Option Machine) : Type 0 where
+      pub next : Machine
+      pub is : tenant ≡ Some next
+      pub leads : Leads m next
+
+    deed_leads : (deed : Deed) (m : Machine) → Goes m (after_deed deed (Some m))
+    deed_leads (Asked digest meaning moment) m = record {
+      next = (served_by m meaning moment).left;
+      is = refl;
+      leads = served_leads m meaning moment;
+    }
+    deed_leads (Joined digest) m = record { next = m; is = refl; leads = laws.itself m }
+
+    all_lead :
+        (owns : List Happening) (m now : Machine) → after_all (Some m) owns ≡ Some now → Leads m now
+    all_lead [] m now is =
+        let same : m ≡ now = cc in subst (λ (n : Machine). Leads m n) same (laws.itself m)
+    all_lead (own ∷ owns) m now is =
+        let goes = deed_leads (deed_of own) m in
+        laws.onward m goes.next now goes.leads
+        (all_lead owns goes.next now
+        (sym (ap (λ (tenant : Option Machine). after_all tenant owns) goes.is) ∙ is))
+
+    -- so is a tenant's machine led to by the one that a request of its own has left
+    pub asked_leads :
+        (digest : List ℕ) (request : Request) (moment : ℕ) (m now : Machine) →
+        HasAsked digest request moment m now → Leads (left_by m moment request) now
+    asked_leads digest request moment m now h =
+        let seen = sees_itself h.began h.last h.events h.course digest in
+        all_lead h.asked.since (left_by m moment request) now
+        (sym (asked_then (h.began digest) (own_happenings digest h.events) request moment m h.asked)
+        ∙ (sym seen.left ∙ h.held))
 
 zip_on :
     {E R : Type 0} (P Q : E → R → Type 0) → ((ev : E) (result : R) → P ev result → Q ev result) →

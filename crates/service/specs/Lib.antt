@@ -15,3 +15,4 @@ pub mod OpeningLaws
 pub mod Turns
 pub mod TurnLaws
 pub mod Retries
+pub mod Following

@@ -2,6 +2,7 @@
 ghost use Rattle.service.specs.ConnectionEvents.{ExchangesLeadOn, ConnectionsAreCourses};
 ghost use Rattle.service.specs.ConnectionEvents.{ServesEachAlone};
 ghost use Rattle.service.specs.Courses.{ResponsesHappen};
+ghost use Rattle.service.specs.Following.{ToldStays};
 ghost use Rattle.service.specs.Openings.{ResponsesMove};
 ghost use Rattle.service.specs.OwnDeeds.{EachSeesItself};
 ghost use Rattle.service.specs.Responds.{Isolates, PageTellsNothing, StandsAlone};
@@ -17,8 +18,9 @@ ghost use Rattle.wire.specs.declared.request.Request.TheVariants.{Accounts, Tran
 use crate::Moments;
 use chain::Ledgers;
 use engine::{
-    books_balance, ends_once, failed_ids_hold, failed_stays_failed, later_of_later_is_later,
-    limits_hold, retry_adds_nothing, steps_lead_to_later, sums_fit,
+    books_balance, continued_of_continued_continues, ends_once, failed_ids_hold,
+    failed_stays_failed, later_of_later_is_later, limits_hold, retry_adds_nothing, steps_continue,
+    steps_lead_to_later, steps_tell_their_clock, sums_fit, what_was_told_stays,
 };
 use ledger_http::{meanings_are_unique, messages_stand_alone};
 
@@ -121,6 +123,18 @@ pub fn failed_in_course_stays_failed()
     steps_lead_to_later();
     later_of_later_is_later();
     failed_stays_failed();
+}
+
+/// What a tenant was told in a course up to a clock stays, whatever any tenant did since: its entries
+/// are kept in place, those that came since are later than the clock that it was told, and what lies
+/// in a span of time up to it is told again.
+pub fn told_in_course_stays()
+    ensures { ToldStays HasAsked }
+{
+    steps_continue();
+    continued_of_continued_continues();
+    steps_tell_their_clock();
+    what_was_told_stays();
 }
 
 /// Of live ledgers that may be called, and every response leaves them so, each tenant's books

@@ -4,6 +4,7 @@ mod events;
 mod examples;
 mod exchanges;
 mod firms;
+mod looked_at;
 mod looked_up;
 mod memory;
 mod messages;

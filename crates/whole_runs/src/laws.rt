@@ -1,4 +1,5 @@
 //! Laws of whole runs. The functions do nothing; their contracts are the laws.
+ghost use Rattle.service.specs.Following.{ToldStays};
 ghost use Rattle.service.specs.Retries.{RetriesAddNothing, FailedStaysFailed};
 ghost use Rattle.whole_runs.specs.Courses.{RunsServeEachAlone};
 ghost use Rattle.whole_runs.specs.Retries.{HasAskedInRun};
@@ -9,6 +10,7 @@ ghost use Rattle.wire.specs.declared.request.Request.TheVariants.{Accounts, Tran
 
 use service::{
     each_tenant_sees_itself, failed_in_course_stays_failed, retried_in_course_adds_nothing,
+    told_in_course_stays,
 };
 
 /// In the course of any run, what a tenant is told and the machine that it is left with are those
@@ -37,4 +39,13 @@ pub fn stays_failed()
     ensures { FailedStaysFailed HasAskedInRun }
 {
     failed_in_course_stays_failed();
+}
+
+/// What a tenant was told in the course of a run up to a clock stays, whatever any tenant did since,
+/// stops and reopenings included: its entries are kept in place, those that came since are later
+/// than the clock that it was told, and what lies in a span of time up to it is told again.
+pub fn told_stays()
+    ensures { ToldStays HasAskedInRun }
+{
+    told_in_course_stays();
 }
