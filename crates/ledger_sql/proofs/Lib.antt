@@ -19,6 +19,7 @@ pub mod UpdateLemmas
 pub mod ReplaceLemmas
 pub mod SetLemmas
 pub mod UpdateTexts
+pub mod DigestText
 pub mod WholeTexts
 pub mod WholeLemmas
 pub mod EntryTexts

@@ -3,7 +3,7 @@ use Rattle.std.specs.Prelude.{◌≡◌, ◌≢◌, ◌==◌, ℕ, ℤ, true, no
 use Rattle.std.specs.Prelude.{List, [], ◌∷◌, ◌++◌, filter, Option, Some, None}
 use Rattle.std.specs.List.{AllByRecursion, list_any, list_all}
 use Rattle.std.specs.List.Sorted.{IsPermutation}
-use Rattle.sqlite_value.specs.Order.{Row}
+use Rattle.sqlite_value.specs.Order.{Row, column}
 use Rattle.sqlite_trees.specs.Tree.{Trees}
 use Rattle.sqlite_schema.specs.Names.{same_name}
 use Rattle.sqlite_schema.specs.declared.schema.Table.{Table}
@@ -11,9 +11,9 @@ use Rattle.sqlite_schema.specs.declared.schema.Schema.{Schema}
 use Rattle.sqlite.specs.Effect.{IsDatabase}
 use Rattle.sqlite.specs.State.{State, Shows}
 use Rattle.ledger_sql.specs.Rowids.{IsNumbered}
-use Rattle.ledger_sql.specs.Schema.{ledger_schema, schema_tree}
-use Rattle.ledger_sql.specs.TableRows.{version_rows}
-use Rattle.ledger_sql.specs.Values.{version_values}
+use Rattle.ledger_sql.specs.Schema.{ledger_schema, schema_tree, tenant_tree}
+use Rattle.ledger_sql.specs.TableRows.{version_rows, directory_rows, is_int}
+use Rattle.ledger_sql.specs.Values.{version_values, directory_values}
 
 -- our tables come first in the file, and more behind them
 abbrev pub StartsAs : List Table → Schema → Type 0
@@ -87,6 +87,24 @@ pub record SetsOne (rows : ℤ → Trees → List Row) (tree : ℕ) (tenant : �
   pub inside : WritesInside old new
   pub one : (row : Row) → filter test (rows tenant old.now.trees) ≡ row ∷ []
       → IsNumbered (old.now.trees tree) → SetsRow rows tree tenant test values old new
+
+-- the tenant with this number and this name has this digest, and the rest of the directory and all
+-- other tables keep their rows
+pub record HasDigest (number : ℤ) (name digest : List ℕ) (old new : State) : Type 0 where
+  pub directory : IsPermutation
+      (directory_values number name digest
+      ∷ filter (λ row. not (is_int number (column row 0))) (directory_rows old.now.trees))
+      (directory_rows new.now.trees)
+  pub tables : OthersStay tenant_tree old new
+  pub numbered : IsNumbered (new.now.trees tenant_tree)
+
+-- the transaction goes on, and where one tenant has this number, its digest is replaced
+pub record SetsDigest (number : ℤ) (digest : List ℕ) (old new : State) : Type 0 where
+  pub inside : WritesInside old new
+  pub one : (name was : List ℕ)
+      → filter (λ row. is_int number (column row 0)) (directory_rows old.now.trees)
+      ≡ directory_values number name was ∷ []
+      → IsNumbered (old.now.trees tenant_tree) → HasDigest number name digest old new
 
 -- the file has this version, and all other tables keep their rows
 pub record HasVersion (version : ℤ) (old new : State) : Type 0 where

@@ -1,11 +1,12 @@
-//! Rows that are replaced, inside a transaction. Each text sets the whole row.
+//! Rows that are replaced, inside a transaction. Each text sets the whole row; only a tenant keeps
+//! its name.
 
 ghost use Rattle.std.specs.Prelude.{◌<◌, ◌^◌, pos, true};
 ghost use Rattle.std.specs.Option.{ForSome};
 ghost use Rattle.amount.specs.Column.{column_of};
 ghost use Rattle.rows.specs.Cells.{balance_cells, status_cells};
 ghost use Rattle.ledger_sql.specs.Calls.{IfClean, Writes};
-ghost use Rattle.ledger_sql.specs.Effects.{IsInside, SetsOne, SetsVersion};
+ghost use Rattle.ledger_sql.specs.Effects.{IsInside, SetsOne, SetsDigest, SetsVersion};
 ghost use Rattle.ledger_sql.specs.Schema.{clock_tree, balance_tree, status_tree, current_version};
 ghost use Rattle.ledger_sql.specs.TableRows.{clock_rows, balance_rows, status_rows, has_id};
 ghost use Rattle.ledger_sql.specs.Values.{clock_values, balance_values, status_values};
@@ -73,6 +74,21 @@ pub fn set_clock<S: Alter>(
     done(conn.execute(
         "UPDATE clock SET clock = ?2 WHERE tenant = ?1",
         params![tenant, clock as i64],
+    ))
+}
+
+/// Sets the digest of a tenant's key. Its number and its name stay.
+pub fn set_digest<S: Alter>(
+    conn: &mut Connection<S>,
+    number: i64,
+    digest: &[u8; 32],
+) -> Result<(), Unavailable>
+    requires { IfClean IsInside S.Store conn.old }
+    ensures { Writes (SetsDigest number digest.now) S.Store conn.old conn.new result }
+{
+    done(conn.execute(
+        "UPDATE tenant SET digest = ?2 WHERE no = ?1",
+        params![number, digest.as_slice()],
     ))
 }
 

@@ -12,4 +12,5 @@ pub use openings::auditing::{Audit, FullAudit};
 pub use openings::opening::OpenFault;
 pub use store::Store;
 pub use stored_ledgers::joining::AddTenant;
-pub use stored_ledgers::laws::joining_adds_one;
+pub use stored_ledgers::keying::ChangeKey;
+pub use stored_ledgers::laws::{joining_adds_one, keying_moves_key};

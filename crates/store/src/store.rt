@@ -12,6 +12,7 @@ ghost use Rattle.openings.specs.Damage.{Hold, IfDamaged, IsDamagedIn};
 ghost use Rattle.stored_ledgers.specs.Directory.{digest_in, KeepsDirectory};
 ghost use Rattle.openings.specs.Found.{FindsOurs, LeavesNew};
 ghost use Rattle.stored_ledgers.specs.Joining.{HasJoined, Joined};
+ghost use Rattle.stored_ledgers.specs.Keying.{HasKeyed, Keyed};
 ghost use Rattle.openings.specs.Opened.{LeavesRefused};
 ghost use Rattle.stored_ledgers.specs.Resting.{Serves};
 ghost use Rattle.stored_ledgers.specs.Rounds.{IsAfterRound};
@@ -37,6 +38,7 @@ use std::collections::BTreeMap;
 use stored_ledgers::batches::{DueSets, batch_answer, in_batch};
 use stored_ledgers::directory::{digest_of, knows};
 use stored_ledgers::joining::{AddTenant, join, joining_answer};
+use stored_ledgers::keying::{ChangeKey, change_key, keying_answer};
 use stored_ledgers::probe::is_disk_fault;
 use stored_ledgers::rounds::in_round;
 use tenants::TenantName;
@@ -262,6 +264,34 @@ impl<D: Disk + Drop> Store<D> {
         let joined = join(self.alloc, conn, &mut self.due, name, digest);
         self.ready = !is_disk_fault(&joined);
         joining_answer(joined)
+    }
+
+    /// Gives the tenant with this name the key of this digest, under which its machine stands from
+    /// then on, and no longer under the one before. The same key again changes nothing.
+    pub fn change_key(&mut self, name: &TenantName, digest: &[u8; 32]) -> Result<(), ChangeKey>
+        requires { IsUsable self.old }
+        ensures told { IsLive self.new → OfDatabases
+            (λ old new. HasKeyed name.now digest.now old new result) self.old self.new }
+        ensures usable { IsUsable self.new }
+        ensures follows { Follows self.old self.new }
+        ensures open { IsHonest self.new → result ≢ Err (ChangeKey.Unavailable DiskFailed)
+            → IsLive self.new }
+        ensures finds { Goes self.old self.new (λ db. OfDatabase
+            (λ old. Keyed name.now digest.now old db) self.old) }
+        ensures disk { result ≡ Err (ChangeKey.Unavailable DiskFailed)
+            → self.new.ready ≡ false }
+        ensures refuses { RefusesUnready (ChangeKey.Unavailable DiskFailed) self.old self.new result }
+        ensures unready { self.old.ready ≡ false → self.new ≡ self.old }
+    {
+        if !self.ready {
+            return Err(ChangeKey::Unavailable(Unavailable::Disk));
+        }
+        let Place::Open(conn) = &mut self.place else {
+            return Err(ChangeKey::Unavailable(Unavailable::Disk));
+        };
+        let keyed = change_key(conn, &mut self.due, name, digest);
+        self.ready = !is_disk_fault(&keyed);
+        keying_answer(keyed)
     }
 
     /// Runs a batch of work on the tables of the tenant with this digest, and keeps all of it or

@@ -8,6 +8,7 @@ mod driven;
 mod events;
 mod examples;
 mod faults;
+mod keys;
 mod memory;
 mod on_files;
 mod opened_files;

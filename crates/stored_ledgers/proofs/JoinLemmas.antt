@@ -29,7 +29,7 @@ use Rattle.stored_ledgers.specs.Transactions.{Answer, IfAnswered, UnlessMade, Ma
 use Rattle.stored_ledgers.proofs.TakenLemmas.{only_row}
 
 -- all tables of ours but one stay
-stay : (tree : ℕ) (old new : State) (ledger : IsLedger old.now.schema) → OthersStay tree old new
+pub stay : (tree : ℕ) (old new : State) (ledger : IsLedger old.now.schema) → OthersStay tree old new
     → AllByRecursion (λ t. t.tree ≢ tree → new.now.trees t.tree ≡ old.now.trees t.tree)
     (ledger_schema.tables ++ ledger.more)
 stay tree old new ledger others =
@@ -37,7 +37,7 @@ stay tree old new ledger others =
     ledger.tables others
 
 -- the tables but the directory and the clocks
-record RestStays (old new : Trees) : Type 0 where
+pub record RestStays (old new : Trees) : Type 0 where
   pub version : new 0 ≡ old 0
   pub accounts : new 5 ≡ old 5
   pub transfers : new 8 ≡ old 8
@@ -46,7 +46,7 @@ record RestStays (old new : Trees) : Type 0 where
   pub history : new 15 ≡ old 15
   pub failed : new 17 ≡ old 17
 
-rest_of : (tree : ℕ) (old new : State) (ledger : IsLedger old.now.schema) → OthersStay tree old new
+pub rest_of : (tree : ℕ) (old new : State) (ledger : IsLedger old.now.schema) → OthersStay tree old new
     → (0 ≢ tree) × ((5 ≢ tree) × ((8 ≢ tree) × ((11 ≢ tree) × ((13 ≢ tree) × ((15 ≢ tree) × (17 ≢ tree))))))
     → RestStays old.now.trees new.now.trees
 rest_of tree old new ledger others apart =
@@ -75,7 +75,7 @@ own : (width : ℕ) (number : ℤ) (new old : List Row) → new ≡ old
     → map (cells_from 2 width) (filter (is_own number) new) ≡ map (cells_from 2 width) (filter (is_own number) old)
 own width number new old same = ap (λ rows. map (cells_from 2 width) (filter (is_own number) rows)) same
 
-kept : (number : ℤ) (old new : Trees) → RestStays old new
+pub kept : (number : ℤ) (old new : Trees) → RestStays old new
     → clock_rows number new ≡ clock_rows number old → KeepsRows number old new
 kept number old new rest clock = record {
   clock = clock;
@@ -87,7 +87,7 @@ kept number old new rest clock = record {
   failed = own 1 number _ _ rest.failed;
 }
 
-clock_kept : (number : ℤ) (old new : Trees) → new 4 ≡ old 4 → clock_rows number new ≡ clock_rows number old
+pub clock_kept : (number : ℤ) (old new : Trees) → new 4 ≡ old 4 → clock_rows number new ≡ clock_rows number old
 clock_kept number old new same =
     ap (λ rows. map (cells_from 2 1) (filter (λ row. is_int number (column row 0)) rows)) same
 

@@ -40,10 +40,10 @@ module _ (p : Row → Bool) (row : Row) (old new : List Row) (more : IsPermutati
     | false ↦ λ e. few
   ] refl
 
-  filtered : filter p new ≡ filter p (row ∷ old)
+  pub filtered : filter p new ≡ filter p (row ∷ old)
   filtered = same_short _ _ (IsPermutation-filter p _ _ more) few_more
 
-  few_new : length (filter p new) ≤ 1
+  pub few_new : length (filter p new) ≤ 1
   few_new = subst (λ rows. length rows ≤ 1) (sym filtered) few_more
 
 machine_new : (number : ℤ) (trees : Trees) → HoldsMachine number new_machine trees

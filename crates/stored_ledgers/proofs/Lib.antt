@@ -9,4 +9,6 @@ mod TakenLemmas
 mod JoinLemmas
 mod FreeLemmas
 mod JoinedLemmas
+mod KeyedLemmas
+mod KeyLemmas
 mod TenantReadLemmas

@@ -18,7 +18,7 @@ use Rattle.stored_ledgers.specs.Directory.{with_number, with_name, first_digest,
 use Rattle.stored_ledgers.specs.DirectoryLaws.{Among, found_row}
 
 -- of at most one row a query picks that one
-only_picked : (rows : List Row) (row : Row) → length rows ≤ 1 → Picks rows (Some row)
+pub only_picked : (rows : List Row) (row : Row) → length rows ≤ 1 → Picks rows (Some row)
     → rows ≡ row ∷ []
 only_picked [] row few picks = absurd (omega (arith, length_permutation _ _ picks.1))
 only_picked (other ∷ []) row few picks =
@@ -57,7 +57,7 @@ pub digest_found : (name : List ℕ) (trees : Trees) (found : Option DirectoryRo
     → digest ≡ option_map (λ row. row.digest) found → digest ≡ digest_in name trees
 digest_found name trees found digest few picks is = is ∙ found_digest name trees found few picks
 
-among_filter : (p : Row → Bool) (rows : List Row) (row : Row) → Among row rows → p row ≡ true
+pub among_filter : (p : Row → Bool) (rows : List Row) (row : Row) → Among row rows → p row ≡ true
     → Among row (filter p rows)
 among_filter p [] row is passes = absurd is
 among_filter p (other ∷ rows) row (inl same) passes =
@@ -68,14 +68,14 @@ among_filter p (other ∷ rows) row (inr later) passes =
     elim (p other) as (λ b. Among row (cond b (other ∷ filter p rows) (filter p rows)))
     [ true ↦ inr tail | false ↦ tail ]
 
-only_one : (rows : List Row) (a b : Row) → length rows ≤ 1 → Among a rows → Among b rows → a ≡ b
+pub only_one : (rows : List Row) (a b : Row) → length rows ≤ 1 → Among a rows → Among b rows → a ≡ b
 only_one [] a b few is_a is_b = absurd is_a
 only_one (row ∷ []) a b few (inl is_a) (inl is_b) = is_a ∙ sym is_b
 only_one (row ∷ []) a b few (inr is_a) is_b = absurd is_a
 only_one (row ∷ []) a b few is_a (inr is_b) = absurd is_b
 only_one (row ∷ other ∷ rows) a b few is_a is_b = absurd (omega arith)
 
-is_number : (value : Value) (number : ℤ) → value ≡ Int number → is_int number value ≡ true
+pub is_number : (value : Value) (number : ℤ) → value ≡ Int number → is_int number value ≡ true
 is_number value number is = ap (is_int number) is ∙ (Decides-int_eq number number).1 refl
 
 blob_is : (value : Value) (a b : List ℕ) → is_blob a value ≡ true → is_blob b value ≡ true → a ≡ b

@@ -57,7 +57,7 @@ all_among P [] row all is = absurd is
 all_among P (other ∷ rows) row all (inl same) = subst P (sym same) all.0
 all_among P (other ∷ rows) row all (inr later) = all_among P rows row all.1 later
 
-filter_head : (p : Row → Bool) (rows : List Row) (row : Row) (rest : List Row)
+pub filter_head : (p : Row → Bool) (rows : List Row) (row : Row) (rest : List Row)
     → filter p rows ≡ row ∷ rest → Among row rows × (p row ≡ true)
 filter_head p [] row rest is = absurd (cc)
 filter_head p (other ∷ rows) row rest is =

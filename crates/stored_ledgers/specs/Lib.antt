@@ -8,6 +8,7 @@ pub mod Resting
 pub mod RestingLaws
 pub mod Outcomes
 pub mod Joining
+pub mod Keying
 pub mod Rounds
 pub mod RoundLaws
 pub mod TenantReads

@@ -1,6 +1,6 @@
 //! New tenants.
 
-ghost use Rattle.std.specs.Prelude.{◌≡◌, ◌≢◌, pos, None, Some, Err, IfSome, IfOk, OnOk, IsTrue};
+ghost use Rattle.std.specs.Prelude.{◌≡◌, ◌≢◌, ◌<◌, ◌≤◌, ℕ, pos, true, None, Some, Err, IfSome, IfOk, OnOk, IsTrue};
 ghost use Rattle.std.specs.List.{list_any};
 ghost use Rattle.std.specs.Ordering.{int_eq};
 ghost use Rattle.records.specs.declared.unavailable.Unavailable.TheVariants.{Disk};
@@ -145,16 +145,46 @@ fn free_number<S: Alter>(alloc: Global, conn: &mut Connection<S>) -> Result<u32,
     least_missing(rows.as_slice()).ok_or(Unavailable::Size)
 }
 
-/// The least number from 1 that no row has.
+/// The least number from 1 that no row has. It is searched for only where the rows are not in the
+/// order of their numbers.
 fn least_missing(rows: &[DirectoryRow]) -> Option<u32>
     ensures { IfSome result (IsLeastMissing rows.now) }
 {
+    let number = first_gap(rows);
+    if !has_number(rows, number) {
+        return Some(number);
+    }
     for number in 1..u32::MAX {
         if !has_number(rows, number) {
             return Some(number);
         }
     }
     None
+}
+
+/// The number behind those from 1 on that the rows have one after the other.
+fn first_gap(rows: &[DirectoryRow]) -> u32
+    ensures positive { 0 < result }
+    ensures before { (other : ℕ) → 0 < other → other < result → has_number rows.now other ≡ true }
+{
+    let mut number: u32 = 1;
+    for row in rows {
+        number = behind(row, number);
+    }
+    number
+}
+
+/// The number behind this one, where the row has it.
+fn behind(row: &DirectoryRow, number: u32) -> u32
+    ensures rises { number ≤ result }
+    ensures before { (other : ℕ) → number ≤ other → other < result
+        → int_eq row.now.number (pos other) ≡ true }
+{
+    if row.number == i64::from(number) {
+        number.saturating_add(1)
+    } else {
+        number
+    }
 }
 
 /// Whether a row has this number.

@@ -1,10 +1,11 @@
 //! The ledgers of many tenants in one database: which there are, batches of work on one, new
-//! tenants, and reads.
+//! tenants, other keys, and reads.
 #![tactic(auto)]
 
 pub mod batches;
 pub mod directory;
 pub mod joining;
+pub mod keying;
 pub mod laws;
 pub mod probe;
 mod round;

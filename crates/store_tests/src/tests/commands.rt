@@ -117,7 +117,7 @@ pub fn answer<D: Disk + Drop>(store: &mut Driven<D>, command: &Command<'_>) -> T
         "ones" => fill(store, command),
         "fail" => fail(store, command),
         "see" => see(store, command),
-        "add" | "digest" => of_name(store, command),
+        "add" | "key" | "digest" => of_name(store, command),
         _ => of_all(store, command),
     }
 }
@@ -152,6 +152,9 @@ fn of_name<D: Disk + Drop>(store: &mut Driven<D>, command: &Command<'_>) -> Text
         return shown(command.alloc, &store.digest_of(&name).map(first_byte));
     }
     let digest = [command.rest.parse().unwrap_or(0); 32];
+    if command.verb == "key" {
+        return shown(command.alloc, &store.change_key(&name, &digest));
+    }
     shown(command.alloc, &store.add(&name, &digest))
 }
 

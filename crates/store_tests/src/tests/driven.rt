@@ -11,7 +11,7 @@ use sqlite_disk::{Disk, Start};
 use sqlite_std_file::FileFrom;
 use std::alloc::Global;
 use std::marker::Model;
-use store::{AddTenant, Audit, FullAudit, OpenFault, Store};
+use store::{AddTenant, Audit, ChangeKey, FullAudit, OpenFault, Store};
 use tenants::TenantName;
 
 /// A store that tests call.
@@ -73,6 +73,10 @@ impl<D: Disk + Drop> Driven<D> {
 
     pub fn add(&mut self, name: &TenantName, digest: &[u8; 32]) -> Result<(), AddTenant> {
         self.store.add_tenant(name, digest)
+    }
+
+    pub fn change_key(&mut self, name: &TenantName, digest: &[u8; 32]) -> Result<(), ChangeKey> {
+        self.store.change_key(name, digest)
     }
 
     pub fn digest_of(&mut self, name: &TenantName) -> Result<Option<[u8; 32]>, Unavailable> {

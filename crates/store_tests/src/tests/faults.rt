@@ -20,6 +20,7 @@ North knows => Err(Disk)
 Nobody knows => Err(Disk)
 North digest => Err(Disk)
 North add 1 => Err(Unavailable(Disk))
+North key 1 => Err(Unavailable(Disk))
 North transfers 900: 1>2 1 => Unavailable(Disk)
 North directory => Disk
 North rows failed => Disk

@@ -1,0 +1,177 @@
+-- What the change of a tenant's key leaves of a database.
+use Rattle.std.proofs.Common.{◌≡◌, ◌≢◌, ◌≤◌, ℕ, ℤ, inl, inr, Some, List, [], ◌∷◌, length, Ok, Err, refl, sym, ap, subst, arith}
+use Rattle.std.specs.List.Sorted.{IsPermutation}
+use Rattle.std.specs.String.{string_bytes}
+use Rattle.std.proofs.lemmas.Slice.Eq.{bytes_eq-Decides}
+use Rattle.rows.specs.declared.all_rows.DirectoryRow.{DirectoryRow}
+use Rattle.sqlite_trees.specs.Tree.{Trees}
+use Rattle.sqlite_value.specs.Order.{column}
+use Rattle.sqlite.specs.Effect.{Database}
+use Rattle.sqlite.specs.State.{State}
+use Rattle.ledger_sql.specs.Effects.{Picks, SetsDigest}
+use Rattle.ledger_sql.specs.Rowids.{IsNumbered}
+use Rattle.ledger_sql.specs.TableRows.{directory_rows, is_int, is_text}
+use Rattle.ledger_sql.specs.Values.{directory_values}
+use Rattle.stored_ledgers.specs.Directory.{with_name, with_digest, first_digest, digest_in}
+use Rattle.stored_ledgers.specs.DirectoryLaws.{filter_head}
+use Rattle.stored_ledgers.specs.DueSets.{DueSets}
+use Rattle.stored_ledgers.specs.declared.keying.KeyRefused.{KeyRefused}
+use Rattle.stored_ledgers.specs.declared.keying.KeyRefused.TheVariants.{NoTenant, DigestTaken}
+use Rattle.stored_ledgers.specs.Keying.{IsKeyed, Keyed, HasKeyed, IsKeyRefused, keying_answer, without_number}
+use Rattle.stored_ledgers.specs.Ledger.{HoldsLedgers}
+use Rattle.stored_ledgers.specs.Resting.{CanServe, IsSame}
+use Rattle.stored_ledgers.specs.Transactions.{Answer, IfAnswered, UnlessMade, MayLeave}
+use Rattle.stored_ledgers.proofs.JoinLemmas.{stay, rest_of, kept, clock_kept}
+use Rattle.stored_ledgers.proofs.KeyedLemmas.{one_apart, one_numbered, ledgers_keyed, sets_keyed}
+use Rattle.stored_ledgers.proofs.TenantLemmas.{only_picked}
+
+-- the row that is found by a name has that name
+pub named_row : (name : List ℕ) (trees : Trees) (row : DirectoryRow)
+    → length (with_name name trees) ≤ 1
+    → Picks (with_name name trees) (Some (directory_values row.number (string_bytes row.name) row.digest))
+    → with_name name trees ≡ directory_values row.number name row.digest ∷ []
+named_row name trees row few picks =
+    let one = only_picked (with_name name trees) _ few picks in
+    let passes = (filter_head (λ row. is_text name (column row 1)) (directory_rows trees) _ [] one).1 in
+    let is : string_bytes row.name ≡ name = (bytes_eq-Decides (string_bytes row.name) name).0 passes in
+    subst (λ n. with_name name trees ≡ directory_values row.number n row.digest ∷ []) is one
+
+-- the same key again
+pub same_key : (name digest : List ℕ) (db : Database) (number : ℤ) (was : List ℕ) → HoldsLedgers db
+    → with_name name db.trees ≡ directory_values number name was ∷ [] → was ≡ digest
+    → IsKeyed name digest db db
+same_key name digest db number was ledgers named same = record {
+  number = number;
+  was = was;
+  named = named;
+  free = inl same;
+  again = λ again. refl;
+  schema = refl;
+  version = refl;
+  numbered = ledgers.numbered;
+  directory = subst (λ d. IsPermutation (directory_values number name d ∷ without_number number db.trees) (directory_rows db.trees)) same
+      (one_apart (λ row. is_int number (column row 0)) (directory_values number name was) (directory_rows db.trees)
+      (one_numbered name number was db.trees (ledgers.distinct.numbers number) named));
+  rows = λ tenant. record {
+    clock = refl;
+    accounts = refl;
+    transfers = refl;
+    balances = refl;
+    statuses = refl;
+    history = refl;
+    failed = refl;
+  };
+}
+
+-- another one, that nobody has
+set_key : (name digest : List ℕ) (old new : State) (number : ℤ) (was : List ℕ)
+    → HoldsLedgers old.now → with_name name old.now.trees ≡ directory_values number name was ∷ []
+    → was ≢ digest → with_digest digest old.now.trees ≡ [] → SetsDigest number digest old new
+    → IsKeyed name digest old.now new.now
+set_key name digest old new number was ledgers named differs none sets =
+    let numbered = ledgers.numbered in
+    let has = sets.one name was
+    (one_numbered name number was old.now.trees (ledgers.distinct.numbers number) named) numbered.1.0 in
+    let rest = rest_of 1 old new ledgers.schema has.tables (
+      (λ e. absurd (omega arith)),
+      (
+        (λ e. absurd (omega arith)),
+        (
+          (λ e. absurd (omega arith)),
+          (
+            (λ e. absurd (omega arith)),
+            (
+              (λ e. absurd (omega arith)),
+              ((λ e. absurd (omega arith)), (λ e. absurd (omega arith))),
+            ),
+          ),
+        ),
+      ),
+    ) in
+    let clocks = (stay 1 old new ledgers.schema has.tables).1.1.0 (λ e. absurd (omega arith)) in record {
+      number = number;
+      was = was;
+      named = named;
+      free = inr none;
+      again = λ same. absurd (differs same);
+      schema = sets.inside.schema;
+      version = rest.version;
+      numbered = (
+        subst IsNumbered (sym rest.version) numbered.0,
+        (
+          has.numbered,
+          (
+            subst IsNumbered (sym clocks) numbered.1.1.0,
+            (
+              subst IsNumbered (sym rest.accounts) numbered.1.1.1.0,
+              (
+                subst IsNumbered (sym rest.transfers) numbered.1.1.1.1.0,
+                (
+                  subst IsNumbered (sym rest.balances) numbered.1.1.1.1.1.0,
+                  (
+                    subst IsNumbered (sym rest.statuses) numbered.1.1.1.1.1.1.0,
+                    (
+                      subst IsNumbered (sym rest.history) numbered.1.1.1.1.1.1.1.0,
+                      (subst IsNumbered (sym rest.failed) numbered.1.1.1.1.1.1.1.1.0, tt),
+                    ),
+                  ),
+                ),
+              ),
+            ),
+          ),
+        ),
+      );
+      directory = has.directory;
+      rows = λ tenant. kept tenant old.now.trees new.now.trees rest
+          (clock_kept tenant old.now.trees new.now.trees clocks);
+    }
+
+-- the same, behind calls that only read
+pub new_key : (name digest : List ℕ) (old read new : State) (number : ℤ) (was : List ℕ)
+    → read.now ≡ old.now → HoldsLedgers old.now
+    → with_name name old.now.trees ≡ directory_values number name was ∷ []
+    → was ≢ digest → with_digest digest old.now.trees ≡ [] → SetsDigest number digest read new
+    → IsKeyed name digest old.now new.now
+new_key name digest old read new number was same ledgers named differs none sets =
+    let back : old.now ≡ read.now = sym same in
+    subst (λ db. IsKeyed name digest db new.now) same
+    (set_key name digest read new number was (subst HoldsLedgers back ledgers)
+    (subst (λ (db : Database). with_name name db.trees ≡ directory_values number name was ∷ []) back named)
+    differs (subst (λ (db : Database). with_digest digest db.trees ≡ []) back none) sets)
+
+-- after it the same sets serve
+pub serves_keyed : (name digest : List ℕ) (sets : DueSets) (old new : Database) → CanServe sets old
+    → IsKeyed name digest old new → CanServe sets new
+serves_keyed name digest sets old new serves keyed = record {
+  ledgers = ledgers_keyed name digest old new serves.ledgers keyed;
+  covered = sets_keyed name digest old new serves.ledgers keyed sets serves.covered;
+}
+
+-- the tenant of a name has another digest than this one
+pub other_digest : (name digest : List ℕ) (trees : Trees) (number : ℤ) (was : List ℕ)
+    → with_name name trees ≡ directory_values number name was ∷ [] → was ≢ digest
+    → (was : List ℕ) × (digest_in name trees ≡ Some was) × (was ≢ digest)
+unfolding digest_in
+other_digest name digest trees number was named differs = (was, ap first_digest named, differs)
+
+-- what the change of a key is told, and what it leaves
+pub has_keyed : (name digest : List ℕ) (sets : DueSets) (old new : State)
+    (answer : Answer (Unit {0}) KeyRefused)
+    → IfAnswered answer (λ done. IsKeyed name digest old.now new.now × CanServe sets new.now)
+    (IsKeyRefused name digest old.now.trees)
+    → UnlessMade answer (IsSame old new)
+    → HasKeyed name digest old.now new.now (keying_answer answer)
+has_keyed name digest sets old new (Ok (Ok done)) told same = told.0
+has_keyed name digest sets old new (Ok (Err NoTenant)) told same = (told, same.now)
+has_keyed name digest sets old new (Ok (Err DigestTaken)) told same = (told, same.now)
+has_keyed name digest sets old new (Err why) told same = same.now
+
+-- what it may leave in the files
+pub left_keyed : (name digest : List ℕ) (old : Database) (trees : Trees)
+    → MayLeave (λ (done : Unit {0}) (sets : DueSets) new. IsKeyed name digest old new × CanServe sets new) trees
+    → Keyed name digest old trees
+left_keyed name digest old trees left =
+    let keyed = left.done.0 in
+    let same : left.after ≡ record { schema = old.schema; trees = trees } =
+    λ i. record { schema = keyed.schema i; trees = sym left.is i } in
+    subst (IsKeyed name digest old) same keyed

@@ -1,0 +1,21 @@
+use Rattle.sqlite.proofs.StateLemmas.{survives_weaker}
+use Rattle.stored_ledgers.proofs.KeyLemmas.{has_keyed, left_keyed}
+use Rattle.stored_ledgers.proofs.ServingLemmas.{rests_after}
+use Rattle.stored_ledgers.proofs.keying.change_key.Goals as goal
+
+pub returns-clause-told : goal.returns-clause-told
+returns-clause-told g c live =
+    has_keyed c.args.name.now c.args.digest.now c.in_transaction.new.memory _ _
+    c.in_transaction.result (c.in_transaction.ensures.told live) (c.in_transaction.ensures.same live)
+
+pub returns-clause-resting : goal.returns-clause-resting
+returns-clause-resting g c live =
+    rests_after c.in_transaction.result _ _ _ _ _ (c.in_transaction.ensures.told live)
+    (c.in_transaction.ensures.again live) (c.in_transaction.ensures.same live)
+    (c.in_transaction.ensures.quiet live)
+
+pub returns-clause-survives : goal.returns-clause-survives
+returns-clause-survives g c =
+    survives_weaker _ _ _ _
+    (λ clean trees left. left_keyed c.args.name.now c.args.digest.now _ trees left)
+    c.in_transaction.ensures.survives

@@ -1,0 +1,111 @@
+//! Another key for a tenant.
+
+ghost use Rattle.std.specs.Prelude.{◌≡◌, ◌≢◌, Err, IsTrue};
+ghost use Rattle.records.specs.declared.unavailable.Unavailable.TheVariants.{Disk};
+ghost use Rattle.sqlite.specs.State.{HasCleanDisk, Survives};
+ghost use Rattle.sqlite.specs.Held.{state};
+ghost use Rattle.ledger_sql.specs.Frames.{Live};
+ghost use Rattle.stored_ledgers.specs.Keying.{HasKeyed, Keyed, IsKeyed, IsKeyRefused, keying_answer};
+ghost use Rattle.stored_ledgers.specs.Resting.{IsResting, Serves, CanServe};
+
+use crate::batches::DueSets;
+use crate::transactions::{Change, in_transaction};
+use ledger_sql::finding::{find_tenant, find_tenant_by_name};
+use ledger_sql::setting::set_digest;
+use records::Unavailable;
+use sqlite::{Alter, Connection};
+use tenants::TenantName;
+
+/// Why a tenant's key was not changed, in the order in which it is tested. Nothing has changed; only
+/// where the disk failed may the next opening find the new key.
+#[derive(Clone, Copy, Debug, PartialEq, Eq)]
+pub enum ChangeKey {
+    /// No tenant has this name.
+    NoTenant,
+    /// Another tenant has this digest.
+    DigestTaken,
+    Unavailable(Unavailable),
+}
+
+/// Why a key is refused.
+#[derive(Clone, Copy, Debug, PartialEq, Eq)]
+pub enum KeyRefused {
+    NoTenant,
+    DigestTaken,
+}
+
+/// Gives the tenant with this name the key of this digest. One that has it already keeps it, and
+/// nothing changes.
+pub fn change_key<S: Alter>(
+    conn: &mut Connection<S>,
+    due: &mut DueSets,
+    name: &TenantName,
+    digest: &[u8; 32],
+) -> Result<Result<(), KeyRefused>, Unavailable>
+    requires { Serves due.old (state S.Store conn.old) }
+    ensures told { Live (state S.Store conn.new) → HasKeyed name.now digest.now
+        (state S.Store conn.old).now (state S.Store conn.new).now (keying_answer result) }
+    ensures resting { Live (state S.Store conn.new)
+        → IsResting due.new (state S.Store conn.new) }
+    ensures open { HasCleanDisk (state S.Store conn.new) → result ≢ Err Disk
+        → IsTrue (state S.Store conn.new).is_open }
+    ensures survives { Survives (state S.Store conn.old) (state S.Store conn.new)
+        (Keyed name.now digest.now (state S.Store conn.old).now) }
+{
+    in_transaction(conn, due, Keying { name, digest })
+}
+
+/// The change of a tenant's key.
+#[derive(Drop)]
+struct Keying<'a> {
+    name: &'a TenantName,
+    digest: &'a [u8; 32],
+}
+
+impl Change for Keying<'_> {
+    type Output = ();
+
+    type Refusal = KeyRefused;
+
+    type Memory = DueSets;
+
+    ghost needs = { λ it. CanServe };
+
+    ghost does = { λ it sets old done sets' new.
+        IsKeyed it.name.now it.digest.now old new × CanServe sets' new };
+
+    ghost refuses = { λ it sets old refused.
+        IsKeyRefused it.name.now it.digest.now old.trees refused };
+
+    fn run<S: Alter>(
+        self,
+        conn: &mut Connection<S>,
+        due: &mut DueSets,
+    ) -> Result<Result<(), KeyRefused>, Unavailable> {
+        let Keying { name, digest } = self;
+        let Some(row) = find_tenant_by_name(conn, name.as_str())? else {
+            return Ok(Err(KeyRefused::NoTenant));
+        };
+        if row.digest == *digest {
+            return Ok(Ok(()));
+        }
+        if find_tenant(conn, digest)?.is_some() {
+            return Ok(Err(KeyRefused::DigestTaken));
+        }
+        set_digest(conn, row.number, digest)?;
+        Ok(Ok(()))
+    }
+}
+
+/// What the change of a tenant's key answers.
+pub fn keying_answer(keyed: Result<Result<(), KeyRefused>, Unavailable>) -> Result<(), ChangeKey>
+    ensures told { result ≡ keying_answer keyed }
+    ensures disk { result ≡ Err (ChangeKey.Unavailable Disk) → keyed ≡ Err Disk }
+{
+    match keyed {
+        Ok(Ok(())) => Ok(()),
+        Ok(Err(KeyRefused::NoTenant)) => Err(ChangeKey::NoTenant),
+        Ok(Err(KeyRefused::DigestTaken)) => Err(ChangeKey::DigestTaken),
+        Err(why) => Err(ChangeKey::Unavailable(why)),
+    }
+}
