@@ -3,12 +3,16 @@ pub mod ChainCutting
 pub mod ChainOutcomes
 pub mod EntriesUpToClock
 pub mod EventTrials
+pub mod HistoryRows
 pub mod HoldLemmas
 pub mod LookLemmas
 pub mod PageSpans
 pub mod PageSteps
+pub mod PageShows
 pub mod PageWalks
 pub mod ResultTimestamps
+pub mod StatementPieces
 pub mod StaysInBatch
 pub mod StepOutcomes
 pub mod TableCalls
+pub mod TakenRows

@@ -11,9 +11,11 @@ use Rattle.records.specs.Machine.{Machine, transfer_with}
 use Rattle.chain.specs.declared.ledgers.BatchFault.{BatchFault}
 use Rattle.chain.specs.declared.ledgers.BatchFault.TheVariants as batch_fault
 use Rattle.chain.specs.declared.reads.ReadFault.{ReadFault}
-use Rattle.chain.specs.LedgerReads.{IsTold, Reads}
+use Rattle.chain.specs.LedgerReads.{IsShown, IsTold, Reads, Seen, seen_in}
 use Rattle.chain.specs.Ledgers.{Tenants, LedgersMeaning, KeepsAll, KeepsOthers, IsDone, IsRun, Finds, IsAnswered, LeadsBy}
-use Rattle.chain.specs.Looks.{read_answer}
+use Rattle.records.specs.Reads.{AccountAnswer}
+use Rattle.chain.specs.declared.reading.AccountFault.{AccountFault}
+use Rattle.chain.specs.Looks.{Answers, account_answer, answer_of, read_answer}
 use Rattle.chain.specs.Tables.{Meaning, State}
 use Rattle.engine.proofs.ValidMachineLemmas.{found_key}
 
@@ -104,7 +106,7 @@ module _ {O : Type 0} (gives : Machine → O → Machine → Type 0)
       one_kept digest old new
       (done.holds ∙ ap Some (stays done.before output done.after done.given) ∙ sym done.held) done.others
 
-  run_keeps :
+  pub run_keeps :
       (digest : List ℕ) (old new : Tenants) (result : Result O BatchFault) →
       IsRun gives digest old new result → KeepsAll old new
   run_keeps digest old new (Ok output) run = done_keeps digest old new output run
@@ -127,18 +129,27 @@ module _ {O : Type 0} (gives : Machine → O → Machine → Type 0)
   answered (Err batch_fault.UnknownKey) told = tt
   answered (Err (batch_fault.Unavailable why)) told = absurd told
 
+  -- and what may be found after it
+  pub found_by :
+      {S : Type 0} (t : LedgersMeaning S) (digest : List ℕ) (old new : S) (result : Result O BatchFault)
+      (Told : Type 0) → (Told → IsAnswered result) →
+      Finds t (IsAnswered result) (LeadsBy gives digest) old new → Finds t Told KeepsAll old new
+  found_by t digest old new result Told is_answered finds = record {
+    found = λ found may. elim (finds.found found may) [
+      | inl before ↦ inl before
+      | inr led ↦ inr (led.0, done_keeps digest (t.tenants old) found led.1.0 led.1.1)
+    ];
+    live = λ told. finds.live (is_answered told);
+  }
+
   pub found_so :
       {S : Type 0} (t : LedgersMeaning S) (digest : List ℕ) (old new : S) (result : Result O BatchFault)
       (answer : Result O ReadFault) → answer ≡ read_answer result →
       Finds t (IsAnswered result) (LeadsBy gives digest) old new →
       Finds t (IsTold answer) KeepsAll old new
-  found_so t digest old new result answer is finds = record {
-    found = λ found may. elim (finds.found found may) [
-      | inl before ↦ inl before
-      | inr led ↦ inr (led.0, done_keeps digest (t.tenants old) found led.1.0 led.1.1)
-    ];
-    live = λ told. finds.live (answered result (subst (λ (r : Result O ReadFault). IsTold r) is told));
-  }
+  found_so t digest old new result answer is finds =
+      found_by t digest old new result (IsTold answer)
+      (λ told. answered result (subst (λ (r : Result O ReadFault). IsTold r) is told)) finds
 
 -- a transfer that is found is found by its own id
 pub found_there :
@@ -150,3 +161,24 @@ found_there id transfers others found transfer told is same =
     ap (transfer_with transfer.id) same
     ∙ ap (λ n. transfer_with n transfers) (found_key (λ (t : Transfer). t.id) id transfers transfer there)
     ∙ there
+
+-- what is told of work that answers about an account
+pub account_told :
+    {A X : Type 0} (shows : X → Seen A) (answer : Machine → AccountAnswer A) (digest : List ℕ) (old new : Tenants)
+    (result : Result (Result X AccountFault) BatchFault) → IsRun (Answers shows answer) digest old new result →
+    IsShown shows (seen_in answer (old digest)) (account_answer result)
+account_told shows answer digest old new (Ok output) run =
+    subst (λ (o : Option Machine). IsShown shows (seen_in answer o) (answer_of output)) (sym run.held) run.given.is
+account_told shows answer digest old new (Err batch_fault.UnknownKey) run = ap (seen_in answer) run.0
+account_told shows answer digest old new (Err (batch_fault.Unavailable why)) run = tt
+
+pub account_answered :
+    {X : Type 0} (result : Result (Result X AccountFault) BatchFault) (told : Result X ReadFault) →
+    told ≡ account_answer result → IsTold told → IsAnswered result
+account_answered {X} result told is answered =
+    at result (subst (λ (r : Result X ReadFault). IsTold r) is answered)
+  where
+    at : (r : Result (Result X AccountFault) BatchFault) → IsTold (account_answer r) → IsAnswered r
+    at (Ok output) h = tt
+    at (Err batch_fault.UnknownKey) h = tt
+    at (Err (batch_fault.Unavailable why)) h = absurd h

@@ -34,7 +34,7 @@ is_behind Oldest time later some before = grind (arith, nat_tests)
 is_behind Newest time later some before = grind (arith, nat_tests)
 
 module _ {A : Type 0} (time : A → ℕ) where
-  keeps_all : (p : A → Bool) (xs : List A) → All (λ x. p x ≡ true) xs → filter p xs ≡ xs
+  pub keeps_all : (p : A → Bool) (xs : List A) → All (λ x. p x ≡ true) xs → filter p xs ≡ xs
   keeps_all p [] all = refl
   keeps_all p (x ∷ xs) all =
       rw (All-head (λ y. p y ≡ true) x xs all)
@@ -139,7 +139,7 @@ module _ {A : Type 0} (time : A → ℕ) where
       ∙ filter-append p (reverse xs) (x ∷ []) ∙ ap (λ ys. ys ++ filter p (x ∷ [])) (reverse_filter p xs)
       ∙ last_one p x xs (p x) refl
 
-  in_order_filter :
+  pub in_order_filter :
       (p : A → Bool) (order : Order) (xs : List A) →
       in_order order (filter p xs) ≡ filter p (in_order order xs)
   in_order_filter p Oldest xs = refl

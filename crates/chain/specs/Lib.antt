@@ -7,3 +7,4 @@ pub mod Chains
 pub mod Looks
 pub mod Pages
 pub mod Records
+pub mod AccountEntries

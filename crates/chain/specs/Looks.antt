@@ -6,7 +6,10 @@ use Rattle.chain.specs.declared.ledgers.BatchFault.{BatchFault}
 use Rattle.chain.specs.declared.ledgers.BatchFault.TheVariants as batch_fault
 use Rattle.chain.specs.declared.reads.ReadFault.{ReadFault}
 use Rattle.chain.specs.declared.reads.ReadFault.TheVariants as fault
-use Rattle.chain.specs.LedgerReads.{Seen}
+use Rattle.records.specs.Reads.{AccountAnswer}
+use Rattle.chain.specs.declared.reading.AccountFault.{AccountFault}
+use Rattle.chain.specs.declared.reading.AccountFault.TheVariants.{NoAccount, NoHistory}
+use Rattle.chain.specs.LedgerReads.{Seen, IsShown, seen_by}
 use Rattle.chain.specs.Tables.{Meaning}
 
 -- an output that shows this of the machine, at its clock; the machine stays
@@ -27,3 +30,21 @@ abbrev pub read_answer : {A : Type 0} → Result A BatchFault → Result A ReadF
 read_answer (Ok answer) = Ok answer
 read_answer (Err batch_fault.UnknownKey) = Err fault.UnknownKey
 read_answer (Err (batch_fault.Unavailable why)) = Err (fault.Unavailable why)
+
+-- an output about an account, as a read tells it
+abbrev pub answer_of : {A : Type 0} → Result A AccountFault → Result A ReadFault
+answer_of (Ok answer) = Ok answer
+answer_of (Err NoAccount) = Err fault.NoAccount
+answer_of (Err NoHistory) = Err fault.NoHistory
+
+-- an output about an account that shows what the machine answers, at its clock; the machine stays
+pub record Answers {A X : Type 0} (shows : X → Seen A) (answer : Machine → AccountAnswer A)
+    (before : Machine) (output : Result X AccountFault) (after : Machine) : Type 0 where
+  pub is : IsShown shows (seen_by before.clock (answer before)) (answer_of output)
+  pub same : after ≡ before
+
+-- the answer of a batch with such an output, as a read
+abbrev pub account_answer : {A : Type 0} → Result (Result A AccountFault) BatchFault → Result A ReadFault
+account_answer (Ok output) = answer_of output
+account_answer (Err batch_fault.UnknownKey) = Err fault.UnknownKey
+account_answer (Err (batch_fault.Unavailable why)) = Err (fault.Unavailable why)

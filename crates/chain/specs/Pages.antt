@@ -6,7 +6,8 @@ use Rattle.records.specs.declared.filter.Order.{Order}
 use Rattle.records.specs.declared.filter.Order.TheVariants.{Oldest, Newest}
 use Rattle.records.specs.declared.query.PageFilter.{PageFilter}
 use Rattle.records.specs.declared.query.Span.{Span}
-use Rattle.records.specs.Queries.{Page, is_within, page_order, time_behind}
+use Rattle.records.specs.Queries.{Page, is_within, page_order, page_span}
+use Rattle.records.specs.Queries.{time_behind}
 use Rattle.records.specs.Reads.{in_order}
 use Rattle.records.specs.Step.{max_clock}
 use Rattle.chain.specs.declared.pages.Draft.{Draft}
@@ -108,3 +109,9 @@ pub record LooksWithin {A B : Type 0} (time : A → ℕ) (shown : A → Option B
   pub ends :
       ended ≡ true → (left : ℕ) → span.most ≤ left →
       page_on time shown asked left (all_within time span records) old ≡ new
+
+-- what is shown of all records in the span of a page, up to its limit
+abbrev pub first_shown :
+    {A B : Type 0} → (A → ℕ) → (A → Option B) → PageFilter → List A → List B
+first_shown time shown asked records =
+    filter_map shown (chosen_of shown asked.limit (all_within time (page_span asked) records))

@@ -1,13 +1,17 @@
 -- The records of a valid machine: their times rise, and each is the one with its id.
-use Rattle.std.specs.Prelude.{◌≡◌, ◌<◌, ◌≤◌, ℕ, All, List, [], ◌∷◌, Some}
-use Rattle.std.proofs.Common.{arith}
-use Rattle.std.proofs.lemmas.List.Elements.{All-nil, All-push, All-weaker}
+use Rattle.std.specs.Prelude.{◌≡◌, ◌<◌, ◌≤◌, ℕ, All, List, [], ◌∷◌, ◌++◌, Bool, true, false, Some, map, filter}
+use Rattle.std.proofs.Common.{arith, refl}
+use Rattle.std.proofs.lemmas.List.Elements.{All-cons, All-filter, All-head, All-map, All-nil, All-push, All-tail, All-weaker}
 use Rattle.records.specs.declared.account.Account.{Account}
 use Rattle.records.specs.declared.filter.Order.TheVariants.{Oldest}
 use Rattle.records.specs.declared.transfer.Transfer.{Transfer}
 use Rattle.records.specs.Machine.{Machine, account_with, transfer_with}
+use Rattle.records.specs.Reads.{Entry, entries_after, is_entry_of}
+use Rattle.records.specs.Step.{max_clock}
 use Rattle.records.specs.Valid.{IsValid}
-use Rattle.chain.specs.Pages.{AreRecords, RunsIn}
+use Rattle.chain.specs.declared.account_entry.AccountEntry.{AccountEntry}
+use Rattle.chain.specs.AccountEntries.{account_entries, account_entry, entry_time}
+use Rattle.chain.specs.Pages.{AreRecords, IsRecord, RunsIn}
 use Rattle.engine.proofs.ValidMachineLemmas.{AreAscending, accounts_ascend, clock_bound}
 use Rattle.engine.proofs.ValidMachineLemmas.{found_itself, sound, transfers_ascend}
 
@@ -83,3 +87,63 @@ transfer_records m valid =
     are_records (λ (t : Transfer). t.timestamp) (λ t. transfer_with t.id m.transfers ≡ Some t) m m.transfers
     valid (transfers_ascend m valid) (transfers_past m valid)
     (found_itself (λ (t : Transfer). t.id) m.transfers (sound m valid).transfers)
+
+-- the account's entries of a list, behind those before it
+entries_in : ℕ → List Transfer → List Transfer → List AccountEntry
+entries_in account before transfers =
+    map (account_entry account)
+    (filter (λ entry. is_entry_of account entry.transfer) (entries_after before transfers))
+
+each_entry :
+    (P : ℕ → Type 0) (before transfers : List Transfer) → All (λ (t : Transfer). P t.timestamp) transfers →
+    All (λ (e : Entry). P e.transfer.timestamp) (entries_after before transfers)
+each_entry P before [] all = All-nil (λ (e : Entry). P e.transfer.timestamp)
+each_entry P before (t ∷ transfers) all =
+    All-cons (λ (e : Entry). P e.transfer.timestamp) (record { before = before ++ t ∷ []; transfer = t })
+    (entries_after (before ++ t ∷ []) transfers) (All-head (λ (x : Transfer). P x.timestamp) t transfers all)
+    (each_entry P (before ++ t ∷ []) transfers (All-tail (λ (x : Transfer). P x.timestamp) t transfers all))
+
+each_own :
+    (account : ℕ) (P : ℕ → Type 0) (before transfers : List Transfer) →
+    All (λ (t : Transfer). P t.timestamp) transfers →
+    All (λ (e : AccountEntry). P (entry_time e)) (entries_in account before transfers)
+unfolding entries_in
+each_own account P before transfers all =
+    let own = λ (e : Entry). is_entry_of account e.transfer in
+    All-map (λ (e : AccountEntry). P (entry_time e)) (account_entry account)
+    (filter own (entries_after before transfers))
+    (All-filter own (λ (e : Entry). P e.transfer.timestamp) (entries_after before transfers)
+    (each_entry P before transfers all))
+
+own_run :
+    (account : ℕ) (before transfers : List Transfer) → RunsIn (λ (t : Transfer). t.timestamp) Oldest transfers →
+    RunsIn entry_time Oldest (entries_in account before transfers)
+unfolding entries_in
+own_run account before [] run = tt
+own_run account before (t ∷ transfers) run =
+    own (is_entry_of account t) refl (own_run account (before ++ t ∷ []) transfers run.1)
+  where
+    own :
+        (b : Bool) → is_entry_of account t ≡ b →
+        RunsIn entry_time Oldest (entries_in account (before ++ t ∷ []) transfers) →
+        RunsIn entry_time Oldest (entries_in account before (t ∷ transfers))
+    own true is rest =
+        rw is (each_own account (λ time. t.timestamp < time) (before ++ t ∷ []) transfers run.0, rest)
+    own false is rest = rw is rest
+
+pub entry_records :
+    (m : Machine) → IsValid m → (account : ℕ) →
+    AreRecords entry_time (λ e. Unit {0}) (account_entries m account)
+unfolding entries_in
+entry_records m valid account =
+    let are = transfer_records m valid in
+    let there = λ (t : Transfer). transfer_with t.id m.transfers ≡ Some t in
+    let is_time = λ (time : ℕ). (0 < time) × (time ≤ max_clock) in record {
+      rise = own_run account [] m.transfers are.rise;
+      each =
+          All-weaker (λ (e : AccountEntry). is_time (entry_time e)) (IsRecord entry_time (λ e. Unit {0}))
+          (λ e h. record { positive = h.0; bounded = h.1; kept = tt }) (account_entries m account)
+          (each_own account is_time [] m.transfers
+          (All-weaker (IsRecord (λ (t : Transfer). t.timestamp) there) (λ (t : Transfer). is_time t.timestamp)
+          (λ t h. (h.positive, h.bounded)) m.transfers are.each));
+    }

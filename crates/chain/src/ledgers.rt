@@ -8,10 +8,12 @@ ghost use Rattle.chain.specs.Ledgers.{IsAnswered, LeadsBy, LeadsNowhere};
 ghost use Rattle.chain.specs.LedgerReads.{seen_in, IsListed, IsPaged, HandsOut, is_refused, Reads, IsTold};
 ghost use Rattle.chain.specs.declared.ledgers.BatchFault.TheVariants as batch_fault;
 
+use crate::histories::{BalancesOf, TransfersOf};
 use crate::lookups::{AccountsById, HoldsById, Lookup, TransfersById};
 use crate::pages::PageOf;
+use crate::pieces::{Piece, first_piece, hand_piece};
 use crate::query::{AccountQuery, OpenHolds, TransferQuery};
-use crate::reading::read_answer;
+use crate::reading::{account_answer, read_answer};
 use crate::{Listed, QueryPage, ReadFault, Work};
 use records::{
     AccountFilter, AccountWithBalances, BalanceAt, Hold, Order, PageFilter, QueryFilter, RowSink,
@@ -192,7 +194,11 @@ pub trait Ledgers {
         ensures told { means.is_live self.new → IsListed
             (seen_in (λ m. history_answer m asked.now) (means.tenants self.old digest.now)) result }
         ensures finds { Finds means (IsTold result) KeepsAll self.old self.new }
-        ensures reads { Reads means self.old self.new };
+        ensures reads { Reads means self.old self.new }
+    {
+        let asked = *asked;
+        account_answer(self.in_batch(digest, TransfersOf { alloc, asked }))
+    }
 
     /// The balances of the account after each transfer that a filter asks for.
     fn history_balances(
@@ -206,10 +212,15 @@ pub trait Ledgers {
             (seen_in (λ m. history_balances_answer m asked.now) (means.tenants self.old digest.now))
             result }
         ensures finds { Finds means (IsTold result) KeepsAll self.old self.new }
-        ensures reads { Reads means self.old self.new };
+        ensures reads { Reads means self.old self.new }
+    {
+        let asked = *asked;
+        account_answer(self.in_batch(digest, BalancesOf { alloc, asked }))
+    }
 
-    /// Hands the account's statement to a sink, row by row, in this order. After `Unavailable` the
-    /// sink has got a beginning of it; one that refuses a row may be left in any state.
+    /// Hands the account's statement to a sink, row by row, in this order, in pieces that are each a
+    /// batch. After `Unavailable` the sink has got a beginning of it; one that refuses a row may be
+    /// left in any state.
     fn each_statement_row<S: RowSink>(
         &mut self,
         alloc: Global,
@@ -225,7 +236,23 @@ pub trait Ledgers {
             sink.old sink.new result }
         ensures refused { S.refused sink.new ≡ is_refused result }
         ensures finds { Finds means (IsTold result) KeepsAll self.old self.new }
-        ensures reads { Reads means self.old self.new };
+        ensures reads { Reads means self.old self.new }
+    {
+        let mut span = first_piece(order);
+        'pieces: for _ in 0..u64::MAX {
+            let piece = Piece {
+                alloc,
+                account,
+                span,
+            };
+            let found = account_answer(self.in_batch(digest, piece))?;
+            let Some(next) = hand_piece(account, &span, &found.entries, sink)? else {
+                return Ok(());
+            };
+            span = next;
+        }
+        Err(ReadFault::Unavailable(Unavailable::Size))
+    }
 
     /// No call at all is a run of calls.
     ghost stays: { (a : Self) → means.follows a a };

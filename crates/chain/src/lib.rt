@@ -1,13 +1,16 @@
 //! Batches and chains of linked events, run over any tables that keep one tenant's list.
 #![tactic(auto)]
 
+mod account_entry;
 mod batch;
 mod chains;
 mod events;
 mod facts;
+mod histories;
 mod ledgers;
 mod lookups;
 mod pages;
+mod pieces;
 mod query;
 mod reading;
 mod reads;
@@ -15,6 +18,7 @@ mod rounds;
 mod tables;
 mod work;
 
+pub use account_entry::AccountEntry;
 pub use events::{run_accounts, run_transfers};
 pub use facts::transfer_facts;
 pub use ledgers::{BatchFault, Ledgers};

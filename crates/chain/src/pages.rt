@@ -6,8 +6,8 @@ ghost use Rattle.records.specs.Queries.{page_in, page_order, time_behind};
 ghost use Rattle.records.specs.Step.{max_clock};
 ghost use Rattle.chain.specs.LedgerReads.{seen_of_page};
 ghost use Rattle.chain.specs.Looks.{LeavesSame, Shows};
-ghost use Rattle.chain.specs.Pages.{IsRecord, LooksThrough, LooksWithin, is_full, page_of};
-ghost use Rattle.chain.specs.Pages.{span_behind};
+ghost use Rattle.chain.specs.Pages.{IsRecord, LooksThrough, LooksWithin, first_shown};
+ghost use Rattle.chain.specs.Pages.{is_full, page_of, span_behind};
 
 use crate::query::Query;
 use crate::{QueryPage, Tables, Work};
@@ -25,7 +25,7 @@ impl<Q: Query + Drop> Work for PageOf<Q> {
     type Output = QueryPage<Q::Shown>;
 
     ghost gives = { λ work. Shows seen_of_page (λ m.
-        page_in Q.time_of (Q.shown_in work.query m) (Q.asks work.query) (Q.records_in m)) };
+        page_in Q.time_of (Q.shown_in work.query m) (Q.asks work.query) (Q.records_in work.query m)) };
 
     fn run<T: Tables>(self, tables: &mut T) -> Result<QueryPage<Q::Shown>, Unavailable> {
         let clock = tables.clock()?;
@@ -57,7 +57,7 @@ fn page<T: Tables, Q: Query>(
     requires { T.means.is_usable tables.old }
     ensures value { T.means.is_live tables.new → IfOk result (λ page. page_of page
         ≡ page_in Q.time_of (Q.shown_in query.now (T.means.state tables.old).now)
-        (Q.asks query.now) (Q.records_in (T.means.state tables.old).now)) }
+        (Q.asks query.now) (Q.records_in query.now (T.means.state tables.old).now)) }
     ensures leaves { LeavesSame T.means tables.old tables.new result }
 {
     let asked = query.page();
@@ -84,6 +84,44 @@ fn page<T: Tables, Q: Query>(
     Ok(draft)
 }
 
+/// The most records that are read at once where the number that is looked at has no limit.
+const MOST_AT_ONCE: u32 = 1000;
+
+/// What is shown of the records in the span of a page, up to its limit. However many it looks at:
+/// first at as many as are asked for, and then at twice as many each time.
+pub(crate) fn first_shown<T: Tables, Q: Query>(
+    alloc: Global,
+    tables: &mut T,
+    query: &Q,
+) -> Result<Vec<Q::Shown>, Unavailable>
+    requires { T.means.is_usable tables.old }
+    ensures value { T.means.is_live tables.new → IfOk result (λ shown. shown.items
+        ≡ first_shown Q.time_of (Q.shown_in query.now (T.means.state tables.old).now)
+        (Q.asks query.now) (Q.records_in query.now (T.means.state tables.old).now)) }
+    ensures leaves { LeavesSame T.means tables.old tables.new result }
+{
+    let asked = query.page();
+    let mut draft = Draft {
+        entries: Vec::new(alloc),
+        behind: 0,
+    };
+    let mut span = Span {
+        most: asked.limit.clamp(1, MOST_AT_ONCE),
+        ..asked.span()
+    };
+    'spans: for _ in 0..u64::MAX {
+        if look_within(alloc, tables, query, &span, &mut draft)? {
+            return Ok(draft.entries);
+        }
+        let most = MOST_AT_ONCE.min(2 * span.most);
+        span = Span {
+            most,
+            ..span_behind(&span, draft.behind)
+        };
+    }
+    Err(Unavailable::Size)
+}
+
 /// Looks at the first records of a span, and tells whether the page ends there.
 fn look_within<T: Tables, Q: Query>(
     alloc: Global,
@@ -97,7 +135,7 @@ fn look_within<T: Tables, Q: Query>(
     requires some { 0 < span.now.most }
     ensures value { T.means.is_live tables.new → IfOk result (LooksWithin Q.time_of
         (Q.shown_in query.now (T.means.state tables.old).now) (Q.asks query.now)
-        (Q.records_in (T.means.state tables.old).now) span.now
+        (Q.records_in query.now (T.means.state tables.old).now) span.now
         (page_of draft.old) (page_of draft.new)) }
     ensures leaves { LeavesSame T.means tables.old tables.new result }
 {
@@ -170,7 +208,7 @@ fn look_at<T: Tables, Q: Query>(
 }
 
 /// The time directly behind another one. Tables that are no longer live may show any time.
-fn time_behind(order: Order, time: u64) -> u64
+pub(crate) fn time_behind(order: Order, time: u64) -> u64
     ensures { time ≤ max_clock → result ≡ time_behind order time }
 {
     match order {
@@ -180,7 +218,7 @@ fn time_behind(order: Order, time: u64) -> u64
 }
 
 /// The rest of a span from this time on.
-fn span_behind(span: &Span, time: u64) -> Span
+pub(crate) fn span_behind(span: &Span, time: u64) -> Span
     ensures { result ≡ span_behind span.now time }
 {
     match span.order {

@@ -27,7 +27,7 @@ pub(crate) trait Query {
 
     // The records of a machine that it looks at, oldest first; what holds of each of them; when a
     // record was accepted; what is shown of one, if it is asked for; and which page is asked for.
-    ghost records_in: { Machine → List Self.Record };
+    ghost records_in: { Self → Machine → List Self.Record };
 
     ghost is_kept: { Machine → Self.Record → Type 0 };
 
@@ -55,7 +55,7 @@ pub(crate) trait Query {
         requires { T.means.is_usable tables.old }
         ensures value { T.means.is_live tables.new → IfOk result (λ found.
             found.items ≡ within time_of span.now
-            (records_in (T.means.state tables.old).now)) }
+            (records_in self.now (T.means.state tables.old).now)) }
         ensures leaves { LeavesSame T.means tables.old tables.new result };
 
     /// What is shown of a record of the tables, if it is asked for.
@@ -72,7 +72,8 @@ pub(crate) trait Query {
         ensures leaves { LeavesSame T.means tables.old tables.new result };
 
     /// The records of a valid machine stand in order of time.
-    ghost in_turn: { (m : Machine) → IsValid m → AreRecords time_of (is_kept m) (records_in m) };
+    ghost in_turn: { (query : Self) (m : Machine) → IsValid m →
+        AreRecords time_of (is_kept m) (records_in query m) };
 }
 
 /// The accounts that a query asks for, with their balances at the clock.
@@ -86,7 +87,7 @@ impl Query for AccountQuery {
 
     type Shown = AccountWithBalances;
 
-    ghost records_in = { λ m. m.accounts };
+    ghost records_in = { λ query m. m.accounts };
 
     ghost is_kept = { λ m account. account_with account.id m.accounts ≡ Some account };
 
@@ -125,7 +126,7 @@ impl Query for AccountQuery {
         }
     }
 
-    ghost in_turn = { account_records };
+    ghost in_turn = { λ query. account_records };
 }
 
 /// The transfers that a query asks for.
@@ -139,7 +140,7 @@ impl Query for TransferQuery {
 
     type Shown = Transfer;
 
-    ghost records_in = { λ m. m.transfers };
+    ghost records_in = { λ query m. m.transfers };
 
     ghost is_kept = { λ m transfer. transfer_with transfer.id m.transfers ≡ Some transfer };
 
@@ -178,7 +179,7 @@ impl Query for TransferQuery {
         }
     }
 
-    ghost in_turn = { transfer_records };
+    ghost in_turn = { λ query. transfer_records };
 }
 
 /// The holds that are open at the clock.
@@ -192,7 +193,7 @@ impl Query for OpenHolds {
 
     type Shown = Hold;
 
-    ghost records_in = { λ m. m.transfers };
+    ghost records_in = { λ query m. m.transfers };
 
     ghost is_kept = { λ m transfer. transfer_with transfer.id m.transfers ≡ Some transfer };
 
@@ -228,5 +229,5 @@ impl Query for OpenHolds {
         Ok(hold.filter(|hold| hold.state == PendingState::Open))
     }
 
-    ghost in_turn = { transfer_records };
+    ghost in_turn = { λ query. transfer_records };
 }

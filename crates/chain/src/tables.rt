@@ -5,9 +5,11 @@ ghost use Rattle.records.specs.Queries.{accounts_within, transfers_within};
 ghost use Rattle.records.specs.Step.{at_clock, max_clock};
 ghost use Rattle.records.specs.Valid.{IsValid, IsNextAccount, with_account, with_transfer};
 ghost use Rattle.records.specs.Accepted.{IsAccepted};
+ghost use Rattle.chain.specs.AccountEntries.{account_entries_within};
 ghost use Rattle.chain.specs.Tables.{Meaning, Tells, Leaves, pending_state_of, FailsNow, on_now};
 ghost use Rattle.chain.specs.Tables.{marking, at_mark, unmarked, same};
 
+use crate::AccountEntry;
 use records::{Accepted, Account, AccountWithBalances, PendingState, Span, Transfer, Unavailable};
 use std::alloc::Global;
 
@@ -63,6 +65,18 @@ pub trait Tables {
         requires { means.is_usable self.old }
         ensures value { means.is_live self.new → IfOk result (λ found.
             found.items ≡ transfers_within (means.state self.old).now span.now) }
+        ensures leaves { Leaves means self.old self.new result same };
+
+    /// An account's entries within a span of time, each with the account's balances after it.
+    fn account_entries(
+        &mut self,
+        alloc: Global,
+        account: u128,
+        span: &Span,
+    ) -> Result<Vec<AccountEntry>, Unavailable>
+        requires { means.is_usable self.old }
+        ensures value { means.is_live self.new → IfOk result (λ found.
+            found.items ≡ account_entries_within (means.state self.old).now account span.now) }
         ensures leaves { Leaves means self.old self.new result same };
 
     /// Sets the clock, in nanoseconds, and releases what is due at it.

@@ -3,6 +3,5 @@ mod NewTenant
 mod Tenants
 mod BatchLemmas
 mod EntryRows
-mod Handing
 mod KeptLists
 mod PrefixSums

@@ -1,5 +1,4 @@
 ghost use Rattle.std.specs.Prelude.{◌≡◌, [], ◌∷◌, ◌++◌, is_some, IfOk, IfErr, IsNone, OnOk, OnErr};
-ghost use Rattle.std.specs.Prelude.{option_copied};
 ghost use Rattle.std.specs.List.{position};
 ghost use Rattle.std.specs.Option.{option_copied_mut};
 ghost use Rattle.std.specs.Borrow.{sem};
@@ -86,14 +85,6 @@ impl Book {
         ensures { result ≡ is_some (machine_with digest.now self.now) }
     {
         place_of(&self.tenants, digest).is_some()
-    }
-
-    /// The tables of the tenant with this digest, to read.
-    pub fn tables_of(&self, digest: &[u8; 32]) -> Option<&PlainTables>
-        ensures { option_copied result ≡ state_with digest.now self.now }
-    {
-        let place = place_of(&self.tenants, digest)?;
-        Some(&self.tenants[place].tables)
     }
 
     /// The tables of the tenant with this digest, to read and change.

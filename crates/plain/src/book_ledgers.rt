@@ -1,12 +1,8 @@
-ghost use Rattle.std.specs.Prelude.{◌≡◌, ◌≢◌, Ok, Err, MatchResult};
-ghost use Rattle.plain.specs.Book.{state_with};
 ghost use Rattle.plain.specs.BookLedgers.{book_meaning};
 
 use crate::Book;
-use crate::hand_out::hand_out;
-use chain::{BatchFault, Ledgers, Listed, ReadFault, RoundWork, Rounds, Work};
-use records::{AccountFilter, BalanceAt, Order, RowSink, Transfer, Unavailable};
-use std::alloc::Global;
+use chain::{BatchFault, Ledgers, RoundWork, Rounds, Work};
+use records::Unavailable;
 
 impl Ledgers for Book {
     ghost means = { book_meaning };
@@ -21,55 +17,6 @@ impl Ledgers for Book {
 
     fn knows(&mut self, digest: &[u8; 32]) -> Result<bool, Unavailable> {
         Ok(self.holds(digest))
-    }
-
-    fn history_transfers(
-        &mut self,
-        alloc: Global,
-        digest: &[u8; 32],
-        asked: &AccountFilter,
-    ) -> Result<Listed<Transfer>, ReadFault> {
-        let Some(tables) = self.tables_of(digest) else {
-            return Err(ReadFault::UnknownKey);
-        };
-        if tables.account_with(asked.account_id).is_none() {
-            return Err(ReadFault::NoAccount);
-        }
-        Ok(tables.listed(tables.history(alloc, asked)?))
-    }
-
-    fn history_balances(
-        &mut self,
-        alloc: Global,
-        digest: &[u8; 32],
-        asked: &AccountFilter,
-    ) -> Result<Listed<BalanceAt>, ReadFault> {
-        let Some(tables) = self.tables_of(digest) else {
-            return Err(ReadFault::UnknownKey);
-        };
-        match tables.account_with(asked.account_id) {
-            None => Err(ReadFault::NoAccount),
-            Some(account) if !account.flags.keeps_history() => Err(ReadFault::NoHistory),
-            Some(_) => Ok(tables.listed(tables.history_of_balances(alloc, asked)?)),
-        }
-    }
-
-    fn each_statement_row<S: RowSink>(
-        &mut self,
-        alloc: Global,
-        digest: &[u8; 32],
-        account: u128,
-        order: Order,
-        sink: &mut S,
-    ) -> Result<(), ReadFault> {
-        let Some(tables) = self.tables_of(digest) else {
-            return Err(ReadFault::UnknownKey);
-        };
-        if tables.account_with(account).is_none() {
-            return Err(ReadFault::NoAccount);
-        }
-        hand_out(&tables.statement(alloc, account, order)?, sink)?;
-        Ok(())
     }
 
     ghost stays = { λ a. tt };

@@ -1,14 +1,15 @@
-//! Rows made of a list's entries, each with the sums of the entries up to it.
+//! An account's entries, each with the sums of the entries up to it.
 ghost use Rattle.std.specs.Prelude.{◌≡◌, ◌+◌, ◌<◌, [], length, take, map, filter, slice_index_or};
 ghost use Rattle.std.specs.Prelude.{IfOk};
 ghost use Rattle.records.specs.declared.transfer.Transfer.{Transfer};
 ghost use Rattle.records.specs.Balances.{balances_of};
-ghost use Rattle.records.specs.Reads.{entries_after, balance_at, statement_row};
-ghost use Rattle.records.specs.Reads.{is_chosen, is_entry_of};
+ghost use Rattle.records.specs.Reads.{entries_after, is_entry_of};
+ghost use Rattle.chain.specs.AccountEntries.{account_entry};
 ghost use Rattle.plain.specs.Prefixes.{PrefixesFit};
 
 use crate::balances::balances;
-use records::{AccountFilter, BalanceAt, Balances, StatementRow, Transfer};
+use chain::AccountEntry;
+use records::{Balances, Transfer};
 use std::alloc::{AllocError, Global};
 
 // An account's balances after the entry at this place.
@@ -21,37 +22,14 @@ fn balances_after(entries: &[Transfer], place: usize, account: u128) -> Balances
     balances(&entries[..place + 1], entries[place].at, account)
 }
 
-/// The balances of the filter's account after each entry that it asks for.
-pub(crate) fn balance_rows(
-    alloc: Global,
-    entries: &[Transfer],
-    asked: &AccountFilter,
-) -> Result<Vec<BalanceAt>, AllocError>
-    requires { PrefixesFit entries.now asked.now.account_id }
-    ensures { IfOk result (λ rows. rows.items ≡ map (balance_at asked.now.account_id)
-        (filter (λ entry. is_chosen asked.now entry.transfer) (entries_after [] entries.now))) }
-{
-    let mut rows = Vec::new(alloc);
-    for (place, entry) in entries.iter().enumerate() {
-        if !asked.is_chosen(entry) {
-            continue;
-        }
-        rows.push(BalanceAt {
-            timestamp: entry.timestamp,
-            balances: balances_after(entries, place, asked.account_id),
-        })?;
-    }
-    Ok(rows)
-}
-
-/// An account's entries, oldest first.
-pub(crate) fn statement_rows(
+/// An account's entries, oldest first, each with the account's balances after it.
+pub(crate) fn account_rows(
     alloc: Global,
     entries: &[Transfer],
     account: u128,
-) -> Result<Vec<StatementRow>, AllocError>
+) -> Result<Vec<AccountEntry>, AllocError>
     requires { PrefixesFit entries.now account }
-    ensures { IfOk result (λ rows. rows.items ≡ map (statement_row account)
+    ensures { IfOk result (λ rows. rows.items ≡ map (account_entry account)
         (filter (λ entry. is_entry_of account entry.transfer) (entries_after [] entries.now))) }
 {
     let mut rows = Vec::new(alloc);
@@ -59,12 +37,8 @@ pub(crate) fn statement_rows(
         if !entry.is_entry_of(account) {
             continue;
         }
-        rows.push(StatementRow {
-            timestamp: entry.timestamp,
-            transfer_id: entry.id,
-            side: entry.side_of(account),
-            kind: entry.flags.kind(),
-            amount: entry.amount,
+        rows.push(AccountEntry {
+            transfer: *entry,
             balances: balances_after(entries, place, account),
         })?;
     }

@@ -7,7 +7,6 @@ mod book;
 mod book_ledgers;
 mod entries;
 mod fate;
-mod hand_out;
 mod page;
 mod plain_tables;
 mod search;

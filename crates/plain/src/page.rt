@@ -1,19 +1,7 @@
 ghost use Rattle.std.specs.Prelude.{◌≡◌, take};
-ghost use Rattle.records.specs.Reads.{in_order, page_of};
+ghost use Rattle.records.specs.Reads.{in_order};
 
-use records::{AccountFilter, Order, Span};
-
-/// What a filter shows of the entries that it asks for: turned where the newest come first, and
-/// then cut by the limit.
-pub(crate) fn page<T: Copy>(asked: &AccountFilter, mut entries: Vec<T>) -> Vec<T>
-    ensures { result.items ≡ page_of asked.now entries.items }
-{
-    if asked.flags.is_newest_first() {
-        entries.reverse();
-    }
-    entries.truncate(asked.limit as usize);
-    entries
-}
+use records::{Order, Span};
 
 /// The first of the records in a span, in its order.
 pub(crate) fn first_of_span<T: Copy>(span: &Span, mut records: Vec<T>) -> Vec<T>

@@ -11,7 +11,7 @@ mod reads;
 use crate::balances::balances;
 use crate::fate::fate;
 use crate::search::{find_account, find_id, find_transfer};
-use chain::Tables;
+use chain::{AccountEntry, Tables};
 use engine::sums_fit;
 use records::{
     Accepted, Account, AccountWithBalances, Balances, PendingState, Span, Transfer, Unavailable,
@@ -224,6 +224,19 @@ impl Tables for PlainTables {
         span: &Span,
     ) -> Result<Vec<Transfer>, Unavailable> {
         let Ok(found) = self.transfers_in(alloc, span) else {
+            self.abandon();
+            return Err(Unavailable::Memory);
+        };
+        Ok(found)
+    }
+
+    fn account_entries(
+        &mut self,
+        alloc: Global,
+        account: u128,
+        span: &Span,
+    ) -> Result<Vec<AccountEntry>, Unavailable> {
+        let Ok(found) = self.entries_in(alloc, account, span) else {
             self.abandon();
             return Err(Unavailable::Memory);
         };

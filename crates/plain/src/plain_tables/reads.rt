@@ -1,37 +1,17 @@
 //! Reads over plain lists: everything is searched and summed anew.
 ghost use Rattle.std.specs.Prelude.{◌≡◌, IfOk};
-ghost use Rattle.records.specs.Machine.{account_with};
 ghost use Rattle.records.specs.Queries.{accounts_within, transfers_within};
-ghost use Rattle.records.specs.Reads.{history_of, history_balances_of, in_order, statement_of};
+ghost use Rattle.chain.specs.AccountEntries.{account_entries_within};
 
 use super::PlainTables;
-use crate::entries::{balance_rows, statement_rows};
-use crate::page::{first_of_span, page};
-use crate::search::find_account;
-use chain::Listed;
+use crate::entries::account_rows;
+use crate::page::first_of_span;
+use chain::AccountEntry;
 use engine::sums_fit;
-use records::{Account, AccountFilter, BalanceAt, Order, Span, StatementRow, Transfer};
+use records::{Account, Span, Transfer};
 use std::alloc::{AllocError, Global};
 
 impl PlainTables {
-    /// The account with this id.
-    pub(crate) fn account_with(&self, id: u128) -> Option<Account>
-        ensures { result ≡ account_with id self.now.now.accounts }
-    {
-        find_account(&self.accounts, id)
-    }
-
-    /// A list that was read at the clock.
-    pub(crate) fn listed<T>(&self, entries: Vec<T>) -> Listed<T>
-        ensures clock { result.clock ≡ self.now.now.clock }
-        ensures entries { result.entries ≡ entries }
-    {
-        Listed {
-            clock: self.clock,
-            entries,
-        }
-    }
-
     /// The accounts within a span of time.
     pub(crate) fn accounts_in(&self, alloc: Global, span: &Span) -> Result<Vec<Account>, AllocError>
         ensures { IfOk result (λ found. found.items ≡ accounts_within self.now.now span.now) }
@@ -62,47 +42,23 @@ impl PlainTables {
         Ok(first_of_span(span, found))
     }
 
-    pub(crate) fn history(
-        &self,
-        alloc: Global,
-        asked: &AccountFilter,
-    ) -> Result<Vec<Transfer>, AllocError>
-        ensures { IfOk result (λ found. found.items ≡ history_of self.now.now asked.now) }
-    {
-        let chosen = self
-            .transfers
-            .iter()
-            .copied()
-            .filter(|entry| asked.is_chosen(entry))
-            .collect(alloc)?;
-        Ok(page(asked, chosen))
-    }
-
-    pub(crate) fn history_of_balances(
-        &self,
-        alloc: Global,
-        asked: &AccountFilter,
-    ) -> Result<Vec<BalanceAt>, AllocError>
-        ensures { IfOk result (λ found. found.items ≡ history_balances_of self.now.now asked.now) }
-    {
-        sums_fit();
-        Ok(page(asked, balance_rows(alloc, &self.transfers, asked)?))
-    }
-
-    pub(crate) fn statement(
+    /// An account's entries within a span of time.
+    pub(crate) fn entries_in(
         &self,
         alloc: Global,
         account: u128,
-        order: Order,
-    ) -> Result<Vec<StatementRow>, AllocError>
+        span: &Span,
+    ) -> Result<Vec<AccountEntry>, AllocError>
         ensures { IfOk result
-            (λ rows. rows.items ≡ in_order order (statement_of self.now.now account)) }
+            (λ found. found.items ≡ account_entries_within self.now.now account span.now) }
     {
         sums_fit();
-        let mut rows = statement_rows(alloc, &self.transfers, account)?;
-        if order == Order::Newest {
-            rows.reverse();
-        }
-        Ok(rows)
+        let rows = account_rows(alloc, &self.transfers, account)?;
+        let found = rows
+            .iter()
+            .copied()
+            .filter(|entry| span.is_within(entry.transfer.timestamp))
+            .collect(alloc)?;
+        Ok(first_of_span(span, found))
     }
 }

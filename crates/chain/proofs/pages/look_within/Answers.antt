@@ -14,15 +14,15 @@ look_through-requires-clause-kept g c live =
     let valid = g.met.T.Tables.valid _ before c.requires.usable in
     subst (λ n. All (IsRecord g.Q.Query.time_of (g.Q.Query.is_kept n)) c.deref.result.now)
     (sym (ap (λ (s : State). s.now) (c.in_ok-records.ensures.leaves.same live)))
-    (kept_within g.Q.Query.time_of (g.Q.Query.is_kept m) (g.Q.Query.records_in m) c.deref.result.now
-    c.args.span.now (c.deref.ensures.value ∙ c.in_ok-records.ensures.value live) (g.met.Q.Query.in_turn m valid))
+    (kept_within g.Q.Query.time_of (g.Q.Query.is_kept m) (g.Q.Query.records_in c.args.query.now m) c.deref.result.now
+    c.args.span.now (c.deref.ensures.value ∙ c.in_ok-records.ensures.value live) (g.met.Q.Query.in_turn c.args.query.now m valid))
 
 pub returns-then-is_full-clause-value : goal.returns-then-is_full-clause-value
 returns-then-is_full-clause-value g c live =
     let mid = g.met.T.Tables.lived _ _ c.in_ok-look_through.ensures.leaves.follows live in
     let m = (g.T.Tables.means.state c.args.tables.now).now in
     ends_full g.Q.Query.time_of (g.Q.Query.shown_in c.args.query.now m) (g.Q.Query.asks c.args.query.now)
-    (g.Q.Query.records_in m) c.deref.result.now c.args.span.now (page_of c.args.draft.now) (page_of c.look_through.new.draft)
+    (g.Q.Query.records_in c.args.query.now m) c.deref.result.now c.args.span.now (page_of c.args.draft.now) (page_of c.look_through.new.draft)
     (c.deref.ensures.value ∙ c.in_ok-records.ensures.value mid)
     (shown_before g.T.Tables.means c.args.tables.now c.within.new.tables g.Q.Query.time_of (g.Q.Query.shown_in c.args.query.now)
     (g.Q.Query.asks c.args.query.now) c.deref.result.now (page_of c.args.draft.now) (page_of c.look_through.new.draft)
@@ -34,12 +34,12 @@ returns-clause-value g c live =
     let mid = g.met.T.Tables.lived _ _ c.in_ok-look_through.ensures.leaves.follows live in
     let before = g.met.T.Tables.lived _ _ c.in_ok-records.ensures.leaves.follows mid in
     let m = (g.T.Tables.means.state c.args.tables.now).now in
-    let are = g.met.Q.Query.in_turn m (g.met.T.Tables.valid _ before c.requires.usable) in
+    let are = g.met.Q.Query.in_turn c.args.query.now m (g.met.T.Tables.valid _ before c.requires.usable) in
     let found = c.deref.ensures.value ∙ c.in_ok-records.ensures.value mid in
     let counted : c.len.result ≡ length c.deref.result.now =
     c.len.ensures ∙ c.in_ok-records.records.ok.0 ∙ sym (ap length c.deref.ensures.value) in
     ends_or_goes g.Q.Query.time_of (g.Q.Query.shown_in c.args.query.now m) (g.Q.Query.asks c.args.query.now)
-    (g.Q.Query.records_in m) c.deref.result.now c.args.span.now (page_of c.args.draft.now) (page_of c.look_through.new.draft)
+    (g.Q.Query.records_in c.args.query.now m) c.deref.result.now c.args.span.now (page_of c.args.draft.now) (page_of c.look_through.new.draft)
     found
     (shown_before g.T.Tables.means c.args.tables.now c.within.new.tables g.Q.Query.time_of (g.Q.Query.shown_in c.args.query.now)
     (g.Q.Query.asks c.args.query.now) c.deref.result.now (page_of c.args.draft.now) (page_of c.look_through.new.draft)
@@ -56,4 +56,4 @@ returns-clause-value g c live =
     ])
     c.requires.order c.requires.some are.rise
     (All-weaker (IsRecord g.Q.Query.time_of (g.Q.Query.is_kept m)) (λ it. 0 < g.Q.Query.time_of it)
-    (λ it record_is. record_is.positive) (g.Q.Query.records_in m) are.each)
+    (λ it record_is. record_is.positive) (g.Q.Query.records_in c.args.query.now m) are.each)

@@ -7,7 +7,7 @@ use Rattle.chain.proofs.pages.page.Goals as goal
 pub loop-left-init : goal.loop-left-init
 loop-left-init g c =
     making_begins g.T.Tables.means g.Q.Query.time_of (g.Q.Query.shown_in c.args.query.now) (g.Q.Query.asks c.args.query.now)
-    g.Q.Query.records_in c.args.tables.now c.span.result c.clamp.result _ c.requires (g.met.T.Tables.stays c.args.tables.now)
+    (g.Q.Query.records_in c.args.query.now) c.args.tables.now c.span.result c.clamp.result _ c.requires (g.met.T.Tables.stays c.args.tables.now)
     (c.span.ensures ∙ ap page_span c.page-asked.ensures)
     (c.clamp.ensures ∙ ap (λ (asked : PageFilter). max 1 (min asked.limit 2000)) c.page-asked.ensures)
     (ap (λ xs. record { entries = xs; next = 0 }) c.new.ensures.items)
@@ -15,7 +15,7 @@ loop-left-init g c =
 pub loop-left-preserved : goal.loop-left-preserved
 loop-left-preserved g c =
     making_goes_on g.T.Tables.means g.Q.Query.time_of (g.Q.Query.shown_in c.args.query.now) (g.Q.Query.asks c.args.query.now)
-    g.Q.Query.records_in c.args.tables.now c.loop-left.tables c.look_within.new.tables c.loop-left.left c.loop-left.span
+    (g.Q.Query.records_in c.args.query.now) c.args.tables.now c.loop-left.tables c.look_within.new.tables c.loop-left.left c.loop-left.span
     c.span_behind.result c.min-most.result c.loop-left.draft c.look_within.new.draft c.in_ok-look_within.field-0 g.met.T.Tables.then g.met.T.Tables.lived
     c.loop-left.invariant c.loop-left-test.true c.in_ok-look_within.ensures.value c.if-branch.false
     c.in_ok-look_within.ensures.leaves.same c.in_ok-look_within.ensures.leaves.usable
@@ -24,5 +24,5 @@ loop-left-preserved g c =
 pub returns-clause-value : goal.returns-clause-value
 returns-clause-value g c live =
     making_ends g.T.Tables.means g.Q.Query.time_of (g.Q.Query.shown_in c.args.query.now) (g.Q.Query.asks c.args.query.now)
-    g.Q.Query.records_in c.args.tables.now c.loop-left.tables c.loop-left.left c.loop-left.span c.loop-left.draft
+    (g.Q.Query.records_in c.args.query.now) c.args.tables.now c.loop-left.tables c.loop-left.left c.loop-left.span c.loop-left.draft
     c.loop-left.invariant c.loop-left-test.false live

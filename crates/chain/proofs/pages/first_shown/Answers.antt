@@ -1,0 +1,29 @@
+use Rattle.std.proofs.Common.{max, min, ap, ◌∙◌}
+use Rattle.records.specs.declared.query.PageFilter.{PageFilter}
+use Rattle.records.specs.Queries.{page_span}
+use Rattle.chain.proofs.PageShows.{showing_begins, showing_goes_on, showing_ends}
+use Rattle.chain.proofs.pages.first_shown.Goals as goal
+
+pub spans-init : goal.spans-init
+spans-init g c =
+    showing_begins g.T.Tables.means g.Q.Query.time_of (g.Q.Query.shown_in c.args.query.now) (g.Q.Query.asks c.args.query.now)
+    (g.Q.Query.records_in c.args.query.now) c.args.tables.now c.span.result c.clamp.result _ c.requires (g.met.T.Tables.stays c.args.tables.now)
+    (c.span.ensures ∙ ap page_span c.page-asked.ensures)
+    (c.clamp.ensures ∙ ap (λ (asked : PageFilter). max 1 (min asked.limit 1000)) c.page-asked.ensures)
+    (ap (λ xs. record { entries = xs; next = 0 }) c.new.ensures.items)
+
+pub spans-preserved : goal.spans-preserved
+spans-preserved g c =
+    showing_goes_on g.T.Tables.means g.Q.Query.time_of (g.Q.Query.shown_in c.args.query.now) (g.Q.Query.asks c.args.query.now)
+    (g.Q.Query.records_in c.args.query.now) c.args.tables.now c.spans.tables c.look_within.new.tables c.spans.span
+    c.span_behind.result c.min-most.result c.spans.draft c.look_within.new.draft c.in_ok-look_within.field-0 g.met.T.Tables.then g.met.T.Tables.lived
+    c.spans.invariant c.in_ok-look_within.ensures.value c.if-branch.false
+    c.in_ok-look_within.ensures.leaves.same c.in_ok-look_within.ensures.leaves.usable
+    c.in_ok-look_within.ensures.leaves.follows c.span_behind.ensures c.min-most.ensures
+
+pub returns-then-branch-clause-value : goal.returns-then-branch-clause-value
+returns-then-branch-clause-value g c live =
+    showing_ends g.T.Tables.means g.Q.Query.time_of (g.Q.Query.shown_in c.args.query.now) (g.Q.Query.asks c.args.query.now)
+    (g.Q.Query.records_in c.args.query.now) c.args.tables.now c.spans.tables c.look_within.new.tables c.spans.span
+    c.spans.draft c.look_within.new.draft c.in_ok-look_within.field-0 g.met.T.Tables.lived c.spans.invariant
+    c.in_ok-look_within.ensures.value c.if-branch.true c.in_ok-look_within.ensures.leaves.follows live
