@@ -1,9 +1,8 @@
 //! Ledgers that may not be there.
 ghost use Rattle.commands.specs.Kept.{kept_meaning, kept_stays, kept_then, kept_lived, kept_valid};
 
-use chain::{BatchFault, Ledgers, Listed, ReadFault, RoundWork, Rounds, Work};
-use records::{AccountFilter, BalanceAt, Order, RowSink, Transfer, Unavailable};
-use std::alloc::Global;
+use chain::{BatchFault, Ledgers, RoundWork, Rounds, Work};
+use records::Unavailable;
 
 /// Ledgers, or none where they cannot be opened.
 #[derive(Drop)]
@@ -31,46 +30,6 @@ impl<L: Ledgers> Ledgers for Kept<L> {
         match self {
             Kept::Open(ledgers) => ledgers.knows(digest),
             Kept::Closed => Err(Unavailable::Disk),
-        }
-    }
-
-    fn history_transfers(
-        &mut self,
-        alloc: Global,
-        digest: &[u8; 32],
-        asked: &AccountFilter,
-    ) -> Result<Listed<Transfer>, ReadFault> {
-        match self {
-            Kept::Open(ledgers) => ledgers.history_transfers(alloc, digest, asked),
-            Kept::Closed => Err(ReadFault::Unavailable(Unavailable::Disk)),
-        }
-    }
-
-    fn history_balances(
-        &mut self,
-        alloc: Global,
-        digest: &[u8; 32],
-        asked: &AccountFilter,
-    ) -> Result<Listed<BalanceAt>, ReadFault> {
-        match self {
-            Kept::Open(ledgers) => ledgers.history_balances(alloc, digest, asked),
-            Kept::Closed => Err(ReadFault::Unavailable(Unavailable::Disk)),
-        }
-    }
-
-    fn each_statement_row<S: RowSink>(
-        &mut self,
-        alloc: Global,
-        digest: &[u8; 32],
-        account: u128,
-        order: Order,
-        sink: &mut S,
-    ) -> Result<(), ReadFault> {
-        match self {
-            Kept::Open(ledgers) => {
-                ledgers.each_statement_row(alloc, digest, account, order, sink)
-            }
-            Kept::Closed => Err(ReadFault::Unavailable(Unavailable::Disk)),
         }
     }
 

@@ -10,11 +10,7 @@ use Rattle.sqlite.specs.Files.{file_state}
 use Rattle.sqlite_trees.specs.Tree.{Trees}
 use Rattle.chain.specs.declared.ledgers.BatchFault.{BatchFault}
 use Rattle.chain.specs.declared.ledgers.BatchFault.TheVariants as batch_fault
-use Rattle.chain.specs.declared.reads.Listed.{Listed}
-use Rattle.chain.specs.declared.reads.ReadFault.{ReadFault}
-use Rattle.chain.specs.declared.reads.ReadFault.TheVariants as fault
 use Rattle.chain.specs.Ledgers.{Tenants, KeepsAll, Finds, IsAnswered, LeadsBy, LeadsByRound}
-use Rattle.chain.specs.LedgerReads.{IsTold}
 use Rattle.stored_ledgers.specs.Directory.{tenants_in}
 use Rattle.stored_ledgers.specs.DueSets.{DueSets}
 use Rattle.stored_ledgers.specs.Outcomes.{IsAfterBatch}
@@ -22,7 +18,6 @@ use Rattle.stored_ledgers.specs.Rounds.{IsAfterRound}
 use Rattle.store.specs.StoreLaws.{store_meaning}
 use Rattle.store.specs.Stores.{IsUsable, IsUsableAt, IsLive, IsLiveAt, IsHonest, IsHonestAt, tenants_of, tenants_at}
 use Rattle.store.specs.Stores.{FindsTenants, Follows, Goes, OfDatabase, OfDatabaseAt, Answers, Reads, may_find}
-use Rattle.stored_ledgers.specs.TenantReads.{reach_of}
 use Rattle.store.specs.declared.place.Place.{Place}
 use Rattle.store.specs.declared.place.Place.TheVariants as at
 use Rattle.store.specs.declared.store.Store.{Store}
@@ -33,15 +28,6 @@ not_failed :
 not_failed (Ok output) answered is = cc
 not_failed (Err batch_fault.UnknownKey) answered is = cc
 not_failed (Err (batch_fault.Unavailable why)) answered is = absurd answered
-
-told_reached :
-    {A : Type 0} (result : Result A ReadFault) → IsTold result → reach_of result ≢ Err DiskFailed
-told_reached (Ok answer) told is = cc
-told_reached (Err (fault.Unavailable why)) told is = absurd told
-told_reached (Err (fault.Sink why)) told is = absurd told
-told_reached (Err fault.UnknownKey) told is = cc
-told_reached (Err fault.NoAccount) told is = cc
-told_reached (Err fault.NoHistory) told is = cc
 
 ok_reached : {A : Type 0} (result : Result A Unavailable) → IsOk result → result ≢ Err DiskFailed
 ok_reached (Ok answer) ok is = cc
@@ -142,11 +128,11 @@ module _ {D : Type 0} {g : disk.Ghosts D} where
   }
 
   -- after a call that only reads
-  pub finds_read :
-      {T : Type 0} (old new : Store D g) (result : Result T Unavailable) (told : Type 0)
-      (Leads : Tenants → Tenants → Type 0) → (told → result ≢ Err DiskFailed) → Reads old new result →
-      Finds store_meaning told Leads old new
-  finds_read old new result told Leads reached reads = record {
+  pub finds_known :
+      {T : Type 0} (old new : Store D g) (result : Result T Unavailable)
+      (Leads : Tenants → Tenants → Type 0) → Reads old new result →
+      Finds store_meaning (IsOk result) Leads old new
+  finds_known old new result Leads reads = record {
     found = λ found f. elim (reads.finds f.honest f.db f.may) [
       | inl before ↦ inl (record {
         honest = reads.answers.follows.honest f.honest;
@@ -156,18 +142,5 @@ module _ {D : Type 0} {g : disk.Ghosts D} where
       })
       | inr none ↦ absurd none
     ];
-    live = λ is_told found f. reads.answers.open_yet f.honest (reached is_told);
+    live = λ ok found f. reads.answers.open_yet f.honest (ok_reached result ok);
   }
-
-  pub finds_known :
-      {T : Type 0} (old new : Store D g) (result : Result T Unavailable)
-      (Leads : Tenants → Tenants → Type 0) → Reads old new result →
-      Finds store_meaning (IsOk result) Leads old new
-  finds_known old new result Leads = finds_read old new result (IsOk result) Leads (ok_reached result)
-
-  pub finds_told :
-      {A : Type 0} (old new : Store D g) (result : Result A ReadFault)
-      (Leads : Tenants → Tenants → Type 0) → Reads old new (reach_of result) →
-      Finds store_meaning (IsTold result) Leads old new
-  finds_told old new result Leads =
-      finds_read old new (reach_of result) (IsTold result) Leads (told_reached result)

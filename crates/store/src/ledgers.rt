@@ -1,12 +1,9 @@
 //! A store as the ledgers of many tenants.
 
-ghost use Rattle.std.specs.Prelude.{◌≡◌, false};
-
 use crate::Store;
-use chain::{BatchFault, Ledgers, Listed, ReadFault, RoundWork, Rounds, Work};
-use records::{AccountFilter, BalanceAt, Order, RowSink, Transfer, Unavailable};
+use chain::{BatchFault, Ledgers, RoundWork, Rounds, Work};
+use records::Unavailable;
 use sqlite_disk::Disk;
-use std::alloc::Global;
 
 impl<D: Disk + Drop> Ledgers for Store<D> {
     ghost use Rattle.store.specs.StoreLaws.{store_meaning, follows_itself, follows_then, valid_tenants};
@@ -23,35 +20,6 @@ impl<D: Disk + Drop> Ledgers for Store<D> {
 
     fn knows(&mut self, digest: &[u8; 32]) -> Result<bool, Unavailable> {
         self.knows(digest)
-    }
-
-    fn history_transfers(
-        &mut self,
-        alloc: Global,
-        digest: &[u8; 32],
-        asked: &AccountFilter,
-    ) -> Result<Listed<Transfer>, ReadFault> {
-        self.history_transfers(alloc, digest, asked)
-    }
-
-    fn history_balances(
-        &mut self,
-        alloc: Global,
-        digest: &[u8; 32],
-        asked: &AccountFilter,
-    ) -> Result<Listed<BalanceAt>, ReadFault> {
-        self.history_balances(alloc, digest, asked)
-    }
-
-    fn each_statement_row<S: RowSink>(
-        &mut self,
-        _alloc: Global,
-        digest: &[u8; 32],
-        account: u128,
-        order: Order,
-        sink: &mut S,
-    ) -> Result<(), ReadFault> {
-        self.each_statement_row(digest, account, order, sink)
     }
 
     ghost stays = { λ a. follows_itself a };

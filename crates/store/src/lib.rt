@@ -4,7 +4,6 @@
 mod at_path;
 mod ledgers;
 mod place;
-mod reads;
 mod reopening;
 mod store;
 

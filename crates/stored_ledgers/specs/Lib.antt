@@ -11,4 +11,3 @@ pub mod Joining
 pub mod Keying
 pub mod Rounds
 pub mod RoundLaws
-pub mod TenantReads

@@ -1,5 +1,5 @@
-//! The ledgers of many tenants in one database: which there are, batches of work on one, new
-//! tenants, other keys, and reads.
+//! The ledgers of many tenants in one database: which there are, batches of work on one, and
+//! new tenants.
 #![tactic(auto)]
 
 pub mod batches;
@@ -10,6 +10,5 @@ pub mod laws;
 pub mod probe;
 mod round;
 pub mod rounds;
-pub mod tenant_reads;
 pub mod transactions;
 mod working;

@@ -4,16 +4,15 @@ ghost use Rattle.std.specs.Prelude.{◌≡◌, Some, unwrap_or};
 
 use crate::batches::{DueSets, UnknownKey};
 use crate::working::{Past, work_here};
-use chain::{BatchFault, Ledgers, Listed, ReadFault, Work};
+use chain::{BatchFault, Ledgers, Work};
 use ledger_sql::finding::find_tenant;
-use records::{AccountFilter, BalanceAt, Order, RowSink, Transfer, Unavailable};
+use records::Unavailable;
 use sqlite::{Alter, Connection};
-use std::alloc::Global;
 
 /// The ledgers of a connection in an open transaction.
 ///
 /// Once a call has answered `Unavailable`, each answers so, and whoever lent the ledgers takes all of
-/// the round back. A read of a tenant's rows is such a call: a round is for work.
+/// the round back.
 #[derive(Drop)]
 pub(crate) struct Round<'a, S: Alter> {
     pub(crate) conn: &'a mut Connection<S>,
@@ -75,35 +74,6 @@ impl<S: Alter> Ledgers for Round<'_, S> {
             Ok(number) => Ok(number.is_some()),
             Err(why) => Err(fail(&mut self.failure, why)),
         }
-    }
-
-    fn history_transfers(
-        &mut self,
-        _alloc: Global,
-        _digest: &[u8; 32],
-        _asked: &AccountFilter,
-    ) -> Result<Listed<Transfer>, ReadFault> {
-        Err(ReadFault::Unavailable(fail(&mut self.failure, Unavailable::Memory)))
-    }
-
-    fn history_balances(
-        &mut self,
-        _alloc: Global,
-        _digest: &[u8; 32],
-        _asked: &AccountFilter,
-    ) -> Result<Listed<BalanceAt>, ReadFault> {
-        Err(ReadFault::Unavailable(fail(&mut self.failure, Unavailable::Memory)))
-    }
-
-    fn each_statement_row<K: RowSink>(
-        &mut self,
-        _alloc: Global,
-        _digest: &[u8; 32],
-        _account: u128,
-        _order: Order,
-        _sink: &mut K,
-    ) -> Result<(), ReadFault> {
-        Err(ReadFault::Unavailable(fail(&mut self.failure, Unavailable::Memory)))
     }
 
     ghost stays = { λ a. (refl, refl, refl, round_itself _ _ _) };

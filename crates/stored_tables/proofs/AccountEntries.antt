@@ -1,5 +1,5 @@
 -- What is handed out of a database is handed out of the machine's entries.
-use Rattle.std.proofs.Common.{◌≡◌, ◌⊎◌, ℕ, zero, suc, ◌+◌, ◌-◌, ◌<◌, ◌≤◌, ◌^◌, ℤ, pos, Bool, true, false, List, [], ◌∷◌, ◌++◌, map, filter, flat_map, reverse, take, Result, Ok, Err, OnOk, OnErr, refl, sym, ap, subst, ◌∙◌, arith, inl, inr, IsPermutation}
+use Rattle.std.proofs.Common.{◌≡◌, ◌⊎◌, ℕ, zero, suc, ◌+◌, ◌-◌, ◌<◌, ◌≤◌, ◌^◌, ℤ, pos, Bool, true, false, List, [], ◌∷◌, ◌++◌, map, filter, flat_map, reverse, take, length, Result, Ok, Err, OnOk, OnErr, refl, sym, ap, subst, ◌∙◌, arith, inl, inr, IsPermutation}
 use Rattle.std.specs.List.{AllByRecursion}
 use Rattle.std.proofs.lemmas.List.{reverse-append, take-map}
 use Rattle.std.proofs.lemmas.List.Elements.{All-weaker, recursion_from_All}
@@ -19,12 +19,12 @@ use Rattle.sqlite_value.specs.Order.{Row}
 use Rattle.sqlite_trees.specs.Tree.{Trees, IsAscending}
 use Rattle.sqlite_trees.proofs.ListLemmas.{all_weaker, all-filter, all_both, all-permutation, ascending-filter, ascending_weaker, ascending-append}
 use Rattle.ledger_sql.specs.declared.entry_cells.EntryCells.{EntryCells}
-use Rattle.ledger_sql.specs.Entries.{entry_values, entries_when, AreOldestFirst, AreNewestFirst, ReadsAll, ReadsFirst, ReadsUpTo, HandsEntries, HandsUpTo}
+use Rattle.ledger_sql.specs.Entries.{entry_values, entries_when, AreOldestFirst, AreNewestFirst, ReadsFirst, ReadsUpTo, HandsUpTo}
 use Rattle.ledger_sql.specs.TableRows.{is_from, is_until}
 use Rattle.stored_tables.specs.Holds.{HoldsMachine}
 use Rattle.stored_tables.specs.Entries.{account_entries, entry_cells}
 use Rattle.stored_tables.specs.Handing.{AreFirst, AreAll, HandsAccount, entries_behind}
-use Rattle.stored_tables.proofs.ChunkEnds.{first_within}
+use Rattle.stored_tables.proofs.BoundTimes.{all_taken}
 use Rattle.stored_tables.proofs.AccountRows.{entries_there, own_all, alone_in, of_entries, is_timed, HasTwoAccounts}
 use Rattle.stored_tables.proofs.AccountOrder.{ReadInOrder, IsStorableEntry, rows_of, oldest_rows, newest_rows, are_first, are_all}
 
@@ -123,41 +123,29 @@ module _ (tenant : ℤ) (m : Machine) (trees : Trees) (held : HoldsMachine tenan
 
 -- ---- what is handed to a sink
 
+-- what is no more than a number of some entries is of the first of them
+first_within : (account n : ℕ) (es : List Entry) (cells : List EntryCells) → length cells ≤ n → AreFirst account es cells → AreFirst account (take n es) cells
+first_within account n es [] le are = tt
+first_within account n [] (c ∷ cells) le are = absurd are
+first_within account zero (e ∷ es) (c ∷ cells) le are = absurd (omega arith)
+first_within account (suc n) (e ∷ es) (c ∷ cells) le are = (are.0, first_within account n es cells (omega arith) are.1)
+
 module _ {K : Type 0} (takes : K → EntryCells → K → Type 0) (is_full : K → Bool) (H : Type 0)
     (entries : List Row) (InOrder : List Row → Type 0) (account : ℕ) (es : List Entry)
     (fits_all : H → AllByRecursion (IsStorableEntry account) es)
     (read : H → (ys : List Row) → IsPermutation entries ys → InOrder ys → rows_of account es ≡ ys)
     (old new : K) where
-  ended_so : {E : Type 0} (result : Result (Unit {0}) E) (handed : List EntryCells) → H → OnOk result ((is_full new ≡ true) ⊎ ReadsAll entries InOrder handed) → OnOk result ((is_full new ≡ true) ⊎ AreAll account es handed)
-  ended_so (Err e) handed honest ended = tt
-  ended_so (Ok u) handed honest (inl full) = inl full
-  ended_so (Ok u) handed honest (inr all) = inr (are_all account es handed (fits_all honest) (read honest (map entry_values handed) all.all all.order))
-
   begun_so : (handed : List EntryCells) → H → (handed ≡ []) ⊎ ReadsFirst entries InOrder handed → AreFirst account es handed
   begun_so handed honest (inl none) = subst (AreFirst account es) (sym none) tt
   begun_so handed honest (inr begun) = are_first account es handed begun.rest (fits_all honest) (read honest (map entry_values handed ++ begun.rest) begun.all begun.order)
 
-  pub hands_account : {E : Type 0} (result : Result (Unit {0}) E) → HandsEntries takes is_full H entries InOrder old new result → HandsAccount takes is_full H account es old new result
-  hands_account result h = record {
-    handed = h.handed;
-    taken = h.taken;
-    first = λ honest. begun_so h.handed honest (h.first honest);
-    ended = λ honest. ended_so result h.handed honest (h.ended honest);
-    wants = h.wants;
-  }
-
-  -- and so are the first of them, so many at most
+  -- the first of them, so many at most
   module _ (count : ℕ) where
-    few_fit : (n : ℕ) (es : List Entry) → AllByRecursion (IsStorableEntry account) es → AllByRecursion (IsStorableEntry account) (take n es)
-    few_fit zero es all = tt
-    few_fit (suc n) [] all = tt
-    few_fit (suc n) (e ∷ es) all = (all.0, few_fit n es all.1)
-
     ended_few : {E : Type 0} (result : Result (Unit {0}) E) (handed : List EntryCells) → H → OnOk result ((is_full new ≡ true) ⊎ ReadsUpTo entry_values count entries InOrder handed) → OnOk result ((is_full new ≡ true) ⊎ AreAll account (take count es) handed)
     ended_few (Err e) handed honest ended = tt
     ended_few (Ok u) handed honest (inl full) = inl full
     ended_few (Ok u) handed honest (inr few) =
-        inr (are_all account (take count es) handed (few_fit count es (fits_all honest))
+        inr (are_all account (take count es) handed (all_taken (IsStorableEntry account) count es (fits_all honest))
         (sym (take-map (λ e. entry_values (entry_cells account e)) count es) ∙ ap (take count) (read honest few.ordered few.all few.order) ∙ sym few.read_is))
 
     pub hands_few : {E : Type 0} (result : Result (Unit {0}) E) → HandsUpTo takes is_full H count entries InOrder old new result → HandsAccount takes is_full H account (take count es) old new result

@@ -5,9 +5,8 @@ pub mod AccountEntries
 pub mod AccountOrder
 pub mod AccountRows
 pub mod Apart
+pub mod BoundTimes
 pub mod ChangedRows
-pub mod ChunkEnds
-pub mod ChunkHands
 pub mod ClockMoves
 pub mod Covering
 pub mod DueKeys
@@ -18,12 +17,8 @@ pub mod ExpiryWrites
 pub mod Keeping
 pub mod MachineBack
 pub mod Marks
-pub mod NextEntries
 pub mod Numbers
 pub mod OneTableMoves
-pub mod PageGrowth
-pub mod PageTimes
-pub mod PageValue
 pub mod PastTimes
 pub mod PointReads
 pub mod Released
@@ -33,9 +28,9 @@ pub mod RowsTell
 pub mod SameValues
 pub mod SortedBack
 pub mod SpanRows
-pub mod StatementRows
-pub mod StatementValue
 pub mod Statements
 pub mod TableMoves
+pub mod TakenEntries
+pub mod TakenValue
 pub mod WideBytes
 pub mod Writing

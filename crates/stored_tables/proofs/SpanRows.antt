@@ -39,7 +39,7 @@ use Rattle.stored_tables.specs.MachineOf.{account_of, transfer_of}
 use Rattle.stored_tables.proofs.AccountEntries.{bounded, turned}
 use Rattle.stored_tables.proofs.AccountOrder.{is_lt_int, not_below}
 use Rattle.stored_tables.proofs.MachineBack.{ReadInOrder, map_back, account_back, transfer_back}
-use Rattle.stored_tables.proofs.PageTimes.{from_bound, until_bound, behind_from, behind_until}
+use Rattle.stored_tables.proofs.BoundTimes.{from_bound, until_bound, behind_from, behind_until}
 
 -- ---- lists in order
 

@@ -1,26 +1,17 @@
--- The bounds of a filter, as a file's numbers can have them.
-use Rattle.std.specs.Prelude.{ℕ, ℤ, pos, ◌==◌, min, if◌then◌else◌}
-use Rattle.records.specs.declared.filter.AccountFilter.{AccountFilter}
+-- The bounds of a span of time, as a file's numbers can have them.
+use Rattle.std.specs.Prelude.{ℕ, ℤ, pos, min}
 use Rattle.records.specs.declared.filter.Order.{Order}
 use Rattle.records.specs.declared.filter.Order.TheVariants.{Oldest, Newest}
-use Rattle.records.specs.Flags.{has_bit}
+use Rattle.records.specs.declared.query.Span.{Span}
 
 -- the greatest whole number in a file
 abbrev pub max_time : ℕ
 max_time = 9223372036854775807
 
--- where a history begins that is read forwards, and where one that is read backwards
-abbrev pub first_time : AccountFilter → ℕ
-first_time asked = min asked.timestamp_min max_time
+-- where a span of time begins, in its order
+abbrev pub begin_in : Order → Span → ℕ
+begin_in Oldest span = span.first
+begin_in Newest span = span.last
 
-abbrev pub last_time : AccountFilter → ℕ
-last_time asked =
-    if asked.timestamp_max == 0 then max_time else min asked.timestamp_max max_time
-
--- the order in which a filter shows entries
-abbrev pub order_of : AccountFilter → Order
-order_of asked = if has_bit asked.flags.0 2 then Newest else Oldest
-
--- and where they begin
-abbrev pub bound_of : AccountFilter → ℤ
-bound_of asked = pos (if has_bit asked.flags.0 2 then last_time asked else first_time asked)
+abbrev pub begin_of : Span → ℤ
+begin_of span = pos (min (begin_in span.order span) max_time)

@@ -1,22 +1,13 @@
--- An account's entries, as a file has them and as they are read.
+-- An account's entries, as a file has them.
 use Rattle.std.specs.Prelude.{◌≡◌, ℕ, pos, Bool, ◌&&◌, List, filter}
 use Rattle.records.specs.Machine.{Machine}
-use Rattle.records.specs.Reads.{Entry, entries_of, balance_after, is_entry_of}
-use Rattle.records.specs.Reads.{side_of, kind_of}
-use Rattle.records.specs.declared.balances.BalanceAt.{BalanceAt}
-use Rattle.records.specs.declared.statement_row.StatementRow.{StatementRow}
+use Rattle.records.specs.Reads.{Entry, entries_of, is_entry_of}
 use Rattle.rows.specs.Cells.{history_cells, transfer_cells}
 use Rattle.rows.specs.Prescribed.{history_row}
 use Rattle.rows.specs.Widths.{IsStorableHistory, IsStorableTransfer}
 use Rattle.sqlite_value.specs.declared.value.Value.{Value}
 use Rattle.sqlite_value.specs.declared.value.Value.TheVariants.{Int}
 use Rattle.ledger_sql.specs.declared.entry_cells.EntryCells.{EntryCells}
-use Rattle.stored_tables.specs.declared.stored_entry.StoredEntry.{StoredEntry}
-
--- an entry with the account's balances after it
-abbrev pub stored_entry : ℕ → Entry → StoredEntry
-stored_entry account entry =
-    record { transfer = entry.transfer; balances = balance_after account entry }
 
 -- the cells in which a file has it
 abbrev pub entry_cells : ℕ → Entry → EntryCells
@@ -37,19 +28,3 @@ account_entries m account in_time =
     filter (λ entry. is_entry_of account entry.transfer
     && in_time (Int (pos entry.transfer.timestamp)))
     (entries_of m)
-
--- the balances after an entry
-abbrev pub balance_of : StoredEntry → BalanceAt
-balance_of entry =
-    record { timestamp = entry.transfer.timestamp; balances = entry.balances }
-
--- the line of an account's statement
-abbrev pub row_of : ℕ → StoredEntry → StatementRow
-row_of account entry = record {
-  timestamp = entry.transfer.timestamp;
-  transfer_id = entry.transfer.id;
-  side = side_of account entry.transfer;
-  kind = kind_of entry.transfer.flags;
-  amount = entry.transfer.amount;
-  balances = entry.balances;
-}

@@ -1,6 +1,5 @@
 pub mod BatchLaws
 pub mod Bounds
-pub mod Chunks
 pub mod Covers
 pub mod Entries
 pub mod Frames
@@ -11,6 +10,5 @@ pub mod InBatch
 pub mod MachineOf
 pub mod Meaning
 pub mod Moves
-pub mod Pages
 pub mod Releasing
-pub mod Rows
+pub mod Taken

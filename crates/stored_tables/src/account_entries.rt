@@ -1,36 +1,88 @@
-//! An account's entries, in either order.
+//! An account's entries within a span of time, in its batch.
 
-ghost use Rattle.std.specs.Prelude.{◌≡◌, false};
+ghost use Rattle.std.specs.Prelude.{◌≡◌, take, false, IfOk};
+ghost use Rattle.chain.specs.Tables.{Leaves, same};
+ghost use Rattle.chain.specs.AccountEntries.{account_entries_within};
 ghost use Rattle.sqlite.specs.Held.{state};
 ghost use Rattle.sqlite.specs.State.{HasCleanDisk};
-ghost use Rattle.ledger_sql.specs.Calls.{Reads};
+ghost use Rattle.ledger_sql.specs.Calls.{Learns, Reads};
 ghost use Rattle.stored_tables.specs.Handing.{HandsAccount, entries_behind};
 ghost use Rattle.stored_tables.specs.Idle.{CanRead, machine_at};
+ghost use Rattle.stored_tables.specs.MachineOf.{machine_of};
+ghost use Rattle.stored_tables.specs.Meaning.{batch_meaning};
 
 use crate::batch::TenantNumber;
+use crate::bounds::span_begin;
+use crate::entries_within::EntriesWithin;
+use crate::failing::give_up;
 use amount::columns_keep_order;
+use chain::AccountEntry;
 use ledger_sql::EntrySink;
-use ledger_sql::entries::{each_entry_from, each_entry_until};
-use records::{Order, Unavailable};
+use ledger_sql::entries::{first_entries_from, first_entries_until};
+use records::{Order, Span, Unavailable};
 use rows::{read_in_order, rows_fit, rows_stand_in_order};
 use sqlite::{Alter, Connection, Row};
+use std::alloc::Global;
 
-/// Hands the entries of an account behind a bound, in nanoseconds, to a sink until it is full: from
-/// the bound on, oldest first, or up to it, newest first. After an `Err` it has taken the first of
-/// them.
-pub(crate) fn each_entry<S: Alter, K: EntrySink>(
+/// An account's entries within a span of time, in its order, at most so many, each with the
+/// account's balances after it.
+pub(crate) fn account_entries<S: Alter>(
+    alloc: Global,
+    conn: &mut Connection<S>,
+    tenant: TenantNumber,
+    account: u128,
+    span: &Span,
+) -> Result<Vec<AccountEntry>, Unavailable>
+    requires { (batch_meaning S.Store tenant.0).is_usable conn.old }
+    ensures value { (batch_meaning S.Store tenant.0).is_live conn.new → IfOk result
+        (λ found. found.items ≡ account_entries_within
+        ((batch_meaning S.Store tenant.0).state conn.old).now account span.now) }
+    ensures leaves { Leaves (batch_meaning S.Store tenant.0) conn.old conn.new result same }
+{
+    match read_entries(alloc, conn, tenant, account, span) {
+        Ok(found) => Ok(found),
+        Err(cause) => Err(give_up(conn, cause)),
+    }
+}
+
+/// The same, without giving up.
+fn read_entries<S: Alter>(
+    alloc: Global,
+    conn: &mut Connection<S>,
+    tenant: TenantNumber,
+    account: u128,
+    span: &Span,
+) -> Result<Vec<AccountEntry>, Unavailable>
+    requires { CanRead tenant.0 (state S.Store conn.old) }
+    ensures { Learns (λ trees found. found.items
+        ≡ account_entries_within (machine_of tenant.0 trees) account span.now)
+        S.Store conn.old conn.new result }
+{
+    columns_keep_order();
+    rows_fit();
+    rows_stand_in_order();
+    let mut taken = EntriesWithin::new(alloc, *span);
+    let begin = span_begin(span);
+    let most = span.most;
+    first_entries(conn, tenant, account, span.order, begin, most, &mut taken)?;
+    taken.finish()
+}
+
+/// Hands the first entries behind a bound, so many at most, to a sink until it is full.
+fn first_entries<S: Alter, K: EntrySink>(
     conn: &mut Connection<S>,
     tenant: TenantNumber,
     account: u128,
     order: Order,
     bound: i64,
+    count: u32,
     sink: &mut K,
 ) -> Result<(), Unavailable>
     requires reading { CanRead tenant.0 (state S.Store conn.old) }
     requires open { K.is_full sink.old ≡ false }
     ensures handed { HandsAccount K.takes K.is_full (HasCleanDisk (state S.Store conn.new)) account
-        (entries_behind (machine_at tenant.0 (state S.Store conn.old)) account order bound)
-        sink.old sink.new result }
+        (take count (entries_behind (machine_at tenant.0 (state S.Store conn.old)) account
+        order bound)) sink.old sink.new result }
     ensures reads { Reads S.Store conn.old conn.new result }
 {
     columns_keep_order();
@@ -38,7 +90,7 @@ pub(crate) fn each_entry<S: Alter, K: EntrySink>(
     rows_stand_in_order();
     read_in_order::<Row>();
     match order {
-        Order::Oldest => each_entry_from(conn, tenant.0, account, bound, sink),
-        Order::Newest => each_entry_until(conn, tenant.0, account, bound, sink),
+        Order::Oldest => first_entries_from(conn, tenant.0, account, bound, count, sink),
+        Order::Newest => first_entries_until(conn, tenant.0, account, bound, count, sink),
     }
 }

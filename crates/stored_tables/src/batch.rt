@@ -1,5 +1,5 @@
-use crate::{accepting, marking, reading, settling, spans};
-use chain::Tables;
+use crate::{accepting, account_entries, marking, reading, settling, spans};
+use chain::{AccountEntry, Tables};
 use records::{Accepted, Account, AccountWithBalances, PendingState, Span, Transfer, Unavailable};
 use sqlite::{Alter, Connection};
 use std::alloc::Global;
@@ -83,6 +83,15 @@ impl<S: Alter> Tables for Batch<'_, S> {
         span: &Span,
     ) -> Result<Vec<Transfer>, Unavailable> {
         spans::transfers(alloc, self.conn, self.tenant, span)
+    }
+
+    fn account_entries(
+        &mut self,
+        alloc: Global,
+        account: u128,
+        span: &Span,
+    ) -> Result<Vec<AccountEntry>, Unavailable> {
+        account_entries::account_entries(alloc, self.conn, self.tenant, account, span)
     }
 
     fn settle(&mut self, clock: u64) -> Result<(), Unavailable> {

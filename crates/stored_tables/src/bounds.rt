@@ -1,27 +1,9 @@
-//! Where the entries begin that a filter asks for, and where a span of time begins and ends.
+//! Where a span of time begins and ends, as a file's numbers can say it.
 
 ghost use Rattle.std.specs.Prelude.{◌≡◌, ◌<◌, pos, min, MatchOption};
-ghost use Rattle.stored_tables.specs.Bounds.{first_time, last_time, max_time};
+ghost use Rattle.stored_tables.specs.Bounds.{max_time, begin_of};
 
-use records::{AccountFilter, Span};
-
-/// The least timestamp that the filter asks for. Bounds beyond what a file can hold are beyond all
-/// timestamps.
-pub(crate) fn first_time(asked: &AccountFilter) -> i64
-    ensures { result ≡ pos (first_time asked.now) }
-{
-    i64::try_from(asked.timestamp_min).unwrap_or(i64::MAX)
-}
-
-/// The greatest timestamp that it asks for.
-pub(crate) fn last_time(asked: &AccountFilter) -> i64
-    ensures { result ≡ pos (last_time asked.now) }
-{
-    if asked.timestamp_max == 0 {
-        return i64::MAX;
-    }
-    i64::try_from(asked.timestamp_max).unwrap_or(i64::MAX)
-}
+use records::{Order, Span};
 
 /// Where a span of time begins; none where that is beyond what a file can hold, and so beyond all
 /// timestamps.
@@ -36,4 +18,15 @@ pub(crate) fn span_last(span: &Span) -> i64
     ensures { result ≡ pos (min span.now.last max_time) }
 {
     i64::try_from(span.last).unwrap_or(i64::MAX)
+}
+
+/// Where it begins in its order. Bounds beyond what a file can hold are beyond all timestamps.
+pub(crate) fn span_begin(span: &Span) -> i64
+    ensures { result ≡ begin_of span.now }
+{
+    let bound = match span.order {
+        Order::Oldest => span.first,
+        Order::Newest => span.last,
+    };
+    i64::try_from(bound).unwrap_or(i64::MAX)
 }

@@ -5,9 +5,12 @@ ghost use Rattle.records.specs.Facts.{account_in};
 ghost use Rattle.records.specs.Machine.{account_with, transfer_with, has_id};
 ghost use Rattle.records.specs.Balances.{balances_in};
 ghost use Rattle.chain.specs.Tables.{pending_state_of};
+ghost use Rattle.sqlite.specs.Held.{state};
+ghost use Rattle.ledger_sql.specs.Calls.{Learns};
+ghost use Rattle.stored_tables.specs.Idle.{CanRead};
+ghost use Rattle.stored_tables.specs.MachineOf.{machine_of};
 ghost use Rattle.stored_tables.specs.Meaning.{batch_meaning, OnlyTells};
 
-use crate::account_at_clock;
 use crate::batch::TenantNumber;
 use crate::failing::give_up;
 use crate::laws::point_reads;
@@ -25,9 +28,22 @@ pub(crate) fn clock<S: Alter>(
     ensures { OnlyTells (batch_meaning S.Store tenant.0) conn.old conn.new result
         (λ m. m.clock) }
 {
-    match account_at_clock::clock(conn, tenant) {
+    match read_clock(conn, tenant) {
         Ok(clock) => Ok(clock),
         Err(cause) => Err(give_up(conn, cause)),
+    }
+}
+
+/// The same, without giving up.
+fn read_clock<S: Alter>(conn: &mut Connection<S>, tenant: TenantNumber) -> Result<u64, Unavailable>
+    requires { CanRead tenant.0 (state S.Store conn.old) }
+    ensures { Learns (λ trees clock. clock ≡ (machine_of tenant.0 trees).clock)
+        S.Store conn.old conn.new result }
+{
+    point_reads();
+    match finding::find_clock(conn, tenant.0)? {
+        Some(clock) => Ok(clock),
+        None => Err(Unavailable::Disk),
     }
 }
 
@@ -58,10 +74,25 @@ fn account_alone<S: Alter>(
     ensures { OnlyTells (batch_meaning S.Store tenant.0) conn.old conn.new result
         (λ m. account_with id m.accounts) }
 {
-    match account_at_clock::account(conn, tenant, id) {
+    match read_account(conn, tenant, id) {
         Ok(found) => Ok(found),
         Err(cause) => Err(give_up(conn, cause)),
     }
+}
+
+/// The same, without giving up.
+fn read_account<S: Alter>(
+    conn: &mut Connection<S>,
+    tenant: TenantNumber,
+    id: u128,
+) -> Result<Option<Account>, Unavailable>
+    requires { CanRead tenant.0 (state S.Store conn.old) }
+    ensures { Learns
+        (λ trees account. account ≡ account_with id (machine_of tenant.0 trees).accounts)
+        S.Store conn.old conn.new result }
+{
+    point_reads();
+    finding::find_account(conn, tenant.0, id)
 }
 
 /// The balances of the account with this id, at the clock. That an account has none is told as a

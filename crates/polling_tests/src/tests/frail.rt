@@ -3,11 +3,10 @@ ghost use Rattle.std.specs.Prelude.{◌≡◌, ⊤, false};
 ghost use Rattle.chain.specs.Ledgers.{AreValid, KeepsAll};
 ghost use Rattle.plain.specs.BookLedgers.{machines_in};
 
-use chain::{BatchFault, Ledgers, Listed, ReadFault, RoundWork, Rounds, Work};
+use chain::{BatchFault, Ledgers, RoundWork, Rounds, Work};
 use plain::Book;
 use polling::Reopen;
-use records::{AccountFilter, BalanceAt, Order, RowSink, Transfer, Unavailable};
-use std::alloc::Global;
+use records::Unavailable;
 
 /// What becomes of a round, once all of its messages are answered in it.
 #[derive(Clone, Copy, Debug, PartialEq, Eq)]
@@ -103,36 +102,6 @@ impl Ledgers for Frail {
             return Err(Unavailable::Disk);
         }
         self.book.knows(digest)
-    }
-
-    // Nothing is read in these tests.
-    fn history_transfers(
-        &mut self,
-        _alloc: Global,
-        _digest: &[u8; 32],
-        _asked: &AccountFilter,
-    ) -> Result<Listed<Transfer>, ReadFault> {
-        Err(ReadFault::Unavailable(Unavailable::Memory))
-    }
-
-    fn history_balances(
-        &mut self,
-        _alloc: Global,
-        _digest: &[u8; 32],
-        _asked: &AccountFilter,
-    ) -> Result<Listed<BalanceAt>, ReadFault> {
-        Err(ReadFault::Unavailable(Unavailable::Memory))
-    }
-
-    fn each_statement_row<S: RowSink>(
-        &mut self,
-        _alloc: Global,
-        _digest: &[u8; 32],
-        _account: u128,
-        _order: Order,
-        _sink: &mut S,
-    ) -> Result<(), ReadFault> {
-        Err(ReadFault::Unavailable(Unavailable::Memory))
     }
 
     ghost stays = { λ a live. live };

@@ -10,12 +10,9 @@ use super::memory::UNAVAILABLE;
 use super::messages::FIRST;
 use super::played::Asked::{self, Send};
 use super::played::{FOUR_ACCOUNTS, Want, message, wanted};
-use chain::{BatchFault, Ledgers, Listed, ReadFault, RoundWork, Rounds, Tables, Work};
+use chain::{AccountEntry, BatchFault, Ledgers, RoundWork, Rounds, Tables, Work};
 use plain::PlainTables;
-use records::{
-    Accepted, Account, AccountFilter, AccountWithBalances, BalanceAt, Order, PendingState, RowSink,
-    Span, Transfer, Unavailable,
-};
+use records::{Accepted, Account, AccountWithBalances, PendingState, Span, Transfer, Unavailable};
 use service::{Message, Settles, respond, respond_round};
 use std::alloc::Global;
 use std::process::Abort;
@@ -71,6 +68,15 @@ impl Tables for Scarce {
         self.tables.transfers_within(alloc, span)
     }
 
+    fn account_entries(
+        &mut self,
+        alloc: Global,
+        account: u128,
+        span: &Span,
+    ) -> Result<Vec<AccountEntry>, Unavailable> {
+        self.tables.account_entries(alloc, account, span)
+    }
+
     fn settle(&mut self, clock: u64) -> Result<(), Unavailable> {
         self.tables.settle(clock)
     }
@@ -113,7 +119,7 @@ impl Tables for Scarce {
     ghost valid = { λ a live usable. usable };
 }
 
-/// The ledger of one firm over such tables. It refuses histories and statements.
+/// The ledger of one firm over such tables.
 #[derive(Drop)]
 struct ScarceLedger {
     digest: [u8; 32],
@@ -152,35 +158,6 @@ impl Ledgers for ScarceLedger {
 
     fn knows(&mut self, digest: &[u8; 32]) -> Result<bool, Unavailable> {
         Ok(*digest == self.digest)
-    }
-
-    fn history_transfers(
-        &mut self,
-        _alloc: Global,
-        _digest: &[u8; 32],
-        _asked: &AccountFilter,
-    ) -> Result<Listed<Transfer>, ReadFault> {
-        Err(ReadFault::Unavailable(Unavailable::Memory))
-    }
-
-    fn history_balances(
-        &mut self,
-        _alloc: Global,
-        _digest: &[u8; 32],
-        _asked: &AccountFilter,
-    ) -> Result<Listed<BalanceAt>, ReadFault> {
-        Err(ReadFault::Unavailable(Unavailable::Memory))
-    }
-
-    fn each_statement_row<S: RowSink>(
-        &mut self,
-        _alloc: Global,
-        _digest: &[u8; 32],
-        _account: u128,
-        _order: Order,
-        _sink: &mut S,
-    ) -> Result<(), ReadFault> {
-        Err(ReadFault::Unavailable(Unavailable::Memory))
     }
 
     ghost stays = { λ a. tt };

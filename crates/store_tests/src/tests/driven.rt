@@ -156,7 +156,7 @@ impl<D: Disk + Drop> Driven<D> {
         let mut rows = TakenRows::new(alloc, room);
         let ended = self
             .store
-            .each_statement_row(digest, account, order, &mut rows);
+            .each_statement_row(alloc, digest, account, order, &mut rows);
         (rows.taken, ended)
     }
 

@@ -3,20 +3,20 @@ use Rattle.stored_tables.specs.InBatch.{shown}
 use Rattle.stored_tables.proofs.Keeping.{can_read, reads, gives_up}
 use Rattle.stored_tables.proofs.reading.clock.Goals as goal
 
-pub clock-requires : goal.clock-requires
-clock-requires g c = can_read _ _ c.requires
+pub read_clock-requires : goal.read_clock-requires
+read_clock-requires g c = can_read _ _ c.requires
 
 pub returns-in-Ok : goal.returns-in-Ok
 unfolding shown
 returns-in-Ok g c = record {
   value = λ live. c.in-Ok.ensures.ok live.0;
   leaves =
-      reads g.S.Store _ _ _ c.in-Ok.clock c.requires c.clock.ensures.reads.follows c.in-Ok.ensures.reads.same;
+      reads g.S.Store _ _ _ c.in-Ok.clock c.requires c.read_clock.ensures.reads.follows c.in-Ok.ensures.reads.same;
 }
 
 pub returns-in-Err : goal.returns-in-Err
 returns-in-Err g c = record {
   value = search rules;
   leaves =
-      gives_up g.S.Store _ _ _ c.clock.new.conn _ _ c.clock.ensures.reads.follows c.give_up.ensures.over;
+      gives_up g.S.Store _ _ _ c.read_clock.new.conn _ _ c.read_clock.ensures.reads.follows c.give_up.ensures.over;
 }
