@@ -65,6 +65,7 @@ def routes(key):
     yield "GET /accounts", get, "bad_method"
     yield "POST /statement/1", post("/statement/1", b"", key), "bad_method"
     yield "POST /", post("/", b"", key), "bad_method"
+    yield "POST /health", post("/health", b"", key), "bad_method"
     yield "HEAD / with no key", b"HEAD / HTTP/1.1\r\ncontent-length: 0\r\n\r\n", "bad_method"
     for path in pages.PATHS:
         yield f"{path}/", post(f"{path}/", b"[]", key), "no_route"

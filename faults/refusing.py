@@ -175,6 +175,7 @@ def refuse_openings(house, desk, begun):
     tells once why the file could not be opened again."""
     late = [transfer(5, debit_account_id=1, credit_account_id=2, amount=1, ledger=LEDGER, code=1)]
     want(house.desks[1].ask("POST", "/accounts/lookup", b"[]") is None, "served by a kept connection")
+    want(house.desks[1].ask("GET", "/health") is None, "well, with a disk that fails")
     for other in (house.desks[1], desk):
         desk.connection.send(message("POST", "/transfers", other.key, body_of(late)))
         told = desk.connection.reply()[2]
@@ -200,6 +201,7 @@ def fail_disk(house, control, failing, batch):
         want(desk.ask("POST", "/accounts/lookup", b"[]") is not None, "unavailable once more")
     # Else it is, once the file is opened again.
     found = desk.settle(*batch)
+    want(desk.ask("GET", "/health") == {"serving": True}, "not well behind a failed call")
     if failing[1] == ALL:
         lines = house.service.told()[begun + 1:]
         want(lines == [house.well()], f"standard error tells {lines} behind it")

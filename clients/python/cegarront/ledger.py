@@ -38,7 +38,7 @@ from .records import (
     check_number,
 )
 from .results import AccountResult, Outcome, Result, Results, TransferResult
-from .transport import Message, Transport, refusal_in
+from .transport import Message, Transport, is_unavailable, refusal_in
 
 R = TypeVar("R")
 Asked = TypeVar("Asked", bound=PageFilter)
@@ -216,6 +216,19 @@ class Ledger:
         message = Message("GET", f"/statement/{account_id}")
         body, _ = self._ask(message, self._transport.deadline(), bytes)
         return _entries(body)
+
+    def health(self) -> bool:
+        """Whether the service serves; False where it is unavailable, as after a fault of its disk.
+
+        It is asked once, and no key is looked at. `Unanswered`: nothing answers at the address.
+        """
+        message = Message("GET", "/health")
+        reply = self._transport.ask_once(message, self._transport.deadline())
+        if is_unavailable(reply.status, reply.body):
+            return False
+        if reply.status != 200 or not wire.is_serving(reply.body):
+            raise BadReply(f"{message.path}: status {reply.status}, and not what is told of health")
+        return True
 
     def _batch(
         self,

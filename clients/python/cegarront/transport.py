@@ -140,6 +140,14 @@ class Transport:
                 ) from cause
             time.sleep(pause)
 
+    def ask_once(self, message: Message, until: float) -> Reply:
+        """The reply to one sending, on a connection of its own. `Unanswered` where none came."""
+        try:
+            status, body = self._send(message, until, is_first=False)
+        except NoAnswer as failure:
+            raise Unanswered(f"{message.method} {message.path}: {failure}") from failure
+        return Reply(status, body, is_repeated=False)
+
     def close(self) -> None:
         """Closes the connections that are idle."""
         with self._lock:

@@ -70,6 +70,14 @@ def object_in(body: bytes) -> Dict[str, Any]:
     return told
 
 
+def is_serving(body: bytes) -> bool:
+    """Whether a reply tells that the service serves."""
+    try:
+        return object_in(body).get("serving") is True
+    except ValueError:
+        return False
+
+
 def digits_in(told: object) -> int:
     """The number in a string of decimal digits."""
     if not (isinstance(told, str) and told.isascii() and told.isdigit()):

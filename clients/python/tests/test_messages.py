@@ -60,6 +60,7 @@ class Messages(unittest.TestCase):
         empty = {"clock": "0", "next": "0", "results": [], "accounts": [], "transfers": [],
                  "balances": [], "pending": []}
         script = [say(ok(empty)) for _ in range(10)] + [say(reply_bytes(200, pages.statement()))]
+        script.append(say(ok({"serving": True})))
         with Fake(script) as fake:
             ledger = fake.ledger()
             ledger.create_accounts([])
@@ -73,6 +74,7 @@ class Messages(unittest.TestCase):
             ledger.lookup_pending([])
             ledger.open_pending()
             ledger.statement(9)
+            self.assertTrue(ledger.health())
         sent = [re.match(rb"(\w+) (\S+) HTTP/1.1\r\n", each).groups() for each in fake.messages]
         wanted = [(method.encode(), path.replace("{account}", "9").encode())
                   for method, path in pages.routes()]

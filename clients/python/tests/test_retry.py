@@ -166,6 +166,19 @@ class Deadlines(unittest.TestCase):
         self.assertGreater(len(fake.messages), 2)
         self.assertEqual(len(set(fake.messages)), 1)
 
+    def test_health_is_asked_once(self):
+        with Fake([say(refusal(503, "unavailable")), say(ok({"serving": True})), cut(),
+                   say(ok({"accounts": []}))]) as fake:
+            ledger = fake.ledger()
+            self.assertFalse(ledger.health())
+            self.assertTrue(ledger.health())
+            with self.assertRaises(Unanswered) as raised:
+                ledger.health()
+            with self.assertRaises(BadReply):
+                ledger.health()
+        self.assertFalse(raised.exception.may_be_booked)
+        self.assertEqual(len(fake.messages), 4)
+
     def test_a_service_that_stays_unavailable(self):
         script = [say(refusal(503, "unavailable"))] * 100
         error, fake = self.unanswered(script, lambda each: each.create_transfers([PAID]))

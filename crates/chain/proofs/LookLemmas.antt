@@ -7,10 +7,12 @@ use Rattle.std.proofs.lemmas.Slice.Eq.{bytes_eq-Decides}
 use Rattle.std.proofs.lemmas.List.{take_more}
 use Rattle.std.proofs.lemmas.List.Elements.{filter_map-append}
 use Rattle.records.specs.declared.transfer.Transfer.{Transfer}
+use Rattle.records.specs.declared.unavailable.Unavailable.TheVariants.{Disk}
 use Rattle.records.specs.Machine.{Machine, transfer_with}
 use Rattle.chain.specs.declared.ledgers.BatchFault.{BatchFault}
 use Rattle.chain.specs.declared.ledgers.BatchFault.TheVariants as batch_fault
 use Rattle.chain.specs.declared.reads.ReadFault.{ReadFault}
+use Rattle.chain.specs.declared.reads.ReadFault.TheVariants as fault
 use Rattle.chain.specs.LedgerReads.{IsShown, IsTold, Reads, Seen, seen_in}
 use Rattle.chain.specs.Ledgers.{Tenants, LedgersMeaning, KeepsAll, KeepsOthers, IsDone, IsRun, Finds, IsAnswered, LeadsBy}
 use Rattle.records.specs.Reads.{AccountAnswer}
@@ -182,3 +184,24 @@ account_answered {X} result told is answered =
     at (Ok output) h = tt
     at (Err batch_fault.UnknownKey) h = tt
     at (Err (batch_fault.Unavailable why)) h = absurd h
+
+-- a batch that is refused for the disk, as a read
+pub account_refused :
+    {X : Type 0} (result : Result (Result X AccountFault) BatchFault) (told : Result X ReadFault) →
+    told ≡ account_answer result → result ≡ Err (batch_fault.Unavailable Disk) →
+    told ≡ Err (fault.Unavailable Disk)
+account_refused result told is refused = is ∙ ap account_answer refused
+
+-- and as it is handed on
+pub refused_so :
+    {X : Type 0} (result : Result (Unit {0}) ReadFault) (read : Result X ReadFault) (why : ReadFault) →
+    result ≡ Err why → read ≡ Err why → read ≡ Err (fault.Unavailable Disk) →
+    result ≡ Err (fault.Unavailable Disk)
+refused_so result read why told was refused =
+    let same : why ≡ fault.Unavailable Disk = (let e = sym was ∙ refused in cc) in
+    told ∙ ap (λ (f : ReadFault). Err f) same
+
+pub not_answered :
+    {X : Type 0} (read : Result X ReadFault) (found : X) → read ≡ Ok found →
+    read ≡ Err (fault.Unavailable Disk) → ⊥
+not_answered read found was refused = let e = sym was ∙ refused in cc

@@ -1,5 +1,6 @@
 -- The ledgers of many tenants: the machine of each, and what a call for one of them leaves.
-use Rattle.std.specs.Prelude.{◌≡◌, ◌≢◌, ◌⊎◌, ℕ, List, Option, Some, None, Result, Ok, Err, OnOk}
+use Rattle.std.specs.Prelude.{◌≡◌, ◌≢◌, ◌⊎◌, ℕ, Bool, List, Option, Some, None, Result, Ok, Err}
+use Rattle.std.specs.Prelude.{OnOk}
 use Rattle.records.specs.declared.unavailable.Unavailable.{Unavailable}
 use Rattle.records.specs.Machine.{Machine}
 use Rattle.records.specs.Valid.{IsValid}
@@ -13,12 +14,13 @@ abbrev pub Tenants : Type 0
 Tenants = List ℕ → Option Machine
 
 -- what the ledgers of many tenants mean: their machines, whether calls are allowed, whether the
--- ledgers are live, what every run of calls keeps, and which machines may be found where what the
--- ledgers stand on is opened again
+-- ledgers are live, whether what they stand on has failed, what every run of calls keeps, and which
+-- machines may be found where what they stand on is opened again
 pub record LedgersMeaning (S : Type 0) : Type 1 where
   pub tenants : S → Tenants
   pub is_usable : S → Type 0
   pub is_live : S → Type 0
+  pub has_failed : S → Bool
   pub follows : S → S → Type 0
   pub may_find : S → Tenants → Type 0
 

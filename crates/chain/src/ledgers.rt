@@ -1,4 +1,5 @@
-ghost use Rattle.std.specs.Prelude.{◌≡◌, false, IfOk, IsOk, is_some};
+ghost use Rattle.std.specs.Prelude.{◌≡◌, true, false, Err, IfOk, IsOk, is_some};
+ghost use Rattle.records.specs.declared.unavailable.Unavailable.TheVariants.{Disk};
 ghost use Rattle.records.specs.Reads.{Found, found_accounts, found_transfers};
 ghost use Rattle.records.specs.Queries.{found_holds, open_holds, queried_accounts};
 ghost use Rattle.records.specs.Queries.{queried_transfers};
@@ -7,6 +8,7 @@ ghost use Rattle.chain.specs.Ledgers.{LedgersMeaning, AreValid, KeepsAll, IsRun,
 ghost use Rattle.chain.specs.Ledgers.{IsAnswered, LeadsBy, LeadsNowhere};
 ghost use Rattle.chain.specs.LedgerReads.{seen_in, IsListed, IsPaged, HandsOut, is_refused, Reads, IsTold};
 ghost use Rattle.chain.specs.declared.ledgers.BatchFault.TheVariants as batch_fault;
+ghost use Rattle.chain.specs.declared.reads.ReadFault.TheVariants as read_fault;
 
 use crate::histories::{BalancesOf, TransfersOf};
 use crate::lookups::{AccountsById, HoldsById, Lookup, TransfersById};
@@ -43,9 +45,14 @@ impl From<Unavailable> for BatchFault {
 /// Ledgers that lose what they stand on, as a store whose disk fails, are no longer live: what they
 /// answer from then on says nothing of any tenant.
 pub trait Ledgers {
-    // The machine of each tenant; whether calls are allowed; whether the ledgers are live; what
-    // every run of calls keeps; and which machines an opening may find.
+    // The machine of each tenant; whether calls are allowed; whether the ledgers are live; whether
+    // they have failed; what every run of calls keeps; and which machines an opening may find.
     ghost means: { LedgersMeaning Self };
+
+    /// Whether what the ledgers stand on has failed, so that each call is answered that the disk
+    /// failed.
+    fn has_failed(&self) -> bool
+        ensures { result ≡ means.has_failed self.now };
 
     /// Runs a batch of work on one tenant's tables, and keeps all of it or nothing.
     fn in_batch<W: Work + Drop>(
@@ -57,6 +64,8 @@ pub trait Ledgers {
         ensures run { means.is_live self.new →
             IsRun (W.gives work) digest.now (means.tenants self.old) (means.tenants self.new)
             result }
+        ensures failed { means.has_failed self.old ≡ true
+            → result ≡ Err (batch_fault.Unavailable Disk) }
         ensures finds { Finds means (IsAnswered result) (LeadsBy (W.gives work) digest.now)
             self.old self.new }
         ensures usable { means.is_usable self.new }
@@ -69,6 +78,7 @@ pub trait Ledgers {
             IfOk result (λ known. known ≡ is_some (means.tenants self.old digest.now)) }
         ensures same { means.is_live self.new
             → KeepsAll (means.tenants self.old) (means.tenants self.new) }
+        ensures failed { means.has_failed self.old ≡ true → result ≡ Err Disk }
         ensures finds { Finds means (IsOk result) LeadsNowhere self.old self.new }
         ensures usable { means.is_usable self.new }
         ensures follows { means.follows self.old self.new };
@@ -85,6 +95,8 @@ pub trait Ledgers {
         ensures told { means.is_live self.new → IsListed
             (seen_in (λ m. Found (found_accounts m ids.now)) (means.tenants self.old digest.now))
             result }
+        ensures failed { means.has_failed self.old ≡ true
+            → result ≡ Err (read_fault.Unavailable Disk) }
         ensures finds { Finds means (IsTold result) KeepsAll self.old self.new }
         ensures reads { Reads means self.old self.new }
     {
@@ -103,6 +115,8 @@ pub trait Ledgers {
         ensures told { means.is_live self.new → IsListed
             (seen_in (λ m. Found (found_transfers m ids.now)) (means.tenants self.old digest.now))
             result }
+        ensures failed { means.has_failed self.old ≡ true
+            → result ≡ Err (read_fault.Unavailable Disk) }
         ensures finds { Finds means (IsTold result) KeepsAll self.old self.new }
         ensures reads { Reads means self.old self.new }
     {
@@ -122,6 +136,8 @@ pub trait Ledgers {
         ensures told { means.is_live self.new → IsListed
             (seen_in (λ m. Found (found_holds m ids.now)) (means.tenants self.old digest.now))
             result }
+        ensures failed { means.has_failed self.old ≡ true
+            → result ≡ Err (read_fault.Unavailable Disk) }
         ensures finds { Finds means (IsTold result) KeepsAll self.old self.new }
         ensures reads { Reads means self.old self.new }
     {
@@ -140,6 +156,8 @@ pub trait Ledgers {
         ensures told { means.is_live self.new → IsPaged
             (seen_in (λ m. Found (open_holds m asked.now)) (means.tenants self.old digest.now))
             result }
+        ensures failed { means.has_failed self.old ≡ true
+            → result ≡ Err (read_fault.Unavailable Disk) }
         ensures finds { Finds means (IsTold result) KeepsAll self.old self.new }
         ensures reads { Reads means self.old self.new }
     {
@@ -158,6 +176,8 @@ pub trait Ledgers {
         ensures told { means.is_live self.new → IsPaged
             (seen_in (λ m. Found (queried_accounts m asked.now)) (means.tenants self.old digest.now))
             result }
+        ensures failed { means.has_failed self.old ≡ true
+            → result ≡ Err (read_fault.Unavailable Disk) }
         ensures finds { Finds means (IsTold result) KeepsAll self.old self.new }
         ensures reads { Reads means self.old self.new }
     {
@@ -176,6 +196,8 @@ pub trait Ledgers {
         ensures told { means.is_live self.new → IsPaged
             (seen_in (λ m. Found (queried_transfers m asked.now))
             (means.tenants self.old digest.now)) result }
+        ensures failed { means.has_failed self.old ≡ true
+            → result ≡ Err (read_fault.Unavailable Disk) }
         ensures finds { Finds means (IsTold result) KeepsAll self.old self.new }
         ensures reads { Reads means self.old self.new }
     {
@@ -193,6 +215,8 @@ pub trait Ledgers {
         requires { means.is_usable self.old }
         ensures told { means.is_live self.new → IsListed
             (seen_in (λ m. history_answer m asked.now) (means.tenants self.old digest.now)) result }
+        ensures failed { means.has_failed self.old ≡ true
+            → result ≡ Err (read_fault.Unavailable Disk) }
         ensures finds { Finds means (IsTold result) KeepsAll self.old self.new }
         ensures reads { Reads means self.old self.new }
     {
@@ -211,6 +235,8 @@ pub trait Ledgers {
         ensures told { means.is_live self.new → IsListed
             (seen_in (λ m. history_balances_answer m asked.now) (means.tenants self.old digest.now))
             result }
+        ensures failed { means.has_failed self.old ≡ true
+            → result ≡ Err (read_fault.Unavailable Disk) }
         ensures finds { Finds means (IsTold result) KeepsAll self.old self.new }
         ensures reads { Reads means self.old self.new }
     {
@@ -235,6 +261,8 @@ pub trait Ledgers {
             (seen_in (λ m. statement_answer m account order) (means.tenants self.old digest.now))
             sink.old sink.new result }
         ensures refused { S.refused sink.new ≡ is_refused result }
+        ensures failed { means.has_failed self.old ≡ true
+            → result ≡ Err (read_fault.Unavailable Disk) }
         ensures finds { Finds means (IsTold result) KeepsAll self.old self.new }
         ensures reads { Reads means self.old self.new }
     {
@@ -262,6 +290,10 @@ pub trait Ledgers {
 
     /// Ledgers that are no longer live stay so.
     ghost lived: { (a b : Self) → means.follows a b → means.is_live b → means.is_live a };
+
+    /// Ledgers that have failed stay so.
+    ghost fails: { (a b : Self) → means.follows a b → means.has_failed a ≡ true
+        → means.has_failed b ≡ true };
 
     /// In live ledgers that may be called every tenant's machine is valid.
     ghost valid: { (a : Self) → means.is_live a → means.is_usable a → AreValid (means.tenants a) };

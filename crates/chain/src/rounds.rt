@@ -1,4 +1,4 @@
-ghost use Rattle.std.specs.Prelude.{◌≢◌, Err, IfOk, OnErr};
+ghost use Rattle.std.specs.Prelude.{◌≡◌, ◌≢◌, true, Err, IfOk, OnErr};
 ghost use Rattle.records.specs.declared.unavailable.Unavailable.TheVariants.{Disk};
 ghost use Rattle.chain.specs.Ledgers.{Tenants, KeepsAll, Finds, LeadsByRound};
 
@@ -33,6 +33,7 @@ pub trait Rounds: Ledgers {
             W.gives work (Self.means.tenants self.old) output (Self.means.tenants self.new)) }
         ensures same { Self.means.is_live self.new → OnErr result
             (KeepsAll (Self.means.tenants self.old) (Self.means.tenants self.new)) }
+        ensures failed { Self.means.has_failed self.old ≡ true → result ≡ Err Disk }
         ensures finds { Finds Self.means (result ≢ Err Disk) (LeadsByRound (W.gives work))
             self.old self.new }
         ensures usable { Self.means.is_usable self.new }

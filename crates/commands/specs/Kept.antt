@@ -1,5 +1,6 @@
 -- Ledgers that may not be there, and a store that is opened again where its disk fails.
-use Rattle.std.specs.Prelude.{◌≡◌, Bool, false, None, IsTrue}
+use Rattle.std.specs.Prelude.{◌≡◌, Bool, true, false, None, IsTrue}
+use Rattle.std.proofs.Common.{refl}
 use Rattle.sqlite_disk.specs.declared.Disk as disk
 use Rattle.chain.specs.Ledgers.{LedgersMeaning, Tenants, AreValid}
 use Rattle.service.specs.Openings.{RunMeaning, run_meaning, IsSettled, IsOpened}
@@ -29,6 +30,11 @@ module _ {S : Type 0} (t : LedgersMeaning S) where
   IsLiveKept (Open ledgers) = t.is_live ledgers
   IsLiveKept Closed = ⊥
 
+  -- whether there are none, or they have failed
+  abbrev pub has_failed_kept : Kept S → Bool
+  has_failed_kept (Open ledgers) = t.has_failed ledgers
+  has_failed_kept Closed = true
+
   -- no call opens ledgers, and none takes them away
   abbrev pub FollowsKept : Kept S → Kept S → Type 0
   FollowsKept (Open old) (Open new) = t.follows old new
@@ -46,6 +52,7 @@ module _ {S : Type 0} (t : LedgersMeaning S) where
     tenants = λ kept. tenants_kept kept;
     is_usable = λ kept. IsUsableKept kept;
     is_live = λ kept. IsLiveKept kept;
+    has_failed = λ kept. has_failed_kept kept;
     follows = λ old new. FollowsKept old new;
     may_find = λ kept found. MayFindKept kept found;
   }
@@ -74,6 +81,13 @@ module _ {S : Type 0} (t : LedgersMeaning S) where
       closed_follows : (b : Kept S) → FollowsKept Closed b → IsLiveKept b → ⊥
       closed_follows (Open b) follows live = follows
       closed_follows Closed follows live = live
+
+  pub kept_fails :
+      ((a b : S) → t.follows a b → t.has_failed a ≡ true → t.has_failed b ≡ true)
+      → (a b : Kept S) → FollowsKept a b → has_failed_kept a ≡ true → has_failed_kept b ≡ true
+  kept_fails fails (Open a) (Open b) follows failed = fails a b follows failed
+  kept_fails fails a Closed follows failed = refl
+  kept_fails fails Closed (Open b) follows failed = absurd follows
 
   pub kept_valid :
       ((a : S) → t.is_live a → t.is_usable a → AreValid (t.tenants a))

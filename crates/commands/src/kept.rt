@@ -1,5 +1,6 @@
 //! Ledgers that may not be there.
-ghost use Rattle.commands.specs.Kept.{kept_meaning, kept_stays, kept_then, kept_lived, kept_valid};
+ghost use Rattle.commands.specs.Kept.{kept_meaning, kept_stays, kept_then, kept_lived};
+ghost use Rattle.commands.specs.Kept.{kept_fails, kept_valid};
 
 use chain::{BatchFault, Ledgers, RoundWork, Rounds, Work};
 use records::Unavailable;
@@ -14,6 +15,13 @@ pub(crate) enum Kept<L> {
 
 impl<L: Ledgers> Ledgers for Kept<L> {
     ghost means = { kept_meaning L.means };
+
+    fn has_failed(&self) -> bool {
+        match self {
+            Kept::Open(ledgers) => ledgers.has_failed(),
+            Kept::Closed => true,
+        }
+    }
 
     fn in_batch<W: Work + Drop>(
         &mut self,
@@ -38,6 +46,8 @@ impl<L: Ledgers> Ledgers for Kept<L> {
     ghost then = { λ a b c first second. kept_then L.means L.then a b c first second };
 
     ghost lived = { λ a b follows live. kept_lived L.means L.lived a b follows live };
+
+    ghost fails = { λ a b follows failed. kept_fails L.means L.fails a b follows failed };
 
     ghost valid = { λ a live usable. kept_valid L.means L.valid a live usable };
 }

@@ -3,7 +3,7 @@ use Rattle.std.proofs.Common.{◌≡◌, ◌≢◌, refl, ap, sym, subst, ◌∙
 use Rattle.std.proofs.lemmas.Bool.{le-leb, lt-leb}
 use Rattle.httparse.specs.Grammar.{RequestHead}
 use Rattle.ledger_http.specs.declared.early.Early.{Early}
-use Rattle.ledger_http.specs.declared.early.Early.TheVariants.{Page, Refused}
+use Rattle.ledger_http.specs.declared.early.Early.TheVariants.{Page, Health, Refused}
 use Rattle.ledger_http.specs.declared.refusal.Refusal.{Refusal}
 use Rattle.ledger_http.specs.declared.refusal.Refusal.TheVariants.{BadHead, HeadTooLarge, LengthRequired, BodyTooLarge, Truncated, Unavailable}
 use Rattle.ledger_http.specs.declared.request.Asked.{Asked}
@@ -125,6 +125,7 @@ IsAsked-refused bytes head refusal has refused =
       told = λ _. told;
       unavailable = λ same. absurd (first_message-sure bytes head refusal refused (cc));
       page = λ asks. absurd (let e = sym told ∙ asks in cc);
+      health = λ asks. absurd (let e = sym told ∙ asks in cc);
     }
 
 -- a whole message asks what stands in it
@@ -132,9 +133,10 @@ pub IsAsked-whole : (bytes : List ℕ) (h : RequestHead) (first : First) (result
     → HasHead bytes (Some h) → first_message bytes (Some h) ≡ Ok first
     → Tells (Refused Unavailable) (question_in first) result
     → (question_in first ≡ Err Page → result ≡ Err Page)
+    → (question_in first ≡ Err Health → result ≡ Err Health)
     → IsAsked bytes result
 unfolding asked_of
-IsAsked-whole bytes h first result has whole told page =
+IsAsked-whole bytes h first result has whole told page health =
     let is : asked_of bytes (Some h) ≡ question_in first =
     ap (λ message. and_then (as_early message) question_in) whole in
     record {
@@ -143,6 +145,7 @@ IsAsked-whole bytes h first result has whole told page =
       told = subst (λ question. Tells (Refused Unavailable) question result) (sym is) told;
       unavailable = λ _. subst IsOk (sym whole) refl;
       page = λ asks. page (sym is ∙ asks);
+      health = λ asks. health (sym is ∙ asks);
     }
 
 -- where the head has no end, there is no good one

@@ -3,7 +3,7 @@ use Rattle.std.specs.Prelude.{◌≡◌, ◌≢◌, ℕ, List, bytes_eq, codes, 
 use Rattle.httparse.specs.Grammar.{RequestHead}
 use Rattle.tenants.specs.KeyText.{key_of}
 use Rattle.ledger_http.specs.declared.early.Early.{Early}
-use Rattle.ledger_http.specs.declared.early.Early.TheVariants.{Page, Refused}
+use Rattle.ledger_http.specs.declared.early.Early.TheVariants.{Page, Health, Refused}
 use Rattle.ledger_http.specs.declared.refusal.Refusal.{Refusal}
 use Rattle.ledger_http.specs.declared.refusal.Refusal.TheVariants.{NoRoute, BadMethod, UnknownKey, Unavailable}
 use Rattle.ledger_http.specs.declared.route.Route.{Route}
@@ -41,9 +41,13 @@ question_by_route first =
 abbrev pub page_path : List ℕ
 page_path = codes "/"
 
--- the page is told to whoever gets it, without a key
-abbrev pub page_by : List ℕ → Early
-page_by method = if bytes_eq method (codes "GET") then Page else Refused BadMethod
+-- the path that tells whether the ledgers serve
+abbrev pub health_path : List ℕ
+health_path = codes "/health"
+
+-- what has no key is told to whoever gets it
+abbrev pub told_by : Early → List ℕ → Early
+told_by told method = if bytes_eq method (codes "GET") then told else Refused BadMethod
 
 -- a refusal, as what is told early
 abbrev pub as_early : {X : Type 0} → Result X Refusal → Result X Early
@@ -53,7 +57,8 @@ as_early (Err refusal) = Err (Refused refusal)
 -- what a message asks for, or what it is told before any tenant is looked up
 abbrev pub question_in : First → Result Question Early
 question_in first =
-    if bytes_eq first.head.target page_path then Err (page_by first.head.method)
+    if bytes_eq first.head.target page_path then Err (told_by Page first.head.method)
+    else if bytes_eq first.head.target health_path then Err (told_by Health first.head.method)
     else as_early (question_by_route first)
 
 -- what the bytes ask for, whose head this is
@@ -77,10 +82,11 @@ Tells wanting expected result =
     (λ told. told ≢ wanting → expected ≡ Err told)
 
 -- the answer to some bytes; want of memory is told behind the first five refusals alone, and never
--- in place of the page
+-- in place of the page, nor of whether the ledgers serve
 pub record IsAsked (bytes : List ℕ) (result : Result Asked Early) : Type 0 where
   pub head : Option RequestHead
   pub has : HasHead bytes head
   pub told : Tells (Refused Unavailable) (asked_of bytes head) result
   pub unavailable : result ≡ Err (Refused Unavailable) → IsOk (first_message bytes head)
   pub page : asked_of bytes head ≡ Err Page → result ≡ Err Page
+  pub health : asked_of bytes head ≡ Err Health → result ≡ Err Health

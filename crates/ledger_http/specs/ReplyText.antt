@@ -8,7 +8,7 @@ use Rattle.ledger_http.specs.declared.refusal.Refusal.{Refusal}
 use Rattle.ledger_http.specs.declared.content_type.ContentType.{ContentType}
 use Rattle.ledger_http.specs.declared.content_type.ContentType.TheVariants.{Json, Csv}
 use Rattle.ledger_http.specs.declared.reply.Reply.{Reply}
-use Rattle.ledger_http.specs.declared.reply.Reply.TheVariants.{Whole, Fixed, Page}
+use Rattle.ledger_http.specs.declared.reply.Reply.TheVariants.{Whole, Fixed, Page, Health}
 use Rattle.ledger_http.specs.RefusalTable.{status_of, name_of}
 
 -- carriage return and line feed
@@ -48,15 +48,25 @@ refusal_text refusal = response_text (status_of refusal) Json (refusal_body refu
 unfoldable pub page_reply : List ℕ
 page_reply = console.reply_text
 
+-- the object that tells that the ledgers serve
+abbrev pub health_body : List ℕ
+health_body = codes "{\"serving\":true}"
+
+-- the reply that tells it
+unfoldable pub health_reply : List ℕ
+health_reply = response_text 200 Json health_body
+
 -- the bytes of a reply
 abbrev pub reply_text : Reply → List ℕ
 reply_text (Whole bytes) = bytes.items
 reply_text (Fixed refusal) = refusal_text refusal
 reply_text Page = page_reply
+reply_text Health = health_reply
 
 -- the reply that tells what comes before any tenant is looked up, and its bytes
 abbrev pub early_reply : Early → Reply
 early_reply early.Page = Page
+early_reply early.Health = Health
 early_reply (early.Refused refusal) = Fixed refusal
 
 abbrev pub early_text : Early → List ℕ

@@ -1,10 +1,10 @@
-//! Which request a message asks, or whether it asks for the page.
+//! Which request a message asks, or whether it asks for the page or for health.
 ghost use Rattle.std.specs.Prelude.{◌≡◌, ◌≤◌, Err, IfOk};
 ghost use Rattle.httparse.specs.Grammar.{RequestHead};
 ghost use Rattle.ledger_http.specs.Limits.{max_body};
 ghost use Rattle.ledger_http.specs.Message.{First, length_of_body};
 ghost use Rattle.ledger_http.specs.Header.{Shows};
-ghost use Rattle.ledger_http.specs.Question.{question_by_route, page_by, question_in, Tells};
+ghost use Rattle.ledger_http.specs.Question.{question_by_route, told_by, question_in, Tells};
 ghost use Rattle.ledger_http.specs.Question.{IsAsked};
 
 use crate::ends::head_length;
@@ -52,12 +52,12 @@ fn question_by_route<'a>(
     })
 }
 
-// What is told at the path of the page.
-fn page_by(method: &[u8]) -> Early
-    ensures { result ≡ page_by method.now }
+// What is told at a path that asks no key.
+fn told_by(told: Early, method: &[u8]) -> Early
+    ensures { result ≡ told_by told method.now }
 {
     if method == b"GET".as_slice() {
-        Early::Page
+        told
     } else {
         Early::Refused(Refusal::BadMethod)
     }
@@ -69,9 +69,14 @@ fn question<'a>(alloc: Global, head: Head<'a>, body: &'a [u8]) -> Result<Asked<'
         → Tells (Early.Refused Refusal.Unavailable) (question_in first) result }
     ensures page { (first : First) → Shows head.entry first.head
         → question_in first ≡ Err Early.Page → result ≡ Err Early.Page }
+    ensures health { (first : First) → Shows head.entry first.head
+        → question_in first ≡ Err Early.Health → result ≡ Err Early.Health }
 {
     if head.target == "/" {
-        return Err(page_by(head.method));
+        return Err(told_by(Early::Page, head.method));
+    }
+    if head.target == "/health" {
+        return Err(told_by(Early::Health, head.method));
     }
     match question_by_route(alloc, head, body) {
         Ok(asked) => Ok(asked),

@@ -8,6 +8,8 @@ use crate::Refusal;
 pub enum Early {
     /// The console's page.
     Page,
+    /// That the ledgers serve.
+    Health,
     Refused(Refusal),
 }
 

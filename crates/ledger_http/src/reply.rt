@@ -1,6 +1,7 @@
 ghost use Rattle.std.specs.Prelude.{◌≡◌, IfOk};
 ghost use Rattle.std.specs.String.{string_bytes};
 ghost use Rattle.ledger_http.specs.ReplyText.{head_text, body_text, reply_text, early_reply};
+ghost use Rattle.ledger_http.specs.ReplyText.{health_reply};
 
 use crate::{ContentType, Early, Refusal};
 use console::page_reply;
@@ -15,6 +16,8 @@ pub enum Reply {
     Fixed(Refusal),
     /// The constant reply that has the console's page.
     Page,
+    /// The constant reply that the ledgers serve.
+    Health,
 }
 
 // All of a reply without refusal that stands before its body.
@@ -25,6 +28,17 @@ fn head(alloc: Global, kind: ContentType, length: usize) -> Result<String, Alloc
     let kind = kind.name();
     format!(in alloc;
         "HTTP/1.1 {status}\r\ncontent-length: {length}\r\ncontent-type: {kind}\r\n\r\n"
+    )
+}
+
+// The reply that the ledgers serve.
+#[tactic(auto, unfolding(crate::specs::ReplyText::health_reply, crate::proofs::Literals::reply_on_literals))]
+fn health_reply() -> &'static str
+    ensures { result.now ≡ health_reply }
+{
+    concat!(
+        "HTTP/1.1 200 OK\r\ncontent-length: 16\r\ncontent-type: application/json\r\n\r\n",
+        "{\"serving\":true}"
     )
 }
 
@@ -47,6 +61,7 @@ impl Reply {
             Reply::Whole(bytes) => bytes.as_slice(),
             Reply::Fixed(refusal) => refusal.reply().as_bytes(),
             Reply::Page => page_reply().as_bytes(),
+            Reply::Health => health_reply().as_bytes(),
         }
     }
 }
@@ -57,6 +72,7 @@ impl From<Early> for Reply {
     fn from(early: Early) -> Reply {
         match early {
             Early::Page => Reply::Page,
+            Early::Health => Reply::Health,
             Early::Refused(refusal) => Reply::Fixed(refusal),
         }
     }

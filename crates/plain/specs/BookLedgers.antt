@@ -1,6 +1,6 @@
--- A book as the ledgers of many tenants: it is always live, may be called where all its machines
--- are valid, and stands on nothing that could be opened again.
-use Rattle.std.specs.Prelude.{List}
+-- A book as the ledgers of many tenants: it is always live and never fails, may be called where all
+-- its machines are valid, and stands on nothing that could be opened again.
+use Rattle.std.specs.Prelude.{List, false}
 use Rattle.chain.specs.Ledgers.{Tenants, LedgersMeaning, AreValid}
 use Rattle.plain.specs.declared.book.Tenant.{Tenant}
 use Rattle.plain.specs.Book.{machine_with}
@@ -15,6 +15,7 @@ book_meaning = record {
   tenants = machines_in;
   is_usable = λ book. AreValid (machines_in book);
   is_live = λ book. Unit {0};
+  has_failed = λ book. false;
   follows = λ old new. Unit {0};
   may_find = λ book found. ⊥;
 }

@@ -7,6 +7,10 @@ use records::Unavailable;
 impl Ledgers for Book {
     ghost means = { book_meaning };
 
+    fn has_failed(&self) -> bool {
+        false
+    }
+
     fn in_batch<W: Work + Drop>(
         &mut self,
         digest: &[u8; 32],
@@ -24,6 +28,8 @@ impl Ledgers for Book {
     ghost then = { λ a b c f g. tt };
 
     ghost lived = { λ a b f live. tt };
+
+    ghost fails = { λ a b f failed. failed };
 
     ghost valid = { λ a live usable. usable };
 }

@@ -16,7 +16,7 @@ use Rattle.wire.specs.Told.{outcome_text}
 use Rattle.service.specs.Served.{served_to}
 use Rattle.service.specs.Replies.{unavailable}
 use Rattle.service.specs.Responds.{Answers, Responds, IsAsking, IsCaller, AgreesOn}
-use Rattle.service.specs.Responds.{PageTellsNothing}
+use Rattle.service.specs.Responds.{PageTellsNothing, HealthTellsNothing}
 
 -- bytes have one head
 abbrev pub HeadsAreUnique : Type 0
@@ -98,6 +98,15 @@ isolated unique old new old' new' bytes moment reply reply' r r' agree ne ne' =
 
 pub page_tells_nothing : HeadsAreUnique → PageTellsNothing
 page_tells_nothing unique old new bytes head moment reply has asks r ne =
+    let a =
+    subst (λ (asked : Result Question Early). Answers old new asked moment (reply_text reply)) asks
+    (subst
+    (λ (h : Option RequestHead). Answers old new (asked_of bytes h) moment (reply_text reply))
+    (unique bytes r.head head r.has has) (r.answered ne)) in
+    (a.told, a.same)
+
+pub health_tells_nothing : HeadsAreUnique → HealthTellsNothing
+health_tells_nothing unique old new bytes head moment reply has asks r ne =
     let a =
     subst (λ (asked : Result Question Early). Answers old new asked moment (reply_text reply)) asks
     (subst

@@ -1,11 +1,11 @@
 -- The response to what some bytes ask.
-use Rattle.std.proofs.Common.{◌≡◌, ◌≢◌, ℕ, List, Option, Result, Ok, Err, IsOk, refl, sym, ap}
+use Rattle.std.proofs.Common.{◌≡◌, ◌≢◌, ℕ, Bool, true, false, List, Option, Result, Ok, Err, IsOk, refl, sym, ap}
 use Rattle.std.proofs.Common.{◌∙◌, subst}
 use Rattle.httparse.specs.Grammar.{RequestHead}
 use Rattle.sha2.specs.Sha256.{sha256}
 use Rattle.chain.specs.Ledgers.{Tenants}
 use Rattle.ledger_http.specs.declared.early.Early.{Early}
-use Rattle.ledger_http.specs.declared.early.Early.TheVariants.{Page, Refused}
+use Rattle.ledger_http.specs.declared.early.Early.TheVariants.{Page, Health, Refused}
 use Rattle.ledger_http.specs.declared.refusal.Refusal.{Refusal}
 use Rattle.ledger_http.specs.declared.refusal.Refusal.TheVariants.{Unavailable}
 use Rattle.ledger_http.specs.declared.reply.Reply.{Reply}
@@ -15,8 +15,9 @@ use Rattle.ledger_http.specs.Results.{and_then}
 use Rattle.ledger_http.specs.Message.{First, HasHead, first_message}
 use Rattle.ledger_http.specs.Question.{Question, as_early, question_in, asked_of}
 use Rattle.wire.specs.Meaning.{meaning_of}
-use Rattle.service.specs.Replies.{Serves, unavailable}
+use Rattle.service.specs.Replies.{Serves, unavailable, told_early}
 use Rattle.service.specs.Responds.{Answers, Responds, RefusesEarly, TellsPage}
+use Rattle.service.specs.Responds.{TellsHealth, TellsFailure}
 
 first_is_ok :
     (first : Result First Refusal) (question : Question) →
@@ -29,6 +30,18 @@ whole_of :
     asked_of bytes head ≡ Ok question → IsOk (first_message bytes head)
 unfolding asked_of
 whole_of bytes head question is = first_is_ok (first_message bytes head) question is
+
+health_is_ok :
+    (first : Result First Refusal) → and_then (as_early first) question_in ≡ Err Health → IsOk first
+health_is_ok (Ok first) is = refl
+health_is_ok (Err refusal) is = absurd (cc)
+
+-- whoever asks for health sends a whole message
+whole_health :
+    (bytes : List ℕ) (head : Option RequestHead) → asked_of bytes head ≡ Err Health →
+    IsOk (first_message bytes head)
+unfolding asked_of
+whole_health bytes head is = health_is_ok (first_message bytes head) is
 
 -- a question that is answered
 pub responds_to :
@@ -67,12 +80,24 @@ no_page bytes head question reply has is = record {
   page = λ asks. absurd (let e = sym is ∙ asks in cc);
 }
 
+-- a question is none for health
+pub no_health :
+    (has_failed : Bool) (bytes : List ℕ) (head : Option RequestHead) (question : Question)
+    (reply : Reply) →
+    HasHead bytes head → asked_of bytes head ≡ Ok question → TellsHealth has_failed bytes reply
+no_health has_failed bytes head question reply has is = record {
+  head = head;
+  has = has;
+  health = λ asks. absurd (let e = sym is ∙ asks in cc);
+}
+
 is_unavailable : (early : Early) → early_reply early ≡ unavailable → early ≡ Refused Unavailable
 is_unavailable Page is = absurd (cc)
+is_unavailable Health is = absurd (cc)
 is_unavailable (Refused refusal) is = cc
 
--- what is told before any tenant is looked up
-pub responds_early :
+-- the same where it is not told that the ledgers have failed
+responds_early :
     (tenants : Tenants) (bytes : List ℕ) (head : Option RequestHead) (early : Early) (moment : ℕ) →
     HasHead bytes head → (early ≢ Refused Unavailable → asked_of bytes head ≡ Err early) →
     (early ≡ Refused Unavailable → IsOk (first_message bytes head)) →
@@ -88,7 +113,7 @@ responds_early tenants bytes head early moment has told whole = record {
   whole = λ is. whole (is_unavailable early is);
 }
 
-pub early_telling :
+early_telling :
     (bytes : List ℕ) (head : Option RequestHead) (early : Early) →
     HasHead bytes head → (early ≢ Refused Unavailable → asked_of bytes head ≡ Err early) →
     (early ≡ Refused Unavailable → IsOk (first_message bytes head)) →
@@ -102,14 +127,87 @@ early_telling bytes head early has told whole = record {
   whole = λ is. whole (is_unavailable early is);
 }
 
+-- what is told before any tenant is looked up
+pub responds_told :
+    (tenants : Tenants) (bytes : List ℕ) (has_failed : Bool) (head : Option RequestHead)
+    (early : Early) (moment : ℕ) →
+    HasHead bytes head → (early ≢ Refused Unavailable → asked_of bytes head ≡ Err early) →
+    (early ≡ Refused Unavailable → IsOk (first_message bytes head)) →
+    Responds tenants tenants bytes moment (told_early has_failed early)
+responds_told tenants bytes true head Health moment has told whole = record {
+  head = head;
+  has = has;
+  answered = λ ne. absurd (ne refl);
+  same = λ is digest. refl;
+  whole = λ is. whole_health bytes head (told (λ same. absurd (cc)));
+}
+responds_told tenants bytes false head Health moment has told whole =
+    responds_early tenants bytes head Health moment has told whole
+responds_told tenants bytes has_failed head Page moment has told whole =
+    responds_early tenants bytes head Page moment has told whole
+responds_told tenants bytes has_failed head (Refused refusal) moment has told whole =
+    responds_early tenants bytes head (Refused refusal) moment has told whole
+
+pub telling_told :
+    (bytes : List ℕ) (has_failed : Bool) (head : Option RequestHead) (early : Early) →
+    HasHead bytes head → (early ≢ Refused Unavailable → asked_of bytes head ≡ Err early) →
+    (early ≡ Refused Unavailable → IsOk (first_message bytes head)) →
+    RefusesEarly bytes (told_early has_failed early)
+telling_told bytes true head Health has told whole = record {
+  head = head;
+  has = has;
+  refused = λ other no ne. absurd (ne refl);
+  whole = λ is. whole_health bytes head (told (λ same. absurd (cc)));
+}
+telling_told bytes false head Health has told whole = early_telling bytes head Health has told whole
+telling_told bytes has_failed head Page has told whole = early_telling bytes head Page has told whole
+telling_told bytes has_failed head (Refused refusal) has told whole =
+    early_telling bytes head (Refused refusal) has told whole
+
 pub page_telling :
-    (bytes : List ℕ) (head : Option RequestHead) (early : Early) (asked : Result Asked Early) →
+    (bytes : List ℕ) (has_failed : Bool) (head : Option RequestHead) (early : Early)
+    (asked : Result Asked Early) →
     HasHead bytes head → asked ≡ Err early → (asked_of bytes head ≡ Err Page → asked ≡ Err Page) →
-    TellsPage bytes (early_reply early)
-page_telling bytes head early asked has is page = record {
+    TellsPage bytes (told_early has_failed early)
+page_telling bytes has_failed head early asked has is page = record {
   head = head;
   has = has;
   page = λ asks.
       let e = sym is ∙ page asks in
-      ap early_reply (let same : early ≡ Page = cc in same);
+      ap (told_early has_failed) (let same : early ≡ Page = cc in same);
+}
+
+pub health_telling :
+    (bytes : List ℕ) (has_failed : Bool) (head : Option RequestHead) (early : Early)
+    (asked : Result Asked Early) →
+    HasHead bytes head → asked ≡ Err early →
+    (asked_of bytes head ≡ Err Health → asked ≡ Err Health) →
+    TellsHealth has_failed bytes (told_early has_failed early)
+health_telling bytes has_failed head early asked has is health = record {
+  head = head;
+  has = has;
+  health = λ asks.
+      let e = sym is ∙ health asks in
+      ap (told_early has_failed) (let same : early ≡ Health = cc in same);
+}
+
+-- where a question is told something early, that is for want of memory
+told_in_place :
+    (asked : Result Question Early) (early : Early) → IsOk asked →
+    (early ≢ Refused Unavailable → asked ≡ Err early) → early ≡ Refused Unavailable
+told_in_place asked Page ok told = absurd (let e = subst IsOk (told (λ same. absurd (cc))) ok in cc)
+told_in_place asked Health ok told = absurd (let e = subst IsOk (told (λ same. absurd (cc))) ok in cc)
+told_in_place asked (Refused Unavailable) ok told = refl
+told_in_place asked (Refused refusal) ok told =
+    absurd (let e = subst IsOk (told (λ same. absurd (cc))) ok in cc)
+
+pub failure_telling :
+    (bytes : List ℕ) (has_failed : Bool) (head : Option RequestHead) (early : Early) →
+    HasHead bytes head → (early ≢ Refused Unavailable → asked_of bytes head ≡ Err early) →
+    TellsFailure has_failed bytes (told_early has_failed early)
+failure_telling bytes has_failed head early has told = record {
+  head = head;
+  has = has;
+  failure = λ failed ok.
+      ap (told_early has_failed) (told_in_place (asked_of bytes head) early ok told);
 }

@@ -8,7 +8,7 @@ use Rattle.chain.specs.Ledgers.{Tenants, KeepsAll}
 use Rattle.ledger_http.specs.declared.early.Early.{Early}
 use Rattle.ledger_http.specs.declared.refusal.Refusal.TheVariants as refusal
 use Rattle.ledger_http.specs.declared.reply.Reply.{Reply}
-use Rattle.ledger_http.specs.declared.reply.Reply.TheVariants.{Whole, Fixed, Page}
+use Rattle.ledger_http.specs.declared.reply.Reply.TheVariants.{Whole, Fixed, Page, Health}
 use Rattle.ledger_http.specs.ReplyText.{reply_text}
 use Rattle.ledger_http.specs.Message.{HasHead}
 use Rattle.ledger_http.specs.Question.{Question, asked_of}
@@ -51,6 +51,7 @@ is_unavailable (Whole bytes) = false
 is_unavailable (Fixed refusal.Unavailable) = true
 is_unavailable (Fixed refusal) = false
 is_unavailable Page = false
+is_unavailable Health = false
 
 -- the deeds of which it was answered that the ledgers are unavailable
 abbrev pub untold_in : Event → List Deed

@@ -8,7 +8,7 @@ use Rattle.chain.specs.Ledgers.{Tenants}
 use Rattle.ledger_http.specs.declared.early.Early.{Early}
 use Rattle.ledger_http.specs.declared.refusal.Refusal.TheVariants as refusal
 use Rattle.ledger_http.specs.declared.reply.Reply.{Reply}
-use Rattle.ledger_http.specs.declared.reply.Reply.TheVariants.{Whole, Fixed, Page}
+use Rattle.ledger_http.specs.declared.reply.Reply.TheVariants.{Whole, Fixed, Page, Health}
 use Rattle.ledger_http.specs.Question.{Question}
 use Rattle.service.specs.Replies.{unavailable}
 use Rattle.service.specs.Deeds.{Deed, deeds_in}
@@ -22,6 +22,7 @@ told_unavailable (Whole bytes) is = absurd (cc)
 told_unavailable (Fixed refusal.Unavailable) is = refl
 told_unavailable (Fixed refusal) is = absurd (cc)
 told_unavailable Page is = absurd (cc)
+told_unavailable Health is = absurd (cc)
 
 pub told_available : (reply : Reply) → is_unavailable reply ≡ false → reply ≢ unavailable
 told_available reply is same = true≢false (sym (ap is_unavailable same) ∙ is)

@@ -1,17 +1,18 @@
 -- The response to a message, and what two ledgers have in common that agree on a tenant.
-use Rattle.std.specs.Prelude.{◌≡◌, ◌≢◌, ℕ, List, Option, Result, Ok, Err, IsOk}
+use Rattle.std.specs.Prelude.{◌≡◌, ◌≢◌, ℕ, Bool, true, List, Option, Result, Ok, Err, IsOk}
 use Rattle.httparse.specs.Grammar.{RequestHead}
 use Rattle.sha2.specs.Sha256.{sha256}
 use Rattle.chain.specs.Ledgers.{Tenants, KeepsAll}
 use Rattle.ledger_http.specs.declared.early.Early.{Early}
-use Rattle.ledger_http.specs.declared.early.Early.TheVariants.{Page}
+use Rattle.ledger_http.specs.declared.early.Early.TheVariants.{Page, Health}
 use Rattle.ledger_http.specs.declared.reply.Reply.{Reply}
-use Rattle.ledger_http.specs.ReplyText.{early_reply, early_text, page_reply, reply_text}
+use Rattle.ledger_http.specs.ReplyText.{early_reply, early_text, page_reply, health_reply}
+use Rattle.ledger_http.specs.ReplyText.{reply_text}
 use Rattle.ledger_http.specs.Message.{HasHead, first_message, Begins}
 use Rattle.ledger_http.specs.Question.{Question, asked_of}
 use Rattle.service.specs.Served.{served}
 use Rattle.service.specs.Deeds.{asking, IsDeedDone}
-use Rattle.service.specs.Replies.{AnswersTenant, unavailable}
+use Rattle.service.specs.Replies.{AnswersTenant, unavailable, health_by}
 
 -- a message is answered before any tenant is looked up, and nothing changes
 pub record TellsEarly (old new : Tenants) (early : Early) (text : List ℕ) : Type 0 where
@@ -49,6 +50,20 @@ pub record TellsPage (bytes : List ℕ) (reply : Reply) : Type 0 where
   pub head : Option RequestHead
   pub has : HasHead bytes head
   pub page : asked_of bytes head ≡ Err Page → reply ≡ early_reply Page
+
+-- whoever asks for health is told it, and that the ledgers are unavailable exactly where they have
+-- failed
+pub record TellsHealth (has_failed : Bool) (bytes : List ℕ) (reply : Reply) : Type 0 where
+  pub head : Option RequestHead
+  pub has : HasHead bytes head
+  pub health : asked_of bytes head ≡ Err Health → reply ≡ health_by has_failed
+
+-- where the ledgers have failed, whoever asks something of a tenant is told that they are
+-- unavailable, whatever the key
+pub record TellsFailure (has_failed : Bool) (bytes : List ℕ) (reply : Reply) : Type 0 where
+  pub head : Option RequestHead
+  pub has : HasHead bytes head
+  pub failure : has_failed ≡ true → IsOk (asked_of bytes head) → reply ≡ unavailable
 
 -- the bytes ask a question, and it is answered
 pub record IsAnswered (bytes : List ℕ) (reply : Reply) : Type 0 where
@@ -106,6 +121,16 @@ PageTellsNothing =
     → Responds old new bytes moment reply
     → reply ≢ unavailable
     → (reply_text reply ≡ page_reply) × KeepsAll old new
+
+-- so is what is told of ledgers that serve
+abbrev pub HealthTellsNothing : Type 0
+HealthTellsNothing =
+    (old new : Tenants) (bytes : List ℕ) (head : Option RequestHead) (moment : ℕ) (reply : Reply)
+    → HasHead bytes head
+    → asked_of bytes head ≡ Err Health
+    → Responds old new bytes moment reply
+    → reply ≢ unavailable
+    → (reply_text reply ≡ health_reply) × KeepsAll old new
 
 -- what stands behind a message does not matter to its answer
 abbrev pub StandsAlone : Type 0

@@ -1,5 +1,5 @@
 //! Answers one tenant's request.
-ghost use Rattle.std.specs.Prelude.{◌≡◌, ◌≢◌, ◌≤◌, ℕ, List, Result, Ok, Err, length};
+ghost use Rattle.std.specs.Prelude.{◌≡◌, ◌≢◌, ◌≤◌, ℕ, true, List, Result, Ok, Err, length};
 ghost use Rattle.chain.specs.Ledgers.{Finds, LeadsNowhere};
 ghost use Rattle.sha2.specs.Sha256.{sha256};
 ghost use Rattle.ledger_http.specs.declared.refusal.Refusal.{Refusal};
@@ -45,6 +45,7 @@ fn accounts<L: Ledgers>(
     requires few { length events ≤ 1000 }
     ensures serves { L.means.is_live ledgers.new → Serves (L.means.tenants ledgers.old)
         (L.means.tenants ledgers.new) digest.now (Ok (Accounts events)) moment result }
+    ensures failed { L.means.has_failed ledgers.old ≡ true → result ≡ unavailable }
     ensures finds { Finds L.means (result ≢ unavailable)
         (IsDeedDone (deed.Asked digest.now (Ok (Accounts events)) moment)) ledgers.old ledgers.new }
     ensures usable { L.means.is_usable ledgers.new }
@@ -69,6 +70,7 @@ fn transfers<L: Ledgers>(
     requires few { length events ≤ 1000 }
     ensures serves { L.means.is_live ledgers.new → Serves (L.means.tenants ledgers.old)
         (L.means.tenants ledgers.new) digest.now (Ok (Transfers events)) moment result }
+    ensures failed { L.means.has_failed ledgers.old ≡ true → result ≡ unavailable }
     ensures finds { Finds L.means (result ≢ unavailable)
         (IsDeedDone (deed.Asked digest.now (Ok (Transfers events)) moment)) ledgers.old ledgers.new }
     ensures usable { L.means.is_usable ledgers.new }
@@ -94,6 +96,7 @@ fn serve_request<L: Ledgers>(
     requires few { HasFew request }
     ensures serves { L.means.is_live ledgers.new → Serves (L.means.tenants ledgers.old)
         (L.means.tenants ledgers.new) digest.now (Ok request) moment result }
+    ensures failed { L.means.has_failed ledgers.old ≡ true → result ≡ unavailable }
     ensures finds { Finds L.means (result ≢ unavailable)
         (IsDeedDone (deed.Asked digest.now (Ok request) moment)) ledgers.old ledgers.new }
     ensures usable { L.means.is_usable ledgers.new }
@@ -135,6 +138,7 @@ fn refuse<L: Ledgers>(ledgers: &mut L, digest: &[u8; 32], refusal: Refusal) -> R
         → (refusal ≢ Refusal.Unavailable → meaning ≡ Err refusal)
         → Serves (L.means.tenants ledgers.old) (L.means.tenants ledgers.new) digest.now meaning
         moment result }
+    ensures failed { L.means.has_failed ledgers.old ≡ true → result ≡ unavailable }
     ensures finds { Finds L.means (result ≢ unavailable) LeadsNowhere ledgers.old ledgers.new }
     ensures usable { L.means.is_usable ledgers.new }
     ensures follows { L.means.follows ledgers.old ledgers.new }
@@ -160,6 +164,7 @@ pub(crate) fn answer<L: Ledgers>(
     ensures serves { L.means.is_live ledgers.new → Serves (L.means.tenants ledgers.old)
         (L.means.tenants ledgers.new) (sha256 asked.now.key)
         (meaning_of asked.now.route asked.now.account.now asked.now.body.now) moment result }
+    ensures failed { L.means.has_failed ledgers.old ≡ true → result ≡ unavailable }
     ensures finds { Finds L.means (result ≢ unavailable) (IsDeedDone
         (deed.Asked (sha256 asked.now.key)
         (meaning_of asked.now.route asked.now.account.now asked.now.body.now) moment)) ledgers.old

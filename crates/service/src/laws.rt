@@ -5,7 +5,7 @@ ghost use Rattle.service.specs.Courses.{ResponsesHappen};
 ghost use Rattle.service.specs.Following.{ToldStays};
 ghost use Rattle.service.specs.Openings.{ResponsesMove};
 ghost use Rattle.service.specs.OwnDeeds.{EachSeesItself};
-ghost use Rattle.service.specs.Responds.{Isolates, PageTellsNothing, StandsAlone};
+ghost use Rattle.service.specs.Responds.{Isolates, PageTellsNothing, HealthTellsNothing, StandsAlone};
 ghost use Rattle.service.specs.Retries.{HasAsked, RetriesAddNothing, FailedStaysFailed};
 ghost use Rattle.service.specs.Seen.{seen};
 ghost use Rattle.service.specs.Sound.{AreSound};
@@ -37,6 +37,14 @@ pub fn tenants_are_isolated()
 /// the ledgers hold, and nothing changes.
 pub fn page_tells_nothing()
     ensures { PageTellsNothing }
+{
+    meanings_are_unique();
+}
+
+/// Whoever asks for health of ledgers that serve is told the same bytes, with a key or without one,
+/// whatever they hold, and nothing changes.
+pub fn health_tells_nothing()
+    ensures { HealthTellsNothing }
 {
     meanings_are_unique();
 }

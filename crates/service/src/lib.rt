@@ -18,9 +18,10 @@ mod turns;
 
 pub use laws::{
     connections_are_courses, connections_serve_each_alone, each_tenant_sees_itself,
-    failed_in_course_stays_failed, ledgers_are_sound, messages_answered_alone, page_tells_nothing,
-    responses_happen, responses_move, responses_move_within, retried_in_course_adds_nothing,
-    rounds_answer_each, tenants_are_isolated, told_in_course_stays,
+    failed_in_course_stays_failed, health_tells_nothing, ledgers_are_sound,
+    messages_answered_alone, page_tells_nothing, responses_happen, responses_move,
+    responses_move_within, retried_in_course_adds_nothing, rounds_answer_each,
+    tenants_are_isolated,
 };
 pub use moments::Moments;
 pub use responding::respond;

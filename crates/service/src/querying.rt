@@ -1,4 +1,7 @@
 //! Queries of one tenant's ledger, as the pages that replies show.
+ghost use Rattle.std.specs.Prelude.{◌≡◌, true, Err};
+ghost use Rattle.records.specs.declared.unavailable.Unavailable.TheVariants.{Disk};
+ghost use Rattle.chain.specs.declared.reads.ReadFault.TheVariants.{Unavailable};
 ghost use Rattle.wire.specs.declared.request.Query.TheVariants.{Accounts, Transfers, OpenPending};
 ghost use Rattle.wire.specs.declared.request.Request.TheVariants as asks;
 ghost use Rattle.chain.specs.Ledgers.{Finds, KeepsAll};
@@ -19,6 +22,7 @@ fn accounts<L: Ledgers>(
     requires { L.means.is_usable ledgers.old }
     ensures told { L.means.is_live ledgers.new → ShowsTo (L.means.tenants ledgers.old digest.now)
         (asks.Query (Accounts asked.now)) result }
+    ensures failed { L.means.has_failed ledgers.old ≡ true → result ≡ Err (Unavailable Disk) }
     ensures finds { Finds L.means (IsTold result) KeepsAll ledgers.old ledgers.new }
     ensures reads { Reads L.means ledgers.old ledgers.new }
 {
@@ -39,6 +43,7 @@ fn transfers<L: Ledgers>(
     requires { L.means.is_usable ledgers.old }
     ensures told { L.means.is_live ledgers.new → ShowsTo (L.means.tenants ledgers.old digest.now)
         (asks.Query (Transfers asked.now)) result }
+    ensures failed { L.means.has_failed ledgers.old ≡ true → result ≡ Err (Unavailable Disk) }
     ensures finds { Finds L.means (IsTold result) KeepsAll ledgers.old ledgers.new }
     ensures reads { Reads L.means ledgers.old ledgers.new }
 {
@@ -59,6 +64,7 @@ fn open_holds<L: Ledgers>(
     requires { L.means.is_usable ledgers.old }
     ensures told { L.means.is_live ledgers.new → ShowsTo (L.means.tenants ledgers.old digest.now)
         (asks.Query (OpenPending asked.now)) result }
+    ensures failed { L.means.has_failed ledgers.old ≡ true → result ≡ Err (Unavailable Disk) }
     ensures finds { Finds L.means (IsTold result) KeepsAll ledgers.old ledgers.new }
     ensures reads { Reads L.means ledgers.old ledgers.new }
 {
@@ -80,6 +86,7 @@ pub(crate) fn queried<L: Ledgers>(
     requires { L.means.is_usable ledgers.old }
     ensures told { L.means.is_live ledgers.new
         → ShowsTo (L.means.tenants ledgers.old digest.now) (asks.Query query.now) result }
+    ensures failed { L.means.has_failed ledgers.old ≡ true → result ≡ Err (Unavailable Disk) }
     ensures finds { Finds L.means (IsTold result) KeepsAll ledgers.old ledgers.new }
     ensures reads { Reads L.means ledgers.old ledgers.new }
 {

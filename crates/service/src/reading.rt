@@ -1,4 +1,7 @@
 //! Reads of one tenant's ledger, as the outcomes that replies show.
+ghost use Rattle.std.specs.Prelude.{◌≡◌, true, Err};
+ghost use Rattle.records.specs.declared.unavailable.Unavailable.TheVariants.{Disk};
+ghost use Rattle.chain.specs.declared.reads.ReadFault.TheVariants.{Unavailable};
 ghost use Rattle.wire.specs.declared.request.Request.TheVariants.{LookupAccounts, LookupTransfers};
 ghost use Rattle.wire.specs.declared.request.Request.TheVariants.{LookupPending};
 ghost use Rattle.wire.specs.declared.request.Request.TheVariants.{HistoryTransfers};
@@ -22,6 +25,7 @@ pub(crate) fn looked_up_accounts<L: Ledgers>(
     requires { L.means.is_usable ledgers.old }
     ensures told { L.means.is_live ledgers.new
         → ShowsTo (L.means.tenants ledgers.old digest.now) (LookupAccounts ids.now) result }
+    ensures failed { L.means.has_failed ledgers.old ≡ true → result ≡ Err (Unavailable Disk) }
     ensures finds { Finds L.means (IsTold result) KeepsAll ledgers.old ledgers.new }
     ensures reads { Reads L.means ledgers.old ledgers.new }
 {
@@ -41,6 +45,7 @@ pub(crate) fn looked_up_transfers<L: Ledgers>(
     requires { L.means.is_usable ledgers.old }
     ensures told { L.means.is_live ledgers.new
         → ShowsTo (L.means.tenants ledgers.old digest.now) (LookupTransfers ids.now) result }
+    ensures failed { L.means.has_failed ledgers.old ≡ true → result ≡ Err (Unavailable Disk) }
     ensures finds { Finds L.means (IsTold result) KeepsAll ledgers.old ledgers.new }
     ensures reads { Reads L.means ledgers.old ledgers.new }
 {
@@ -60,6 +65,7 @@ pub(crate) fn looked_up_holds<L: Ledgers>(
     requires { L.means.is_usable ledgers.old }
     ensures told { L.means.is_live ledgers.new
         → ShowsTo (L.means.tenants ledgers.old digest.now) (LookupPending ids.now) result }
+    ensures failed { L.means.has_failed ledgers.old ≡ true → result ≡ Err (Unavailable Disk) }
     ensures finds { Finds L.means (IsTold result) KeepsAll ledgers.old ledgers.new }
     ensures reads { Reads L.means ledgers.old ledgers.new }
 {
@@ -79,6 +85,7 @@ pub(crate) fn history_of_transfers<L: Ledgers>(
     requires { L.means.is_usable ledgers.old }
     ensures told { L.means.is_live ledgers.new
         → ShowsTo (L.means.tenants ledgers.old digest.now) (HistoryTransfers asked.now) result }
+    ensures failed { L.means.has_failed ledgers.old ≡ true → result ≡ Err (Unavailable Disk) }
     ensures finds { Finds L.means (IsTold result) KeepsAll ledgers.old ledgers.new }
     ensures reads { Reads L.means ledgers.old ledgers.new }
 {
@@ -98,6 +105,7 @@ pub(crate) fn history_of_balances<L: Ledgers>(
     requires { L.means.is_usable ledgers.old }
     ensures told { L.means.is_live ledgers.new
         → ShowsTo (L.means.tenants ledgers.old digest.now) (HistoryBalances asked.now) result }
+    ensures failed { L.means.has_failed ledgers.old ≡ true → result ≡ Err (Unavailable Disk) }
     ensures finds { Finds L.means (IsTold result) KeepsAll ledgers.old ledgers.new }
     ensures reads { Reads L.means ledgers.old ledgers.new }
 {
@@ -118,6 +126,7 @@ pub(crate) fn statement<L: Ledgers>(
     requires { L.means.is_usable ledgers.old }
     ensures told { L.means.is_live ledgers.new
         → ShowsTo (L.means.tenants ledgers.old digest.now) (Statement account) result }
+    ensures failed { L.means.has_failed ledgers.old ≡ true → result ≡ Err (Unavailable Disk) }
     ensures finds { Finds L.means (IsTold result) KeepsAll ledgers.old ledgers.new }
     ensures reads { Reads L.means ledgers.old ledgers.new }
 {

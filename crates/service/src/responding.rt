@@ -1,11 +1,34 @@
+ghost use Rattle.std.specs.Prelude.{◌≡◌};
 ghost use Rattle.chain.specs.Ledgers.{Finds};
 ghost use Rattle.service.specs.Responds.{Responds, RefusesEarly, TellsPage};
-ghost use Rattle.service.specs.Responds.{IsAnswered, IsLeftBy};
+ghost use Rattle.service.specs.Responds.{IsAnswered, IsLeftBy, TellsHealth, TellsFailure};
+ghost use Rattle.service.specs.Replies.{health_by, told_early};
 
 use crate::answering::answer;
 use chain::Ledgers;
-use ledger_http::{Reply, asked};
+use ledger_http::{Early, Refusal, Reply, asked};
 use std::alloc::Global;
+
+// Whether the ledgers serve.
+fn health<L: Ledgers>(ledgers: &L) -> Reply
+    ensures { result ≡ health_by (L.means.has_failed ledgers.now) }
+{
+    if ledgers.has_failed() {
+        Reply::Fixed(Refusal::Unavailable)
+    } else {
+        Reply::Health
+    }
+}
+
+// What is told before any tenant is looked up.
+fn told_early<L: Ledgers>(ledgers: &L, early: Early) -> Reply
+    ensures { result ≡ told_early (L.means.has_failed ledgers.now) early }
+{
+    match early {
+        Early::Health => health(ledgers),
+        Early::Page | Early::Refused(_) => Reply::from(early),
+    }
+}
 
 /// The reply to the first message of `bytes`, at a moment in nanoseconds. What stands behind that
 /// message is not looked at, and no bytes at all are refused as cut short.
@@ -18,6 +41,8 @@ pub fn respond<L: Ledgers>(alloc: Global, ledgers: &mut L, bytes: &[u8], moment:
         (L.means.tenants ledgers.new) bytes.now moment result }
     ensures early { RefusesEarly bytes.now result }
     ensures page { TellsPage bytes.now result }
+    ensures health { TellsHealth (L.means.has_failed ledgers.old) bytes.now result }
+    ensures failed { TellsFailure (L.means.has_failed ledgers.old) bytes.now result }
     ensures finds { Finds L.means (IsAnswered bytes.now result) (IsLeftBy bytes.now moment)
         ledgers.old ledgers.new }
     ensures usable { L.means.is_usable ledgers.new }
@@ -25,6 +50,6 @@ pub fn respond<L: Ledgers>(alloc: Global, ledgers: &mut L, bytes: &[u8], moment:
 {
     match asked(alloc, bytes) {
         Ok(asked) => answer(alloc, ledgers, &asked, moment),
-        Err(early) => Reply::from(early),
+        Err(early) => told_early(ledgers, early),
     }
 }

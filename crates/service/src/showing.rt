@@ -1,10 +1,12 @@
 //! Replies that show outcomes.
-ghost use Rattle.std.specs.Prelude.{◌≡◌, ◌≢◌, IfOk};
+ghost use Rattle.std.specs.Prelude.{◌≡◌, ◌≢◌, Err, IfOk};
 ghost use Rattle.ledger_http.specs.ReplyText.{reply_text};
 ghost use Rattle.wire.specs.declared.outcome.Outcome.{Outcome};
 ghost use Rattle.wire.specs.Told.{outcome_text};
 ghost use Rattle.service.specs.Replies.{unavailable};
 ghost use Rattle.chain.specs.LedgerReads.{IsTold};
+ghost use Rattle.chain.specs.declared.reads.ReadFault.TheVariants as fault;
+ghost use Rattle.records.specs.declared.unavailable.Unavailable.{Unavailable};
 ghost use Rattle.service.specs.Reading.{Shows, refusal_of};
 
 use chain::ReadFault;
@@ -35,6 +37,8 @@ pub(crate) fn reply_to_read(alloc: Global, read: Result<Outcome, ReadFault>) -> 
     ensures shows { (told : Outcome) → Shows told read → result ≢ unavailable
         → reply_text result ≡ outcome_text told }
     ensures told { result ≢ unavailable → IsTold read }
+    ensures failed { (why : Unavailable) → read ≡ Err (fault.Unavailable why)
+        → result ≡ unavailable }
 {
     match read {
         Ok(outcome) => match reply_to(alloc, outcome) {

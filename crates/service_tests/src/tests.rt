@@ -4,7 +4,7 @@ mod events;
 mod examples;
 mod exchanges;
 mod firms;
-mod looked_at;
+mod health;
 mod looked_up;
 mod memory;
 mod messages;

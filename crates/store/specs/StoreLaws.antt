@@ -1,5 +1,5 @@
 -- What every run of calls on a store keeps, what a live one holds, and what an opening finds.
-use Rattle.std.proofs.Common.{◌≡◌, Bool, List, ℕ, refl, sym, ap, ◌∙◌}
+use Rattle.std.proofs.Common.{◌≡◌, Bool, true, false, not, IsTrue, List, ℕ, refl, sym, ap, ◌∙◌}
 use Rattle.std.proofs.Math.Logic.{∥∥₁_map}
 use Rattle.sqlite_disk.specs.declared.Disk as disk
 use Rattle.chain.specs.Ledgers.{LedgersMeaning, Tenants, KeepsAll, AreValid}
@@ -23,6 +23,7 @@ module _ {D : Type 0} {g : disk.Ghosts D} where
     tenants = λ store. tenants_of store;
     is_usable = λ store. IsUsable store;
     is_live = λ store. IsLive store;
+    has_failed = λ store. not store.ready;
     follows = λ old new. Follows old new;
     may_find = λ store found. FindsTenants store found;
   }
@@ -42,6 +43,17 @@ module _ {D : Type 0} {g : disk.Ghosts D} where
     honest = λ honest. first.honest (second.honest honest);
     unready = λ ready. first.unready (second.unready ready);
   }
+
+  silent_at :
+      (old new : Bool) → (IsTrue new → IsTrue old) → not old ≡ true → not new ≡ true
+  silent_at false false ready failed = refl
+  silent_at false true ready failed = absurd (let e = ready refl in cc)
+  silent_at true new ready failed = absurd (cc)
+
+  -- a store that answers no calls stays so
+  pub stays_failed :
+      (a b : Store D g) → Follows a b → not a.ready ≡ true → not b.ready ≡ true
+  stays_failed a b follows failed = silent_at a.ready b.ready follows.unready failed
 
   valid_at : (ready : _) (sets : DueSets) (place : Place D g) → IsLiveAt place
       → IsUsableAt ready sets place → AreValid (tenants_at place)

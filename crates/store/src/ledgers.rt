@@ -6,9 +6,14 @@ use records::Unavailable;
 use sqlite_disk::Disk;
 
 impl<D: Disk + Drop> Ledgers for Store<D> {
-    ghost use Rattle.store.specs.StoreLaws.{store_meaning, follows_itself, follows_then, valid_tenants};
+    ghost use Rattle.store.specs.StoreLaws.{store_meaning, follows_itself, follows_then};
+    ghost use Rattle.store.specs.StoreLaws.{stays_failed, valid_tenants};
 
     ghost means = { store_meaning };
+
+    fn has_failed(&self) -> bool {
+        !self.ready
+    }
 
     fn in_batch<W: Work + Drop>(
         &mut self,
@@ -27,6 +32,8 @@ impl<D: Disk + Drop> Ledgers for Store<D> {
     ghost then = { λ a b c f g. follows_then a b c f g };
 
     ghost lived = { λ a b f live. f.lived live };
+
+    ghost fails = { λ a b f failed. stays_failed a b f failed };
 
     ghost valid = { λ a live usable. valid_tenants a live usable };
 }

@@ -58,6 +58,7 @@ pub round_itself : (sets : DueSets) (failure : Option Unavailable) (a : State)
 round_itself sets failure a = record {
   here = here_itself a;
   unfailed = λ none. none;
+  failed = λ disk. disk;
   grows = λ trees covered. covered;
 }
 
@@ -68,6 +69,7 @@ pub round_then : (sets1 sets2 sets3 : DueSets) (failure1 failure2 failure3 : Opt
 round_then sets1 sets2 sets3 failure1 failure2 failure3 a b c f g = record {
   here = here_then a b c f.here g.here;
   unfailed = λ none. f.unfailed (g.unfailed none);
+  failed = λ disk. g.failed (f.failed disk);
   grows = λ trees covered. g.grows trees (f.grows trees covered);
 }
 

@@ -1,6 +1,7 @@
 -- A connection in a round: a transaction in which work of several tenants is done.
-use Rattle.std.specs.Prelude.{◌≡◌, ℕ, List, [], Option, None, IsTrue}
+use Rattle.std.specs.Prelude.{◌≡◌, ℕ, Bool, true, false, List, [], Option, Some, None, IsTrue}
 use Rattle.records.specs.declared.unavailable.Unavailable.{Unavailable}
+use Rattle.records.specs.declared.unavailable.Unavailable.TheVariants.{Memory, Size, Disk}
 use Rattle.chain.specs.Ledgers.{Tenants}
 use Rattle.sqlite.specs.Effect.{Database}
 use Rattle.sqlite.specs.State.{State, HasCleanDisk}
@@ -36,11 +37,19 @@ pub record FollowsHere (old new : State) : Type 0 where
   pub inside :
       Live new → IsTrue new.in_transaction → IsTrue old.in_transaction × KeepsTables old.now new.now
 
+-- whether a failure is the disk's
+abbrev pub is_of_disk : Option Unavailable → Bool
+is_of_disk None = false
+is_of_disk (Some Memory) = false
+is_of_disk (Some Size) = false
+is_of_disk (Some Disk) = true
+
 -- and where it has failed it stays so
 pub record FollowsInRound (sets sets' : DueSets) (failure failure' : Option Unavailable)
     (old new : State) : Type 0 where
   pub here : FollowsHere old new
   pub unfailed : failure' ≡ None → failure ≡ None
+  pub failed : is_of_disk failure ≡ true → is_of_disk failure' ≡ true
   pub grows : GrowsSets sets sets'
 
 -- a round may go on, unless it has failed; what it keeps of clocks lies behind them

@@ -1,6 +1,7 @@
 //! The ledgers of many tenants inside one transaction.
 
 ghost use Rattle.std.specs.Prelude.{◌≡◌, Some, unwrap_or};
+ghost use Rattle.stored_ledgers.specs.Rounds.{is_of_disk};
 
 use crate::batches::{DueSets, UnknownKey};
 use crate::working::{Past, work_here};
@@ -28,7 +29,7 @@ impl<S: Alter> Ledgers for Round<'_, S> {
     ghost use Rattle.sqlite.specs.Held.{state as conn_state};
     ghost use Rattle.ledger_sql.specs.Frames.{Live};
     ghost use Rattle.stored_ledgers.specs.Directory.{tenants_in};
-    ghost use Rattle.stored_ledgers.specs.Rounds.{CanGoOn, FindsHere, FollowsInRound};
+    ghost use Rattle.stored_ledgers.specs.Rounds.{CanGoOn, FindsHere, FollowsInRound, is_of_disk};
     ghost use Rattle.stored_ledgers.specs.RoundLaws.{round_itself, round_then, round_lived, valid_here};
 
     ghost means = { record {
@@ -36,6 +37,7 @@ impl<S: Alter> Ledgers for Round<'_, S> {
       is_usable = λ r.
           CanGoOn r.failure r.due.now r.pasts.now.items (conn_state S.Store r.conn.now);
       is_live = λ r. (r.failure ≡ None) × Live (conn_state S.Store r.conn.now);
+      has_failed = λ r. is_of_disk r.failure;
       follows = λ a b.
           (b.conn.ghost_name ≡ a.conn.ghost_name)
           × (b.due.ghost_name ≡ a.due.ghost_name)
@@ -44,6 +46,10 @@ impl<S: Alter> Ledgers for Round<'_, S> {
           (conn_state S.Store a.conn.now) (conn_state S.Store b.conn.now);
       may_find = λ r found. FindsHere (conn_state S.Store r.conn.now) found;
     } };
+
+    fn has_failed(&self) -> bool {
+        is_of_disk(self.failure)
+    }
 
     fn in_batch<W: Work + Drop>(
         &mut self,
@@ -87,7 +93,16 @@ impl<S: Alter> Ledgers for Round<'_, S> {
 
     ghost lived = { λ a b follows live. round_lived _ _ _ _ _ _ follows.3 live };
 
+    ghost fails = { λ a b follows failed. follows.3.failed failed };
+
     ghost valid = { λ a live usable. valid_here _ _ _ _ live usable };
+}
+
+// Whether a failure is the disk's.
+fn is_of_disk(failure: Option<Unavailable>) -> bool
+    ensures { result ≡ is_of_disk failure }
+{
+    matches!(failure, Some(Unavailable::Disk))
 }
 
 /// Keeps why a round has failed: for the first reason of all.

@@ -102,8 +102,8 @@ fn reads_requests(rt: HostRuntime) -> Result<(), AllocError> {
     Ok(())
 }
 
-// The headers of a message that asks for the page.
-fn page_headers(case: u8) -> Option<&'static str> {
+// The headers of a message that asks what needs no key.
+fn keyless_headers(case: u8) -> Option<&'static str> {
     Some(match case {
         0 => "",
         1 => "host: 127.0.0.1:8080\r\naccept: text/html\r\nsec-fetch-mode: navigate\r\n",
@@ -114,15 +114,27 @@ fn page_headers(case: u8) -> Option<&'static str> {
     })
 }
 
+fn is_told(
+    rt: &impl AllocGlobal,
+    line: &str,
+    headers: &str,
+    early: Early,
+) -> Result<bool, AllocError> {
+    let text = message(rt, line, headers, "[]GET /statement/1 HTTP/1.1\r\n\r\n")?;
+    Ok(matches!(asked(rt.alloc(), text.as_bytes()), Err(told) if told == early))
+}
+
 #[test]
-fn tells_the_page_to_everybody(rt: HostRuntime) -> Result<(), AllocError> {
+fn tells_the_page_and_health_to_everybody(rt: HostRuntime) -> Result<(), AllocError> {
     for case in 0..5 {
-        let Some(headers) = page_headers(case) else {
+        let Some(headers) = keyless_headers(case) else {
             break;
         };
-        let text = message(&rt, "GET /", headers, "[]GET /statement/1 HTTP/1.1\r\n\r\n")?;
-        let told = matches!(asked(rt.alloc(), text.as_bytes()), Err(Early::Page));
-        assert!(rt; told, "case {case}");
+        assert!(rt; is_told(&rt, "GET /", headers, Early::Page)?, "page {case}");
+        assert!(rt;
+            is_told(&rt, "GET /health", headers, Early::Health)?,
+            "health {case}"
+        );
     }
     Ok(())
 }

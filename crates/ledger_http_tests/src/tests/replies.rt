@@ -105,6 +105,14 @@ fn tells_the_page_as_html(rt: HostRuntime) {
 }
 
 #[test]
+fn tells_health_by_a_constant(rt: HostRuntime) {
+    let reply = Reply::from(Early::Health);
+    let front = b"HTTP/1.1 200 OK\r\ncontent-length: 16\r\ncontent-type: application/json\r\n\r\n";
+    assert!(rt; reply.bytes().starts_with(front));
+    assert!(rt; &reply.bytes()[front.len()..] == b"{\"serving\":true}".as_slice());
+}
+
+#[test]
 fn tells_early_refusals(rt: HostRuntime) {
     let reply = Reply::from(Early::Refused(Refusal::NoRoute));
     assert!(rt; reply.bytes() == Reply::Fixed(Refusal::NoRoute).bytes());

@@ -297,6 +297,23 @@ pub(crate) fn refused(case: u8) -> Option<Refused> {
             "",
             Refusal::BadMethod,
         ),
+        // Health by another method, and what is near its path.
+        60 => ("POST /health", "", "", Refusal::LengthRequired),
+        61 => (
+            "POST /health",
+            "content-length: 0\r\n",
+            "",
+            Refusal::BadMethod,
+        ),
+        62 => (
+            "HEAD /health",
+            "content-length: 0\r\nx-ledger-key: 1\r\n",
+            "",
+            Refusal::BadMethod,
+        ),
+        63 => ("GET /health/", "", "", Refusal::NoRoute),
+        64 => ("GET /health?x", "", "", Refusal::NoRoute),
+        65 => ("GET /Health", "", "", Refusal::NoRoute),
         _ => return None,
     })
 }
@@ -337,7 +354,7 @@ pub(crate) fn is_of_reading(refusal: Refusal) -> bool {
 /// Why bytes are refused, if they are.
 pub(crate) fn refusal_of(rt: &impl AllocGlobal, bytes: &[u8]) -> Option<Refusal> {
     match asked(rt.alloc(), bytes) {
-        Ok(_) | Err(Early::Page) => None,
+        Ok(_) | Err(Early::Page | Early::Health) => None,
         Err(Early::Refused(refusal)) => Some(refusal),
     }
 }

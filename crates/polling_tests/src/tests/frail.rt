@@ -1,5 +1,5 @@
 //! Ledgers in memory, of which a round fails.
-ghost use Rattle.std.specs.Prelude.{◌≡◌, ⊤, false};
+ghost use Rattle.std.specs.Prelude.{◌≡◌, ⊤, true, false};
 ghost use Rattle.chain.specs.Ledgers.{AreValid, KeepsAll};
 ghost use Rattle.plain.specs.BookLedgers.{machines_in};
 
@@ -82,9 +82,15 @@ impl Ledgers for Frail {
       tenants = λ l. machines_in l.book;
       is_usable = λ l. AreValid (machines_in l.book);
       is_live = λ l. l.is_shut ≡ false;
-      follows = λ a b. b.is_shut ≡ false → a.is_shut ≡ false;
+      has_failed = λ l. l.is_shut;
+      follows = λ a b.
+          (b.is_shut ≡ false → a.is_shut ≡ false) × (a.is_shut ≡ true → b.is_shut ≡ true);
       may_find = λ l found. ⊥;
     } };
+
+    fn has_failed(&self) -> bool {
+        self.is_shut
+    }
 
     fn in_batch<W: Work + Drop>(
         &mut self,
@@ -104,11 +110,46 @@ impl Ledgers for Frail {
         self.book.knows(digest)
     }
 
-    ghost stays = { λ a live. live };
+    // Nothing is read in these tests.
+    fn history_transfers(
+        &mut self,
+        _alloc: Global,
+        _digest: &[u8; 32],
+        _asked: &AccountFilter,
+    ) -> Result<Listed<Transfer>, ReadFault> {
+        Err(ReadFault::Unavailable(Unavailable::Disk))
+    }
 
-    ghost then = { λ a b c first second live. first (second live) };
+    fn history_balances(
+        &mut self,
+        _alloc: Global,
+        _digest: &[u8; 32],
+        _asked: &AccountFilter,
+    ) -> Result<Listed<BalanceAt>, ReadFault> {
+        Err(ReadFault::Unavailable(Unavailable::Disk))
+    }
 
-    ghost lived = { λ a b follows live. follows live };
+    fn each_statement_row<S: RowSink>(
+        &mut self,
+        _alloc: Global,
+        _digest: &[u8; 32],
+        _account: u128,
+        _order: Order,
+        _sink: &mut S,
+    ) -> Result<(), ReadFault> {
+        Err(ReadFault::Unavailable(Unavailable::Disk))
+    }
+
+    ghost stays = { λ a. (λ live. live, λ failed. failed) };
+
+    ghost then = { λ a b c first second. (
+      λ live. first.0 (second.0 live),
+      λ failed. second.1 (first.1 failed),
+    ) };
+
+    ghost lived = { λ a b follows live. follows.0 live };
+
+    ghost fails = { λ a b follows failed. follows.1 failed };
 
     ghost valid = { λ a live usable. usable };
 }

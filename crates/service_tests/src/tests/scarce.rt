@@ -1,5 +1,5 @@
 //! Memory that runs out in the midst of a batch.
-ghost use Rattle.std.specs.Prelude.{Some, None, IfOk, bytes_eq, if◌then◌else◌};
+ghost use Rattle.std.specs.Prelude.{Some, None, false, IfOk, bytes_eq, if◌then◌else◌};
 ghost use Rattle.std.proofs.Common.{refl, ◌∙◌};
 ghost use Rattle.chain.specs.Ledgers.{AreValid};
 
@@ -134,9 +134,14 @@ impl Ledgers for ScarceLedger {
           AreValid
           (λ digest. if bytes_eq digest l.digest then Some l.scarce.tables.now else None);
       is_live = λ l. Unit {0};
+      has_failed = λ l. false;
       follows = λ a b. Unit {0};
       may_find = λ l found. ⊥;
     } };
+
+    fn has_failed(&self) -> bool {
+        false
+    }
 
     fn in_batch<W: Work + Drop>(
         &mut self,
@@ -165,6 +170,8 @@ impl Ledgers for ScarceLedger {
     ghost then = { λ a b c f g. tt };
 
     ghost lived = { λ a b f live. tt };
+
+    ghost fails = { λ a b f failed. failed };
 
     ghost valid = { λ a live usable. usable };
 }

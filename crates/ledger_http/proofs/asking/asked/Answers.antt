@@ -57,3 +57,4 @@ returns c =
     (sym (c.in_ok-body_size.ensures.size good.0 good.2)) enough)
     (c.question.ensures.told first good.2 (ap (λ m. take m (drop n c.args.bytes.now)) (omega arith)))
     (c.question.ensures.page first good.2)
+    (c.question.ensures.health first good.2)

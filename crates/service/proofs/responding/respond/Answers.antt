@@ -3,9 +3,10 @@ use Rattle.ledger_http.specs.declared.early.Early.{Early}
 use Rattle.ledger_http.specs.Question.{Question, question_of}
 use Rattle.service.specs.Responds.{IsLeftByAsked}
 use Rattle.service.proofs.FindingLemmas.{finds_on, finds_same}
-use Rattle.ledger_http.specs.ReplyText.{early_reply}
-use Rattle.service.proofs.Responses.{responds_to, early_of, no_page}
-use Rattle.service.proofs.Responses.{responds_early, early_telling, page_telling}
+use Rattle.service.specs.Replies.{told_early}
+use Rattle.service.proofs.Responses.{responds_to, early_of, no_page, no_health}
+use Rattle.service.proofs.Responses.{responds_told, telling_told, page_telling}
+use Rattle.service.proofs.Responses.{health_telling, failure_telling}
 use Rattle.service.proofs.responding.respond.Goals as goal
 
 pub returns-in-Ok-clause-responds : goal.returns-in-Ok-clause-responds
@@ -27,19 +28,42 @@ returns-in-Ok-clause-page g c =
 pub returns-in-Err-clause-responds : goal.returns-in-Err-clause-responds
 returns-in-Err-clause-responds g c live =
     let a = c.in-Err.ensures in
-    rw c.from.ensures
-    (responds_early _ _ a.head c.in-Err.early _ a.has a.told (λ is. a.unavailable (ap Err is)))
+    rw c.told_early.ensures
+    (responds_told _ _ _ a.head c.in-Err.early _ a.has a.told (λ is. a.unavailable (ap Err is)))
 
 pub returns-in-Err-clause-early : goal.returns-in-Err-clause-early
 returns-in-Err-clause-early g c =
     let a = c.in-Err.ensures in
-    rw c.from.ensures
-    (early_telling _ a.head c.in-Err.early a.has a.told (λ is. a.unavailable (ap Err is)))
+    rw c.told_early.ensures
+    (telling_told _ _ a.head c.in-Err.early a.has a.told (λ is. a.unavailable (ap Err is)))
 
 pub returns-in-Err-clause-page : goal.returns-in-Err-clause-page
 returns-in-Err-clause-page g c =
     let a = c.in-Err.ensures in
-    rw c.from.ensures (page_telling _ a.head c.in-Err.early _ a.has refl a.page)
+    rw c.told_early.ensures (page_telling _ _ a.head c.in-Err.early _ a.has refl a.page)
+
+pub returns-in-Ok-clause-health : goal.returns-in-Ok-clause-health
+returns-in-Ok-clause-health g c =
+    let a = c.in-Ok.ensures in
+    no_health _ _ a.head (question_of c.in-Ok.asked) _ a.has a.told
+
+pub returns-in-Err-clause-health : goal.returns-in-Err-clause-health
+returns-in-Err-clause-health g c =
+    let a = c.in-Err.ensures in
+    rw c.told_early.ensures (health_telling _ _ a.head c.in-Err.early _ a.has refl a.health)
+
+pub returns-in-Ok-clause-failed : goal.returns-in-Ok-clause-failed
+returns-in-Ok-clause-failed g c =
+    let a = c.in-Ok.ensures in record {
+      head = a.head;
+      has = a.has;
+      failure = λ failed ok. c.answer.ensures.failed failed;
+    }
+
+pub returns-in-Err-clause-failed : goal.returns-in-Err-clause-failed
+returns-in-Err-clause-failed g c =
+    let a = c.in-Err.ensures in
+    rw c.told_early.ensures (failure_telling _ _ a.head c.in-Err.early a.has a.told)
 
 pub returns-in-Ok-clause-finds : goal.returns-in-Ok-clause-finds
 returns-in-Ok-clause-finds g c =
@@ -60,5 +84,5 @@ returns-in-Err-clause-finds g c =
     (λ answered.
     let asks =
     subst (λ (asked : Result Question Early). IsOk asked)
-    (a.told (λ is. answered.available (c.from.ensures ∙ ap early_reply is))) (answered.asks a.head a.has) in
+    (a.told (λ is. answered.available (c.told_early.ensures ∙ ap (told_early _) is))) (answered.asks a.head a.has) in
     cc)

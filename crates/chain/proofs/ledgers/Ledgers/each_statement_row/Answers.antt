@@ -1,4 +1,4 @@
-use Rattle.std.proofs.Common.{◌≡◌, ◌≤◌, List, Result, Err, map, ap, sym, ◌∙◌, subst}
+use Rattle.std.proofs.Common.{◌≡◌, ◌≤◌, List, Result, Err, map, refl, ap, sym, ◌∙◌, subst, arith}
 use Rattle.std.specs.List.{All}
 use Rattle.std.proofs.lemmas.Result.{err_from_is_err_and}
 use Rattle.records.specs.Reads.{statement_answer}
@@ -8,7 +8,7 @@ use Rattle.chain.specs.declared.account_entry.AccountEntry.{AccountEntry}
 use Rattle.chain.specs.declared.reads.ReadFault.{ReadFault}
 use Rattle.chain.specs.AccountEntries.{entry_time, piece_behind, row_of}
 use Rattle.chain.specs.LedgerReads.{HandsOut, IsBegun, seen_in}
-use Rattle.chain.proofs.LookLemmas.{account_answered}
+use Rattle.chain.proofs.LookLemmas.{account_answered, account_refused, not_answered, refused_so}
 use Rattle.chain.proofs.StatementPieces.{IsReading, all_handed, as_reads, broken, goes_on, read_finds, read_on, reading_begins, reading_begun, same_fault, sink_refused, told_answered}
 use Rattle.chain.proofs.ledgers.Ledgers.each_statement_row.Goals as goal
 
@@ -19,6 +19,7 @@ pieces-init g c = (
       (reading_begins g.Self.Ledgers.means g.S.RowSink.takes c.args.digest.now c.args.account c.args.order c.args.self.now c.args.sink.now c.requires.usable
       (g.met.Self.Ledgers.stays c.args.self.now) (λ live. g.met.Self.Ledgers.valid c.args.self.now live c.requires.usable)),
   c.requires.open,
+  λ failed. refl,
 )
 
 pub returns-in_err-found-clause-told : goal.returns-in_err-found-clause-told
@@ -111,8 +112,33 @@ pieces-preserved g c = (
       c.in-Some.is
       (subst (λ (es : List AccountEntry). TakesRows g.S.RowSink.takes c.pieces.sink (map (row_of c.args.account) es) c.hand_piece.new.sink) c.deref.ensures.value c.in_ok-next.ensures.ok),
   c.in_ok-next.ensures.refused,
+  λ failed. absurd (not_answered c.account_answer.result c.in_ok-found.found c.in_ok-found.was
+      (account_refused c.in_batch.result c.account_answer.result c.account_answer.ensures
+      (c.in_batch.ensures.failed (g.met.Self.Ledgers.fails c.args.self.now c.pieces.self c.pieces.invariant.0.read.follows failed)))),
 )
 
 pub returns-clause-told : goal.returns-clause-told
 returns-clause-told g c live =
     reading_begun g.Self.Ledgers.means g.S.RowSink.takes c.args.digest.now c.args.account c.args.order c.args.self.now c.pieces.self c.pieces.span c.args.sink.now c.pieces.sink c.pieces.invariant.0 live
+
+pub returns-in_err-found-clause-failed : goal.returns-in_err-found-clause-failed
+returns-in_err-found-clause-failed g c failed =
+    let p = err_from_is_err_and c.from_residual.result c.from_residual.ensures.1 in
+    refused_so c.from_residual.result c.account_answer.result _ (p.1 ∙ ap Err p.2) c.in_err-found.was
+    (account_refused c.in_batch.result c.account_answer.result c.account_answer.ensures
+    (c.in_batch.ensures.failed (g.met.Self.Ledgers.fails c.args.self.now c.pieces.self c.pieces.invariant.0.read.follows failed)))
+
+pub returns-in_err-next-clause-failed : goal.returns-in_err-next-clause-failed
+returns-in_err-next-clause-failed g c failed =
+    absurd (not_answered c.account_answer.result c.in_ok-found.found c.in_ok-found.was
+    (account_refused c.in_batch.result c.account_answer.result c.account_answer.ensures
+    (c.in_batch.ensures.failed (g.met.Self.Ledgers.fails c.args.self.now c.pieces.self c.pieces.invariant.0.read.follows failed))))
+
+pub returns-in_default-clause-failed : goal.returns-in_default-clause-failed
+returns-in_default-clause-failed g c failed =
+    absurd (not_answered c.account_answer.result c.in_ok-found.found c.in_ok-found.was
+    (account_refused c.in_batch.result c.account_answer.result c.account_answer.ensures
+    (c.in_batch.ensures.failed (g.met.Self.Ledgers.fails c.args.self.now c.pieces.self c.pieces.invariant.0.read.follows failed))))
+
+pub returns-clause-failed : goal.returns-clause-failed
+returns-clause-failed g c failed = absurd (omega (arith, c.pieces.invariant.2 failed))

@@ -1,3 +1,4 @@
+use Rattle.std.proofs.lemmas.Bool.{not-true}
 use Rattle.store.proofs.FindsLemmas.{finds_batch}
 use Rattle.store.proofs.ledgers.StoreLedgers.in_batch.Goals as goal
 
@@ -6,3 +7,6 @@ returns-clause-finds g c =
     finds_batch (g.W.Work.gives c.args.work) c.args.digest.now c.args.self.now c.in_batch.new.self
     c.requires c.in_batch.ensures.follows c.in_batch.ensures.finds c.in_batch.result
     (λ shut. (c.in_batch.ensures.refuses shut).1) c.in_batch.ensures.open
+
+pub returns-clause-failed : goal.returns-clause-failed
+returns-clause-failed g c failed = (c.in_batch.ensures.refuses (not-true _ failed)).0

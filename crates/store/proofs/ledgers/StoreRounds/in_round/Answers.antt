@@ -1,3 +1,4 @@
+use Rattle.std.proofs.lemmas.Bool.{not-true}
 use Rattle.store.proofs.FindsLemmas.{finds_round}
 use Rattle.store.proofs.ledgers.StoreRounds.in_round.Goals as goal
 
@@ -5,3 +6,6 @@ pub returns-clause-finds : goal.returns-clause-finds
 returns-clause-finds g c =
     finds_round (g.W.RoundWork.gives c.args.work) c.args.self.now c.in_round.new.self c.in_round.result
     c.requires c.in_round.ensures.answers c.in_round.ensures.finds
+
+pub returns-clause-failed : goal.returns-clause-failed
+returns-clause-failed g c failed = (c.in_round.ensures.answers.refuses (not-true _ failed)).0
