@@ -16,7 +16,7 @@ use Rattle.clap.proofs.ValueTestLemmas.{accepts-Accepts}
 use Rattle.command_line.proofs.Uses.{Each, IsOwn, both_none, each_found, flag_sets, help_sets, option_sets, version_sets}
 use Rattle.command_line.proofs.Walks.{walk_stops}
 use Rattle.command_line.proofs.Levels.{HasValue, Holds, level_holds}
-use Rattle.command_line.specs.Ledgerd.{check_shape, flag_rule, ledgerd_app, limit_rule, migrate_shape, number_rule, option_rule, ports, program, serve_shape, statement_shape, tenant_add_shape, text_rule}
+use Rattle.command_line.specs.Ledgerd.{check_shape, flag_rule, ledgerd_app, limit_rule, lint_shape, migrate_shape, number_rule, option_rule, ports, program, serve_shape, statement_shape, tenant_add_shape, tenant_key_shape, text_rule}
 use Rattle.command_line.specs.Values.{HasSomeText, IsFilled, IsFlag, IsFreeNumber, HasNumberBelow}
 use Rattle.command_line.proofs.NumberValues.{signed_number}
 
@@ -148,6 +148,23 @@ tenant_add_met words e =
       },
     ))
 
+tenant_key_met : (words : List Text) → level_fault (ready tenant_key_shape) [] nothing_held words false [] ≡ []
+    → IsFilled (codes "tenant-key") (rows_after (ready tenant_key_shape).rules [] words)
+tenant_key_met words e =
+    let c = (ready tenant_key_shape).rules in
+    let rows = rows_after c [] words in
+    let own : Each (IsOwn c) c =
+    (text_own c (codes "db") refl, (text_own c (codes "name") refl, (text_own c (codes "key") refl, (help_own c refl, tt)))) in
+    let holds = level_holds (ready tenant_key_shape) words own refl e in
+    inr (inr (inl (
+      refl,
+      record {
+        db = text_at rows (codes "db") holds.0;
+        name = text_at rows (codes "name") holds.1.0;
+        key = text_at rows (codes "key") holds.1.1.0;
+      },
+    )))
+
 -- what stands for a flag passes as `true` or `false`
 flag_at : (rows : List Row) (name : Text) → Holds rows (filled (flag_rule name)) → IsFlag rows name
 flag_at rows name holds = elim holds.known [
@@ -193,7 +210,7 @@ statement_met words e =
       ),
     ) in
     let holds = level_holds (ready statement_shape) words own refl e in
-    inr (inr (inl (
+    inr (inr (inr (inl (
       refl,
       record {
         db = text_at rows (codes "db") holds.0;
@@ -203,7 +220,7 @@ statement_met words e =
         balances = flag_at rows (codes "balances") holds.1.1.1.1.1.1.0;
         wide = flag_at rows (codes "wide") holds.1.1.1.1.1.1.1.0;
       },
-    )))
+    ))))
 
 check_met : (words : List Text) → level_fault (ready check_shape) [] nothing_held words false [] ≡ []
     → IsFilled (codes "check") (rows_after (ready check_shape).rules [] words)
@@ -212,7 +229,7 @@ check_met words e =
     let rows = rows_after c [] words in
     let own : Each (IsOwn c) c = (text_own c (codes "db") refl, (help_own c refl, tt)) in
     let holds = level_holds (ready check_shape) words own refl e in
-    inr (inr (inr (inl (refl, record { db = text_at rows (codes "db") holds.0 }))))
+    inr (inr (inr (inr (inl (refl, record { db = text_at rows (codes "db") holds.0 })))))
 
 migrate_met : (words : List Text) → level_fault (ready migrate_shape) [] nothing_held words false [] ≡ []
     → IsFilled (codes "migrate") (rows_after (ready migrate_shape).rules [] words)
@@ -221,7 +238,11 @@ migrate_met words e =
     let rows = rows_after c [] words in
     let own : Each (IsOwn c) c = (text_own c (codes "db") refl, (text_own c (codes "to") refl, (help_own c refl, tt))) in
     let holds = level_holds (ready migrate_shape) words own refl e in
-    inr (inr (inr (inr (refl, record { db = text_at rows (codes "db") holds.0; to = text_at rows (codes "to") holds.1.0 }))))
+    inr (inr (inr (inr (inr (inl (refl, record { db = text_at rows (codes "db") holds.0; to = text_at rows (codes "to") holds.1.0 }))))))
+
+lint_met : (words : List Text) → level_fault (ready lint_shape) [] nothing_held words false [] ≡ []
+    → IsFilled (codes "lint") (rows_after (ready lint_shape).rules [] words)
+lint_met words e = inr (inr (inr (inr (inr (inr refl)))))
 
 -- the subcommand that a walk stopped at is filled
 StopsAt : Text → List Text → Shape → Type 0
@@ -253,8 +274,14 @@ stops_at_one name words other = (
   (
     λ a e. tenant_add_met words e,
     (
-      λ a e. statement_met words e,
-      (λ a e. check_met words e, (λ a e. migrate_met words e, (λ a e. absurd (help_is name other a), tt))),
+      λ a e. tenant_key_met words e,
+      (
+        λ a e. statement_met words e,
+        (
+          λ a e. check_met words e,
+          (λ a e. migrate_met words e, (λ a e. lint_met words e, (λ a e. absurd (help_is name other a), tt))),
+        ),
+      ),
     ),
   ),
 )

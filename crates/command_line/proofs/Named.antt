@@ -10,4 +10,6 @@ fills_serve name rows (inl met) is = met.1
 fills_serve name rows (inr (inl met)) is = absurd (true≢false (ap (λ n. bytes_eq n (codes "serve")) (sym is ∙ met.0)))
 fills_serve name rows (inr (inr (inl met))) is = absurd (true≢false (ap (λ n. bytes_eq n (codes "serve")) (sym is ∙ met.0)))
 fills_serve name rows (inr (inr (inr (inl met)))) is = absurd (true≢false (ap (λ n. bytes_eq n (codes "serve")) (sym is ∙ met.0)))
-fills_serve name rows (inr (inr (inr (inr met)))) is = absurd (true≢false (ap (λ n. bytes_eq n (codes "serve")) (sym is ∙ met.0)))
+fills_serve name rows (inr (inr (inr (inr (inl met))))) is = absurd (true≢false (ap (λ n. bytes_eq n (codes "serve")) (sym is ∙ met.0)))
+fills_serve name rows (inr (inr (inr (inr (inr (inl met)))))) is = absurd (true≢false (ap (λ n. bytes_eq n (codes "serve")) (sym is ∙ met.0)))
+fills_serve name rows (inr (inr (inr (inr (inr (inr met)))))) is = absurd (true≢false (ap (λ n. bytes_eq n (codes "serve")) (sym is ∙ met)))

@@ -65,6 +65,11 @@ abbrev pub tenant_add_shape : Shape
 tenant_add_shape = over_store (codes "tenant-add")
     (text_rule (codes "name") ∷ text_rule (codes "key") ∷ [])
 
+-- tenant-key: the tenant's name, and its new key
+abbrev pub tenant_key_shape : Shape
+tenant_key_shape = over_store (codes "tenant-key")
+    (text_rule (codes "name") ∷ text_rule (codes "key") ∷ [])
+
 -- statement: a tenant, its account, and whether the newest come first
 abbrev pub whole_statement_app : App
 whole_statement_app = record (new_app (codes "statement")) {
@@ -88,6 +93,10 @@ check_shape = over_store (codes "check") []
 abbrev pub migrate_shape : Shape
 migrate_shape = over_store (codes "migrate") (text_rule (codes "to") ∷ [])
 
+-- lint: the route on which a body is judged
+abbrev pub lint_shape : Shape
+lint_shape = record (new_app (codes "lint")).top { rules = option_rule (codes "route") ∷ [] }
+
 -- the program without its subcommands, with `--version`; the words are those after its name
 abbrev pub program : App
 program = record (new_app (codes "ledgerd")) {
@@ -101,5 +110,7 @@ ledgerd_app =
     (with_subcommand
     (with_subcommand
     (with_subcommand
-    (with_subcommand program serve_shape) tenant_add_shape) statement_shape) check_shape)
-    migrate_shape
+    (with_subcommand
+    (with_subcommand
+    (with_subcommand program serve_shape) tenant_add_shape) tenant_key_shape) statement_shape)
+    check_shape) migrate_shape) lint_shape

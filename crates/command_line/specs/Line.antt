@@ -42,6 +42,10 @@ Spells name rows (command.AddTenant db tenant key) = (name ≡ codes "tenant-add
     × HasText rows (codes "db") db.now
     × HasText rows (codes "name") tenant.now
     × HasText rows (codes "key") key.now
+Spells name rows (command.ChangeKey db tenant key) = (name ≡ codes "tenant-key")
+    × HasText rows (codes "db") db.now
+    × HasText rows (codes "name") tenant.now
+    × HasText rows (codes "key") key.now
 Spells name rows (command.Statement db tenant account asked) = (name ≡ codes "statement")
     × HasText rows (codes "db") db.now
     × HasText rows (codes "tenant") tenant.now
@@ -52,6 +56,8 @@ Spells name rows (command.Check db) = (name ≡ codes "check")
 Spells name rows (command.Migrate db to) = (name ≡ codes "migrate")
     × HasText rows (codes "db") db.now
     × HasText rows (codes "to") to.now
+Spells name rows (command.Lint route) = (name ≡ codes "lint")
+    × HasFreeText rows (codes "route") (text_in route)
 
 -- the command of the subcommand that `clap` met, with its values, or the run over lists
 abbrev pub IsOf : Option (Text × List Row) → Command → Type 0

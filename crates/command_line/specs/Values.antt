@@ -74,8 +74,8 @@ pub record FillsServe (rows : List Row) : Type 0 where
   pub requests : IsFreeNumber rows (codes "requests")
   pub limits : FillsLimits rows
 
--- the values of tenant-add are there
-pub record FillsTenantAdd (rows : List Row) : Type 0 where
+-- the values of tenant-add are there, or of tenant-key
+pub record FillsTenant (rows : List Row) : Type 0 where
   pub db : HasSomeText rows (codes "db")
   pub name : HasSomeText rows (codes "name")
   pub key : HasSomeText rows (codes "key")
@@ -98,10 +98,12 @@ pub record FillsMigrate (rows : List Row) : Type 0 where
   pub db : HasSomeText rows (codes "db")
   pub to : HasSomeText rows (codes "to")
 
--- the name is a command's, and each of its values is there
+-- the name is a command's, and each value is there that it must have
 abbrev pub IsFilled : Text → List Row → Type 0
 IsFilled name rows = ((name ≡ codes "serve") × FillsServe rows)
-    ⊎ (((name ≡ codes "tenant-add") × FillsTenantAdd rows)
+    ⊎ (((name ≡ codes "tenant-add") × FillsTenant rows)
+    ⊎ (((name ≡ codes "tenant-key") × FillsTenant rows)
     ⊎ (((name ≡ codes "statement") × FillsStatement rows)
     ⊎ (((name ≡ codes "check") × FillsCheck rows)
-    ⊎ ((name ≡ codes "migrate") × FillsMigrate rows))))
+    ⊎ (((name ≡ codes "migrate") × FillsMigrate rows)
+    ⊎ (name ≡ codes "lint"))))))

@@ -1,10 +1,10 @@
 //! `ledgerd` as `clap` sees it: the subcommands, their options and their help.
 ghost use Rattle.std.specs.Prelude.{IfOk};
 ghost use Rattle.command_line.specs.Ledgerd.{check_shape, counted_serve_app, db_rule, flag_rule};
-ghost use Rattle.command_line.specs.Ledgerd.{ledgerd_app, limit_rule, migrate_shape, number_rule};
-ghost use Rattle.command_line.specs.Ledgerd.{option_rule, program, serve_shape};
-ghost use Rattle.command_line.specs.Ledgerd.{statement_shape, store_app, tenant_add_shape, text_rule};
-ghost use Rattle.command_line.specs.Ledgerd.{whole_statement_app};
+ghost use Rattle.command_line.specs.Ledgerd.{ledgerd_app, limit_rule, lint_shape, migrate_shape};
+ghost use Rattle.command_line.specs.Ledgerd.{number_rule, option_rule, program, serve_shape};
+ghost use Rattle.command_line.specs.Ledgerd.{statement_shape, store_app, tenant_add_shape, tenant_key_shape};
+ghost use Rattle.command_line.specs.Ledgerd.{text_rule, whole_statement_app};
 ghost use Rattle.command_line.specs.Built.{IsLeaf, IsLocalArg, IsProgram};
 
 use crate::{LEAST_ROOM, version_text};
@@ -31,6 +31,16 @@ static MESSAGE_HELP: &str = "Seconds for a message from its first byte on, 1 to 
 
 static REPLY_HELP: &str =
     "Seconds to take a reply, beside 1 for each 64 kB, 1 to 3600 [default: 10]";
+
+static NAME_HELP: &str = "The tenant's name, 1 to 64 ASCII letters, digits or -, e.g. north-desk";
+
+static KEY_HELP: &str =
+    "The tenant's key, 64 hexadecimal digits, e.g. what openssl rand -hex 32 prints";
+
+static OTHER_KEY_HELP: &str = "The tenant's new key, 64 hexadecimal digits, never one that leaked";
+
+static ROUTE_HELP: &str =
+    "The path to which the body would be posted, e.g. /accounts [default: /transfers]";
 
 // `--name VALUE`, which its command must have.
 fn text_option<'a>(alloc: Global, name: &'a str, value: &'a str, help: &'a str) -> Arg<'a>
@@ -147,18 +157,17 @@ fn tenant_add_command<'a>(alloc: Global) -> Result<clap::Command<'a>, AllocError
 {
     let about = "Add a tenant; an absent or empty file becomes a new store";
     store_command(alloc, "tenant-add", about)?
-        .arg(text_option(
-            alloc,
-            "name",
-            "NAME",
-            "The tenant's name, 1 to 64 ASCII letters, digits or -, e.g. north-desk",
-        ))?
-        .arg(text_option(
-            alloc,
-            "key",
-            "HEX",
-            "The tenant's key, 64 hexadecimal digits, e.g. what openssl rand -hex 32 prints",
-        ))
+        .arg(text_option(alloc, "name", "NAME", NAME_HELP))?
+        .arg(text_option(alloc, "key", "HEX", KEY_HELP))
+}
+
+fn tenant_key_command<'a>(alloc: Global) -> Result<clap::Command<'a>, AllocError>
+    ensures { IfOk result (IsLeaf tenant_key_shape) }
+{
+    let about = "Give a tenant another key; the one before is no longer good";
+    store_command(alloc, "tenant-key", about)?
+        .arg(text_option(alloc, "name", "NAME", NAME_HELP))?
+        .arg(text_option(alloc, "key", "HEX", OTHER_KEY_HELP))
 }
 
 // A statement's command with what it must have, and the order of its entries.
@@ -238,6 +247,15 @@ fn migrate_command<'a>(alloc: Global) -> Result<clap::Command<'a>, AllocError>
     ))
 }
 
+fn lint_command<'a>(alloc: Global) -> Result<clap::Command<'a>, AllocError>
+    ensures { IfOk result (IsLeaf lint_shape) }
+{
+    let about = "Tell what the service would refuse of a body on standard input, and where";
+    clap::Command::new(alloc, "lint")
+        .about(about)
+        .arg(free_option(alloc, "route", "PATH", ROUTE_HELP))
+}
+
 /// The whole command line, which reads the words after the program's name.
 pub fn ledgerd_command<'a>(alloc: Global) -> Result<clap::Command<'a>, AllocError>
     ensures { IfOk result (IsProgram ledgerd_app) }
@@ -245,7 +263,9 @@ pub fn ledgerd_command<'a>(alloc: Global) -> Result<clap::Command<'a>, AllocErro
     named_command(alloc)?
         .subcommand(serve_command(alloc)?)?
         .subcommand(tenant_add_command(alloc)?)?
+        .subcommand(tenant_key_command(alloc)?)?
         .subcommand(statement_command(alloc)?)?
         .subcommand(check_command(alloc)?)?
-        .subcommand(migrate_command(alloc)?)
+        .subcommand(migrate_command(alloc)?)?
+        .subcommand(lint_command(alloc)?)
 }

@@ -56,6 +56,12 @@ pub enum Command<'a> {
         name: &'a str,
         key: &'a str,
     },
+    /// Give a tenant another key, of 64 hexadecimal digits.
+    ChangeKey {
+        db: &'a str,
+        name: &'a str,
+        key: &'a str,
+    },
     /// Write an account's statement.
     Statement {
         db: &'a str,
@@ -71,5 +77,9 @@ pub enum Command<'a> {
     Migrate {
         db: &'a str,
         to: &'a str,
+    },
+    /// Tell what the service would refuse of a body, on the route that is given.
+    Lint {
+        route: Option<&'a str>,
     },
 }

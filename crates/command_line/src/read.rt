@@ -4,7 +4,7 @@ ghost use Rattle.command_line.specs.Ledgerd.{ledgerd_app};
 ghost use Rattle.command_line.specs.Line.{IsCommandOf, IsFaultOf, Spells, SpellsLimits};
 ghost use Rattle.command_line.specs.Line.{SpellsStatement};
 ghost use Rattle.command_line.specs.Values.{FillsCheck, FillsLimits, FillsMigrate, FillsServe};
-ghost use Rattle.command_line.specs.Values.{FillsStatement, FillsTenantAdd, HasNumber};
+ghost use Rattle.command_line.specs.Values.{FillsStatement, FillsTenant, HasNumber};
 ghost use Rattle.command_line.specs.Values.{HasFreeNumber, HasFreeText, HasNumberBelow, HasNumberOr};
 ghost use Rattle.command_line.specs.Values.{HasSomeText, HasText, IsFilled, IsFlag, IsFreeNumber};
 ghost use Rattle.command_line.specs.Values.{has_flag, text_in};
@@ -83,13 +83,26 @@ fn serve<'a>(values: &ArgMatches<'a>) -> Command<'a>
 }
 
 fn add_tenant<'a>(values: &ArgMatches<'a>) -> Command<'a>
-    requires { FillsTenantAdd (rows_of (found_of values.now)) }
+    requires { FillsTenant (rows_of (found_of values.now)) }
     ensures { Spells (codes "tenant-add") (rows_of (found_of values.now)) result }
 {
     Command::AddTenant {
         db: text(values, "db"),
         name: text(values, "name"),
         key: text(values, "key"),
+    }
+}
+
+fn change_key<'a>(values: &ArgMatches<'a>) -> Command<'a>
+    requires { FillsTenant (rows_of (found_of values.now)) }
+    ensures { Spells (codes "tenant-key") (rows_of (found_of values.now)) result }
+{
+    let name = text(values, "name");
+    let key = text(values, "key");
+    Command::ChangeKey {
+        db: text(values, "db"),
+        name,
+        key,
     }
 }
 
@@ -140,6 +153,14 @@ fn migrate<'a>(values: &ArgMatches<'a>) -> Command<'a>
     }
 }
 
+fn lint<'a>(values: &ArgMatches<'a>) -> Command<'a>
+    ensures { Spells (codes "lint") (rows_of (found_of values.now)) result }
+{
+    Command::Lint {
+        route: free_text(values, "route"),
+    }
+}
+
 fn named<'a>(name: &str, values: &ArgMatches<'a>) -> Command<'a>
     requires { IsFilled name.now (rows_of (found_of values.now)) }
     ensures { Spells name.now (rows_of (found_of values.now)) result }
@@ -147,9 +168,11 @@ fn named<'a>(name: &str, values: &ArgMatches<'a>) -> Command<'a>
     match name {
         "serve" => serve(values),
         "tenant-add" => add_tenant(values),
+        "tenant-key" => change_key(values),
         "statement" => statement(values),
         "check" => check(values),
         "migrate" => migrate(values),
+        "lint" => lint(values),
         _ => unreachable!(),
     }
 }

@@ -3,4 +3,5 @@
 mod addresses;
 mod command_lines;
 mod faults;
+mod lints;
 mod times;

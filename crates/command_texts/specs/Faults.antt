@@ -4,7 +4,7 @@ use Rattle.command_texts.specs.declared.fault.Fault.{Fault}
 use Rattle.command_texts.specs.declared.fault.Fault.TheVariants.{NameTaken, DigestTaken, NoTenant}
 use Rattle.command_texts.specs.declared.fault.Fault.TheVariants.{NoAccount, BadName, BadKey, BadAccount}
 use Rattle.command_texts.specs.declared.fault.Fault.TheVariants.{BadVersion, BadTime, BadFormat}
-use Rattle.command_texts.specs.declared.fault.Fault.TheVariants.{BadAddress}
+use Rattle.command_texts.specs.declared.fault.Fault.TheVariants.{BadAddress, BadRoute}
 use Rattle.command_texts.specs.declared.fault.Fault.TheVariants.{Unavailable, Socket, Output}
 use Rattle.command_texts.specs.declared.fault.Fault.TheVariants.{Unreadable, NotALedger, OldSchema}
 use Rattle.command_texts.specs.declared.fault.Fault.TheVariants.{NewerSchema, Damaged}
@@ -22,6 +22,7 @@ word_of BadVersion = codes "bad_version"
 word_of BadTime = codes "bad_time"
 word_of BadFormat = codes "bad_format"
 word_of BadAddress = codes "bad_address"
+word_of BadRoute = codes "bad_route"
 word_of Unavailable = codes "unavailable"
 word_of Socket = codes "socket"
 word_of Output = codes "output"
@@ -44,6 +45,7 @@ status_of BadVersion = 2
 status_of BadTime = 2
 status_of BadFormat = 2
 status_of BadAddress = 2
+status_of BadRoute = 2
 status_of Unavailable = 3
 status_of Socket = 3
 status_of Output = 3

@@ -1,4 +1,7 @@
+pub mod BodyLines
 pub mod Dates
 pub mod Faults
 pub mod Lines
+pub mod Linting
+pub mod Routes
 pub mod Words

@@ -17,6 +17,10 @@ fault_line fault = codes "ledgerd: " ++ word_of fault ++ 10 ∷ []
 abbrev pub added_line : List ℕ → List ℕ
 added_line name = codes "added " ++ name ++ 10 ∷ []
 
+-- the line that tells another key of a tenant
+abbrev pub changed_line : List ℕ → List ℕ
+changed_line name = codes "changed " ++ name ++ 10 ∷ []
+
 -- the line on standard error that tells a file which has become a new ledger
 abbrev pub new_ledger_line : List ℕ → List ℕ
 new_ledger_line path = codes "new ledger " ++ path ++ 10 ∷ []

@@ -30,6 +30,8 @@ pub enum Fault {
     BadFormat,
     /// An address is one of IPv4 or IPv6, in digits.
     BadAddress,
+    /// A route is a path to which bodies are posted.
+    BadRoute,
     /// Memory ran out, or the store answers no calls.
     Unavailable,
     /// The port cannot be bound, or a connection not be accepted.
@@ -72,6 +74,7 @@ impl Fault {
             Fault::BadTime => line!("bad_time"),
             Fault::BadFormat => line!("bad_format"),
             Fault::BadAddress => line!("bad_address"),
+            Fault::BadRoute => line!("bad_route"),
             Fault::Unavailable => line!("unavailable"),
             Fault::Socket => line!("socket"),
             Fault::Output => line!("output"),
@@ -95,7 +98,8 @@ impl Fault {
             | Fault::BadVersion
             | Fault::BadTime
             | Fault::BadFormat
-            | Fault::BadAddress => 2,
+            | Fault::BadAddress
+            | Fault::BadRoute => 2,
             Fault::Unavailable | Fault::Socket | Fault::Output => 3,
             Fault::Unreadable
             | Fault::NotALedger

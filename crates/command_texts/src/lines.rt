@@ -3,8 +3,8 @@ ghost use Rattle.std.specs.Prelude.{◌≡◌, ◌∷◌, ◌++◌, [], false, i
 ghost use Rattle.std.specs.String.{string_bytes};
 ghost use Rattle.std.specs.Io.KnownBytes.{Appends};
 ghost use Rattle.command_texts.specs.Faults.{status_of};
-ghost use Rattle.command_texts.specs.Lines.{IsFaultWritten, IsWritten, added_line, damage_line};
-ghost use Rattle.command_texts.specs.Lines.{fault_line, new_ledger_line, schema_line};
+ghost use Rattle.command_texts.specs.Lines.{IsFaultWritten, IsWritten, added_line, changed_line};
+ghost use Rattle.command_texts.specs.Lines.{damage_line, fault_line, new_ledger_line, schema_line};
 
 use crate::Fault;
 use audit::Damage;
@@ -72,6 +72,17 @@ pub fn put_added<O: Drain>(out: &mut O, name: &TenantName) -> Result<(), Fault>
     ensures failed { O.failed out.new ≡ is_err result }
 {
     put_line(out, "added ", name.as_str())
+}
+
+/// Tells that a tenant has another key.
+pub fn put_changed<O: Drain>(out: &mut O, name: &TenantName) -> Result<(), Fault>
+    requires { O.failed out.old ≡ false }
+    ensures ok { OnOk result (Appends (O.written out.old) (O.written out.new)
+        (changed_line name.now)) }
+    ensures fault { IfErr result (λ fault. fault ≡ Fault.Output) }
+    ensures failed { O.failed out.new ≡ is_err result }
+{
+    put_line(out, "changed ", name.as_str())
 }
 
 /// Tells the version that a file has come to, as it was written.

@@ -1,5 +1,6 @@
 mod ServingLemmas
 mod AddLemmas
+mod KeyLemmas
 pub mod ExtractLemmas
 mod AskLemmas
 pub mod RenewLemmas

@@ -4,6 +4,7 @@ pub mod Serving
 pub mod GivenLimits
 pub mod Statements
 pub mod Adding
+pub mod Keying
 pub mod Openings
 pub mod Migrating
 pub mod Program

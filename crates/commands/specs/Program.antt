@@ -18,8 +18,8 @@ use Rattle.command_line.specs.declared.commands.Command.TheVariants as command
 use Rattle.command_line.specs.declared.fault.LineFault.{LineFault}
 use Rattle.command_line.specs.declared.fault.LineFault.TheVariants.{Refused, Version, Memory}
 use Rattle.command_texts.specs.Faults.{status_of}
-use Rattle.command_texts.specs.Lines.{IsWritten, added_line, damage_line, fault_line}
-use Rattle.command_texts.specs.Lines.{new_ledger_line, schema_line}
+use Rattle.command_texts.specs.Lines.{IsWritten, added_line, changed_line, damage_line}
+use Rattle.command_texts.specs.Lines.{fault_line, new_ledger_line, schema_line}
 use Rattle.command_line.specs.declared.commands.StatementWords.{StatementWords}
 use Rattle.commands.specs.Asking.{MeansPeriod, read_form}
 use Rattle.statement.specs.declared.period.Period.{Period}
@@ -55,6 +55,15 @@ pub record AddsTenant {O : Type 0} (written : O → Option (List ℕ)) (db name 
   pub line : IfOk result (λ ended. Appends (written out) (written ended.out) (added_line name))
   pub calm : IfOk result (λ ended. ended.is_damaged ≡ false)
   pub made : IfOk result (λ ended. IsNoneOr db (text_in ended.made))
+
+-- a tenant's key is changed, and a line tells so; before the file is opened the name is judged, then
+-- the key
+pub record ChangesKey {O : Type 0} (written : O → Option (List ℕ)) (name key : List ℕ) (out : O)
+    (result : Result (Ended O) Fault) : Type 0 where
+  pub name_first : ¬ IsTenantName name → result ≡ Err BadName
+  pub key_next : IsTenantName name → key_of key ≡ None → result ≡ Err BadKey
+  pub line : IfOk result (λ ended. Appends (written out) (written ended.out) (changed_line name))
+  pub calm : IfOk result IsCalm
 
 -- a statement is written; before the file is opened the name is judged, then the account's id, then
 -- the period's bounds, and then the form
@@ -104,10 +113,13 @@ Does written command.Lists out result = DoesNothing out result
 Does written (command.Serve db address port requests limits) out result = DoesNothing out result
 Does written (command.AddTenant db name key) out result =
     AddsTenant written db.now name.now key.now out result
+Does written (command.ChangeKey db name key) out result =
+    ChangesKey written name.now key.now out result
 Does written (command.Statement db tenant account asked) out result =
     WritesStatement tenant.now account.now asked result
 Does written (command.Check db) out result = Checks written out result
 Does written (command.Migrate db to) out result = Migrates written to.now out result
+Does written (command.Lint route) out result = DoesNothing out result
 
 -- standard error, before and behind the program
 pub record Told : Type 0 where

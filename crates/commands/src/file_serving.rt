@@ -8,6 +8,7 @@ ghost use Rattle.commands.specs.Openings.{IsOpeningFault};
 ghost use Rattle.commands.specs.Serving.{ServesStore};
 
 use crate::SystemMoments;
+use crate::counting::CountingAudit;
 use crate::given_limits::limits_of;
 use crate::kept::Kept;
 use crate::opening::open_served;
@@ -50,11 +51,12 @@ impl Operator for Console<'_> {
 struct HostFile<'a> {
     rt: &'a HostRuntime,
     path: &'a str,
+    audit: CountingAudit,
 }
 
 impl Home<File> for HostFile<'_> {
     fn open_store(&self) -> Result<Store<File>, Fault> {
-        open_served(self.rt, self.path)
+        open_served(self.rt, self.path, &self.audit)
     }
 
     fn tell(&self, fault: Fault) {
@@ -68,9 +70,11 @@ impl Home<File> for HostFile<'_> {
 }
 
 impl HostFile<'_> {
-    // Tells that the file is served, where, and how long it has been opened for.
+    // Tells that the file is served, where, how many tenants it has, and how long its opening took.
     fn tell_serving(&self, address: SocketAddr, began: io::Result<Duration>) {
         let path = self.path;
+        let tenants = self.audit.tenants();
+        let noun = if tenants == 1 { "tenant" } else { "tenants" };
         let millis = match (began, self.rt.monotonic()) {
             (Ok(began), Ok(now)) => now.saturating_sub(began).as_millis(),
             _ => 0,
@@ -78,7 +82,7 @@ impl HostFile<'_> {
         let seconds = millis / 1000;
         let tenths = millis % 1000 / 100;
         let _ = self.rt.eprintln(format_args!(
-            "serving {path} on {address}, opened in {seconds}.{tenths} s"
+            "serving {path} on {address}, {tenants} {noun}, opened in {seconds}.{tenths} s"
         ));
     }
 }
@@ -128,7 +132,11 @@ fn serve_to<P: Peers>(
 ) -> Result<(), Fault>
     ensures { IfErr result (λ fault. IsOpeningFault fault ⊎ (fault ≡ Fault.Socket)) }
 {
-    let home = HostFile { rt, path: db };
+    let home = HostFile {
+        rt,
+        path: db,
+        audit: CountingAudit::new(),
+    };
     let began = rt.monotonic();
     let store = home.open_store()?;
     home.tell_serving(address, began);

@@ -4,11 +4,13 @@
 
 mod adding;
 mod asked;
+mod counting;
 mod ended;
 mod extracts;
 mod file_serving;
 mod given_limits;
 mod kept;
+mod keying;
 mod moments;
 mod opening;
 mod over_files;

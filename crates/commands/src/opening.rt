@@ -15,7 +15,7 @@ use std::fs::{self, OpenOptions};
 use std::hash::{BuildHasher, RandomState};
 use std::io::{self, ErrorKind};
 use std::os::unix::fs::OpenOptionsExt;
-use store::{FullAudit, OpenFault, Store};
+use store::{Audit, FullAudit, OpenFault, Store};
 
 /// How many pages of 4,096 bytes a command keeps in memory, of those that it read and of those that
 /// it wrote.
@@ -40,24 +40,33 @@ pub(crate) fn open_file(rt: &HostRuntime, path: &str) -> Result<Store<File>, Fau
     ensures usable { IfOk result IsUsable }
     ensures fault { IfErr result IsOpeningFault }
 {
-    open_with(rt, path, PAGES)
+    open_with(rt, path, PAGES, &FullAudit)
 }
 
-/// The same, to be served.
-pub(crate) fn open_served(rt: &HostRuntime, path: &str) -> Result<Store<File>, Fault>
+/// The same, to be served, behind an audit.
+pub(crate) fn open_served<A: Audit>(
+    rt: &HostRuntime,
+    path: &str,
+    audit: &A,
+) -> Result<Store<File>, Fault>
     ensures usable { IfOk result IsUsable }
     ensures ready { IfOk result IsReady }
     ensures fault { IfErr result IsOpeningFault }
 {
-    open_with(rt, path, SERVED_PAGES)
+    open_with(rt, path, SERVED_PAGES, audit)
 }
 
-fn open_with(rt: &HostRuntime, path: &str, pages: usize) -> Result<Store<File>, Fault>
+fn open_with<A: Audit>(
+    rt: &HostRuntime,
+    path: &str,
+    pages: usize,
+    audit: &A,
+) -> Result<Store<File>, Fault>
     ensures usable { IfOk result IsUsable }
     ensures ready { IfOk result IsReady }
     ensures fault { IfErr result IsOpeningFault }
 {
-    match open_at(rt, path, pages) {
+    match open_at(rt, path, pages, audit) {
         Ok(store) => Ok(store),
         Err(fault) => Err(open_fault(fault)),
     }
@@ -112,19 +121,24 @@ fn migratable_at(rt: &HostRuntime, path: &str) -> Result<LedgerOfVersion<File>, 
 
 /// Where the ledger in a file that is there is damaged.
 pub(crate) fn examine(rt: &HostRuntime, path: &str) -> Result<Option<Damage>, Fault> {
-    match open_at(rt, path, PAGES) {
+    match open_at(rt, path, PAGES, &FullAudit) {
         Ok(_store) => Ok(None),
         Err(OpenFault::Damaged(damage)) => Ok(Some(damage)),
         Err(fault) => Err(open_fault(fault)),
     }
 }
 
-fn open_at(rt: &HostRuntime, path: &str, pages: usize) -> Result<Store<File>, OpenFault>
+fn open_at<A: Audit>(
+    rt: &HostRuntime,
+    path: &str,
+    pages: usize,
+    audit: &A,
+) -> Result<Store<File>, OpenFault>
     ensures usable { IfOk result IsUsable }
     ensures ready { IfOk result IsReady }
 {
     find(rt, path)?;
-    Store::open_at(rt, path, Unknown, options(rt, pages)?, &FullAudit)
+    Store::open_at(rt, path, Unknown, options(rt, pages)?, audit)
 }
 
 // Opening would make a database of a file that is absent or empty, so it is looked for first.

@@ -1,11 +1,12 @@
 //! Each command, over the file that it names.
 ghost use Rattle.std.specs.Prelude.{◌≡◌, false};
 ghost use Rattle.commands.specs.Migrating.{migrate_fault};
-ghost use Rattle.commands.specs.Program.{AddsTenant, Checks, Migrates, WritesStatement};
+ghost use Rattle.commands.specs.Program.{AddsTenant, ChangesKey, Checks, Migrates, WritesStatement};
 
 use crate::adding::add_tenant;
 use crate::asked::Asked;
 use crate::ended::Ended;
+use crate::keying::change_key;
 use crate::opening::{Opened, examine, open_file, open_or_make, open_to_migrate};
 use crate::statements::write_asked;
 use command_line::StatementWords;
@@ -34,6 +35,28 @@ pub(crate) fn run_add_tenant<'a, O: Drain + Drop>(
         out,
         is_damaged: false,
         made: if is_new { Some(db) } else { None },
+    })
+}
+
+/// Changes a tenant's key in a file that is there.
+pub(crate) fn run_change_key<O: Drain + Drop>(
+    rt: &HostRuntime,
+    db: &str,
+    tenant: &str,
+    key: &str,
+    mut out: O,
+) -> Result<Ended<'static, O>, Fault>
+    requires { O.failed out ≡ false }
+    ensures { ChangesKey O.written tenant.now key.now out result }
+{
+    let tenant = name(tenant)?;
+    let digest = key_digest(key)?;
+    let mut store = open_file(rt, db)?;
+    change_key(&mut store, &tenant, &digest, &mut out)?;
+    Ok(Ended {
+        out,
+        is_damaged: false,
+        made: None,
     })
 }
 

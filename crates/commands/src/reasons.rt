@@ -23,12 +23,13 @@ impl<'a> Place<'a> {
     /// That of a command, if it has one.
     pub(crate) fn of(asked: Command<'a>) -> Option<Place<'a>> {
         match asked {
-            Command::Lists => None,
+            Command::Lists | Command::Lint { .. } => None,
             Command::AddTenant { db, .. } => Some(Place {
                 path: db,
                 is_made: true,
             }),
             Command::Serve { db, .. }
+            | Command::ChangeKey { db, .. }
             | Command::Statement { db, .. }
             | Command::Check { db }
             | Command::Migrate { db, .. } => Some(Place {

@@ -5,7 +5,7 @@ ghost use Rattle.commands.specs.Program.{Does, HasRun, IsMadeTold, IsRefusalTold
 ghost use Rattle.commands.specs.Program.{TellsVersion, told};
 
 use crate::ended::Ended;
-use crate::over_files::{run_add_tenant, run_check, run_migrate, run_statement};
+use crate::over_files::{run_add_tenant, run_change_key, run_check, run_migrate, run_statement};
 use crate::reasons::{Place, tell_file_fault};
 use command_line::{Command, LineFault, command, version_text};
 use command_texts::{Fault, put_text, tell_fault, tell_new_ledger};
@@ -19,7 +19,7 @@ use std::fmt::Display;
 /// and `clap`'s text there, where the words are refused; 4 where `check` has told of damage on
 /// `out`. Behind the line of an `unreadable` file the system's reason may stand. A file that
 /// `tenant-add` makes a new ledger is told on `err`, and `--version` is answered on `out`. For no
-/// words, and for `serve`, it does nothing.
+/// words, and for `serve` and `lint`, it does nothing.
 pub fn program<S: AsStr, O: Drain + Drop, E: Drain>(
     rt: &HostRuntime,
     words: &[S],
@@ -112,12 +112,13 @@ fn run<'a, O: Drain + Drop>(
     ensures { Does O.written asked.entry out result }
 {
     match asked {
-        Command::Lists | Command::Serve { .. } => Ok(Ended {
+        Command::Lists | Command::Serve { .. } | Command::Lint { .. } => Ok(Ended {
             out,
             is_damaged: false,
             made: None,
         }),
         Command::AddTenant { db, name, key } => run_add_tenant(rt, db, name, key, out),
+        Command::ChangeKey { db, name, key } => run_change_key(rt, db, name, key, out),
         Command::Statement {
             db,
             tenant,

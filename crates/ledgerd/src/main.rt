@@ -29,7 +29,10 @@ fn words(rt: &HostRuntime) -> io::Result<Vec<String>> {
 // Does what the words ask for, and says the status with which the program ends.
 fn status(rt: &HostRuntime, words: &[String]) -> u8 {
     match command(rt.alloc(), words) {
-        Ok(Command::Lists) => tell(rt, run::run(rt), None),
+        Ok(Command::Lists) => tell(rt, run::run(rt).map(|()| 0), None),
+        Ok(Command::Lint { route }) => {
+            tell(rt, run::lint_input(rt, route.unwrap_or("/transfers")), None)
+        }
         Ok(
             Command::Serve {
                 db,
@@ -44,7 +47,7 @@ fn status(rt: &HostRuntime, words: &[String]) -> u8 {
                 path: db,
                 is_made: false,
             };
-            tell(rt, served, Some(place))
+            tell(rt, served.map(|()| 0), Some(place))
         }
         _ => {
             let (out, mut err) = (Streamed::new(rt.stdout()), Streamed::new(rt.stderr()));
@@ -53,10 +56,10 @@ fn status(rt: &HostRuntime, words: &[String]) -> u8 {
     }
 }
 
-// The status of what a command on a file has come to, whose fault is told.
-fn tell(rt: &HostRuntime, ended: Result<(), Fault>, place: Option<Place<'_>>) -> u8 {
+// The status of what a command has come to, whose fault is told.
+fn tell(rt: &HostRuntime, ended: Result<u8, Fault>, place: Option<Place<'_>>) -> u8 {
     match ended {
-        Ok(()) => 0,
+        Ok(status) => status,
         Err(fault) => tell_file_fault(rt, &mut Streamed::new(rt.stderr()), fault, place),
     }
 }

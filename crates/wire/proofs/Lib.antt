@@ -1,3 +1,4 @@
+mod BadItems
 mod Lists
 mod Numbers
 mod Objects

@@ -3,7 +3,9 @@ pub mod TransferBody
 pub mod AccountBody
 pub mod FilterBody
 pub mod QueryBody
+pub mod Misfits
 pub mod Body
 pub mod Meaning
+pub mod Faults
 pub mod Reply
 pub mod Told

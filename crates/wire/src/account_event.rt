@@ -1,4 +1,5 @@
 use crate::fields::{u16_field, u32_field, u64_field, u128_field};
+use crate::misfit::Misfit;
 use crate::object::Object;
 use amount::Amount;
 use records::{AccountEvent, AccountFlags};
@@ -29,8 +30,8 @@ impl Object for AccountEvent {
     }
 
     #[tactic(auto, unfolding(crate::specs::AccountBody::account_from))]
-    fn read_fields(object: &Value) -> Option<AccountEvent> {
-        Some(AccountEvent {
+    fn read_fields(object: &Value) -> Result<AccountEvent, Misfit<'static>> {
+        Ok(AccountEvent {
             id: u128_field(object, "id")?,
             debits_pending: Amount::new(u128_field(object, "debits_pending")?),
             debits_posted: Amount::new(u128_field(object, "debits_posted")?),

@@ -14,7 +14,7 @@ use serde_json::Value;
 use std::alloc::Global;
 
 /// How many events or ids a list may have.
-const MAX_ITEMS: usize = 1000;
+pub(crate) const MAX_ITEMS: usize = 1000;
 
 /// Reads the body of a batch of transfers: a JSON list of objects.
 pub fn read_transfers(alloc: Global, body: &[u8]) -> Result<Vec<TransferEvent>, Refusal>
@@ -51,7 +51,7 @@ pub(crate) fn read_one<O: Object>(alloc: Global, body: &[u8]) -> Result<O, Refus
         → object_in (object_of O.names O.from_fields) body.now ≡ Err e) }
 {
     let value = read_json(alloc, body)?;
-    read_object(&value).ok_or(Refusal::BadField)
+    read_object(&value).map_err(|_| Refusal::BadField)
 }
 
 fn read_list<I: Item>(alloc: Global, body: &[u8]) -> Result<Vec<I>, Refusal>
@@ -73,7 +73,7 @@ fn read_list<I: Item>(alloc: Global, body: &[u8]) -> Result<Vec<I>, Refusal>
     }
 }
 
-fn read_json(alloc: Global, body: &[u8]) -> Result<Value, Refusal>
+pub(crate) fn read_json(alloc: Global, body: &[u8]) -> Result<Value, Refusal>
     ensures ok { IfOk result (λ value. json_of body.now ≡ Some (view value)) }
     ensures err { IfErr result (λ e. e ≢ Refusal.Unavailable
         → (e ≡ Refusal.BodyNotJson) × (json_of body.now ≡ None)) }
@@ -95,7 +95,7 @@ fn refusal_of(error: serde_json::Error) -> Refusal
 fn are_items<I: Item>(items: &[Value]) -> bool
     ensures { result ≡ is_some (each_of I.means (items_view items.now)) }
 {
-    items.iter().all(|item| I::read(item).is_some())
+    items.iter().all(|item| I::read(item).is_ok())
 }
 
 fn read_items<I: Item>(alloc: Global, items: &[Value]) -> Result<Vec<I>, Refusal>
@@ -105,7 +105,9 @@ fn read_items<I: Item>(alloc: Global, items: &[Value]) -> Result<Vec<I>, Refusal
 {
     let mut list = Vec::new(alloc);
     for item in items {
-        let next = I::read(item).ok_or(Refusal::BadField)?;
+        let Ok(next) = I::read(item) else {
+            return Err(Refusal::BadField);
+        };
         list.push(next)?;
     }
     Ok(list)

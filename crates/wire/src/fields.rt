@@ -1,16 +1,20 @@
 //! The numbers in the fields of an object.
 
-ghost use Rattle.std.specs.Prelude.{◌≡◌, ℕ, ◌<◌, ◌^◌, ◌↔◌, List, Some};
+ghost use Rattle.std.specs.Prelude.{◌≡◌, ℕ, ◌<◌, ◌^◌, ◌↔◌, List, Some, IfErr};
+ghost use Rattle.std.specs.Result.{result_ok};
 ghost use Rattle.amount.specs.Decimal.{decimal_of};
 ghost use Rattle.serde_json.specs.Find.{get};
 ghost use Rattle.serde_json.specs.View.{view};
 ghost use Rattle.wire.specs.Fields.{number_below, wide, whole};
+ghost use Rattle.wire.specs.Misfits.{IsMisfit};
 
+use crate::Wanted;
+use crate::misfit::Misfit;
 use amount::Amount;
 use serde_json::Value;
 
 /// A field of 128 bits: a string of canonical decimal, 0 where it is missing.
-pub(crate) fn u128_field(object: &Value, name: &str) -> Option<u128>
+pub(crate) fn wide_128(object: &Value, name: &str) -> Option<u128>
     ensures { result ≡ wide (2 ^ 128) (get name.now (view object.now)) }
 {
     match object.get(name) {
@@ -20,7 +24,7 @@ pub(crate) fn u128_field(object: &Value, name: &str) -> Option<u128>
 }
 
 /// A field of 64 bits: a string of canonical decimal, 0 where it is missing.
-pub(crate) fn u64_field(object: &Value, name: &str) -> Option<u64>
+pub(crate) fn wide_64(object: &Value, name: &str) -> Option<u64>
     ensures { result ≡ wide (2 ^ 64) (get name.now (view object.now)) }
 {
     match object.get(name) {
@@ -30,7 +34,7 @@ pub(crate) fn u64_field(object: &Value, name: &str) -> Option<u64>
 }
 
 /// A field of 32 bits: a whole number, 0 where it is missing.
-pub(crate) fn u32_field(object: &Value, name: &str) -> Option<u32>
+pub(crate) fn whole_32(object: &Value, name: &str) -> Option<u32>
     ensures { result ≡ whole (2 ^ 32) (get name.now (view object.now)) }
 {
     match object.get(name) {
@@ -40,13 +44,45 @@ pub(crate) fn u32_field(object: &Value, name: &str) -> Option<u32>
 }
 
 /// A field of 16 bits: a whole number, 0 where it is missing.
-pub(crate) fn u16_field(object: &Value, name: &str) -> Option<u16>
+pub(crate) fn whole_16(object: &Value, name: &str) -> Option<u16>
     ensures { result ≡ whole (2 ^ 16) (get name.now (view object.now)) }
 {
     match object.get(name) {
         None => Some(0),
         Some(field) => u16::try_from(field.as_u64()?).ok(),
     }
+}
+
+/// The same field, or why it is none.
+pub(crate) fn u128_field<'a>(object: &Value, name: &'a str) -> Result<u128, Misfit<'a>>
+    ensures value { result_ok result ≡ wide (2 ^ 128) (get name.now (view object.now)) }
+    ensures misfit { IfErr result (IsMisfit (view object.now)) }
+{
+    wide_128(object, name).ok_or(Misfit::of_field(name, Wanted::Digits128))
+}
+
+/// The same of 64 bits.
+pub(crate) fn u64_field<'a>(object: &Value, name: &'a str) -> Result<u64, Misfit<'a>>
+    ensures value { result_ok result ≡ wide (2 ^ 64) (get name.now (view object.now)) }
+    ensures misfit { IfErr result (IsMisfit (view object.now)) }
+{
+    wide_64(object, name).ok_or(Misfit::of_field(name, Wanted::Digits64))
+}
+
+/// The same of 32 bits.
+pub(crate) fn u32_field<'a>(object: &Value, name: &'a str) -> Result<u32, Misfit<'a>>
+    ensures value { result_ok result ≡ whole (2 ^ 32) (get name.now (view object.now)) }
+    ensures misfit { IfErr result (IsMisfit (view object.now)) }
+{
+    whole_32(object, name).ok_or(Misfit::of_field(name, Wanted::WholeBelow(1 << 32)))
+}
+
+/// The same of 16 bits.
+pub(crate) fn u16_field<'a>(object: &Value, name: &'a str) -> Result<u16, Misfit<'a>>
+    ensures value { result_ok result ≡ whole (2 ^ 16) (get name.now (view object.now)) }
+    ensures misfit { IfErr result (IsMisfit (view object.now)) }
+{
+    whole_16(object, name).ok_or(Misfit::of_field(name, Wanted::WholeBelow(1 << 16)))
 }
 
 pub(crate) fn read_number(text: &str) -> Option<u128>

@@ -1,10 +1,14 @@
-ghost use Rattle.std.specs.Prelude.{◌≡◌, codes, option_map};
+ghost use Rattle.std.specs.Prelude.{◌≡◌, codes, IfErr};
+ghost use Rattle.std.specs.Result.{result_ok};
 ghost use Rattle.serde_json.specs.Find.{get};
 ghost use Rattle.serde_json.specs.View.{view};
 ghost use Rattle.wire.specs.Fields.{whole};
 ghost use Rattle.wire.specs.FilterBody.{limit_of};
+ghost use Rattle.wire.specs.Misfits.{IsMisfit};
 
-use crate::fields::{u16_field, u32_field, u64_field, u128_field};
+use crate::Wanted;
+use crate::fields::{u64_field, u128_field, whole_16, whole_32};
+use crate::misfit::Misfit;
 use crate::object::Object;
 use records::{AccountFilter, FilterFlags};
 use serde_json::Value;
@@ -30,8 +34,8 @@ impl Object for AccountFilter {
     }
 
     #[tactic(auto, unfolding(crate::specs::FilterBody::filter_from))]
-    fn read_fields(object: &Value) -> Option<AccountFilter> {
-        Some(AccountFilter {
+    fn read_fields(object: &Value) -> Result<AccountFilter, Misfit<'static>> {
+        Ok(AccountFilter {
             account_id: u128_field(object, "account_id")?,
             timestamp_min: u64_field(object, "timestamp_min")?,
             timestamp_max: u64_field(object, "timestamp_max")?,
@@ -41,10 +45,17 @@ impl Object for AccountFilter {
     }
 }
 
-fn read_flags(object: &Value) -> Option<u16>
+fn read_flags(object: &Value) -> Result<u16, Misfit<'static>>
+    ensures value { result_ok result ≡ whole 8 (get (codes "flags") (view object.now)) }
+    ensures misfit { IfErr result (IsMisfit (view object.now)) }
+{
+    flags_in(object).ok_or(Misfit::of_field("flags", Wanted::WholeBelow(8)))
+}
+
+fn flags_in(object: &Value) -> Option<u16>
     ensures { result ≡ whole 8 (get (codes "flags") (view object.now)) }
 {
-    let flags = u16_field(object, "flags")?;
+    let flags = whole_16(object, "flags")?;
     if flags <= KNOWN_FLAGS {
         Some(flags)
     } else {
@@ -53,10 +64,17 @@ fn read_flags(object: &Value) -> Option<u16>
 }
 
 /// How many entries are asked for: 1 to 1,000.
-pub(crate) fn read_limit(object: &Value) -> Option<u32>
+pub(crate) fn read_limit(object: &Value) -> Result<u32, Misfit<'static>>
+    ensures value { result_ok result ≡ limit_of (get (codes "limit") (view object.now)) }
+    ensures misfit { IfErr result (IsMisfit (view object.now)) }
+{
+    limit_in(object).ok_or(Misfit::of_field("limit", Wanted::Limit))
+}
+
+fn limit_in(object: &Value) -> Option<u32>
     ensures { result ≡ limit_of (get (codes "limit") (view object.now)) }
 {
-    let limit = u32_field(object, "limit")?;
+    let limit = whole_32(object, "limit")?;
     if (1..=MAX_LIMIT).contains(&limit) {
         Some(limit)
     } else {

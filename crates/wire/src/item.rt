@@ -1,8 +1,13 @@
-ghost use Rattle.std.specs.Prelude.{◌≡◌, Option};
+ghost use Rattle.std.specs.Prelude.{◌≡◌, IfErr, Option};
+ghost use Rattle.std.specs.Result.{result_ok};
 ghost use Rattle.serde_json.specs.Data.{Data};
 ghost use Rattle.serde_json.specs.View.{view};
+ghost use Rattle.wire.specs.Body.{id_of};
+ghost use Rattle.wire.specs.Misfits.{IsMisfit};
 
+use crate::Wanted;
 use crate::fields::read_number;
+use crate::misfit::Misfit;
 use crate::object::read_object;
 use records::{AccountEvent, TransferEvent};
 use serde_json::Value;
@@ -11,8 +16,9 @@ use serde_json::Value;
 pub(crate) trait Item: Drop {
     ghost means: { Data → Option Self };
 
-    fn read(value: &Value) -> Option<Self>
-        ensures { result ≡ means (view value.now) };
+    fn read(value: &Value) -> Result<Self, Misfit<'_>>
+        ensures value { result_ok result ≡ means (view value.now) }
+        ensures misfit { IfErr result (IsMisfit (view value.now)) };
 }
 
 impl Item for AccountEvent {
@@ -20,7 +26,7 @@ impl Item for AccountEvent {
 
     ghost means = { account_of };
 
-    fn read(value: &Value) -> Option<AccountEvent> {
+    fn read(value: &Value) -> Result<AccountEvent, Misfit<'_>> {
         read_object(value)
     }
 }
@@ -30,18 +36,22 @@ impl Item for TransferEvent {
 
     ghost means = { transfer_of };
 
-    fn read(value: &Value) -> Option<TransferEvent> {
+    fn read(value: &Value) -> Result<TransferEvent, Misfit<'_>> {
         read_object(value)
     }
 }
 
 /// The id of an account or a transfer that is looked up.
 impl Item for u128 {
-    ghost use Rattle.wire.specs.Body.{id_of};
-
     ghost means = { id_of };
 
-    fn read(value: &Value) -> Option<u128> {
-        read_number(value.as_str()?)
+    fn read(value: &Value) -> Result<u128, Misfit<'_>> {
+        id_in(value).ok_or(Misfit::of_value(Wanted::Digits128))
     }
+}
+
+fn id_in(value: &Value) -> Option<u128>
+    ensures { result ≡ id_of (view value.now) }
+{
+    read_number(value.as_str()?)
 }

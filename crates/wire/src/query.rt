@@ -1,11 +1,15 @@
-ghost use Rattle.std.specs.Prelude.{◌≡◌, codes};
+ghost use Rattle.std.specs.Prelude.{◌≡◌, codes, IfErr};
+ghost use Rattle.std.specs.Result.{result_ok};
 ghost use Rattle.serde_json.specs.Find.{get};
 ghost use Rattle.serde_json.specs.View.{view};
 ghost use Rattle.wire.specs.Fields.{whole};
+ghost use Rattle.wire.specs.Misfits.{IsMisfit};
 ghost use Rattle.wire.specs.QueryBody.{page_from, tags_from};
 
-use crate::fields::{u16_field, u32_field, u64_field, u128_field};
+use crate::Wanted;
+use crate::fields::{u16_field, u32_field, u64_field, u128_field, whole_16};
 use crate::filter::read_limit;
+use crate::misfit::Misfit;
 use crate::object::Object;
 use records::{PageFilter, PageFlags, QueryFilter, Tags};
 use serde_json::Value;
@@ -24,7 +28,7 @@ impl Object for PageFilter {
         matches!(name, "timestamp_min" | "timestamp_max" | "limit" | "flags")
     }
 
-    fn read_fields(object: &Value) -> Option<PageFilter> {
+    fn read_fields(object: &Value) -> Result<PageFilter, Misfit<'static>> {
         read_page(object)
     }
 }
@@ -52,8 +56,8 @@ impl Object for QueryFilter {
     }
 
     #[tactic(auto, unfolding(crate::specs::QueryBody::query_from))]
-    fn read_fields(object: &Value) -> Option<QueryFilter> {
-        Some(QueryFilter {
+    fn read_fields(object: &Value) -> Result<QueryFilter, Misfit<'static>> {
+        Ok(QueryFilter {
             tags: read_tags(object)?,
             page: read_page(object)?,
         })
@@ -61,10 +65,11 @@ impl Object for QueryFilter {
 }
 
 #[tactic(auto, unfolding(crate::specs::QueryBody::page_from))]
-fn read_page(object: &Value) -> Option<PageFilter>
-    ensures { result ≡ page_from (view object.now) }
+fn read_page(object: &Value) -> Result<PageFilter, Misfit<'static>>
+    ensures value { result_ok result ≡ page_from (view object.now) }
+    ensures misfit { IfErr result (IsMisfit (view object.now)) }
 {
-    Some(PageFilter {
+    Ok(PageFilter {
         timestamp_min: u64_field(object, "timestamp_min")?,
         timestamp_max: u64_field(object, "timestamp_max")?,
         limit: read_limit(object)?,
@@ -73,10 +78,11 @@ fn read_page(object: &Value) -> Option<PageFilter>
 }
 
 #[tactic(auto, unfolding(crate::specs::QueryBody::tags_from))]
-fn read_tags(object: &Value) -> Option<Tags>
-    ensures { result ≡ tags_from (view object.now) }
+fn read_tags(object: &Value) -> Result<Tags, Misfit<'static>>
+    ensures value { result_ok result ≡ tags_from (view object.now) }
+    ensures misfit { IfErr result (IsMisfit (view object.now)) }
 {
-    Some(Tags {
+    Ok(Tags {
         user_data_128: u128_field(object, "user_data_128")?,
         user_data_64: u64_field(object, "user_data_64")?,
         user_data_32: u32_field(object, "user_data_32")?,
@@ -85,10 +91,17 @@ fn read_tags(object: &Value) -> Option<Tags>
     })
 }
 
-fn read_flags(object: &Value) -> Option<u16>
+fn read_flags(object: &Value) -> Result<u16, Misfit<'static>>
+    ensures value { result_ok result ≡ whole 2 (get (codes "flags") (view object.now)) }
+    ensures misfit { IfErr result (IsMisfit (view object.now)) }
+{
+    flags_in(object).ok_or(Misfit::of_field("flags", Wanted::WholeBelow(2)))
+}
+
+fn flags_in(object: &Value) -> Option<u16>
     ensures { result ≡ whole 2 (get (codes "flags") (view object.now)) }
 {
-    let flags = u16_field(object, "flags")?;
+    let flags = whole_16(object, "flags")?;
     if flags <= KNOWN_FLAGS {
         Some(flags)
     } else {

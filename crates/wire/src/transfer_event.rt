@@ -1,4 +1,5 @@
 use crate::fields::{u16_field, u32_field, u64_field, u128_field};
+use crate::misfit::Misfit;
 use crate::object::Object;
 use amount::Amount;
 use records::{TransferEvent, TransferFlags};
@@ -30,8 +31,8 @@ impl Object for TransferEvent {
     }
 
     #[tactic(auto, unfolding(crate::specs::TransferBody::transfer_from))]
-    fn read_fields(object: &Value) -> Option<TransferEvent> {
-        Some(TransferEvent {
+    fn read_fields(object: &Value) -> Result<TransferEvent, Misfit<'static>> {
+        Ok(TransferEvent {
             id: u128_field(object, "id")?,
             debit_account_id: u128_field(object, "debit_account_id")?,
             credit_account_id: u128_field(object, "credit_account_id")?,

@@ -24,7 +24,7 @@ const USUAL: LimitWords = LimitWords {
 };
 
 // Lines, and the commands that they are.
-const READ: [(&str, Command<'static>); 13] = [
+const READ: [(&str, Command<'static>); 15] = [
     ("", Command::Lists),
     (
         "serve --db l.db --port 8080 --requests 1000",
@@ -91,6 +91,14 @@ const READ: [(&str, Command<'static>); 13] = [
         },
     ),
     (
+        "tenant-key --key=00ff --name north-desk --db l.db",
+        Command::ChangeKey {
+            db: "l.db",
+            name: "north-desk",
+            key: "00ff",
+        },
+    ),
+    (
         "statement --db l.db --tenant north --account 1",
         Command::Statement {
             db: "l.db",
@@ -148,6 +156,13 @@ const READ: [(&str, Command<'static>); 13] = [
             to: "3",
         },
     ),
+    ("lint", Command::Lint { route: None }),
+    (
+        "lint --route /accounts",
+        Command::Lint {
+            route: Some("/accounts"),
+        },
+    ),
 ];
 
 #[test]
@@ -169,6 +184,9 @@ const REFUSED: [(ErrorKind, &[&str]); 7] = [
             "tenant-add --name n --key k",
             "tenant-add --db d --key k",
             "tenant-add --db d --name n",
+            "tenant-key --name n --key k",
+            "tenant-key --db d --key k",
+            "tenant-key --db d --name n",
             "statement --tenant n --account 1",
             "statement --db d --account 1",
             "statement --db d --tenant n",
@@ -188,6 +206,7 @@ const REFUSED: [(ErrorKind, &[&str]); 7] = [
             "tenant-add --db d --db d --name n --key k",
             "tenant-add --db d --name n --name n --key k",
             "tenant-add --db d --name n --key k --key k",
+            "tenant-key --db d --name n --key k --key k",
             "statement --db d --db d --tenant n --account 1",
             "statement --db d --tenant n --tenant n --account 1",
             "statement --db d --tenant n --account 1 --account 1",
@@ -200,6 +219,7 @@ const REFUSED: [(ErrorKind, &[&str]); 7] = [
             "check --db d --db d",
             "migrate --db d --db d --to 3",
             "migrate --db d --to 3 --to 3",
+            "lint --route a --route b",
         ],
     ),
     (
@@ -226,6 +246,7 @@ const REFUSED: [(ErrorKind, &[&str]); 7] = [
             "check --db d e",
             "statement --db d --tenant n --account 1 --until 1",
             "check --db d --version",
+            "lint --db d",
         ],
     ),
     (
@@ -235,6 +256,7 @@ const REFUSED: [(ErrorKind, &[&str]); 7] = [
             "serve --db d --port 1 --address",
             "statement --db d --tenant n --account 1 --from",
             "statement --db d --tenant n --account 1 --format",
+            "lint --route",
         ],
     ),
     (
@@ -244,15 +266,19 @@ const REFUSED: [(ErrorKind, &[&str]); 7] = [
             "help",
             "help serve",
             "help tenant-add",
+            "help tenant-key",
             "help statement",
             "help check",
             "help migrate",
+            "help lint",
             "--help",
             "serve --help",
             "tenant-add --help",
+            "tenant-key --help",
             "statement --help",
             "check --help",
             "migrate --help",
+            "lint --help",
         ],
     ),
 ];
@@ -293,9 +319,11 @@ Usage: ledgerd [COMMAND]
 Commands:
   serve       Answer requests over HTTP, on and on or until a number of replies was written
   tenant-add  Add a tenant; an absent or empty file becomes a new store
+  tenant-key  Give a tenant another key; the one before is no longer good
   statement   Write an account's statement, one line an entry
   check       Audit a store: print ok, or the kind, tenant and place of the first damage
   migrate     Bring a store to a newer schema version
+  lint        Tell what the service would refuse of a body on standard input, and where
   help        Print this message or the help of the given subcommand(s)
 
 Options:

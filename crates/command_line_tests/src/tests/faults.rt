@@ -2,7 +2,7 @@
 use command_texts::{Fault, tell_fault, tell_fault_for, tell_new_ledger};
 use records::Streamed;
 
-const FAULTS: [(Fault, &str, u8); 19] = [
+const FAULTS: [(Fault, &str, u8); 20] = [
     (Fault::NameTaken, "ledgerd: name_taken\n", 1),
     (Fault::DigestTaken, "ledgerd: digest_taken\n", 1),
     (Fault::NoTenant, "ledgerd: no_tenant\n", 1),
@@ -14,6 +14,7 @@ const FAULTS: [(Fault, &str, u8); 19] = [
     (Fault::BadTime, "ledgerd: bad_time\n", 2),
     (Fault::BadFormat, "ledgerd: bad_format\n", 2),
     (Fault::BadAddress, "ledgerd: bad_address\n", 2),
+    (Fault::BadRoute, "ledgerd: bad_route\n", 2),
     (Fault::Unavailable, "ledgerd: unavailable\n", 3),
     (Fault::Socket, "ledgerd: socket\n", 3),
     (Fault::Output, "ledgerd: output\n", 3),

@@ -16,6 +16,16 @@ macro_rules! tenant_add {
     };
 }
 
+// The words that give a tenant another one, likewise.
+macro_rules! tenant_key {
+    ($name:literal, $eight:literal) => {
+        concat!(
+            "tenant-key --name=", $name, " --key=", $eight, $eight, $eight, $eight, $eight, $eight,
+            $eight, $eight
+        )
+    };
+}
+
 // A statement of these rows.
 macro_rules! statement_text {
     ($($row:literal),*) => {
@@ -28,11 +38,14 @@ macro_rules! statement_text {
 }
 
 // Of a file that is absent, and that no command makes.
-const WORDS: [Step; 23] = [
+const WORDS: [Step; 26] = [
     Tells("serve --port=1 --requests=1", 0, ""),
     Lacks("check"),
     Refuses("tenant-add --name=n_o --key=00", 2, "bad_name"),
     Refuses("tenant-add --name=-a --key=00", 2, "bad_key"),
+    Refuses("tenant-key --name=n_o --key=00", 2, "bad_name"),
+    Refuses("tenant-key --name=-a --key=00", 2, "bad_key"),
+    Lacks(tenant_key!("a", "00000000")),
     Refuses("statement --tenant= --account=01", 2, "bad_name"),
     Refuses("statement --tenant=a --account=01", 2, "bad_account"),
     Refuses("statement --tenant=a --account=", 2, "bad_account"),
@@ -134,10 +147,30 @@ fn adds_tenants(rt: HostRuntime) -> Result<(), Fail> {
     take_steps(&rt, "added.db", &ADDED)
 }
 
-const EMPTY: [Step; 6] = [
+const KEYED: [Step; 10] = [
+    Makes(tenant_add!("a", "00000000"), "added a\n"),
+    Tells(tenant_add!("b", "01010101"), 0, "added b\n"),
+    Tells(tenant_key!("a", "02020202"), 0, "changed a\n"),
+    Tells(tenant_key!("a", "02020202"), 0, "changed a\n"),
+    Refuses(tenant_key!("a", "01010101"), 1, "digest_taken"),
+    Refuses(tenant_key!("c", "01010101"), 1, "no_tenant"),
+    Refuses(tenant_add!("c", "02020202"), 1, "digest_taken"),
+    // Nobody has the first key any more.
+    Tells(tenant_add!("c", "00000000"), 0, "added c\n"),
+    Refuses(tenant_key!("a", "00000000"), 1, "digest_taken"),
+    Tells("check", 0, "ok\n"),
+];
+
+#[test]
+fn changes_keys(rt: HostRuntime) -> Result<(), Fail> {
+    take_steps(&rt, "keyed.db", &KEYED)
+}
+
+const EMPTY: [Step; 7] = [
     Writes(b""),
     Refuses("check", 4, "not_a_ledger"),
     Refuses("statement --tenant=a --account=1", 4, "not_a_ledger"),
+    Refuses(tenant_key!("a", "00000000"), 4, "not_a_ledger"),
     Refuses("migrate --to=3", 4, "not_a_ledger"),
     Makes(tenant_add!("a", "00000000"), "added a\n"),
     Tells("check", 0, "ok\n"),
@@ -176,8 +209,8 @@ fn writes_statements(rt: HostRuntime) -> Result<(), Fail> {
     take_steps(&rt, "statement.db", &STATEMENTS)
 }
 
-// The tenant that cannot be told is added all the same.
-const FULL: [Step; 10] = [
+// The tenant that cannot be told is added all the same, and the key changed.
+const FULL: [Step; 12] = [
     Posts,
     Fills("check", "o"),
     Fills("statement --tenant=a --account=1", "ti"),
@@ -188,6 +221,8 @@ const FULL: [Step; 10] = [
     Fills(tenant_add!("b", "01010101"), "added b"),
     Refuses(tenant_add!("b", "02020202"), 1, "name_taken"),
     Refuses(tenant_add!("c", "01010101"), 1, "digest_taken"),
+    Fills(tenant_key!("b", "03030303"), "changed b"),
+    Refuses(tenant_add!("c", "03030303"), 1, "digest_taken"),
 ];
 
 #[test]

@@ -1,0 +1,90 @@
+-- What the first bad item of a list tells of the body.
+use Rattle.std.proofs.Common.{◌≡◌, ℕ, suc, ◌<◌, ◌≤◌, true, false, List, ◌∷◌, length, Option}
+use Rattle.std.proofs.Common.{Some, None, option_map, refl, ap}
+use Rattle.std.specs.Prelude.{is_some, option_and_then, if◌then◌else◌}
+use Rattle.serde_json.specs.Data.{Data, Items, no_items, item}
+use Rattle.serde_json.specs.Find.{as_array}
+use Rattle.serde_json.specs.View.{items_view}
+use Rattle.serde_json.specs.declared.value.Value.{Value}
+use Rattle.ledger_http.specs.declared.refusal.Refusal.TheVariants.{BodyNotJson, BadField}
+use Rattle.ledger_http.specs.declared.refusal.Refusal.TheVariants.{TooManyEvents}
+use Rattle.wire.specs.Body.{json_of, each_of, list_in}
+use Rattle.wire.specs.Faults.{first_bad_in, refused}
+use Rattle.wire.specs.Misfits.{first_bad}
+use Rattle.wire.proofs.Lists.{HasItems, list_in_few, list_in_many, list_in_bad}
+
+-- where no item is bad, all mean something
+
+none_both : {E : Type 0} (first : Option E) (rest : Option ℕ) (place : ℕ) (all : Option (List E))
+    → (rest ≡ None → is_some all ≡ true)
+    → (if is_some first then rest else Some place) ≡ None
+    → is_some (option_and_then (λ e. option_map (λ es. e ∷ es) all) first) ≡ true
+none_both None rest place all later is = cc
+none_both (Some e) rest place None later is = later is
+none_both (Some e) rest place (Some es) later is = refl
+
+all_good : {E : Type 0} (meant_by : Data → Option E) (place : ℕ) (ds : Items)
+    → first_bad meant_by place ds ≡ None → is_some (each_of meant_by ds) ≡ true
+all_good meant_by place no_items none = refl
+all_good meant_by place (item d ds) none =
+    none_both (meant_by d) (first_bad meant_by (suc place) ds) place (each_of meant_by ds)
+    (all_good meant_by (suc place) ds) none
+
+-- where one is, they do not
+
+some_both : {E : Type 0} (first : Option E) (rest : Option ℕ) (place : ℕ) (all : Option (List E))
+    (n : ℕ)
+    → ((k : ℕ) → rest ≡ Some k → is_some all ≡ false)
+    → (if is_some first then rest else Some place) ≡ Some n
+    → is_some (option_and_then (λ e. option_map (λ es. e ∷ es) all) first) ≡ false
+some_both None rest place all n later is = refl
+some_both (Some e) rest place None n later is = refl
+some_both (Some e) rest place (Some es) n later is = later n is
+
+one_bad : {E : Type 0} (meant_by : Data → Option E) (place : ℕ) (ds : Items) (n : ℕ)
+    → first_bad meant_by place ds ≡ Some n → is_some (each_of meant_by ds) ≡ false
+one_bad meant_by place no_items n is = cc
+one_bad meant_by place (item d ds) n is =
+    some_both (meant_by d) (first_bad meant_by (suc place) ds) place (each_of meant_by ds) n
+    (one_bad meant_by (suc place) ds) is
+
+-- the same of the body
+
+pub not_json : {E : Type 0} (meant_by : Data → Option E) (body : List ℕ)
+    → json_of body ≡ None → refused (list_in meant_by body) ≡ Some BodyNotJson
+unfolding list_in
+not_json meant_by body none = rw none
+
+pub no_place : {E : Type 0} (meant_by : Data → Option E) (body : List ℕ)
+    → json_of body ≡ None → first_bad_in meant_by body ≡ None
+no_place meant_by body none = rw none
+
+pub not_list : {E : Type 0} (meant_by : Data → Option E) (body : List ℕ) (d : Data)
+    → json_of body ≡ Some d → as_array d ≡ None
+    → refused (list_in meant_by body) ≡ Some BadField
+unfolding list_in
+not_list meant_by body d is none = rw (is, none)
+
+pub few_good : {E : Type 0} (meant_by : Data → Option E) (body : List ℕ) (vs : List Value)
+    → HasItems body vs → length vs ≤ 1000
+    → first_bad meant_by 0 (items_view vs) ≡ None → refused (list_in meant_by body) ≡ None
+few_good {E} meant_by body vs has few none =
+    go (each_of meant_by (items_view vs)) refl (all_good meant_by 0 (items_view vs) none)
+  where
+    go : (all : Option (List E)) → each_of meant_by (items_view vs) ≡ all → is_some all ≡ true
+        → refused (list_in meant_by body) ≡ None
+    go None is some = cc
+    go (Some es) is some = ap refused (list_in_few meant_by body vs es has few is)
+
+pub many_good : {E : Type 0} (meant_by : Data → Option E) (body : List ℕ) (vs : List Value)
+    → HasItems body vs → 1000 < length vs
+    → first_bad meant_by 0 (items_view vs) ≡ None
+    → refused (list_in meant_by body) ≡ Some TooManyEvents
+many_good meant_by body vs has many none =
+    ap refused (list_in_many meant_by body vs has many (all_good meant_by 0 (items_view vs) none))
+
+pub bad_item : {E : Type 0} (meant_by : Data → Option E) (body : List ℕ) (vs : List Value) (n : ℕ)
+    → HasItems body vs → first_bad meant_by 0 (items_view vs) ≡ Some n
+    → refused (list_in meant_by body) ≡ Some BadField
+bad_item meant_by body vs n has is =
+    ap refused (list_in_bad meant_by body vs has (one_bad meant_by 0 (items_view vs) n is))

@@ -1,0 +1,50 @@
+use Rattle.std.proofs.Common.{◌≡◌, ◌≤◌, ◌<◌, Some, None, length, sym, ap, ◌∙◌, arith, rules}
+use Rattle.serde_json.specs.Find.{as_array}
+use Rattle.serde_json.specs.View.{view}
+use Rattle.wire.specs.Body.{json_of}
+use Rattle.wire.specs.Misfits.{refusal_of}
+use Rattle.wire.proofs.Lists.{has_items}
+use Rattle.wire.proofs.BadItems.{bad_item, few_good, many_good, no_place, not_json, not_list}
+use Rattle.wire.proofs.faults.list_fault.Goals as goal
+
+pub returns-in-Err : goal.returns-in-Err
+returns-in-Err g c =
+    let none : json_of c.args.body.now ≡ None = search rules in
+    record {
+      refusal =
+          ap (λ w. Some (refusal_of w)) c.of_body.ensures.wanted
+          ∙ sym (not_json g.I.Item.means c.args.body.now none);
+      place = c.of_body.ensures.item ∙ sym (no_place g.I.Item.means c.args.body.now none);
+    }
+
+pub returns-in_default-clause-refusal : goal.returns-in_default-clause-refusal
+returns-in_default-clause-refusal g c =
+    let none : as_array (view c.in-Ok.value) ≡ None = search rules in
+    ap (λ w. Some (refusal_of w)) c.of_body-in_default.ensures.wanted
+    ∙ sym (not_list g.I.Item.means c.args.body.now _ c.in-Ok.ensures.ok none)
+
+pub returns-in-Some-first_fault-clause-refusal : goal.returns-in-Some-first_fault-clause-refusal
+returns-in-Some-first_fault-clause-refusal g c =
+    let body = c.args.body.now in
+    let items = c.deref.result.now in
+    let has = has_items body _ items c.in-Ok.ensures.ok (search rules) in
+    ap (λ w. Some (refusal_of w)) c.in_ok-of.ensures.wanted
+    ∙ ap Some c.in-Some-first_fault.ensures.misfit
+    ∙ sym (bad_item g.I.Item.means body items _ has (sym c.in-Some-first_fault.ensures.place))
+
+pub returns-then-len-le-MAX_ITEMS-clause-refusal : goal.returns-then-len-le-MAX_ITEMS-clause-refusal
+returns-then-len-le-MAX_ITEMS-clause-refusal g c =
+    let body = c.args.body.now in
+    let items = c.deref.result.now in
+    let has = has_items body _ items c.in-Ok.ensures.ok (search rules) in
+    let few : length items ≤ 1000 = omega arith in
+    sym (few_good g.I.Item.means body items has few (sym c.in_default-first_fault.ensures.place))
+
+pub returns-clause-refusal : goal.returns-clause-refusal
+returns-clause-refusal g c =
+    let body = c.args.body.now in
+    let items = c.deref.result.now in
+    let has = has_items body _ items c.in-Ok.ensures.ok (search rules) in
+    let many : 1000 < length items = omega arith in
+    ap (λ w. Some (refusal_of w)) c.of_body-else-len-le-MAX_ITEMS.ensures.wanted
+    ∙ sym (many_good g.I.Item.means body items has many (sym c.in_default-first_fault.ensures.place))

@@ -1,0 +1,108 @@
+//! Where the service refuses a body.
+ghost use Rattle.std.specs.Prelude.{◌≡◌, ◌≢◌, IfOk, IfSome, List, None, ℕ, option_map};
+ghost use Rattle.serde_json.specs.View.{items_view};
+ghost use Rattle.wire.specs.Body.{list_in, object_in};
+ghost use Rattle.wire.specs.Fields.{object_of};
+ghost use Rattle.wire.specs.Meaning.{meaning_of};
+ghost use Rattle.wire.specs.Misfits.{first_bad, refusal_of};
+ghost use Rattle.wire.specs.Faults.{first_bad_in, place_in, refusal_in, refused, told_place};
+ghost use Rattle.wire.specs.Faults.{told_refusal};
+ghost use Rattle.ledger_http.specs.declared.refusal.Refusal.TheVariants.{BadField};
+ghost use Rattle.ledger_http.specs.declared.route.Route.{Route as ARoute};
+
+use crate::body::{MAX_ITEMS, read_json};
+use crate::item::Item;
+use crate::misfit::Misfit;
+use crate::object::{Object, read_object};
+use crate::{BodyFault, Wanted};
+use ledger_http::{Refusal, Route};
+use records::{AccountEvent, AccountFilter, PageFilter, QueryFilter, TransferEvent, Unavailable};
+use serde_json::Value;
+use std::alloc::Global;
+
+/// What the service refuses of a body on a route, and where; nothing where it takes the body. It
+/// does not look at the body of a statement.
+pub fn fault_in(alloc: Global, route: Route, body: &[u8]) -> Result<Option<BodyFault>, Unavailable>
+    ensures refusal { IfOk result (λ fault. told_refusal fault ≡ refusal_in route body.now) }
+    ensures place { IfOk result (λ fault. told_place fault ≡ place_in route body.now) }
+{
+    match route {
+        Route::Accounts => list_fault::<AccountEvent>(alloc, body),
+        Route::Transfers => list_fault::<TransferEvent>(alloc, body),
+        Route::LookupAccounts | Route::LookupTransfers | Route::LookupPending => list_fault::<u128>(
+            alloc, body,
+        ),
+        Route::HistoryTransfers | Route::HistoryBalances => object_fault::<AccountFilter>(
+            alloc, body,
+        ),
+        Route::QueryAccounts | Route::QueryTransfers => object_fault::<QueryFilter>(alloc, body),
+        Route::OpenPending => object_fault::<PageFilter>(alloc, body),
+        Route::Statement => Ok(None),
+    }
+}
+
+/// What `fault_in` tells is what `meaning` refuses: of each route but that of a statement, whose
+/// body counts for nothing. It does nothing.
+pub fn tells_what_is_refused()
+    ensures { (route : ARoute) (account body : List ℕ) → route ≢ Route.Statement
+        → refusal_in route body ≡ refused (meaning_of route account body) }
+{}
+
+fn list_fault<I: Item>(alloc: Global, body: &[u8]) -> Result<Option<BodyFault>, Unavailable>
+    ensures refusal { IfOk result (λ fault.
+        told_refusal fault ≡ refused (list_in I.means body.now)) }
+    ensures place { IfOk result (λ fault. told_place fault ≡ first_bad_in I.means body.now) }
+{
+    let value = match read_json(alloc, body) {
+        Ok(value) => value,
+        Err(Refusal::Unavailable) => return Err(Unavailable::Memory),
+        Err(_) => return Ok(Some(BodyFault::of_body(Wanted::Json))),
+    };
+    let Some(items) = value.as_array() else {
+        return Ok(Some(BodyFault::of_body(Wanted::List)));
+    };
+    if let Some(fault) = first_fault::<I>(items) {
+        return Ok(Some(BodyFault::of(alloc, Some(fault.place), fault.misfit)?));
+    }
+    if items.len() <= MAX_ITEMS {
+        Ok(None)
+    } else {
+        Ok(Some(BodyFault::of_body(Wanted::Few)))
+    }
+}
+
+// An item of a list that is refused, by its place in the list.
+#[derive(Clone, Copy)]
+struct ItemFault<'a> {
+    place: usize,
+    misfit: Misfit<'a>,
+}
+
+fn first_fault<I: Item>(items: &[Value]) -> Option<ItemFault<'_>>
+    ensures place { option_map (λ fault. fault.place) result
+        ≡ first_bad I.means 0 (items_view items.now) }
+    ensures misfit { IfSome result (λ fault. refusal_of fault.misfit.wanted ≡ BadField) }
+{
+    for (place, item) in items.iter().enumerate() {
+        if let Err(misfit) = I::read(item) {
+            return Some(ItemFault { place, misfit });
+        }
+    }
+    None
+}
+
+fn object_fault<O: Object>(alloc: Global, body: &[u8]) -> Result<Option<BodyFault>, Unavailable>
+    ensures refusal { IfOk result (λ fault. told_refusal fault
+        ≡ refused (object_in (object_of O.names O.from_fields) body.now)) }
+    ensures place { IfOk result (λ fault. told_place fault ≡ None) }
+{
+    let value = match read_json(alloc, body) {
+        Ok(value) => value,
+        Err(Refusal::Unavailable) => return Err(Unavailable::Memory),
+        Err(_) => return Ok(Some(BodyFault::of_body(Wanted::Json))),
+    };
+    match read_object::<O>(&value) {
+        Ok(_) => Ok(None),
+        Err(misfit) => Ok(Some(BodyFault::of(alloc, None, misfit)?)),
+    }
+}
