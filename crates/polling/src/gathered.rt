@@ -166,7 +166,11 @@ pub(crate) fn serve_due<L: Rounds, H: Reopen<L>, C: Moments, P: Peers>(
     ensures few { result ≤ most }
     ensures usable { L.means.is_usable ledgers.new }
 {
-    if !gathered.is_due(peers.has_more(), most) {
+    let has_more = peers.has_more();
+    if !has_more {
+        gathered.end_turn();
+    }
+    if !gathered.is_due(has_more, most) {
         return 0;
     }
     let numbers = gathered.take(alloc);

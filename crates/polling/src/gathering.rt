@@ -16,8 +16,19 @@ const FULL_BYTES: usize = 128 * 1024;
 /// How many clients are served alone behind a round that was not kept.
 const ALONE: u64 = 32;
 
-/// How many queries are answered while others are gathered. Each looks at 2,000 records at most.
+/// How many queries are answered in one turn of all who are ready. Each looks at 2,000 records at most.
 const MOST_QUERIES: u64 = 5;
+
+/// What becomes of a client who is ready.
+#[derive(Clone, Copy, Debug, PartialEq, Eq)]
+pub(crate) enum Place {
+    /// It is gathered: its next message is to share a round.
+    Gathered,
+    /// It has its turn.
+    Now,
+    /// It keeps its place for the next turn, since enough records are looked at in this one.
+    Later,
+}
 
 /// Those whose next messages are to be answered in one round.
 #[derive(Drop)]
@@ -29,7 +40,7 @@ pub(crate) struct Gathered {
     is_closed: bool,
     // So many more are served alone.
     alone: u64,
-    // How many queries were answered since the last round.
+    // How many queries had their turn since all who are ready had theirs.
     queries: u64,
 }
 
@@ -55,16 +66,16 @@ fn kind_of(front: &[u8]) -> Kind {
     }
 }
 
-/// What a client's next message is.
+/// What a client's next message is. A batch waits until the last reply is written.
 fn next_kind(client: &mut Client) -> Kind
     ensures { client.new ≡ client.old }
 {
-    if !client.may_answer() {
+    let Some(size) = client.next_size() else {
         return Kind::Other;
-    }
-    match client.next_size() {
-        Some(size) => kind_of(client.front(size)),
-        None => Kind::Other,
+    };
+    match kind_of(client.front(size)) {
+        Kind::Batch(_) if !client.may_answer() => Kind::Other,
+        kind => kind,
     }
 }
 
@@ -92,33 +103,46 @@ impl Gathered {
         self.numbers.iter().any(|member| *member == number)
     }
 
-    /// Gathers a client whose next message may share a round. Says whether it is gathered. Who is told
-    /// again waits for nobody more.
-    pub(crate) fn takes(&mut self, clients: &mut BTreeMap<u64, Client>, number: u64) -> bool
+    /// What becomes of a client who is ready. Who is told again waits for nobody more.
+    pub(crate) fn place(&mut self, clients: &mut BTreeMap<u64, Client>, number: u64) -> Place
         ensures { AreSame (seats_in clients.old) (seats_in clients.new) }
     {
         if self.holds(number) {
             self.is_closed = true;
-            return true;
-        }
-        if self.alone > 0 {
-            self.alone -= 1;
-            return false;
+            return Place::Gathered;
         }
         let Some(client) = clients.get_mut(&number) else {
-            return false;
+            return Place::Now;
         };
         match next_kind(client) {
-            Kind::Batch(size) => {
-                self.bytes = self.bytes.saturating_add(size);
-                self.numbers.push(number).is_ok()
+            Kind::Query => self.place_of_query(),
+            Kind::Batch(size) if self.alone == 0 => self.place_of_batch(number, size),
+            _ => {
+                self.alone = self.alone.saturating_sub(1);
+                Place::Now
             }
-            Kind::Query => {
-                self.queries = self.queries.saturating_add(1);
-                false
-            }
-            Kind::Other => false,
         }
+    }
+
+    fn place_of_query(&mut self) -> Place {
+        if self.queries >= MOST_QUERIES {
+            return Place::Later;
+        }
+        self.queries = self.queries.saturating_add(1);
+        Place::Now
+    }
+
+    fn place_of_batch(&mut self, number: u64, size: usize) -> Place {
+        self.bytes = self.bytes.saturating_add(size);
+        match self.numbers.push(number) {
+            Ok(()) => Place::Gathered,
+            Err(_) => Place::Now,
+        }
+    }
+
+    /// All who are ready have had their turn.
+    pub(crate) fn end_turn(&mut self) {
+        self.queries = 0;
     }
 
     /// Whether those who are gathered are to be served now, where so many replies are wanted, and there
@@ -130,14 +154,12 @@ impl Gathered {
                 || !has_more
                 || count >= MOST_MEMBERS
                 || self.bytes >= FULL_BYTES
-                || self.queries >= MOST_QUERIES
                 || count as u64 >= most)
     }
 
     /// Lets those go who are gathered, and hands them out.
     pub(crate) fn take(&mut self, alloc: Global) -> Vec<u64> {
         self.bytes = 0;
-        self.queries = 0;
         self.is_closed = false;
         mem::replace(&mut self.numbers, Vec::new(alloc))
     }

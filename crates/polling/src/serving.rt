@@ -7,7 +7,7 @@ ghost use Rattle.polling.specs.Ending.{HasDone, Ends, replies_of};
 ghost use Rattle.polling.specs.declared.peers.Told.TheVariants.{Nothing};
 
 use crate::gathered::serve_due;
-use crate::gathering::Gathered;
+use crate::gathering::{Gathered, Place};
 use crate::seats::{Seats, seat, unseat};
 use crate::step::Step;
 use crate::turn::{Turned, turn};
@@ -147,8 +147,8 @@ enum Done {
     Served(u64),
 }
 
-/// Gathers a client whose next message may share a round; gives any other its turn. Says how many
-/// messages were replied to.
+/// Gathers a client whose next message may share a round, puts one off where enough records are looked
+/// at in this turn, and gives any other its turn. Says how many messages were replied to.
 fn serve_or_gather<L: Rounds, H: Reopen<L>, C: Moments, P: Peers>(
     alloc: Global,
     peers: &mut P,
@@ -166,13 +166,19 @@ fn serve_or_gather<L: Rounds, H: Reopen<L>, C: Moments, P: Peers>(
     ensures few { result ≤ 1 }
     ensures usable { L.means.is_usable ledgers.new }
 {
-    if gathered.takes(&mut seats.clients, number) {
-        return 0;
-    }
-    if serve_one::<L, H, C, P>(alloc, peers, seats, number, ledgers, moments, piece) {
-        1
-    } else {
-        0
+    match gathered.place(&mut seats.clients, number) {
+        Place::Gathered => 0,
+        Place::Later => {
+            peers.again(number);
+            0
+        }
+        Place::Now => {
+            if serve_one::<L, H, C, P>(alloc, peers, seats, number, ledgers, moments, piece) {
+                1
+            } else {
+                0
+            }
+        }
     }
 }
 
