@@ -2,9 +2,9 @@
 memory holds as many, else nothing.
 
 `rt ci` goes by an estimate of each check's memory, made of lines. For crates over SQLite it is two
-to four times what they take, so that processors wait for memory that is free. Measured on what
-stands here, the greatest check takes less than 5 GB; where there is as much for each processor, the
-estimate is not needed. Where there is not, `rt ci` goes by it."""
+to four times what they take, so that processors wait for memory that is free. Most checks here take
+1 to 4 GB, and tests over SQLite up to 7; four at once took 18 GB at most. Where there are 5 GB for each
+processor the estimate is not needed; where there are not, `rt ci` goes by it."""
 
 import os
 import pathlib

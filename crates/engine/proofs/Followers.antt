@@ -1,7 +1,6 @@
 -- A follower of a ledger gets each transfer that it asks for once.
 use Rattle.std.proofs.Common.{◌≡◌, ◌≢◌, ◌<◌, ◌≤◌, ◌+◌, ◌-◌, ◌^◌, ◌&&◌, ℕ, Bool, true, false, nat_le, eqb, ltb, min, cond, List, [], ◌∷◌, ◌++◌, append_assoc, append-nil, length, take, drop, Option, Some, None, is_some, refl, sym, ap, ◌∙◌, subst, arith}
 use Rattle.std.specs.List.{All, filter, filter_map, last_or}
-use Rattle.std.proofs.lemmas.Bool.{eqb-true, eqb-false}
 use Rattle.std.proofs.lemmas.Bool.Decides.{nat_tests}
 use Rattle.std.proofs.lemmas.List.{take-append-drop, length-take, take_all}
 use Rattle.std.proofs.lemmas.List.Elements.{All-head, All-tail, All-weaker, All-filter, All-take, filter-append, filter_agree, filter_passes}
@@ -41,9 +40,11 @@ next_number clock time = rw (more time) refl
     more : (time : ℕ) → eqb (time + 1) 0 ≡ false
     more time = grind (arith, nat_tests)
 
--- what is not taken in full is all there is
-short : {a b c : ℕ} → c ≡ min a b → c ≢ a → b ≤ a
-short is other = omega arith
+differ : (a b : ℕ) → eqb a b ≡ false → a ≢ b
+differ a b is same = grind (arith, nat_tests)
+
+same : (a b : ℕ) → eqb a b ≡ true → a ≡ b
+same a b is = grind (arith, nat_tests)
 
 -- a page of what is asked for, of so many elements that are looked at, and the number behind it
 module _ {A : Type 0} (key : A → ℕ) (p : A → Bool) (xs : List A) (n last clock limit most : ℕ)
@@ -87,6 +88,9 @@ module _ {A : Type 0} (key : A → ℕ) (p : A → Bool) (xs : List A) (n last c
 
         all_shown : length shown ≢ limit → shown ≡ filter p looked
         all_shown less = take_all limit (filter p looked) (short (length-take limit (filter p looked)) less)
+          where
+            short : {a b c : ℕ} → c ≡ min a b → c ≢ a → b ≤ a
+            short is other = omega arith
 
         at_bound : length shown ≢ limit → (l : HasLast looked) → Reaches (key l.last + 1)
         at_bound less l = record {
@@ -100,6 +104,9 @@ module _ {A : Type 0} (key : A → ℕ) (p : A → Bool) (xs : List A) (n last c
           by = omega arith;
         }
           where
+            short : {a b c : ℕ} → c ≡ min a b → c ≢ a → b ≤ a
+            short is other = omega arith
+
             whole : xs ≡ below key n xs ++ looked
             whole = sym (ap (λ ys. below key n xs ++ ys) (take_all most from_on (short (length-take most from_on) fewer)) ∙ split_at key n last xs ascending (All-weaker (λ y. key y ≤ clock) (λ y. key y ≤ last) (λ y h. omega arith) xs ends))
 
@@ -108,12 +115,12 @@ module _ {A : Type 0} (key : A → ℕ) (p : A → Bool) (xs : List A) (n last c
 
         pub reaches : (full bounded : Bool) → eqb (length shown) limit ≡ full → eqb (length looked) most ≡ bounded → 0 < limit → 0 < most → Reaches (number_by Oldest full bounded)
         reaches true bounded is_full is_bounded some more =
-            let l = has_last shown (omega (arith, eqb-true (length shown) limit is_full)) in
+            let l = has_last shown (omega (arith, same (length shown) limit is_full)) in
             subst Reaches (sym (ap behind l.is ∙ next_number clock (key l.last))) (at_limit l)
         reaches false true is_full is_bounded some more =
-            let l = has_last looked (omega (arith, eqb-true (length looked) most is_bounded)) in
-            subst Reaches (sym (ap behind l.is ∙ next_number clock (key l.last))) (at_bound (eqb-false (length shown) limit is_full) l)
-        reaches false false is_full is_bounded some more = at_end (eqb-false (length shown) limit is_full) (eqb-false (length looked) most is_bounded)
+            let l = has_last looked (omega (arith, same (length looked) most is_bounded)) in
+            subst Reaches (sym (ap behind l.is ∙ next_number clock (key l.last))) (at_bound (differ (length shown) limit is_full) l)
+        reaches false false is_full is_bounded some more = at_end (differ (length shown) limit is_full) (differ (length looked) most is_bounded)
 
 -- what was earlier than a number that is not beyond the clock still is, and nothing else
 still_below : {A : Type 0} (key : A → ℕ) (n clock : ℕ) (old new : List A) → n ≤ clock + 1 → GoesOnBehind key clock old new → below key n new ≡ below key n old
@@ -126,9 +133,13 @@ is_shown : {A : Type 0} (b : Bool) (x : A) → is_some (cond b (Some x) None) �
 is_shown true x = refl
 is_shown false x = refl
 
-shown_as_is : (tags : Tags) (ts : List Transfer) → All (λ t. asks_tags tags (transfer_tags t) ≡ true) ts → filter_map (asked_transfer tags) ts ≡ ts
-shown_as_is tags [] all = refl
-shown_as_is tags (t ∷ ts) all = rw (All-head (λ t. asks_tags tags (transfer_tags t) ≡ true) t ts all) (ap (λ more. t ∷ more) (shown_as_is tags ts (All-tail (λ t. asks_tags tags (transfer_tags t) ≡ true) t ts all)))
+shown_as_is : (tags : Tags) (t : Transfer) (ts : List Transfer) (b : Bool) → asks_tags tags (transfer_tags t) ≡ b → b ≡ true → filter_map (asked_transfer tags) (t ∷ ts) ≡ t ∷ filter_map (asked_transfer tags) ts
+shown_as_is tags t ts true is so = rw is refl
+shown_as_is tags t ts false is so = absurd (cc)
+
+all_shown_as_is : (tags : Tags) (ts : List Transfer) → All (λ t. asks_tags tags (transfer_tags t) ≡ true) ts → filter_map (asked_transfer tags) ts ≡ ts
+all_shown_as_is tags [] all = refl
+all_shown_as_is tags (t ∷ ts) all = shown_as_is tags t ts (asks_tags tags (transfer_tags t)) refl (All-head (λ t. asks_tags tags (transfer_tags t) ≡ true) t ts all) ∙ ap (λ more. t ∷ more) (all_shown_as_is tags ts (All-tail (λ t. asks_tags tags (transfer_tags t) ≡ true) t ts all))
 
 abbrev number_of : ℕ → ℕ → Order → List Transfer → List Transfer → ℕ
 number_of clock limit order told seen =
@@ -157,7 +168,7 @@ onward old now number got asked followed continues valid from =
     let is_number : number_behind now (queried_transfers now asked) ≡ number_of now.clock asked.page.limit Oldest told seen =
     λ i. number_of now.clock asked.page.limit (from.oldest_first i) (is_told i) (is_seen i) in
     let are : (queried_transfers now asked).entries ≡ told =
-    ap (filter_map (asked_transfer asked.tags)) is_told ∙ shown_as_is asked.tags told (All-take (λ (t : Transfer). p t ≡ true) asked.page.limit (filter p seen) (filter_passes p seen)) in
+    ap (filter_map (asked_transfer asked.tags)) is_told ∙ all_shown_as_is asked.tags told (All-take (λ (t : Transfer). p t ≡ true) asked.page.limit (filter p seen) (filter_passes p seen)) in
     let goes = reaches transfer_time p now.transfers number last now.clock asked.page.limit most_looked_at (transfers_ascend now valid) (given now valid).clock.transfers (omega (arith, clock_bound now valid)) (eqb (length told) asked.page.limit) (eqb (length seen) most_looked_at) refl refl from.some (omega arith) in
     let got_is : got ≡ asked_for asked.tags (earlier_than number now.transfers) = followed.each_once ∙ ap (filter p) (sym (still_below transfer_time number old.clock old.transfers now.transfers followed.by_clock continues.transfers)) in
     subst (λ (n : ℕ). HasFollowed now asked.tags n (got ++ (queried_transfers now asked).entries)) (sym is_number)

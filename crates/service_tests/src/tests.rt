@@ -5,6 +5,7 @@ mod examples;
 mod exchanges;
 mod firms;
 mod health;
+mod looked_at;
 mod looked_up;
 mod memory;
 mod messages;

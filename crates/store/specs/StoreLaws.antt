@@ -16,6 +16,12 @@ use Rattle.store.specs.declared.place.Place.{Place}
 use Rattle.store.specs.declared.place.Place.TheVariants as at
 use Rattle.store.specs.declared.store.Store.{Store}
 
+silent_at :
+    (old new : Bool) → (IsTrue new → IsTrue old) → not old ≡ true → not new ≡ true
+silent_at false false ready failed = refl
+silent_at false true ready failed = absurd (let e = ready refl in cc)
+silent_at true new ready failed = absurd (cc)
+
 module _ {D : Type 0} {g : disk.Ghosts D} where
   -- what a store means as ledgers
   abbrev pub store_meaning : LedgersMeaning (Store D g)
@@ -43,12 +49,6 @@ module _ {D : Type 0} {g : disk.Ghosts D} where
     honest = λ honest. first.honest (second.honest honest);
     unready = λ ready. first.unready (second.unready ready);
   }
-
-  silent_at :
-      (old new : Bool) → (IsTrue new → IsTrue old) → not old ≡ true → not new ≡ true
-  silent_at false false ready failed = refl
-  silent_at false true ready failed = absurd (let e = ready refl in cc)
-  silent_at true new ready failed = absurd (cc)
 
   -- a store that answers no calls stays so
   pub stays_failed :

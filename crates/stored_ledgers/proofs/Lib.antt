@@ -11,4 +11,3 @@ mod FreeLemmas
 mod JoinedLemmas
 mod KeyedLemmas
 mod KeyLemmas
-mod TenantReadLemmas

@@ -1,5 +1,5 @@
-//! The ledgers of many tenants in one database: which there are, batches of work on one, and
-//! new tenants.
+//! The ledgers of many tenants in one database: which there are, batches of work on one, new
+//! tenants, and other keys.
 #![tactic(auto)]
 
 pub mod batches;

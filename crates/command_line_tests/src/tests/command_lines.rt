@@ -24,7 +24,7 @@ const USUAL: LimitWords = LimitWords {
 };
 
 // Lines, and the commands that they are.
-const READ: [(&str, Command<'static>); 15] = [
+const READ: [(&str, Command<'static>); 16] = [
     ("", Command::Lists),
     (
         "serve --db l.db --port 8080 --requests 1000",

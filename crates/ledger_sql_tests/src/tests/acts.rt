@@ -50,8 +50,6 @@ pub enum Made {
 pub enum Change {
     NewVersion,
     NewClock(i64, u32),
-    /// The tenant's number, and the byte that its digest repeats.
-    NewDigest(i64, u8),
     NewBalance(u128, [u32; 4]),
     NewStatus(u128, PendingState, u32),
 }

@@ -99,7 +99,6 @@ fn set<S: Unclaimed>(conn: &mut Connection<S>, change: &Change) -> Done {
     match change {
         Change::NewVersion => setting::set_version(conn),
         Change::NewClock(tenant, clock) => setting::set_clock(conn, *tenant, u64::from(*clock)),
-        Change::NewDigest(number, digest) => setting::set_digest(conn, *number, &[*digest; 32]),
         Change::NewBalance(id, columns) => setting::set_balance(conn, 1, &balance(*id, *columns)),
         Change::NewStatus(transfer, state, timestamp) => {
             setting::set_status(conn, 1, &status(*transfer, *state, *timestamp))

@@ -48,7 +48,6 @@ pub const SCENARIOS: &[Scenario] = &[
     ("the base", &[THE_BASE]),
     ("pending and post", &[PENDING_AND_POST]),
     ("two tenants", &[TWO_TENANTS]),
-    ("another digest", &[ANOTHER_DIGEST]),
     ("taken keys", &[TAKEN_KEYS]),
     ("stages misplaced", &[MISPLACED]),
     ("rows out of order", &[OUT_OF_ORDER]),
@@ -146,24 +145,6 @@ const TWO_TENANTS: &[Act] = &[
         Failed(2, 100),
     ]),
     Lacks(&[Account(2, 2, 2, 10), Failed(1, 100)]),
-];
-
-/// Of two tenants one gets another digest, which the other one does not have; of nobody it changes
-/// nothing.
-const ANOTHER_DIGEST: &[Act] = &[
-    Does(BASE),
-    Does(&[Add(Tenant(2, "South", 2)), Add(Clock(2, 9))]),
-    Refuses(&[Set(NewDigest(1, 2))]),
-    Does(&[
-        Set(NewDigest(1, 3)),
-        Set(NewDigest(2, 2)),
-        Set(NewDigest(5, 5)),
-        Take(Commit),
-    ]),
-    Finds(&[Tenant(1, "North", 3), Tenant(2, "South", 2), Clock(1, 4)]),
-    Lacks(&[Tenant(1, "North", 0x66), Tenant(5, "North", 5)]),
-    Names(&[("North", Some(1)), ("South", Some(2))]),
-    Counts(&[("SELECT count(*) FROM tenant", 2)]),
 ];
 
 /// A refused text changes nothing, and the transaction goes on.

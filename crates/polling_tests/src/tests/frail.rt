@@ -110,36 +110,6 @@ impl Ledgers for Frail {
         self.book.knows(digest)
     }
 
-    // Nothing is read in these tests.
-    fn history_transfers(
-        &mut self,
-        _alloc: Global,
-        _digest: &[u8; 32],
-        _asked: &AccountFilter,
-    ) -> Result<Listed<Transfer>, ReadFault> {
-        Err(ReadFault::Unavailable(Unavailable::Disk))
-    }
-
-    fn history_balances(
-        &mut self,
-        _alloc: Global,
-        _digest: &[u8; 32],
-        _asked: &AccountFilter,
-    ) -> Result<Listed<BalanceAt>, ReadFault> {
-        Err(ReadFault::Unavailable(Unavailable::Disk))
-    }
-
-    fn each_statement_row<S: RowSink>(
-        &mut self,
-        _alloc: Global,
-        _digest: &[u8; 32],
-        _account: u128,
-        _order: Order,
-        _sink: &mut S,
-    ) -> Result<(), ReadFault> {
-        Err(ReadFault::Unavailable(Unavailable::Disk))
-    }
-
     ghost stays = { λ a. (λ live. live, λ failed. failed) };
 
     ghost then = { λ a b c first second. (
