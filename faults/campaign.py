@@ -49,6 +49,7 @@ TRIALS = {
     "in_use": use.in_use,
     "reader": use.gone_reader,
     "refused": refused.refused_bytes,
+    "lint": refused.judged_bodies,
     "stream": stream.stream,
     "memory": refusing.refused_memory,
     "disk": refusing.failing_disk,

@@ -3,10 +3,11 @@
 import json
 import re
 import socket
+import subprocess
 
 import pages
 from runs import House
-from service import TOP, Connection, message, want
+from service import PATIENCE, TOP, Connection, message, want
 
 UNKNOWN = "f" * 64
 PAGE = TOP / "console/page.html"
@@ -153,6 +154,25 @@ def refused_bytes(trial):
     house.compare()
     house.stop()
     return f"{tried + 1} messages, each refused by its name, the page 9 times, and nothing changed"
+
+
+def judged_bodies(trial):
+    """`lint` of each body of the table: refused where the service refuses the body, else `ok`."""
+    refused = taken = 0
+    for name, sent, refusal in (*bodies(UNKNOWN), *queries(UNKNOWN)):
+        head, body = sent.split(b"\r\n\r\n", 1)
+        path = head.split()[1].decode()
+        done = subprocess.run([trial.program, "lint", "--route", path], input=body,
+                              capture_output=True, timeout=PATIENCE)
+        told = done.returncode, done.stdout.decode()
+        if refusal in ("body_not_json", "bad_field", "too_many_events"):
+            want(told[0] == 1 and told[1].count("\n") == 1 and told[1] != "ok\n", f"{name}: {told}")
+            want(not done.stderr, f"{name}: {done.stderr!r}")
+            refused += 1
+        elif refusal != "unknown_key":
+            want(told == (0, "ok\n"), f"{name}: {told}")
+            taken += 1
+    return f"{refused} bodies that the service refuses, each told in a line; {taken} that it takes"
 
 
 def refuse_large(house, desk):

@@ -18,7 +18,8 @@ def in_use(trial):
     house.begin()
     commands = (("serve", "--port", str(free_port()), "--requests", "1"), ("check",),
                 ("statement", "--tenant", "north-desk", "--account", "1"),
-                ("tenant-add", "--name", "more", "--key", KEY), ("migrate", "--to", "3"))
+                ("tenant-add", "--name", "more", "--key", KEY),
+                ("tenant-key", "--name", "north-desk", "--key", KEY), ("migrate", "--to", "3"))
     for words in commands:
         told = run(house.program, *words, "--db", house.db)
         want(told == UNREADABLE, f"{words[0]} on a file that is served: {told}")
