@@ -1,11 +1,12 @@
 # `make try` looks at ledgerd in minutes, with checks in place of proofs; `make run` proves and
 # builds it and plays the worked session on a new file; `make test` is the gate. `make session`
 # plays it and compares it with the expected one; `make faults` tries what may go wrong, and
-# `make faults-long` all of it; `make bench` measures; `make alloc` runs the tests on want of memory
-# with each allocation refused in turn; `make python` tests the client for Python, and
-# `make console` the page for the browser, in chromium.
+# `make faults-long` all of it, and `make soak` for an hour, or MINUTES=5, all of it at once;
+# `make bench` measures; `make alloc` runs the tests on want of memory with each allocation refused
+# in turn; `make python` tests the client for Python, and `make console` the page for the browser,
+# in chromium.
 # `make try` and `make run` take a free port, or PORT=8080; `make try STAY=1` leaves it served.
-.PHONY: run try ledgerd session test python console faults faults-long bench alloc
+.PHONY: run try ledgerd session test python console faults faults-long soak bench alloc
 
 LEDGERD = crates/ledgerd/out/ledgerd
 PLAY = examples/session/play.sh $(LEDGERD) out/session $(PORT)
@@ -20,6 +21,7 @@ python-calls = rt python3
 console-calls = rt python3 curl chromium chromedriver
 faults-calls = rt python3 cc
 faults-long-calls = $(faults-calls)
+soak-calls = $(faults-calls)
 test-calls = rt python3
 lacks = $(if $(shell command -v $(1) 2>/dev/null),,$(1))
 refused = $(shell python3 examples/session/port.py '$(PORT)' >/dev/null 2>&1 || echo $(PORT))
@@ -67,6 +69,9 @@ faults: ledgerd
 
 faults-long: ledgerd
 	python3 faults/campaign.py $(LEDGERD) --long $(if $(SEED),--seed $(SEED))
+
+soak: ledgerd
+	python3 faults/soak.py $(LEDGERD) --minutes $(or $(MINUTES),60) $(if $(SEED),--seed $(SEED))
 
 bench:
 	bench/run

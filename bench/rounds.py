@@ -65,11 +65,14 @@ class Client:
         length = head.lower().partition(b"content-length: ")[2].partition(b"\r\n")[0]
         if not length or len(body) < int(length):
             return False
-        if b'"result":"ok"' not in body:
+        if not self.is_good(body):
             raise SystemExit(f"answered {self.read!r}")
         self.read = b""
         self.waits.append(time.perf_counter() - self.begun)
         return True
+
+    def is_good(self, body):
+        return b'"result":"ok"' in body
 
     def whole_reply(self):
         while b"\r\n\r\n" not in self.read or not self.read.endswith(b"}"):
@@ -81,15 +84,16 @@ class Case:
     """A new ledger that is served, its tenants with their accounts, and its clients."""
 
     def __init__(self, program, folder, clients, tenants, accounts):
-        path, port = os.path.join(folder, "ledger.db"), free_port()
+        path, self.port = os.path.join(folder, "ledger.db"), free_port()
         keys = [secrets.token_hex(32) for _ in range(tenants)]
         for place, key in enumerate(keys):
             subprocess.run([program, "tenant-add", "--db", path, "--name", f"desk-{place}", "--key",
                             key], check=True, stdout=subprocess.DEVNULL)
-        self.served = subprocess.Popen([program, "serve", "--db", path, "--port", str(port),
-                                        "--requests", str(2**64 - 1)], stderr=subprocess.PIPE)
+        self.served = subprocess.Popen([program, "serve", "--db", path, "--port",
+                                        str(self.port), "--requests", str(2**64 - 1)],
+                                       stderr=subprocess.PIPE)
         self.served.stderr.readline()
-        self.clients = [Client(port, keys[place % tenants], place + 1, accounts)
+        self.clients = [Client(self.port, keys[place % tenants], place + 1, accounts)
                         for place in range(clients)]
         for client in self.clients[:tenants]:
             for first in range(1, accounts + 1, 1000):
@@ -162,4 +166,5 @@ def main():
     print("load", os.getloadavg()[0])
 
 
-main()
+if __name__ == "__main__":
+    main()

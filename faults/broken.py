@@ -4,7 +4,7 @@ import os
 import sqlite3
 
 from copies import copy, files
-from drawn import LEDGER, transfer
+from drawn import moves
 from runs import House
 from service import check, run, want
 
@@ -40,8 +40,7 @@ def damage(program, db):
 def break_once(house, turn, kept, damaged):
     """A batch that cannot be written, so that the file is opened again, damaged and then whole. It
     is damaged before the batch is refused, since the file is opened again at once."""
-    batch = [transfer(10**9 + turn, debit_account_id=1, credit_account_id=2, amount=5,
-                      ledger=LEDGER, code=1)]
+    batch = moves(10**9 + turn)
     desk, begun = house.take_turn(0), len(house.service.told())
     house.service.limit_files(0)
     put(damaged, house.db)

@@ -6,20 +6,18 @@ LEDGERD is the program. Without `--long` it samples, in a few minutes; with it e
 The seed is told, and can be given again. docs/TESTING.md tells what each trial does."""
 
 import argparse
-import os
-import random
 import secrets
 import shutil
-import sys
-import tempfile
 import time
-import traceback
 
 import broken
 import chosen
 import commands
+import copied
 import damaged
+import desk
 import limits
+import little
 import many
 import paused
 import queries
@@ -28,9 +26,13 @@ import refusing
 import reopened
 import rounds
 import runs
+import soak
+import standby
+import stops
 import stream
 import use
 import worked
+from trial import Trial
 
 TRIALS = {
     "model": lambda trial: f"{worked.check()} worked examples are answered as they stand",
@@ -38,15 +40,21 @@ TRIALS = {
     "queries": queries.queries,
     "many": many.many,
     "rounds": rounds.rounds,
+    "between": rounds.killed_between,
     "crowd": rounds.killed_crowd,
     "limits": limits.limits,
     "reopened": reopened.reopened,
+    "little": little.little,
     "paused": paused.paused,
     "chosen": chosen.chosen,
     "killed": runs.killed,
     "full": runs.full,
     "broken": broken.broken,
     "in_use": use.in_use,
+    "desk": desk.desk,
+    "stopped": stops.stopped,
+    "copied": copied.copied,
+    "standby": standby.standby,
     "reader": use.gone_reader,
     "refused": refused.refused_bytes,
     "lint": refused.judged_bodies,
@@ -55,41 +63,8 @@ TRIALS = {
     "disk": refusing.failing_disk,
     "commands": commands.refused_commands,
     "damaged": damaged.damaged,
+    "soak": soak.sample,
 }
-
-
-# These make thousands of files, and do not ask for a disk of their own.
-IN_MEMORY = {"disk", "memory", "commands", "damaged"}
-
-
-def folder_for(name, options):
-    """A new folder of a trial: in memory where that is enough, and there is such a place."""
-    within = "/dev/shm" if name in IN_MEMORY and os.path.isdir("/dev/shm") else None
-    return tempfile.mkdtemp(prefix=f"faults-{name}-", dir=options.folder or within)
-
-
-class Trial:
-    """What a trial may use: the program, a folder, numbers drawn from the seed."""
-
-    def __init__(self, name, options):
-        self.name, self.is_long = name, options.long
-        self.program = os.path.abspath(options.ledgerd)
-        self.random = random.Random(f"{options.seed} {name}")
-        self.parent = self.folder = folder_for(name, options)
-        self.count, self.told = 0, 0.0
-
-    def fresh(self):
-        """Itself, with a new folder."""
-        self.count += 1
-        self.folder = os.path.join(self.parent, str(self.count))
-        os.mkdir(self.folder)
-        return self
-
-    def progress(self, text):
-        """A line now and then."""
-        if time.monotonic() - self.told > 5:
-            self.told = time.monotonic()
-            print(f"{self.name}: {text}", flush=True)
 
 
 def options_given():
@@ -108,15 +83,9 @@ def main():
     summary = []
     for name in options.only:
         start = time.monotonic()
-        trial = Trial(name, options)
-        try:
-            told = TRIALS[name](trial)
-        except Exception as error:
-            traceback.print_exc()
-            again = f"{sys.argv[0]} {options.ledgerd}{' --long' if options.long else ''}"
-            print(f"\n{name}: SURPRISE: {type(error).__name__}: {error}\nIts files are in "
-                  f"{trial.folder}. Again: python3 {again} --seed {options.seed} --only {name}")
-            sys.exit(1)
+        trial = Trial(name, options, options.long)
+        told = trial.tried(TRIALS[name], f"{options.ledgerd}{' --long' if options.long else ''} "
+                                         f"--seed {options.seed} --only {name}")
         summary.append(f"{name:9} {told} ({time.monotonic() - start:.0f} s)")
         print(summary[-1], flush=True)
         shutil.rmtree(trial.parent)

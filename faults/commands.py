@@ -9,7 +9,7 @@ from runs import House
 from service import NAME_TAKEN, UNAVAILABLE, UNREADABLE, check, run, want
 
 KEY = "5" * 64
-ADDED = "added more\n"
+ADDED, CHANGED = "added more\n", "changed north-desk\n"
 
 
 def refused_commands(trial):
@@ -22,10 +22,12 @@ def refused_commands(trial):
     house.stop()
     scratch = os.path.join(trial.folder, "scratch.db")
     add = ("tenant-add", "--db", scratch, "--name", "more", "--key", KEY)
+    rekey = ("tenant-key", "--db", scratch, "--name", "north-desk", "--key", KEY)
     statement = ("statement", "--db", house.db, "--tenant", "north-desk", "--account", "1")
     made = (0, ADDED, f"new ledger {scratch}\n")
     cases = ((("check", "--db", house.db), (0, "ok\n", ""), None),
              (statement, run(house.program, *statement), None),
+             (rekey, (0, CHANGED, ""), lambda: copy(house.db, scratch)),
              (add, (0, ADDED, ""), lambda: copy(house.db, scratch)),
              (add, made, lambda: remove(scratch)))
     refused = [refuse_in_turn(trial, control, kind, cases) for kind in (MEMORY, DISK)]
@@ -63,7 +65,9 @@ def refuse(program, control, refusal, case):
     if begin is None:
         want(again == ample, f"{what}, and again: {again}")
         return was_refused
-    if told == ample:
+    if words[0] == "tenant-key":
+        want(again == ample, f"{what}, and again: {again}")
+    elif told == ample:
         want(again == NAME_TAKEN, f"{what}, and again: {again}")
     else:
         done = () if refusal[0] == MEMORY else (NAME_TAKEN,)

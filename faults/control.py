@@ -1,5 +1,5 @@
-"""The small library that refuses calls of the program that it is loaded into, and turns its clock
-back (`refuse.c`)."""
+"""The small library that refuses calls of the program that it is loaded into, kills it at one of
+them, and turns its clock back (`refuse.c`)."""
 
 import mmap
 import os
@@ -7,11 +7,12 @@ import pathlib
 import struct
 import subprocess
 
-MEMORY, DISK = 0, 1
-ALL = 2**40
+MEMORY, DISK, SENT = 0, 1, 2
+# So many calls are refused: all that come, or none, since the process is killed at the first.
+ALL, KILL = 2**40, -2**40
 # Four numbers for each kind of call: skip, many, calls, refused. Behind them the clock's.
 SIZE = 8 * 4
-WHOLE = 2 * SIZE + 8
+WHOLE = 3 * SIZE + 8
 
 
 class Control:
@@ -28,18 +29,22 @@ class Control:
         self.env = {**os.environ, "LD_PRELOAD": library, "CONTROL": path}
 
     def refuse(self, kind, skip, many=1):
-        """Lets so many calls pass, and refuses so many then."""
+        """Lets so many calls pass, and refuses so many then, or kills the process."""
         struct.pack_into("4q", self.shared, SIZE * kind, skip, 0, 0, 0)
         struct.pack_into("q", self.shared, SIZE * kind + 8, many)
 
     def end(self, kind):
         """Refuses nothing more. How many calls were refused."""
         struct.pack_into("q", self.shared, SIZE * kind + 8, 0)
+        return self.refused(kind)
+
+    def refused(self, kind):
+        """How many calls were refused so far."""
         return struct.unpack_from("q", self.shared, SIZE * kind + 24)[0]
 
     def turn_back(self, seconds):
         """The clock of the day is told so many seconds behind from now on."""
-        struct.pack_into("q", self.shared, 2 * SIZE, seconds)
+        struct.pack_into("q", self.shared, 3 * SIZE, seconds)
 
     def count(self, kind, act):
         """How many calls of a kind an act makes, with none refused."""

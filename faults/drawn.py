@@ -15,6 +15,13 @@ def transfer(number, **fields):
     return {**dict.fromkeys(TRANSFER_FIELDS, 0), "id": number, **fields}
 
 
+def moves(first, many=1, **fields):
+    """So many transfers from account 1 to account 2, with the ids from the first on."""
+    told = {"debit_account_id": 1, "credit_account_id": 2, "amount": 1, "ledger": LEDGER, "code": 1,
+            **fields}
+    return [transfer(number, **told) for number in range(first, first + many)]
+
+
 class Requests:
     """A stream of batches. `first` is the least id, and marks whose they are."""
 

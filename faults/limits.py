@@ -7,7 +7,7 @@ import socket
 import threading
 import time
 
-from drawn import LEDGER, transfer
+from drawn import moves
 from runs import House
 from service import Connection, Lost, body_of, message, want
 
@@ -101,9 +101,7 @@ def fill(house):
     """Transfers of the second tenant, so that a page of its history is long."""
     desk = house.take_turn(1)
     for first in range(10**9, 10**9 + 1000, 500):
-        moved = [transfer(first + place, debit_account_id=1, credit_account_id=2, amount=1,
-                          ledger=LEDGER, code=1) for place in range(500)]
-        want(desk.batch(moved), "unavailable, with all at hand")
+        want(desk.batch(moves(first, 500)), "unavailable, with all at hand")
 
 
 def slow_message(house):
@@ -170,8 +168,7 @@ def many_bodies(house):
     for each in held:
         each.send(begun)
         time.sleep(0.2)
-    moved = [transfer(2 * 10**9 + place, debit_account_id=1, credit_account_id=2, amount=1,
-                      ledger=LEDGER, code=1, user_data_128=10**38) for place in range(1000)]
+    moved = moves(2 * 10**9, 1000, user_data_128=10**38)
     want(len(body_of(moved)) > 1 << 16, "a small batch")
     start = time.monotonic()
     want(house.take_turn(0).batch(moved), "unavailable, beside bodies that have begun")
@@ -199,12 +196,12 @@ def few_clients(house):
         each.close()
 
 
-def idle(house):
-    """A client that says nothing more is let go after 75 seconds."""
+def idle(house, seconds=IDLE):
+    """A client that says nothing more is let go after 75 seconds, or as many as an option says."""
     connection = Connection(house.service.port)
     connection.send(message("POST", "/transfers", house.desks[0].key, b"[]"))
     connection.reply()
-    ends(connection, IDLE - 1, IDLE)
+    ends(connection, seconds - 1, seconds)
 
 
 def too_many(house):

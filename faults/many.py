@@ -6,7 +6,7 @@ import time
 
 from drawn import Requests
 from runs import House
-from service import body_of, check, message, want
+from service import body_of, message, want
 
 EIGHT = 8
 
@@ -28,13 +28,12 @@ def many(trial):
         if client.surprise:
             raise client.surprise
     house.compare()
-    house.stop()
-    check(house.program, house.db)
-    house.start()
+    house.open_again()
     house.compare()
     house.stop()
     done, broken = sum(each.done for each in clients), sum(each.broken for each in clients)
-    return f"{done} batches of eight clients at once, {broken} broken off, each as the plain lists'"
+    return (f"{done} batches of eight clients at once, {broken} broken off, each as the plain "
+            f"lists'; nobody waited for more than {house.longest():.2f} s")
 
 
 class Client:
@@ -83,8 +82,13 @@ class Client:
 
     def unread(self, events):
         """A message whose reply is read in part: it is done."""
-        self.desk.asked |= {event["id"] for event in events}
-        self.desk.connection.send(self.message(events))
-        want(self.desk.connection.more(), "no byte of a reply")
+        want(self.begin_of_reply(events), "no byte of a reply")
         self.connect_again()
         want(self.desk.settle(events), "not done, and its reply has begun")
+
+    def begin_of_reply(self, events):
+        """Sends a message, and reads what comes first of its reply."""
+        self.desk.asked |= {event["id"] for event in events}
+        self.desk.connection.send(self.message(events))
+        self.desk.connection.more()
+        return self.desk.connection.read

@@ -242,15 +242,19 @@ class Ledger:
 
     def statement(self, account):
         """The lines of a statement, oldest first."""
-        lines = []
-        for each in sorted(self.transfers.values(), key=lambda one: one["timestamp"]):
-            if account not in (each["debit_account_id"], each["credit_account_id"]):
-                continue
-            side = "debit" if each["debit_account_id"] == account else "credit"
-            sums = self.balances(account, each["at"], each["timestamp"])
-            told = (each["timestamp"], each["id"], side, kind_of(each), each["amount"])
-            lines.append(",".join(map(str, told + tuple(sums[name] for name in BALANCES))))
-        return lines
+        return [self.line(account, each) for each in self.entries(account)]
+
+    def entries(self, account):
+        """The transfers of an account, oldest first."""
+        return [each for each in sorted(self.transfers.values(), key=lambda one: one["timestamp"])
+                if account in (each["debit_account_id"], each["credit_account_id"])]
+
+    def line(self, account, entry):
+        """One of its transfers as a line of its statement."""
+        side = "debit" if entry["debit_account_id"] == account else "credit"
+        sums = self.balances(account, entry["at"], entry["timestamp"])
+        told = (entry["timestamp"], entry["id"], side, kind_of(entry), entry["amount"])
+        return ",".join(map(str, told + tuple(sums[name] for name in BALANCES)))
 
     def query_accounts(self, asked):
         """The accounts of a page, and its `next`. What is not asked for is 0 or missing."""

@@ -6,7 +6,7 @@ import threading
 import time
 
 from control import Control
-from drawn import LEDGER, transfer
+from drawn import moves
 from runs import House
 from service import Connection, message, want
 
@@ -19,16 +19,15 @@ def paused(trial):
     """Clients that are half through a message, one that is quiet, one that asks all the while."""
     house = House(trial.fresh())
     control = Control(trial.folder)
-    house.start(control.env)
-    for place, requests in enumerate(house.requests):
-        want(house.take_turn(place).batch(requests.accounts(), False), "unavailable at first")
+    house.begin(control.env)
     stopped_long(house)
     broken_off = stopped_often(trial, house)
     turned_back(house, control)
     house.compare()
     house.stop()
     return (f"{MANY} messages half sent while the process stood for {PAUSE} s: all answered; "
-            f"stopped and continued {broken_off} times under a client; the clock an hour ahead, and back")
+            f"stopped and continued {broken_off} times under a client; the clock an hour ahead, "
+            "and back")
 
 
 def stopped_long(house):
@@ -78,8 +77,6 @@ def turned_back(house, control):
     for place, behind in enumerate((0, -HOUR, 0, HOUR)):
         before = desk.ledger.clock
         control.turn_back(behind)
-        moved = [transfer(10**12 + place, debit_account_id=1, credit_account_id=2, amount=1,
-                          ledger=LEDGER, code=1)]
-        want(desk.batch(moved), "unavailable, for a clock that goes back")
+        want(desk.batch(moves(10**12 + place)), "unavailable, for a clock that goes back")
         ahead = desk.ledger.clock - before > HOUR * 10**9 // 2
         want(ahead == (behind < 0), f"the clock told an hour ahead moves the ledger's: {ahead}")

@@ -157,10 +157,19 @@ class Follower:
         self.desk, self.number, self.had = desk, 0, []
 
     def take(self, house, limit):
-        """Takes a page. Says whether there is more."""
+        """Takes a page on a new connection. Says whether there is more."""
         self.desk.connect(house.service)
-        told = json.loads(self.desk.ask(*pages.request(
-            pages.TRANSFERS, {"timestamp_min": self.number, "limit": limit})))
+        more = self.ask(limit)
+        want(more is not None, "unavailable, with all at hand")
+        return more
+
+    def ask(self, limit):
+        """Takes a page on the connection that there is: None where it is `unavailable`."""
+        told = self.desk.ask(*pages.request(
+            pages.TRANSFERS, {"timestamp_min": self.number, "limit": limit}))
+        if told is None:
+            return None
+        told = json.loads(told)
         self.had += [int(each["id"]) for each in told["transfers"]]
         self.number = int(told["next"]) or int(told["clock"]) + 1
         return told["next"] != "0"

@@ -1,23 +1,28 @@
 /* Refuses calls of the program that it is loaded into, as the file says that CONTROL names and that
-   is shared with whoever tries it: allocations, and calls on files by place (pread, pwrite, syncs,
-   cuts). Of each kind `skip` calls pass, and then `many` are refused; calls and refusals are
-   counted. The clock of the day is told so many seconds behind. */
+   is shared with whoever tries it: allocations, calls on files by place (pread, pwrite, syncs,
+   cuts), and what is sent to a client. Of each kind `skip` calls pass, and then `many` are refused;
+   where `many` is KILL the process is killed there. Calls and refusals are counted. The clock of
+   the day is told so many seconds behind. */
 #define _GNU_SOURCE
 #include <dlfcn.h>
 #include <errno.h>
 #include <fcntl.h>
+#include <signal.h>
 #include <stdlib.h>
 #include <sys/mman.h>
+#include <sys/socket.h>
 #include <sys/syscall.h>
 #include <time.h>
 #include <unistd.h>
+
+#define KILL (-(1L << 40))
 
 struct refusal {
     long skip, many, calls, refused;
 };
 
 struct control {
-    struct refusal memory, disk;
+    struct refusal memory, disk, sent;
     long behind;
 };
 
@@ -43,14 +48,16 @@ __attribute__((constructor)) static void begin(void)
 static int is_refused(struct refusal *refusal, int why)
 {
     refusal->calls++;
-    if (refusal->many <= 0)
+    if (refusal->many <= 0 && refusal->many != KILL)
         return 0;
     if (refusal->skip > 0) {
         refusal->skip--;
         return 0;
     }
-    refusal->many--;
     refusal->refused++;
+    if (refusal->many == KILL)
+        kill(getpid(), SIGKILL);
+    refusal->many--;
     errno = why;
     return 1;
 }
@@ -63,6 +70,11 @@ static int no_memory(void)
 static int no_disk(void)
 {
     return control && is_refused(&control->disk, EIO);
+}
+
+static int no_reply(void)
+{
+    return control && is_refused(&control->sent, EPIPE);
 }
 
 void *malloc(size_t size)
@@ -94,25 +106,29 @@ int posix_memalign(void **place, size_t align, size_t size)
 }
 
 /* The C library's own call of the name, and a call of the same name that may be refused. */
-#define REFUSED(type, name, parameters, arguments)                    \
+#define REFUSED(is_no, type, name, parameters, arguments)             \
     type name parameters                                              \
     {                                                                 \
         static type(*own) parameters;                                 \
         if (!own)                                                     \
             own = (type(*) parameters)dlsym(RTLD_NEXT, #name);        \
-        return no_disk() ? -1 : own arguments;                        \
+        return is_no() ? -1 : own arguments;                          \
     }
 
-REFUSED(ssize_t, pread, (int fd, void *to, size_t size, off_t place), (fd, to, size, place))
-REFUSED(ssize_t, pread64, (int fd, void *to, size_t size, off64_t place), (fd, to, size, place))
-REFUSED(ssize_t, pwrite, (int fd, const void *from, size_t size, off_t place),
+REFUSED(no_disk, ssize_t, pread, (int fd, void *to, size_t size, off_t place),
+        (fd, to, size, place))
+REFUSED(no_disk, ssize_t, pread64, (int fd, void *to, size_t size, off64_t place),
+        (fd, to, size, place))
+REFUSED(no_disk, ssize_t, pwrite, (int fd, const void *from, size_t size, off_t place),
         (fd, from, size, place))
-REFUSED(ssize_t, pwrite64, (int fd, const void *from, size_t size, off64_t place),
+REFUSED(no_disk, ssize_t, pwrite64, (int fd, const void *from, size_t size, off64_t place),
         (fd, from, size, place))
-REFUSED(int, fsync, (int fd), (fd))
-REFUSED(int, fdatasync, (int fd), (fd))
-REFUSED(int, ftruncate, (int fd, off_t length), (fd, length))
-REFUSED(int, ftruncate64, (int fd, off64_t length), (fd, length))
+REFUSED(no_disk, int, fsync, (int fd), (fd))
+REFUSED(no_disk, int, fdatasync, (int fd), (fd))
+REFUSED(no_disk, int, ftruncate, (int fd, off_t length), (fd, length))
+REFUSED(no_disk, int, ftruncate64, (int fd, off64_t length), (fd, length))
+REFUSED(no_reply, ssize_t, send, (int fd, const void *from, size_t size, int flags),
+        (fd, from, size, flags))
 
 int clock_gettime(clockid_t clock, struct timespec *now)
 {

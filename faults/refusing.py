@@ -2,7 +2,7 @@
 
 import pages
 from control import ALL, DISK, MEMORY, Control, places
-from drawn import LEDGER, account, transfer
+from drawn import LEDGER, account, moves, transfer
 from runs import House
 from service import Lost, body_of, message, want
 
@@ -48,7 +48,6 @@ class Cases:
                 ("POST", "/history/transfers", page), ("POST", "/history/balances", page),
                 ("GET", "/statement/1", b""), *self.queries())
 
-
     def queries(self):
         """Pages that are read in several pieces, and what became of holds."""
         marked = {"code": 1, "flags": 1, "limit": 3}
@@ -62,9 +61,7 @@ def refused_memory(trial):
     """Each allocation refused in turn, in each kind of request."""
     house = House(trial.fresh())
     control = Control(trial.folder)
-    house.begin()
-    house.stop()
-    house.start(control.env)
+    house.begin(control.env)
     cases, refused = Cases(house), 0
     for draw in cases.batches():
         for place in places(trial):
@@ -152,9 +149,7 @@ def failing_disk(trial):
     another: the batch is found whole or not at all, and nothing that came behind it."""
     house = House(trial.fresh())
     control = Control(trial.folder)
-    house.begin()
-    house.stop()
-    house.start(control.env)
+    house.begin(control.env)
     cases, refused, found = Cases(house), 0, 0
     for many in (1, ALL):
         for draw in cases.batches():
@@ -173,8 +168,9 @@ def refuse_openings(house, desk, begun):
     """While the disk fails each call of each tenant is refused, and leaves nothing: two more on the
     same connection, one on another that was there before, and one on a new one. Standard error
     tells once why the file could not be opened again."""
-    late = [transfer(5, debit_account_id=1, credit_account_id=2, amount=1, ledger=LEDGER, code=1)]
-    want(house.desks[1].ask("POST", "/accounts/lookup", b"[]") is None, "served by a kept connection")
+    late = moves(5)
+    told = house.desks[1].ask("POST", "/accounts/lookup", b"[]")
+    want(told is None, "served by a kept connection")
     want(house.desks[1].ask("GET", "/health") is None, "well, with a disk that fails")
     for other in (house.desks[1], desk):
         desk.connection.send(message("POST", "/transfers", other.key, body_of(late)))

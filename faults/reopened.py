@@ -3,7 +3,7 @@
 import json
 import time
 
-from drawn import LEDGER, transfer
+from drawn import moves
 from runs import House
 from service import Connection, body_of, check, lookup, message, want
 
@@ -32,14 +32,13 @@ def reopened(trial):
     want([int(each["id"]) for each in told["transfers"]] == ids, "a reply, and no transfer")
     house.stop()
     check(house.program, house.db)
-    return f"{MANY} messages half sent when the file was opened again: all answered, in {took:.1f} s"
+    return (f"{MANY} messages half sent when the file was opened again: all answered, in "
+            f"{took:.1f} s")
 
 
 def bulk(house, first):
     """A batch of the first tenant's, of a thousand transfers."""
-    moved = [transfer(first + place, debit_account_id=1, credit_account_id=2, amount=1,
-                      ledger=LEDGER, code=1) for place in range(1000)]
-    return message("POST", "/transfers", house.desks[0].key, body_of(moved))
+    return message("POST", "/transfers", house.desks[0].key, body_of(moves(first, 1000)))
 
 
 def fill(trial, house, batches):
@@ -65,8 +64,7 @@ class Client:
     """A client that has sent half of a message."""
 
     def __init__(self, house, place):
-        self.transfer = transfer(3 * 10**9 + place, debit_account_id=1, credit_account_id=2,
-                                 amount=1, ledger=LEDGER, code=1)
+        self.transfer = moves(3 * 10**9 + place)[0]
         whole = message("POST", "/transfers", house.desks[1].key, body_of([self.transfer]))
         self.rest = whole[len(whole) // 2:]
         self.connection = Connection(house.service.port)

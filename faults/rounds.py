@@ -4,33 +4,30 @@ each reply is its own plain ledger's, and a fault leaves each batch whole or not
 import signal
 import threading
 
-from control import ALL, DISK, MEMORY, Control, places
-from drawn import Requests
+from control import ALL, DISK, KILL, MEMORY, SENT, Control, places
 from runs import House
-from service import Desk, Lost, add_tenant, body_of, check, message, want
+from service import Lost, body_of, check, message, want
 
-TWENTY = 20
+TWENTY, HUNDREDS = 20, 200
 
 
 class Crowd(House):
-    """A house of twenty tenants, each with a kept connection."""
+    """A house of twenty tenants or more, each with a kept connection."""
 
-    def __init__(self, trial):
+    def __init__(self, trial, many=TWENTY):
         super().__init__(trial, 0)
-        for place in range(TWENTY):
-            desk = Desk(f"{self.random.getrandbits(256):064x}")
-            add_tenant(self.program, self.db, f"desk-{place}", desk.key)
-            self.desks.append(desk)
-            self.requests.append(Requests(self.random, 10**6 * (place + 1)))
+        self.many = many
+        for place in range(many):
+            self.add(f"desk-{place}")
 
     def gather(self):
         """Every tenant on a connection that the service is reading from."""
-        for place in range(TWENTY):
+        for place in range(self.many):
             desk = self.take_turn(place)
             want(desk.until_well() is not None, "unavailable at first")
 
     def send_at_once(self, batches):
-        """Sends each tenant's batch while the service stands still, so that all are there at once."""
+        """Sends each tenant's batch while the service stands still: all are there at once."""
         self.service.served.send_signal(signal.SIGSTOP)
         for desk, events in zip(self.desks, batches):
             desk.asked |= {event["id"] for event in events}
@@ -53,10 +50,18 @@ class Crowd(House):
                 answered.add(place)
         return answered
 
+    def meet(self, control, *refusal):
+        """New batches, sent at once while a call is refused, and the places of those answered."""
+        self.gather()
+        batches = self.draw_all()
+        control.refuse(*refusal)
+        self.send_at_once(batches)
+        return batches, self.hear(batches)
+
     def found(self, batches, answered):
         """The places of those that were not answered, and are done nevertheless."""
         self.gather()
-        return {place for place in range(TWENTY)
+        return {place for place in range(self.many)
                 if place not in answered and self.desks[place].settle(batches[place])}
 
 
@@ -64,9 +69,7 @@ def rounds(trial):
     """Batches of twenty at once; then with each call of the disk and each allocation refused."""
     house = Crowd(trial.fresh())
     control = Control(trial.folder)
-    house.begin()
-    house.stop()
-    house.start(control.env)
+    house.begin(control.env)
     house.gather()
     many = 200 if trial.is_long else 20
     for turn in range(many):
@@ -90,11 +93,7 @@ def disks_fail(trial, house, control):
     failed = done = 0
     for many in (1, ALL):
         for place in places(trial):
-            house.gather()
-            batches = house.draw_all()
-            control.refuse(DISK, place, many)
-            house.send_at_once(batches)
-            answered = house.hear(batches)
+            batches, answered = house.meet(control, DISK, place, many)
             if not control.end(DISK):
                 want(len(answered) == TWENTY, "unavailable, and no call has failed")
                 break
@@ -111,11 +110,7 @@ def memory_fails(trial, house, control):
     """An allocation is refused: at most one tenant is told so, and nothing of its batch is done."""
     refused = 0
     for place in places(trial):
-        house.gather()
-        batches = house.draw_all()
-        control.refuse(MEMORY, place)
-        house.send_at_once(batches)
-        answered = house.hear(batches)
+        batches, answered = house.meet(control, MEMORY, place)
         if not control.end(MEMORY):
             want(len(answered) == TWENTY, "unavailable, and no allocation was refused")
             return refused
@@ -126,35 +121,73 @@ def memory_fails(trial, house, control):
     return refused
 
 
-def killed_crowd(trial):
-    """`kill -9` under twenty clients at once."""
-    times = 30 if trial.is_long else 5
+def killed_between(trial):
+    """The process is killed before a call of the disk, and before a reply: a batch whose reply was
+    about to be sent is there."""
     house = Crowd(trial.fresh())
+    control = Control(trial.folder)
+    house.begin(control.env)
+    before = {DISK: "calls of the disk", SENT: "replies"}
+    killed, done = dict.fromkeys(before, 0), dict.fromkeys(before, 0)
+    for kind in before:
+        for place in places(trial):
+            batches, answered = house.meet(control, kind, place, KILL)
+            if not control.end(kind):
+                want(len(answered) == TWENTY, "not answered, and not killed")
+                break
+            start_again(house, control)
+            found = house.found(batches, answered)
+            want(found or kind == DISK, f"killed before a reply, {place}, and no batch is there")
+            killed[kind], done[kind] = killed[kind] + 1, done[kind] + bool(found)
+            trial.progress(f"killed before {place} of the {before[kind]}")
+        house.compare()
+    house.stop()
+    told = (f"{killed[kind]} times before {before[kind]}, {done[kind]} times with batches there "
+            "that were not answered" for kind in before)
+    return f"twenty batches at once, killed {', '.join(told)}"
+
+
+def start_again(house, control=None):
+    """Behind a kill: the file is ok, and it is served."""
+    house.service.gone()
+    check(house.program, house.db)
+    house.start(control and control.env)
+
+
+def killed_crowd(trial):
+    """`kill -9` under twenty clients at once, and under two hundred."""
+    told = [killed_under(trial, many, times) for many, times in
+            ((TWENTY, 30 if trial.is_long else 5), (HUNDREDS, 5 if trial.is_long else 1))]
+    return "; ".join(told)
+
+
+def killed_under(trial, many, times):
+    """`kill -9` under so many clients at once, each a tenant of its own."""
+    house = Crowd(trial.fresh(), many)
     house.begin()
     told = kept = 0
     for turn in range(times):
         house.gather()
         batches = {}
         threads = [threading.Thread(target=send_on, args=(house, place, batches))
-                   for place in range(TWENTY)]
+                   for place in range(many)]
         killer = threading.Timer(house.random.uniform(0.05, 0.5), house.service.served.kill)
         for thread in (*threads, killer):
             thread.start()
         for thread in (*threads, killer):
             thread.join()
-        house.service.gone()
-        check(house.program, house.db)
-        house.start()
+        start_again(house)
         for place, (answered, events, surprise) in batches.items():
             if surprise:
                 raise surprise
             told += answered
             kept += house.take_turn(place).settle(events)
         house.compare()
-        trial.progress(f"killed {turn + 1} times")
+        trial.progress(f"killed {turn + 1} times under {many}")
     house.stop()
-    return (f"{times} times killed under twenty clients: {told} answered batches are there, and of "
-            f"those that were not answered {kept} whole and the others not at all")
+    return (f"{times} times killed under {many} clients: {told} answered batches are there, of "
+            f"those that were not answered {kept} whole and the others not at all, and nobody "
+            f"waited for more than {house.longest():.2f} s")
 
 
 def send_on(house, place, batches):

@@ -5,7 +5,7 @@ import os
 import threading
 
 from drawn import Requests
-from service import Desk, Lost, Service, add_tenant, check, want
+from service import Desk, Lost, Service, add_tenant, change_key, check, want
 
 NAMES = ("north-desk", "south-hall", "east-club", "west-pier", "old-mill", "new-port", "high-gate",
          "low-moor")
@@ -18,11 +18,27 @@ class House:
         self.program, self.random, self.options = trial.program, trial.random, options
         self.db = os.path.join(trial.folder, "ledger.db")
         self.desks, self.requests, self.service, self.openings = [], [], None, 0
-        for place, name in enumerate(NAMES[:tenants]):
-            desk = Desk(f"{self.random.getrandbits(256):064x}")
-            add_tenant(self.program, self.db, name, desk.key)
-            self.desks.append(desk)
-            self.requests.append(Requests(self.random, 10**6 * (place + 1)))
+        self.names = []
+        for name in NAMES[:tenants]:
+            self.add(name)
+
+    def key(self):
+        return f"{self.random.getrandbits(256):064x}"
+
+    def add(self, name):
+        """A tenant more, which is not served yet."""
+        desk = Desk(self.key())
+        add_tenant(self.program, self.db, name, desk.key)
+        self.desks.append(desk)
+        self.names.append(name)
+        self.requests.append(Requests(self.random, 10**6 * len(self.desks)))
+
+    def change_key(self, place):
+        """Gives a tenant another key, while nothing is served. The old one."""
+        desk, old = self.desks[place], self.desks[place].key
+        desk.key = self.key()
+        change_key(self.program, self.db, self.names[place], desk.key)
+        return old
 
     def start(self, env=None):
         self.openings += 1
@@ -34,6 +50,16 @@ class House:
         self.service.kill()
         self.service = None
 
+    def open_again(self):
+        """Stopped, the file found ok, and started."""
+        self.stop()
+        check(self.program, self.db)
+        self.start()
+
+    def longest(self):
+        """The seconds of the longest wait for a reply so far."""
+        return max(desk.longest for desk in self.desks)
+
     def well(self):
         """What standard error tells once a fault of the disk is over."""
         return f"serving {self.db} again"
@@ -43,9 +69,9 @@ class House:
         self.desks[place].connect(self.service)
         return self.desks[place]
 
-    def begin(self):
+    def begin(self, env=None):
         """Opens each tenant's accounts."""
-        self.start()
+        self.start(env)
         for place, requests in enumerate(self.requests):
             want(self.take_turn(place).batch(requests.accounts(), False), "unavailable at first")
 
@@ -73,9 +99,7 @@ def long_runs(trial):
                 want(house.take_turn(place).batch(events), "unavailable, with all at hand")
                 sent += len(events)
             house.compare()
-            house.stop()
-            check(house.program, house.db)
-            house.start()
+            house.open_again()
             house.compare()
         house.stop()
         trial.progress(f"{sent} events")

@@ -17,7 +17,10 @@ from model import ACCOUNT_FIELDS, BALANCES, HISTORY, TRANSFER_FIELDS, Ledger
 from pages import STRINGS, shown
 
 TOP = pathlib.Path(__file__).resolve().parent.parent
-PATIENCE = 60
+# Seconds behind which something hangs: a busy machine may take minutes for a long file.
+PATIENCE = 300
+# What a service tells that cannot listen for its operator.
+NO_DESK = "no commands while it is served: "
 # What a command tells that memory or the disk has failed; a file whose first page cannot be read is
 # told as the second.
 UNAVAILABLE = (3, "", "ledgerd: unavailable\n")
@@ -70,6 +73,11 @@ def add_tenant(program, db, name, key):
         want(modes == [0o600, 0o600], f"modes: {modes}")
 
 
+def change_key(program, db, name, key):
+    told = run(program, "tenant-key", "--db", db, "--name", name, "--key", key)
+    want(told == (0, f"changed {name}\n", ""), f"tenant-key: {told}")
+
+
 def free_port():
     with socket.socket() as probe:
         probe.bind(("127.0.0.1", 0))
@@ -90,7 +98,14 @@ class Service:
         os.close(errors)
         atexit.register(self.served.kill)
         self.wait_for_lines(1)
-        want(self.lines()[0].startswith(f"serving {db} on 127.0.0.1:{self.port}"),
+        self.look_at_beginning(db)
+
+    def look_at_beginning(self, db):
+        """What it says first, which is that it serves; or before that, that no operator can ask."""
+        if self.lines()[0].startswith(NO_DESK):
+            self.wait_for_lines(2)
+        serving = f"serving {db} on 127.0.0.1:{self.port}"
+        want(any(line.startswith(serving) for line in self.lines()[:2]),
              f"serve tells {self.lines()}")
 
     def wait_for_lines(self, many):
@@ -124,8 +139,19 @@ class Service:
 
     def memory(self):
         """The bytes that the process has in memory."""
-        pages = int(pathlib.Path(f"/proc/{self.served.pid}/statm").read_text().split()[1])
-        return pages * os.sysconf("SC_PAGE_SIZE")
+        return self.statm(1)
+
+    def mapped(self):
+        """The bytes that it has at all, of which not all need to be in memory."""
+        return self.statm(0)
+
+    def statm(self, place):
+        pages = pathlib.Path(f"/proc/{self.served.pid}/statm").read_text().split()
+        return int(pages[place]) * os.sysconf("SC_PAGE_SIZE")
+
+    def descriptors(self):
+        """How many the process has open."""
+        return len(os.listdir(f"/proc/{self.served.pid}/fd"))
 
     def kill(self):
         """Ends it as a crash does. It was still there."""
@@ -168,7 +194,7 @@ class Connection:
         try:
             read = self.socket.recv(1 << 16)
         except socket.timeout as error:
-            raise Surprise("no reply in a minute") from error
+            raise Surprise("no reply for minutes") from error
         except OSError as error:
             raise Lost(error) from error
         self.read += read
@@ -215,7 +241,7 @@ class Desk:
 
     def __init__(self, key):
         self.key, self.ledger, self.asked = key, Ledger(), set()
-        self.connection = None
+        self.connection, self.longest = None, 0.0
 
     def connect(self, service):
         self.leave()
@@ -228,8 +254,11 @@ class Desk:
 
     def ask(self, method, path, body=b""):
         """The reply to a message: None where it is `unavailable`."""
+        begun = time.monotonic()
         self.connection.send(message(method, path, self.key, body))
-        return self.answer(method, path)
+        told = self.answer(method, path)
+        self.longest = max(self.longest, time.monotonic() - begun)
+        return told
 
     def answer(self, method, path):
         """The next reply of the connection, likewise: its bytes, where they are compared."""
@@ -265,7 +294,7 @@ class Desk:
         after a second, two, four and so on."""
         end = time.monotonic() + PATIENCE
         while (told := self.ask("POST", "/accounts/lookup", b"[]")) is None:
-            want(time.monotonic() < end, "unavailable for a minute")
+            want(time.monotonic() < end, "unavailable for minutes")
             time.sleep(0.02)
         return told
 
@@ -278,26 +307,34 @@ class Desk:
             return True
         return False
 
-    def expected(self):
-        """All that the tenant can see: requests, and what has to stand in their replies."""
+    def accounts(self):
+        """A look-up of all its accounts and of one more, and what has to stand in the reply."""
         ledger = self.ledger
         accounts = [shown(each, ACCOUNT_FIELDS, ledger.balances(number).items())
                     for number, each in sorted(ledger.accounts.items())]
-        yield (lookup("/accounts/lookup", [*sorted(ledger.accounts), 2**100]),
-               {"accounts": accounts, "clock": str(ledger.clock)})
+        return (lookup("/accounts/lookup", [*sorted(ledger.accounts), 2**100]),
+                {"accounts": accounts, "clock": str(ledger.clock)})
+
+    def expected(self):
+        """All that the tenant can see: requests, and what has to stand in their replies."""
+        ledger = self.ledger
+        yield self.accounts()
         asked = sorted(self.asked)
         for first in range(0, len(asked), 1000):
             ids = asked[first:first + 1000]
-            transfers = [shown(ledger.transfers[number], TRANSFER_FIELDS) for number in ids
-                         if number in ledger.transfers]
-            yield (lookup("/transfers/lookup", ids),
-                   {"transfers": transfers, "clock": str(ledger.clock)})
+            yield lookup("/transfers/lookup", ids), self.found(ids)
         for number, account in ledger.accounts.items():
             lines = ledger.statement(number)
             yield ("GET", f"/statement/{number}", b""), lines
             if account["flags"] & HISTORY:
                 yield newest(number), [line.split(",") for line in lines[:-11:-1]]
         yield from pages.expected(ledger, asked)
+
+    def found(self, ids):
+        """What a look-up of transfers is told."""
+        kept = self.ledger.transfers
+        return {"transfers": [shown(kept[number], TRANSFER_FIELDS) for number in ids
+                              if number in kept], "clock": str(self.ledger.clock)}
 
     def compare(self, service):
         """Compares all that the tenant can see."""

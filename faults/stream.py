@@ -5,7 +5,7 @@ import socket
 import time
 
 import pages
-from drawn import LEDGER, account, transfer
+from drawn import LEDGER, account, moves
 from model import TRANSFER_FIELDS
 from refused import post, routes, statements
 from runs import House
@@ -125,8 +125,7 @@ def good(house, place, hostile):
     """A good message, in turn new, a retry and a read, and a hostile one behind it on the same
     connection. The good one's reply is as if it were alone."""
     desk = house.take_turn(0)
-    marked = transfer(GOOD_ID + place // 30, debit_account_id=1, credit_account_id=2,
-                      amount=int(GOOD_MARK), ledger=LEDGER, code=1)
+    marked, = moves(GOOD_ID + place // 30, amount=int(GOOD_MARK))
     desk.asked.add(marked["id"])
     is_read = place % 30 == 20
     asked, reply = (read(desk.ledger, place, marked["id"]) if is_read

@@ -4,31 +4,31 @@ that is gone."""
 import os
 import subprocess
 
-from drawn import LEDGER, transfer
+from drawn import moves
 from runs import House
-from service import NAME_TAKEN, PATIENCE, UNREADABLE, body_of, check, free_port, run, want
+from service import NAME_TAKEN, PATIENCE, body_of, check, free_port, run, want
 
 OUTPUT = (3, b"ledgerd: output\n")
+IN_USE = (5, "", "ledgerd: in_use\n")
 KEY = "5" * 64
 
 
 def in_use(trial):
-    """Each command on a file that is served; the service goes on, and nothing has changed."""
+    """Each command that wants the file for itself, while it is served; the service goes on, and
+    nothing has changed."""
     house = House(trial.fresh())
     house.begin()
     commands = (("serve", "--port", str(free_port()), "--requests", "1"), ("check",),
-                ("statement", "--tenant", "north-desk", "--account", "1"),
-                ("tenant-add", "--name", "more", "--key", KEY),
-                ("tenant-key", "--name", "north-desk", "--key", KEY), ("migrate", "--to", "3"))
+                ("statement", "--tenant", "north-desk", "--account", "1"), ("migrate", "--to", "3"))
     for words in commands:
         told = run(house.program, *words, "--db", house.db)
-        want(told == UNREADABLE, f"{words[0]} on a file that is served: {told}")
+        want(told == IN_USE, f"{words[0]} on a file that is served: {told}")
         place, events = house.draw()
         want(house.take_turn(place).batch(events), "unavailable, with all at hand")
     house.compare()
     house.stop()
     check(house.program, house.db)
-    return f"{len(commands)} commands on a file that is served, each unreadable"
+    return f"{len(commands)} commands on a file that is served, each in_use"
 
 
 def gone_reader(trial):
@@ -36,9 +36,7 @@ def gone_reader(trial):
     house = House(trial.fresh(), 1)
     house.begin()
     for first in (10**9, 2 * 10**9):
-        moved = [transfer(first + place, debit_account_id=1, credit_account_id=2, amount=1,
-                          ledger=LEDGER, code=1) for place in range(1000)]
-        told = house.take_turn(0).ask("POST", "/transfers", body_of(moved))
+        told = house.take_turn(0).ask("POST", "/transfers", body_of(moves(first, 1000)))
         want(told is not None, "unavailable, with all at hand")
     house.stop()
     statement = ("statement", "--db", house.db, "--tenant", "north-desk", "--account", "1")

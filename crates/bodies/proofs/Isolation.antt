@@ -48,6 +48,7 @@ unseen digest body other moment differs =
     (λ same. differs (sym ((bytes_eq-Decides digest other).0 same)))) refl
 
 pub isolated : ResponsesLeadOn → EachSeesItself → Isolates
+unfolding answered_body
 isolated lead each digest body moment old new old' new' reply reply' one other same answered
     answered' =
     let sees = seen lead each digest body moment old new reply one answered in

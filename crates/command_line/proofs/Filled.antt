@@ -16,7 +16,7 @@ use Rattle.clap.proofs.ValueTestLemmas.{accepts-Accepts}
 use Rattle.command_line.proofs.Uses.{Each, IsOwn, both_none, each_found, flag_sets, help_sets, option_sets, version_sets}
 use Rattle.command_line.proofs.Walks.{walk_stops}
 use Rattle.command_line.proofs.Levels.{HasValue, Holds, level_holds}
-use Rattle.command_line.specs.Ledgerd.{check_shape, flag_rule, ledgerd_app, limit_rule, lint_shape, migrate_shape, number_rule, option_rule, ports, program, serve_shape, statement_shape, tenant_add_shape, tenant_key_shape, text_rule}
+use Rattle.command_line.specs.Ledgerd.{check_shape, copy_shape, flag_rule, ledgerd_app, limit_rule, lint_shape, migrate_shape, number_rule, option_rule, ports, program, serve_shape, statement_shape, status_shape, stop_shape, tenant_add_shape, tenant_key_shape, tenants_shape, text_rule}
 use Rattle.command_line.specs.Values.{HasSomeText, IsFilled, IsFlag, IsFreeNumber, HasNumberBelow}
 use Rattle.command_line.proofs.NumberValues.{signed_number}
 
@@ -82,6 +82,20 @@ limit_at rows name least most holds = elim holds.known [
     go : (v : HasValue rows (filled (limit_rule name least most))) → Accepts false (vp.Unsigned least most) v.first → HasNumberBelow rows name (2 ^ 64)
     go v ok = record { text = v.first; read = v.read; numeral = ok.0; below = ok.1 }
 
+-- what stands for a flag passes as `true` or `false`
+flag_at : (rows : List Row) (name : Text) → Holds rows (filled (flag_rule name)) → IsFlag rows name
+flag_at rows name holds = elim holds.known [
+  | inl none ↦ inl none
+  | inr v ↦ inr (go v (accepted_value false vp.Bool v.first v.accepted))
+]
+  where
+    go : (v : HasValue rows (filled (flag_rule name))) → (bytes_eq v.first (codes "true") || bytes_eq v.first (codes "false")) ≡ true
+        → (one_of name rows ≡ Some (codes "true")) ⊎ (one_of name rows ≡ Some (codes "false"))
+    go v ok = elim (either_word (bytes_eq v.first (codes "true")) (bytes_eq v.first (codes "false")) ok) [
+      | inl t ↦ inl (v.read ∙ ap (λ (w : Text). Some w) ((bytes_eq-Decides v.first (codes "true")).0 t))
+      | inr f ↦ inr (v.read ∙ ap (λ (w : Text). Some w) ((bytes_eq-Decides v.first (codes "false")).0 f))
+    ]
+
 serve_met : (words : List Text) → level_fault (ready serve_shape) [] nothing_held words false [] ≡ []
     → IsFilled (codes "serve") (rows_after (ready serve_shape).rules [] words)
 serve_met words e =
@@ -96,14 +110,17 @@ serve_met words e =
           (
             limit_own c (codes "requests") 0 18446744073709551615 refl,
             (
-              limit_own c (codes "clients") 1 100_000 refl,
+              flag_own c (codes "standby") refl,
               (
-                limit_own c (codes "room") 3 65_536 refl,
+                limit_own c (codes "clients") 1 100_000 refl,
                 (
-                  limit_own c (codes "idle") 1 86_400 refl,
+                  limit_own c (codes "room") 3 65_536 refl,
                   (
-                    limit_own c (codes "message") 1 3_600 refl,
-                    (limit_own c (codes "reply") 1 3_600 refl, (help_own c refl, tt)),
+                    limit_own c (codes "idle") 1 86_400 refl,
+                    (
+                      limit_own c (codes "message") 1 3_600 refl,
+                      (limit_own c (codes "reply") 1 3_600 refl, (help_own c refl, tt)),
+                    ),
                   ),
                 ),
               ),
@@ -113,7 +130,7 @@ serve_met words e =
       ),
     ) in
     let holds = level_holds (ready serve_shape) words own refl e in
-    let limits = holds.1.1.1.1 in
+    let limits = holds.1.1.1.1.1 in
     let port = holds.1.0.needed refl in
     inl (
       refl,
@@ -121,6 +138,7 @@ serve_met words e =
         db = text_at rows (codes "db") holds.0;
         port = signed_number rows (codes "port") port.first port.read (accepted_value false ports port.first port.accepted);
         requests = limit_at rows (codes "requests") 0 18446744073709551615 holds.1.1.1.0;
+        standby = flag_at rows (codes "standby") holds.1.1.1.1.0;
         limits = record {
           clients = limit_at rows (codes "clients") 1 100_000 limits.0;
           room = limit_at rows (codes "room") 3 65_536 limits.1.0;
@@ -137,14 +155,13 @@ tenant_add_met words e =
     let c = (ready tenant_add_shape).rules in
     let rows = rows_after c [] words in
     let own : Each (IsOwn c) c =
-    (text_own c (codes "db") refl, (text_own c (codes "name") refl, (text_own c (codes "key") refl, (help_own c refl, tt)))) in
+    (text_own c (codes "db") refl, (text_own c (codes "name") refl, (option_own c (codes "key") refl, (help_own c refl, tt)))) in
     let holds = level_holds (ready tenant_add_shape) words own refl e in
     inr (inl (
       refl,
       record {
         db = text_at rows (codes "db") holds.0;
         name = text_at rows (codes "name") holds.1.0;
-        key = text_at rows (codes "key") holds.1.1.0;
       },
     ))
 
@@ -154,30 +171,45 @@ tenant_key_met words e =
     let c = (ready tenant_key_shape).rules in
     let rows = rows_after c [] words in
     let own : Each (IsOwn c) c =
-    (text_own c (codes "db") refl, (text_own c (codes "name") refl, (text_own c (codes "key") refl, (help_own c refl, tt)))) in
+    (text_own c (codes "db") refl, (text_own c (codes "name") refl, (option_own c (codes "key") refl, (help_own c refl, tt)))) in
     let holds = level_holds (ready tenant_key_shape) words own refl e in
     inr (inr (inl (
       refl,
       record {
         db = text_at rows (codes "db") holds.0;
         name = text_at rows (codes "name") holds.1.0;
-        key = text_at rows (codes "key") holds.1.1.0;
       },
     )))
 
--- what stands for a flag passes as `true` or `false`
-flag_at : (rows : List Row) (name : Text) → Holds rows (filled (flag_rule name)) → IsFlag rows name
-flag_at rows name holds = elim holds.known [
-  | inl none ↦ inl none
-  | inr v ↦ inr (go v (accepted_value false vp.Bool v.first v.accepted))
-]
-  where
-    go : (v : HasValue rows (filled (flag_rule name))) → (bytes_eq v.first (codes "true") || bytes_eq v.first (codes "false")) ≡ true
-        → (one_of name rows ≡ Some (codes "true")) ⊎ (one_of name rows ≡ Some (codes "false"))
-    go v ok = elim (either_word (bytes_eq v.first (codes "true")) (bytes_eq v.first (codes "false")) ok) [
-      | inl t ↦ inl (v.read ∙ ap (λ (w : Text). Some w) ((bytes_eq-Decides v.first (codes "true")).0 t))
-      | inr f ↦ inr (v.read ∙ ap (λ (w : Text). Some w) ((bytes_eq-Decides v.first (codes "false")).0 f))
-    ]
+tenants_met : (words : List Text) → level_fault (ready tenants_shape) [] nothing_held words false [] ≡ []
+    → IsFilled (codes "tenants") (rows_after (ready tenants_shape).rules [] words)
+tenants_met words e =
+    let c = (ready tenants_shape).rules in
+    let rows = rows_after c [] words in
+    let own : Each (IsOwn c) c = (text_own c (codes "db") refl, (help_own c refl, tt)) in
+    let holds = level_holds (ready tenants_shape) words own refl e in
+    inr (inr (inr (inl (refl, record { db = text_at rows (codes "db") holds.0 }))))
+
+status_met : (words : List Text) → level_fault (ready status_shape) [] nothing_held words false [] ≡ []
+    → IsFilled (codes "status") (rows_after (ready status_shape).rules [] words)
+status_met words e =
+    let c = (ready status_shape).rules in
+    let rows = rows_after c [] words in
+    let own : Each (IsOwn c) c = (text_own c (codes "db") refl, (flag_own c (codes "prometheus") refl, (help_own c refl, tt))) in
+    let holds = level_holds (ready status_shape) words own refl e in
+    inr (inr (inr (inr (inl (
+      refl,
+      record { db = text_at rows (codes "db") holds.0; prometheus = flag_at rows (codes "prometheus") holds.1.0 },
+    )))))
+
+stop_met : (words : List Text) → level_fault (ready stop_shape) [] nothing_held words false [] ≡ []
+    → IsFilled (codes "stop") (rows_after (ready stop_shape).rules [] words)
+stop_met words e =
+    let c = (ready stop_shape).rules in
+    let rows = rows_after c [] words in
+    let own : Each (IsOwn c) c = (text_own c (codes "db") refl, (help_own c refl, tt)) in
+    let holds = level_holds (ready stop_shape) words own refl e in
+    inr (inr (inr (inr (inr (inl (refl, record { db = text_at rows (codes "db") holds.0 }))))))
 
 statement_met : (words : List Text) → level_fault (ready statement_shape) [] nothing_held words false [] ≡ []
     → IsFilled (codes "statement") (rows_after (ready statement_shape).rules [] words)
@@ -210,7 +242,7 @@ statement_met words e =
       ),
     ) in
     let holds = level_holds (ready statement_shape) words own refl e in
-    inr (inr (inr (inl (
+    inr (inr (inr (inr (inr (inr (inl (
       refl,
       record {
         db = text_at rows (codes "db") holds.0;
@@ -220,7 +252,7 @@ statement_met words e =
         balances = flag_at rows (codes "balances") holds.1.1.1.1.1.1.0;
         wide = flag_at rows (codes "wide") holds.1.1.1.1.1.1.1.0;
       },
-    ))))
+    )))))))
 
 check_met : (words : List Text) → level_fault (ready check_shape) [] nothing_held words false [] ≡ []
     → IsFilled (codes "check") (rows_after (ready check_shape).rules [] words)
@@ -229,7 +261,7 @@ check_met words e =
     let rows = rows_after c [] words in
     let own : Each (IsOwn c) c = (text_own c (codes "db") refl, (help_own c refl, tt)) in
     let holds = level_holds (ready check_shape) words own refl e in
-    inr (inr (inr (inr (inl (refl, record { db = text_at rows (codes "db") holds.0 })))))
+    inr (inr (inr (inr (inr (inr (inr (inl (refl, record { db = text_at rows (codes "db") holds.0 }))))))))
 
 migrate_met : (words : List Text) → level_fault (ready migrate_shape) [] nothing_held words false [] ≡ []
     → IsFilled (codes "migrate") (rows_after (ready migrate_shape).rules [] words)
@@ -238,11 +270,20 @@ migrate_met words e =
     let rows = rows_after c [] words in
     let own : Each (IsOwn c) c = (text_own c (codes "db") refl, (text_own c (codes "to") refl, (help_own c refl, tt))) in
     let holds = level_holds (ready migrate_shape) words own refl e in
-    inr (inr (inr (inr (inr (inl (refl, record { db = text_at rows (codes "db") holds.0; to = text_at rows (codes "to") holds.1.0 }))))))
+    inr (inr (inr (inr (inr (inr (inr (inr (inl (refl, record { db = text_at rows (codes "db") holds.0; to = text_at rows (codes "to") holds.1.0 })))))))))
+
+copy_met : (words : List Text) → level_fault (ready copy_shape) [] nothing_held words false [] ≡ []
+    → IsFilled (codes "copy") (rows_after (ready copy_shape).rules [] words)
+copy_met words e =
+    let c = (ready copy_shape).rules in
+    let rows = rows_after c [] words in
+    let own : Each (IsOwn c) c = (text_own c (codes "db") refl, (text_own c (codes "to") refl, (help_own c refl, tt))) in
+    let holds = level_holds (ready copy_shape) words own refl e in
+    inr (inr (inr (inr (inr (inr (inr (inr (inr (inl (refl, record { db = text_at rows (codes "db") holds.0; to = text_at rows (codes "to") holds.1.0 }))))))))))
 
 lint_met : (words : List Text) → level_fault (ready lint_shape) [] nothing_held words false [] ≡ []
     → IsFilled (codes "lint") (rows_after (ready lint_shape).rules [] words)
-lint_met words e = inr (inr (inr (inr (inr (inr refl)))))
+lint_met words e = inr (inr (inr (inr (inr (inr (inr (inr (inr (inr refl)))))))))
 
 -- the subcommand that a walk stopped at is filled
 StopsAt : Text → List Text → Shape → Type 0
@@ -276,10 +317,22 @@ stops_at_one name words other = (
     (
       λ a e. tenant_key_met words e,
       (
-        λ a e. statement_met words e,
+        λ a e. tenants_met words e,
         (
-          λ a e. check_met words e,
-          (λ a e. migrate_met words e, (λ a e. lint_met words e, (λ a e. absurd (help_is name other a), tt))),
+          λ a e. status_met words e,
+          (
+            λ a e. stop_met words e,
+            (
+              λ a e. statement_met words e,
+              (
+                λ a e. check_met words e,
+                (
+                  λ a e. migrate_met words e,
+                  (λ a e. copy_met words e, (λ a e. lint_met words e, (λ a e. absurd (help_is name other a), tt))),
+                ),
+              ),
+            ),
+          ),
         ),
       ),
     ),

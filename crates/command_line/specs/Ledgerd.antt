@@ -45,30 +45,43 @@ over_store name rules = record (new_app name).top { rules = db_rule ∷ rules }
 abbrev pub store_app : Text → App
 store_app name = record (new_app name) { top = over_store name [] }
 
--- serve: a port, an address, and how many requests to answer
+-- serve: a port, an address, how many requests to answer, and whether it waits for the file
 abbrev pub counted_serve_app : App
 counted_serve_app = record (new_app (codes "serve")) {
   top = over_store (codes "serve")
-      (number_rule (codes "port") ports ∷ option_rule (codes "address") ∷ requests_rule ∷ []);
+      (number_rule (codes "port") ports ∷ option_rule (codes "address") ∷ requests_rule
+      ∷ flag_rule (codes "standby") ∷ []);
 }
 
 -- and then the limits: clients, megabytes for long messages, and seconds
 abbrev pub serve_shape : Shape
 serve_shape = over_store (codes "serve")
     (number_rule (codes "port") ports ∷ option_rule (codes "address") ∷ requests_rule
-    ∷ limit_rule (codes "clients") 1 100_000 ∷ limit_rule (codes "room") 3 65_536
+    ∷ flag_rule (codes "standby") ∷ limit_rule (codes "clients") 1 100_000 ∷ limit_rule (codes "room") 3 65_536
     ∷ limit_rule (codes "idle") 1 86_400 ∷ limit_rule (codes "message") 1 3_600
     ∷ limit_rule (codes "reply") 1 3_600 ∷ [])
 
--- tenant-add: the tenant's name and key
+-- tenant-add: the tenant's name, and its key if it is not to be drawn
 abbrev pub tenant_add_shape : Shape
 tenant_add_shape = over_store (codes "tenant-add")
-    (text_rule (codes "name") ∷ text_rule (codes "key") ∷ [])
+    (text_rule (codes "name") ∷ option_rule (codes "key") ∷ [])
 
--- tenant-key: the tenant's name, and its new key
+-- tenant-key: the tenant's name, and its new key likewise
 abbrev pub tenant_key_shape : Shape
 tenant_key_shape = over_store (codes "tenant-key")
-    (text_rule (codes "name") ∷ text_rule (codes "key") ∷ [])
+    (text_rule (codes "name") ∷ option_rule (codes "key") ∷ [])
+
+-- tenants: nothing but the file
+abbrev pub tenants_shape : Shape
+tenants_shape = over_store (codes "tenants") []
+
+-- status: in which form
+abbrev pub status_shape : Shape
+status_shape = over_store (codes "status") (flag_rule (codes "prometheus") ∷ [])
+
+-- stop: nothing but the file
+abbrev pub stop_shape : Shape
+stop_shape = over_store (codes "stop") []
 
 -- statement: a tenant, its account, and whether the newest come first
 abbrev pub whole_statement_app : App
@@ -93,6 +106,10 @@ check_shape = over_store (codes "check") []
 abbrev pub migrate_shape : Shape
 migrate_shape = over_store (codes "migrate") (text_rule (codes "to") ∷ [])
 
+-- copy: where to
+abbrev pub copy_shape : Shape
+copy_shape = over_store (codes "copy") (text_rule (codes "to") ∷ [])
+
 -- lint: the route on which a body is judged
 abbrev pub lint_shape : Shape
 lint_shape = record (new_app (codes "lint")).top { rules = option_rule (codes "route") ∷ [] }
@@ -112,5 +129,9 @@ ledgerd_app =
     (with_subcommand
     (with_subcommand
     (with_subcommand
-    (with_subcommand program serve_shape) tenant_add_shape) tenant_key_shape) statement_shape)
-    check_shape) migrate_shape) lint_shape
+    (with_subcommand
+    (with_subcommand
+    (with_subcommand
+    (with_subcommand
+    (with_subcommand program serve_shape) tenant_add_shape) tenant_key_shape) tenants_shape)
+    status_shape) stop_shape) statement_shape) check_shape) migrate_shape) copy_shape) lint_shape

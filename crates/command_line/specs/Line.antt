@@ -32,20 +32,28 @@ pub record SpellsLimits (rows : List Row) (limits : LimitWords) : Type 0 where
 -- the command has the subcommand's name, and each value from the option of its own name
 abbrev pub Spells : Text → List Row → Command → Type 0
 Spells name rows command.Lists = ⊥
-Spells name rows (command.Serve db address port requests limits) = (name ≡ codes "serve")
+Spells name rows (command.Serve db address port requests standby limits) = (name ≡ codes "serve")
     × HasText rows (codes "db") db.now
     × HasFreeText rows (codes "address") (text_in address)
     × HasNumber rows (codes "port") port
     × HasNumberOr rows (codes "requests") (2 ^ 64 - 1) requests
+    × (standby ≡ has_flag rows (codes "standby"))
     × SpellsLimits rows limits
 Spells name rows (command.AddTenant db tenant key) = (name ≡ codes "tenant-add")
     × HasText rows (codes "db") db.now
     × HasText rows (codes "name") tenant.now
-    × HasText rows (codes "key") key.now
+    × HasFreeText rows (codes "key") (text_in key)
 Spells name rows (command.ChangeKey db tenant key) = (name ≡ codes "tenant-key")
     × HasText rows (codes "db") db.now
     × HasText rows (codes "name") tenant.now
-    × HasText rows (codes "key") key.now
+    × HasFreeText rows (codes "key") (text_in key)
+Spells name rows (command.Tenants db) = (name ≡ codes "tenants")
+    × HasText rows (codes "db") db.now
+Spells name rows (command.Status db prometheus) = (name ≡ codes "status")
+    × HasText rows (codes "db") db.now
+    × (prometheus ≡ has_flag rows (codes "prometheus"))
+Spells name rows (command.Stop db) = (name ≡ codes "stop")
+    × HasText rows (codes "db") db.now
 Spells name rows (command.Statement db tenant account asked) = (name ≡ codes "statement")
     × HasText rows (codes "db") db.now
     × HasText rows (codes "tenant") tenant.now
@@ -54,6 +62,9 @@ Spells name rows (command.Statement db tenant account asked) = (name ≡ codes "
 Spells name rows (command.Check db) = (name ≡ codes "check")
     × HasText rows (codes "db") db.now
 Spells name rows (command.Migrate db to) = (name ≡ codes "migrate")
+    × HasText rows (codes "db") db.now
+    × HasText rows (codes "to") to.now
+Spells name rows (command.Copy db to) = (name ≡ codes "copy")
     × HasText rows (codes "db") db.now
     × HasText rows (codes "to") to.now
 Spells name rows (command.Lint route) = (name ≡ codes "lint")

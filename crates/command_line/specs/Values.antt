@@ -72,13 +72,18 @@ pub record FillsServe (rows : List Row) : Type 0 where
   pub db : HasSomeText rows (codes "db")
   pub port : HasNumberBelow rows (codes "port") (2 ^ 16)
   pub requests : IsFreeNumber rows (codes "requests")
+  pub standby : IsFlag rows (codes "standby")
   pub limits : FillsLimits rows
 
--- the values of tenant-add are there, or of tenant-key
+-- the values are there that tenant-add must have, or tenant-key
 pub record FillsTenant (rows : List Row) : Type 0 where
   pub db : HasSomeText rows (codes "db")
   pub name : HasSomeText rows (codes "name")
-  pub key : HasSomeText rows (codes "key")
+
+-- the values of status are there
+pub record FillsStatus (rows : List Row) : Type 0 where
+  pub db : HasSomeText rows (codes "db")
+  pub prometheus : IsFlag rows (codes "prometheus")
 
 -- the values of statement are there
 pub record FillsStatement (rows : List Row) : Type 0 where
@@ -89,12 +94,12 @@ pub record FillsStatement (rows : List Row) : Type 0 where
   pub balances : IsFlag rows (codes "balances")
   pub wide : IsFlag rows (codes "wide")
 
--- the value of check is there
-pub record FillsCheck (rows : List Row) : Type 0 where
+-- the file is there of a command that has nothing else
+pub record FillsFile (rows : List Row) : Type 0 where
   pub db : HasSomeText rows (codes "db")
 
--- the values of migrate are there
-pub record FillsMigrate (rows : List Row) : Type 0 where
+-- the values of migrate are there, or of copy
+pub record FillsTo (rows : List Row) : Type 0 where
   pub db : HasSomeText rows (codes "db")
   pub to : HasSomeText rows (codes "to")
 
@@ -103,7 +108,11 @@ abbrev pub IsFilled : Text → List Row → Type 0
 IsFilled name rows = ((name ≡ codes "serve") × FillsServe rows)
     ⊎ (((name ≡ codes "tenant-add") × FillsTenant rows)
     ⊎ (((name ≡ codes "tenant-key") × FillsTenant rows)
+    ⊎ (((name ≡ codes "tenants") × FillsFile rows)
+    ⊎ (((name ≡ codes "status") × FillsStatus rows)
+    ⊎ (((name ≡ codes "stop") × FillsFile rows)
     ⊎ (((name ≡ codes "statement") × FillsStatement rows)
-    ⊎ (((name ≡ codes "check") × FillsCheck rows)
-    ⊎ (((name ≡ codes "migrate") × FillsMigrate rows)
-    ⊎ (name ≡ codes "lint"))))))
+    ⊎ (((name ≡ codes "check") × FillsFile rows)
+    ⊎ (((name ≡ codes "migrate") × FillsTo rows)
+    ⊎ (((name ≡ codes "copy") × FillsTo rows)
+    ⊎ (name ≡ codes "lint"))))))))))

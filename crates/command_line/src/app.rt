@@ -1,9 +1,10 @@
 //! `ledgerd` as `clap` sees it: the subcommands, their options and their help.
 ghost use Rattle.std.specs.Prelude.{IfOk};
-ghost use Rattle.command_line.specs.Ledgerd.{check_shape, counted_serve_app, db_rule, flag_rule};
+ghost use Rattle.command_line.specs.Ledgerd.{check_shape, copy_shape, counted_serve_app, db_rule, flag_rule};
 ghost use Rattle.command_line.specs.Ledgerd.{ledgerd_app, limit_rule, lint_shape, migrate_shape};
 ghost use Rattle.command_line.specs.Ledgerd.{number_rule, option_rule, program, serve_shape};
-ghost use Rattle.command_line.specs.Ledgerd.{statement_shape, store_app, tenant_add_shape, tenant_key_shape};
+ghost use Rattle.command_line.specs.Ledgerd.{statement_shape, status_shape, stop_shape, store_app};
+ghost use Rattle.command_line.specs.Ledgerd.{tenant_add_shape, tenant_key_shape, tenants_shape};
 ghost use Rattle.command_line.specs.Ledgerd.{text_rule, whole_statement_app};
 ghost use Rattle.command_line.specs.Built.{IsLeaf, IsLocalArg, IsProgram};
 
@@ -32,12 +33,20 @@ static MESSAGE_HELP: &str = "Seconds for a message from its first byte on, 1 to 
 static REPLY_HELP: &str =
     "Seconds to take a reply, beside 1 for each 64 kB, 1 to 3600 [default: 10]";
 
+static STANDBY_HELP: &str =
+    "Wait while another process has the store, and serve once it lets go of it";
+
+static COPY_HELP: &str = "Where the copy is to stand; nothing may be there, nor at PATH-wal";
+
 static NAME_HELP: &str = "The tenant's name, 1 to 64 ASCII letters, digits or -, e.g. north-desk";
 
-static KEY_HELP: &str =
-    "The tenant's key, 64 hexadecimal digits, e.g. what openssl rand -hex 32 prints";
+static KEY_HELP: &str = "The tenant's key, 64 hexadecimal digits, or - [default: one is drawn]";
 
-static OTHER_KEY_HELP: &str = "The tenant's new key, 64 hexadecimal digits, never one that leaked";
+static OTHER_KEY_HELP: &str =
+    "The tenant's new key, 64 hexadecimal digits, or - [default: one is drawn]";
+
+static KEYS_HELP: &str = "A key that is drawn is printed. With --key - it is read from standard \
+    input. A key on the command line stands in the list of processes, where others see it.";
 
 static ROUTE_HELP: &str =
     "The path to which the body would be posted, e.g. /accounts [default: /transfers]";
@@ -138,7 +147,8 @@ fn counted_serve_command<'a>(alloc: Global) -> Result<clap::Command<'a>, AllocEr
             "The TCP port to listen on, below 65536, e.g. 8080",
         ))?
         .arg(free_option(alloc, "address", "IP", ADDRESS_HELP))?
-        .arg(limit_option(alloc, "requests", 0, u64::MAX, REQUESTS_HELP))
+        .arg(limit_option(alloc, "requests", 0, u64::MAX, REQUESTS_HELP))?
+        .arg(flag(alloc, "standby", STANDBY_HELP))
 }
 
 fn serve_command<'a>(alloc: Global) -> Result<clap::Command<'a>, AllocError>
@@ -157,8 +167,9 @@ fn tenant_add_command<'a>(alloc: Global) -> Result<clap::Command<'a>, AllocError
 {
     let about = "Add a tenant; an absent or empty file becomes a new store";
     store_command(alloc, "tenant-add", about)?
+        .after_help(KEYS_HELP)
         .arg(text_option(alloc, "name", "NAME", NAME_HELP))?
-        .arg(text_option(alloc, "key", "HEX", KEY_HELP))
+        .arg(free_option(alloc, "key", "HEX", KEY_HELP))
 }
 
 fn tenant_key_command<'a>(alloc: Global) -> Result<clap::Command<'a>, AllocError>
@@ -166,8 +177,34 @@ fn tenant_key_command<'a>(alloc: Global) -> Result<clap::Command<'a>, AllocError
 {
     let about = "Give a tenant another key; the one before is no longer good";
     store_command(alloc, "tenant-key", about)?
+        .after_help(KEYS_HELP)
         .arg(text_option(alloc, "name", "NAME", NAME_HELP))?
-        .arg(text_option(alloc, "key", "HEX", OTHER_KEY_HELP))
+        .arg(free_option(alloc, "key", "HEX", OTHER_KEY_HELP))
+}
+
+fn tenants_command<'a>(alloc: Global) -> Result<clap::Command<'a>, AllocError>
+    ensures { IfOk result (IsLeaf tenants_shape) }
+{
+    let about = "List the tenants, one line each: name, digest of the key, clock";
+    store_command(alloc, "tenants", about)
+}
+
+fn status_command<'a>(alloc: Global) -> Result<clap::Command<'a>, AllocError>
+    ensures { IfOk result (IsLeaf status_shape) }
+{
+    let about = "Tell the counts of the process that serves a store";
+    store_command(alloc, "status", about)?.arg(flag(
+        alloc,
+        "prometheus",
+        "As metrics in the text format of Prometheus",
+    ))
+}
+
+fn stop_command<'a>(alloc: Global) -> Result<clap::Command<'a>, AllocError>
+    ensures { IfOk result (IsLeaf stop_shape) }
+{
+    let about = "Stop the process that serves a store, once it has answered what has come";
+    store_command(alloc, "stop", about)
 }
 
 // A statement's command with what it must have, and the order of its entries.
@@ -247,6 +284,13 @@ fn migrate_command<'a>(alloc: Global) -> Result<clap::Command<'a>, AllocError>
     ))
 }
 
+fn copy_command<'a>(alloc: Global) -> Result<clap::Command<'a>, AllocError>
+    ensures { IfOk result (IsLeaf copy_shape) }
+{
+    let about = "Copy a store as it is at one moment, also while it is served";
+    store_command(alloc, "copy", about)?.arg(text_option(alloc, "to", "PATH", COPY_HELP))
+}
+
 fn lint_command<'a>(alloc: Global) -> Result<clap::Command<'a>, AllocError>
     ensures { IfOk result (IsLeaf lint_shape) }
 {
@@ -264,8 +308,12 @@ pub fn ledgerd_command<'a>(alloc: Global) -> Result<clap::Command<'a>, AllocErro
         .subcommand(serve_command(alloc)?)?
         .subcommand(tenant_add_command(alloc)?)?
         .subcommand(tenant_key_command(alloc)?)?
+        .subcommand(tenants_command(alloc)?)?
+        .subcommand(status_command(alloc)?)?
+        .subcommand(stop_command(alloc)?)?
         .subcommand(statement_command(alloc)?)?
         .subcommand(check_command(alloc)?)?
         .subcommand(migrate_command(alloc)?)?
+        .subcommand(copy_command(alloc)?)?
         .subcommand(lint_command(alloc)?)
 }

@@ -42,25 +42,40 @@ pub enum Command<'a> {
     Lists,
     /// Answer requests on `port` of `address`, that of 127.0.0.1 where none was given, until `requests`
     /// were answered, within `limits`. Where no number was given there is no end: `requests` is the
-    /// greatest.
+    /// greatest. With `standby` it waits while another process has the store.
     Serve {
         db: &'a str,
         address: Option<&'a str>,
         port: u16,
         requests: u64,
+        standby: bool,
         limits: LimitWords,
     },
-    /// Add a tenant, who is known by a key of 64 hexadecimal digits.
+    /// Add a tenant, who is known by a key of 64 hexadecimal digits. Without one a key is drawn;
+    /// where it is `-` the key is read from standard input.
     AddTenant {
         db: &'a str,
         name: &'a str,
-        key: &'a str,
+        key: Option<&'a str>,
     },
-    /// Give a tenant another key, of 64 hexadecimal digits.
+    /// Give a tenant another key. It is drawn or read as that of a new tenant.
     ChangeKey {
         db: &'a str,
         name: &'a str,
-        key: &'a str,
+        key: Option<&'a str>,
+    },
+    /// List the tenants.
+    Tenants {
+        db: &'a str,
+    },
+    /// Tell the counts of the service that serves a store, as metrics of Prometheus if `prometheus`.
+    Status {
+        db: &'a str,
+        prometheus: bool,
+    },
+    /// Stop the service that serves a store.
+    Stop {
+        db: &'a str,
     },
     /// Write an account's statement.
     Statement {
@@ -75,6 +90,11 @@ pub enum Command<'a> {
     },
     /// Bring a store to the schema `to`.
     Migrate {
+        db: &'a str,
+        to: &'a str,
+    },
+    /// Copy a store to the path `to`.
+    Copy {
         db: &'a str,
         to: &'a str,
     },

@@ -3,8 +3,8 @@ ghost use Rattle.clap.specs.Words.{found_of, rows_of, takes};
 ghost use Rattle.command_line.specs.Ledgerd.{ledgerd_app};
 ghost use Rattle.command_line.specs.Line.{IsCommandOf, IsFaultOf, Spells, SpellsLimits};
 ghost use Rattle.command_line.specs.Line.{SpellsStatement};
-ghost use Rattle.command_line.specs.Values.{FillsCheck, FillsLimits, FillsMigrate, FillsServe};
-ghost use Rattle.command_line.specs.Values.{FillsStatement, FillsTenant, HasNumber};
+ghost use Rattle.command_line.specs.Values.{FillsFile, FillsLimits, FillsTo, FillsServe};
+ghost use Rattle.command_line.specs.Values.{FillsStatement, FillsStatus, FillsTenant, HasNumber};
 ghost use Rattle.command_line.specs.Values.{HasFreeNumber, HasFreeText, HasNumberBelow, HasNumberOr};
 ghost use Rattle.command_line.specs.Values.{HasSomeText, HasText, IsFilled, IsFlag, IsFreeNumber};
 ghost use Rattle.command_line.specs.Values.{has_flag, text_in};
@@ -78,6 +78,7 @@ fn serve<'a>(values: &ArgMatches<'a>) -> Command<'a>
         address: free_text(values, "address"),
         port: port(values),
         requests: requests(values),
+        standby: is_set(values, "standby"),
         limits: limit_words(values),
     }
 }
@@ -89,7 +90,7 @@ fn add_tenant<'a>(values: &ArgMatches<'a>) -> Command<'a>
     Command::AddTenant {
         db: text(values, "db"),
         name: text(values, "name"),
-        key: text(values, "key"),
+        key: free_text(values, "key"),
     }
 }
 
@@ -98,11 +99,39 @@ fn change_key<'a>(values: &ArgMatches<'a>) -> Command<'a>
     ensures { Spells (codes "tenant-key") (rows_of (found_of values.now)) result }
 {
     let name = text(values, "name");
-    let key = text(values, "key");
+    let key = free_text(values, "key");
     Command::ChangeKey {
         db: text(values, "db"),
         name,
         key,
+    }
+}
+
+fn tenants<'a>(values: &ArgMatches<'a>) -> Command<'a>
+    requires { FillsFile (rows_of (found_of values.now)) }
+    ensures { Spells (codes "tenants") (rows_of (found_of values.now)) result }
+{
+    Command::Tenants {
+        db: text(values, "db"),
+    }
+}
+
+fn status<'a>(values: &ArgMatches<'a>) -> Command<'a>
+    requires { FillsStatus (rows_of (found_of values.now)) }
+    ensures { Spells (codes "status") (rows_of (found_of values.now)) result }
+{
+    Command::Status {
+        db: text(values, "db"),
+        prometheus: is_set(values, "prometheus"),
+    }
+}
+
+fn stop<'a>(values: &ArgMatches<'a>) -> Command<'a>
+    requires { FillsFile (rows_of (found_of values.now)) }
+    ensures { Spells (codes "stop") (rows_of (found_of values.now)) result }
+{
+    Command::Stop {
+        db: text(values, "db"),
     }
 }
 
@@ -135,7 +164,7 @@ fn statement<'a>(values: &ArgMatches<'a>) -> Command<'a>
 }
 
 fn check<'a>(values: &ArgMatches<'a>) -> Command<'a>
-    requires { FillsCheck (rows_of (found_of values.now)) }
+    requires { FillsFile (rows_of (found_of values.now)) }
     ensures { Spells (codes "check") (rows_of (found_of values.now)) result }
 {
     Command::Check {
@@ -144,10 +173,20 @@ fn check<'a>(values: &ArgMatches<'a>) -> Command<'a>
 }
 
 fn migrate<'a>(values: &ArgMatches<'a>) -> Command<'a>
-    requires { FillsMigrate (rows_of (found_of values.now)) }
+    requires { FillsTo (rows_of (found_of values.now)) }
     ensures { Spells (codes "migrate") (rows_of (found_of values.now)) result }
 {
     Command::Migrate {
+        db: text(values, "db"),
+        to: text(values, "to"),
+    }
+}
+
+fn copy<'a>(values: &ArgMatches<'a>) -> Command<'a>
+    requires { FillsTo (rows_of (found_of values.now)) }
+    ensures { Spells (codes "copy") (rows_of (found_of values.now)) result }
+{
+    Command::Copy {
         db: text(values, "db"),
         to: text(values, "to"),
     }
@@ -169,9 +208,13 @@ fn named<'a>(name: &str, values: &ArgMatches<'a>) -> Command<'a>
         "serve" => serve(values),
         "tenant-add" => add_tenant(values),
         "tenant-key" => change_key(values),
+        "tenants" => tenants(values),
+        "status" => status(values),
+        "stop" => stop(values),
         "statement" => statement(values),
         "check" => check(values),
         "migrate" => migrate(values),
+        "copy" => copy(values),
         "lint" => lint(values),
         _ => unreachable!(),
     }

@@ -3,5 +3,7 @@
 mod addresses;
 mod command_lines;
 mod faults;
+mod helps;
+mod lines;
 mod lints;
 mod times;

@@ -21,9 +21,37 @@ added_line name = codes "added " ++ name ++ 10 ∷ []
 abbrev pub changed_line : List ℕ → List ℕ
 changed_line name = codes "changed " ++ name ++ 10 ∷ []
 
+-- the line that tells a key which was drawn
+abbrev pub key_line : List ℕ → List ℕ
+key_line key = codes "key " ++ key ++ 10 ∷ []
+
+-- the line that tells that a service has ended
+abbrev pub stopped_line : List ℕ
+stopped_line = codes "stopped" ++ 10 ∷ []
+
+-- the first line of a list of tenants, which names what stands in each other line
+abbrev pub tenants_line : List ℕ
+tenants_line = codes "name,digest,clock" ++ 10 ∷ []
+
+-- the line of a tenant in it
+abbrev pub tenant_line : List ℕ → List ℕ → List ℕ → List ℕ
+tenant_line name digest clock = name ++ 44 ∷ digest ++ 44 ∷ clock ++ 10 ∷ []
+
+-- the line of a count of a service
+abbrev pub count_line : List ℕ → List ℕ → List ℕ
+count_line name count = name ++ 32 ∷ count ++ 10 ∷ []
+
+-- the line of a count in the text format of Prometheus
+abbrev pub metric_line : List ℕ → List ℕ → List ℕ
+metric_line name count = codes "ledgerd_" ++ count_line name count
+
 -- the line on standard error that tells a file which has become a new ledger
 abbrev pub new_ledger_line : List ℕ → List ℕ
 new_ledger_line path = codes "new ledger " ++ path ++ 10 ∷ []
+
+-- the line that tells how many bytes a copy has
+abbrev pub copied_line : List ℕ → List ℕ
+copied_line bytes = codes "copied " ++ bytes ++ 10 ∷ []
 
 -- the line that tells the version of a file
 abbrev pub schema_line : List ℕ → List ℕ

@@ -1,5 +1,5 @@
 ghost use Rattle.std.specs.Prelude.{◌≡◌};
-ghost use Rattle.command_texts.specs.Faults.{status_of};
+ghost use Rattle.command_texts.specs.Faults.{fault_of, status_of, word_of};
 ghost use Rattle.command_texts.specs.Lines.{fault_line};
 ghost use Rattle.command_texts.specs.declared.fault.Fault.TheVariants.{Unavailable};
 
@@ -16,6 +16,10 @@ pub enum Fault {
     NoTenant,
     /// The tenant has no account with the id.
     NoAccount,
+    /// No process serves the file.
+    NotServed,
+    /// Something has one of the names that a copy is to have.
+    Exists,
     /// A name is 1 to 64 ASCII letters, digits or `-`.
     BadName,
     /// A key is 64 hexadecimal digits.
@@ -38,7 +42,7 @@ pub enum Fault {
     Socket,
     /// Standard output could not be written.
     Output,
-    /// The file is absent, in use, no database, or has other tables before a ledger's.
+    /// The file is absent or may not be read, is no database, or has other tables before a ledger's.
     Unreadable,
     /// The file is a database of something else.
     NotALedger,
@@ -48,42 +52,87 @@ pub enum Fault {
     NewerSchema,
     /// The audit refuses the file's rows.
     Damaged,
+    /// Another process has the file.
+    InUse,
 }
 
-// A fault's line, by its word.
-macro_rules! line {
-    ($word:literal) => {
-        concat!("ledgerd: ", $word, "\n")
+// The word of a fault, between two other texts.
+macro_rules! told {
+    ($fault:expr, $before:literal, $behind:literal) => {
+        match $fault {
+            Fault::NameTaken => concat!($before, "name_taken", $behind),
+            Fault::DigestTaken => concat!($before, "digest_taken", $behind),
+            Fault::NoTenant => concat!($before, "no_tenant", $behind),
+            Fault::NoAccount => concat!($before, "no_account", $behind),
+            Fault::NotServed => concat!($before, "not_served", $behind),
+            Fault::Exists => concat!($before, "exists", $behind),
+            Fault::BadName => concat!($before, "bad_name", $behind),
+            Fault::BadKey => concat!($before, "bad_key", $behind),
+            Fault::BadAccount => concat!($before, "bad_account", $behind),
+            Fault::BadVersion => concat!($before, "bad_version", $behind),
+            Fault::BadTime => concat!($before, "bad_time", $behind),
+            Fault::BadFormat => concat!($before, "bad_format", $behind),
+            Fault::BadAddress => concat!($before, "bad_address", $behind),
+            Fault::BadRoute => concat!($before, "bad_route", $behind),
+            Fault::Unavailable => concat!($before, "unavailable", $behind),
+            Fault::Socket => concat!($before, "socket", $behind),
+            Fault::Output => concat!($before, "output", $behind),
+            Fault::Unreadable => concat!($before, "unreadable", $behind),
+            Fault::NotALedger => concat!($before, "not_a_ledger", $behind),
+            Fault::OldSchema => concat!($before, "old_schema", $behind),
+            Fault::NewerSchema => concat!($before, "newer_schema", $behind),
+            Fault::Damaged => concat!($before, "damaged", $behind),
+            Fault::InUse => concat!($before, "in_use", $behind),
+        }
     };
 }
 
 impl Fault {
+    /// The word that tells it.
+    pub fn word(self) -> &'static str
+        ensures word { result.now ≡ word_of self }
+        ensures back { fault_of result.now ≡ Some self }
+    {
+        told!(self, "", "")
+    }
+
+    /// The fault that a word tells, if it tells one.
+    pub fn of_word(word: &str) -> Option<Fault>
+        ensures { result ≡ fault_of word.now }
+    {
+        match word {
+            "name_taken" => Some(Fault::NameTaken),
+            "digest_taken" => Some(Fault::DigestTaken),
+            "no_tenant" => Some(Fault::NoTenant),
+            "no_account" => Some(Fault::NoAccount),
+            "not_served" => Some(Fault::NotServed),
+            "exists" => Some(Fault::Exists),
+            "bad_name" => Some(Fault::BadName),
+            "bad_key" => Some(Fault::BadKey),
+            "bad_account" => Some(Fault::BadAccount),
+            "bad_version" => Some(Fault::BadVersion),
+            "bad_time" => Some(Fault::BadTime),
+            "bad_format" => Some(Fault::BadFormat),
+            "bad_address" => Some(Fault::BadAddress),
+            "bad_route" => Some(Fault::BadRoute),
+            "unavailable" => Some(Fault::Unavailable),
+            "socket" => Some(Fault::Socket),
+            "output" => Some(Fault::Output),
+            "unreadable" => Some(Fault::Unreadable),
+            "not_a_ledger" => Some(Fault::NotALedger),
+            "old_schema" => Some(Fault::OldSchema),
+            "newer_schema" => Some(Fault::NewerSchema),
+            "damaged" => Some(Fault::Damaged),
+            "in_use" => Some(Fault::InUse),
+            _ => None,
+        }
+    }
+
     /// The line that tells it on standard error, with its line feed.
     pub fn line(self) -> &'static str
         ensures { result.now ≡ fault_line self }
     {
-        match self {
-            Fault::NameTaken => line!("name_taken"),
-            Fault::DigestTaken => line!("digest_taken"),
-            Fault::NoTenant => line!("no_tenant"),
-            Fault::NoAccount => line!("no_account"),
-            Fault::BadName => line!("bad_name"),
-            Fault::BadKey => line!("bad_key"),
-            Fault::BadAccount => line!("bad_account"),
-            Fault::BadVersion => line!("bad_version"),
-            Fault::BadTime => line!("bad_time"),
-            Fault::BadFormat => line!("bad_format"),
-            Fault::BadAddress => line!("bad_address"),
-            Fault::BadRoute => line!("bad_route"),
-            Fault::Unavailable => line!("unavailable"),
-            Fault::Socket => line!("socket"),
-            Fault::Output => line!("output"),
-            Fault::Unreadable => line!("unreadable"),
-            Fault::NotALedger => line!("not_a_ledger"),
-            Fault::OldSchema => line!("old_schema"),
-            Fault::NewerSchema => line!("newer_schema"),
-            Fault::Damaged => line!("damaged"),
-        }
+        told!(self, "ledgerd: ", "\n")
     }
 
     /// The status with which the program ends.
@@ -91,7 +140,12 @@ impl Fault {
         ensures { result ≡ status_of self }
     {
         match self {
-            Fault::NameTaken | Fault::DigestTaken | Fault::NoTenant | Fault::NoAccount => 1,
+            Fault::NameTaken
+            | Fault::DigestTaken
+            | Fault::NoTenant
+            | Fault::NoAccount
+            | Fault::NotServed
+            | Fault::Exists => 1,
             Fault::BadName
             | Fault::BadKey
             | Fault::BadAccount
@@ -106,6 +160,7 @@ impl Fault {
             | Fault::OldSchema
             | Fault::NewerSchema
             | Fault::Damaged => 4,
+            Fault::InUse => 5,
         }
     }
 }

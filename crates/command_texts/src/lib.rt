@@ -13,8 +13,8 @@ mod words;
 
 pub use fault::Fault;
 pub use lines::{
-    damage_line, put_added, put_changed, put_schema, put_text, tell_fault, tell_fault_for,
-    tell_new_ledger,
+    damage_line, put_added, put_changed, put_copied, put_count, put_key, put_metric, put_schema,
+    put_stopped, put_tenant, put_tenants, put_text, tell_fault, tell_fault_for, tell_new_ledger,
 };
 pub use linting::lint;
 pub use moments::{first_moment, last_moment};

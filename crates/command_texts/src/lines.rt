@@ -3,8 +3,10 @@ ghost use Rattle.std.specs.Prelude.{◌≡◌, ◌∷◌, ◌++◌, [], false, i
 ghost use Rattle.std.specs.String.{string_bytes};
 ghost use Rattle.std.specs.Io.KnownBytes.{Appends};
 ghost use Rattle.command_texts.specs.Faults.{status_of};
-ghost use Rattle.command_texts.specs.Lines.{IsFaultWritten, IsWritten, added_line, changed_line};
-ghost use Rattle.command_texts.specs.Lines.{damage_line, fault_line, new_ledger_line, schema_line};
+ghost use Rattle.command_texts.specs.Lines.{IsFaultWritten, IsWritten, added_line, changed_line, copied_line};
+ghost use Rattle.command_texts.specs.Lines.{count_line, damage_line, fault_line, key_line};
+ghost use Rattle.command_texts.specs.Lines.{metric_line, new_ledger_line, schema_line, stopped_line};
+ghost use Rattle.command_texts.specs.Lines.{tenant_line, tenants_line};
 
 use crate::Fault;
 use audit::Damage;
@@ -83,6 +85,89 @@ pub fn put_changed<O: Drain>(out: &mut O, name: &TenantName) -> Result<(), Fault
     ensures failed { O.failed out.new ≡ is_err result }
 {
     put_line(out, "changed ", name.as_str())
+}
+
+/// Tells a key that was drawn, in hexadecimal digits.
+pub fn put_key<O: Drain>(out: &mut O, key: &str) -> Result<(), Fault>
+    requires { O.failed out.old ≡ false }
+    ensures ok { OnOk result (Appends (O.written out.old) (O.written out.new)
+        (key_line key.now)) }
+    ensures fault { IfErr result (λ fault. fault ≡ Fault.Output) }
+    ensures failed { O.failed out.new ≡ is_err result }
+{
+    put_line(out, "key ", key)
+}
+
+/// Tells how many bytes a copy has.
+pub fn put_copied<O: Drain>(out: &mut O, bytes: &str) -> Result<(), Fault>
+    requires { O.failed out.old ≡ false }
+    ensures ok { OnOk result (Appends (O.written out.old) (O.written out.new)
+        (copied_line bytes.now)) }
+    ensures fault { IfErr result (λ fault. fault ≡ Fault.Output) }
+    ensures failed { O.failed out.new ≡ is_err result }
+{
+    put_line(out, "copied ", bytes)
+}
+
+/// Tells that the service of a file has ended.
+pub fn put_stopped<O: Drain>(out: &mut O) -> Result<(), Fault>
+    requires { O.failed out.old ≡ false }
+    ensures ok { OnOk result (Appends (O.written out.old) (O.written out.new)
+        stopped_line) }
+    ensures fault { IfErr result (λ fault. fault ≡ Fault.Output) }
+    ensures failed { O.failed out.new ≡ is_err result }
+{
+    put_text(out, "stopped\n")
+}
+
+/// Begins a list of tenants, as CSV.
+pub fn put_tenants<O: Drain>(out: &mut O) -> Result<(), Fault>
+    requires { O.failed out.old ≡ false }
+    ensures ok { OnOk result (Appends (O.written out.old) (O.written out.new)
+        tenants_line) }
+    ensures fault { IfErr result (λ fault. fault ≡ Fault.Output) }
+    ensures failed { O.failed out.new ≡ is_err result }
+{
+    put_text(out, "name,digest,clock\n")
+}
+
+/// Tells one of them: the name, the key's digest in hexadecimal digits, and the clock, the greatest
+/// timestamp so far, in decimal. None of them has a comma or a quote, so nothing is quoted.
+pub fn put_tenant<O: Drain>(out: &mut O, name: &str, digest: &str, clock: &str) -> Result<(), Fault>
+    requires { O.failed out.old ≡ false }
+    ensures ok { OnOk result (Appends (O.written out.old) (O.written out.new)
+        (tenant_line name.now digest.now clock.now)) }
+    ensures fault { IfErr result (λ fault. fault ≡ Fault.Output) }
+    ensures failed { O.failed out.new ≡ is_err result }
+{
+    put_text(out, name)?;
+    put_text(out, ",")?;
+    put_text(out, digest)?;
+    put_line(out, ",", clock)
+}
+
+/// Tells a count of a service, in decimal.
+pub fn put_count<O: Drain>(out: &mut O, name: &str, count: &str) -> Result<(), Fault>
+    requires { O.failed out.old ≡ false }
+    ensures ok { OnOk result (Appends (O.written out.old) (O.written out.new)
+        (count_line name.now count.now)) }
+    ensures fault { IfErr result (λ fault. fault ≡ Fault.Output) }
+    ensures failed { O.failed out.new ≡ is_err result }
+{
+    put_text(out, name)?;
+    put_line(out, " ", count)
+}
+
+/// Tells a count of a service as Prometheus reads it.
+pub fn put_metric<O: Drain>(out: &mut O, name: &str, count: &str) -> Result<(), Fault>
+    requires { O.failed out.old ≡ false }
+    ensures ok { OnOk result (Appends (O.written out.old) (O.written out.new)
+        (metric_line name.now count.now)) }
+    ensures fault { IfErr result (λ fault. fault ≡ Fault.Output) }
+    ensures failed { O.failed out.new ≡ is_err result }
+{
+    put_text(out, "ledgerd_")?;
+    put_count(out, name, count)
 }
 
 /// Tells the version that a file has come to, as it was written.

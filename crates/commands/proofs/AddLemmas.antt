@@ -1,17 +1,18 @@
 -- What the program tells of a tenant, from what the store answers.
-use Rattle.std.specs.Prelude.{IfErr, ⊤}
-use Rattle.std.proofs.Common.{◌≡◌, ℕ, List, Result, Ok, Err, sym, subst}
+use Rattle.std.proofs.Common.{◌≡◌, ℕ, List, Result, Ok, Err, refl, sym, subst}
 use Rattle.sqlite_disk.specs.declared.Disk as disk
 use Rattle.sqlite.specs.Effect.{Database}
+use Rattle.service.specs.Courses.{Ending}
 use Rattle.stored_ledgers.specs.declared.joining.AddTenant.{AddTenant}
 use Rattle.stored_ledgers.specs.declared.joining.AddTenant.TheVariants as add
+use Rattle.store.specs.Deeds.{ending_of}
 use Rattle.store.specs.declared.place.Place.{Place}
 use Rattle.store.specs.declared.place.Place.TheVariants as at
 use Rattle.stored_ledgers.specs.Joining.{HasJoined}
 use Rattle.store.specs.Stores.{OfDatabaseAt}
 use Rattle.command_texts.specs.declared.fault.Fault.{Fault}
-use Rattle.command_texts.specs.declared.fault.Fault.TheVariants.{Output}
 use Rattle.commands.specs.Adding.{IsAdded, add_fault}
+use Rattle.commands.specs.Orders.{ending_told}
 
 -- what follows of the databases, where something holds of them
 pub of_both :
@@ -39,11 +40,15 @@ told_refused name digest old new why fault is joined =
     subst (λ (f : Fault). IsAdded name digest old new (Err f)) (sym is)
     (refused name digest old new why joined)
 
--- a tenant that is added, whether or not that could be written
-pub told_added :
-    (name digest : List ℕ) (old new : Database) (written : Result ⊤ Fault) →
-    IfErr written (λ fault. fault ≡ Output) →
-    HasJoined name digest old new (Ok tt) → IsAdded name digest old new written
-told_added name digest old new (Ok done) output joined = joined
-told_added name digest old new (Err fault) output joined =
-    subst (λ (f : Fault). IsAdded name digest old new (Err f)) (sym output) joined
+told_as : (why : AddTenant) → ending_of (Err why) ≡ ending_told {T = Unit {0}} (Err (add_fault why))
+told_as add.NameTaken = refl
+told_as add.DigestTaken = refl
+told_as (add.Unavailable cause) = refl
+
+-- what holds of how the adding ended holds of what is told of it
+pub ends_refused :
+    (P : Ending → Type 0) (why : AddTenant) (fault : Fault) → fault ≡ add_fault why →
+    P (ending_of (Err why)) → P (ending_told {T = Unit {0}} (Err fault))
+ends_refused P why fault is holds =
+    subst (λ (f : Fault). P (ending_told {T = Unit {0}} (Err f))) (sym is)
+    (subst P (told_as why) holds)

@@ -1,6 +1,7 @@
 mod ServingLemmas
 mod AddLemmas
 mod KeyLemmas
+mod OrderLemmas
 pub mod ExtractLemmas
 mod AskLemmas
 pub mod RenewLemmas

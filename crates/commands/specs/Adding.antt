@@ -6,7 +6,6 @@ use Rattle.stored_ledgers.specs.declared.joining.AddTenant.TheVariants as add
 use Rattle.stored_ledgers.specs.Joining.{HasJoined}
 use Rattle.command_texts.specs.declared.fault.Fault.{Fault}
 use Rattle.command_texts.specs.declared.fault.Fault.TheVariants.{NameTaken, DigestTaken, Unavailable}
-use Rattle.command_texts.specs.declared.fault.Fault.TheVariants.{Output}
 
 -- the fault that the program tells where a tenant is not added
 abbrev pub add_fault : AddTenant → Fault
@@ -14,11 +13,10 @@ add_fault add.NameTaken = NameTaken
 add_fault add.DigestTaken = DigestTaken
 add_fault (add.Unavailable why) = Unavailable
 
--- the tenant has joined, also where that cannot be told; or its name is taken, or else its digest,
--- or nothing is known but that all is as before
+-- the tenant has joined; or its name is taken, or else its digest, or nothing is known but that all is
+-- as before
 abbrev pub IsAdded : List ℕ → List ℕ → Database → Database → Result ⊤ Fault → Type 0
 IsAdded name digest old new (Ok done) = HasJoined name digest old new (Ok tt)
-IsAdded name digest old new (Err Output) = HasJoined name digest old new (Ok tt)
 IsAdded name digest old new (Err NameTaken) = HasJoined name digest old new (Err add.NameTaken)
 IsAdded name digest old new (Err DigestTaken) = HasJoined name digest old new (Err add.DigestTaken)
 IsAdded name digest old new (Err Unavailable) = new ≡ old

@@ -1,11 +1,13 @@
 -- Ledgers that may not be there, and a store that is opened again where its disk fails.
-use Rattle.std.specs.Prelude.{◌≡◌, Bool, true, false, None, IsTrue}
+use Rattle.std.specs.Prelude.{◌≡◌, Bool, true, false, Option, Some, None, IsTrue}
 use Rattle.std.proofs.Common.{refl}
 use Rattle.sqlite_disk.specs.declared.Disk as disk
 use Rattle.chain.specs.Ledgers.{LedgersMeaning, Tenants, AreValid}
-use Rattle.service.specs.Openings.{RunMeaning, run_meaning, IsSettled, IsOpened}
+use Rattle.service.specs.Courses as course
+use Rattle.service.specs.Deeds.{Deed}
+use Rattle.service.specs.Openings.{RunMeaning, run_meaning, IsSettled, IsOpened, Moves}
 use Rattle.service.specs.Seen.{Seen, Whole, Within, seen}
-use Rattle.polling.specs.Courses.{Renewed, Stayed, Opened, Refused, renewed_seen}
+use Rattle.polling.specs.Courses.{IsAtRest, Renewed, Stayed, Opened, Refused, Tried, Rested, renewed_seen}
 use Rattle.polling.specs.Courses as renewed
 use Rattle.polling.specs.Serving.{renews_seen}
 use Rattle.store.specs.StoreLaws.{store_meaning}
@@ -13,6 +15,11 @@ use Rattle.store.specs.Stores.{IsLive}
 use Rattle.store.specs.declared.store.Store.{Store}
 use Rattle.commands.specs.declared.kept.Kept.{Kept}
 use Rattle.commands.specs.declared.kept.Kept.TheVariants.{Open, Closed}
+
+-- ledgers, or none where they are still to be opened
+abbrev pub kept_of : {S : Type 0} → Option S → Kept S
+kept_of (Some ledgers) = Open ledgers
+kept_of None = Closed
 
 module _ {S : Type 0} (t : LedgersMeaning S) where
   -- where there are no ledgers there is no tenant
@@ -113,9 +120,10 @@ module _ {D : Type 0} {g : disk.Ghosts D} where
   WasRefused Closed (Open left) = ⊥
   WasRefused Closed Closed = Unit {0}
 
-  -- what opening again makes of a store: one that answers calls stays as it is; any other may stay,
+  -- what is made of a store between turns: one that answers calls stays as it is; any other may stay,
   -- or is opened again over its own files, and is what was to be found there; or that is refused, and
-  -- a store is opened anew in its place; or that is refused too, and none answers
+  -- a store is opened anew in its place; or that is refused too, and none answers; or an operator has
+  -- asked for a deed, and this came of it; or for what is there, and nothing has changed
   pub data Renews (old new : Kept (Store D g)) : Type 0 where
     Stays : new ≡ old → Renews old new
     Again :
@@ -126,6 +134,10 @@ module _ {D : Type 0} {g : disk.Ghosts D} where
     Refuses :
         answers old ≡ false → answers new ≡ false → (IsLiveKept store_meaning new → ⊥)
         → Renews old new
+    Tries :
+        (deed : Deed) (ending : course.Ending) → Moves kept_store old (course.Tried deed ending) new
+        → Renews old new
+    Looks : IsAtRest kept_store old new → Renews old new
 
   -- the same as it is told of any ledgers
   abbrev pub renewal_of : (old new : Kept (Store D g)) → Renews old new → Renewed kept_store old new
@@ -133,6 +145,8 @@ module _ {D : Type 0} {g : disk.Ghosts D} where
   renewal_of old new (Again silent answering opened) = Opened opened
   renewal_of old new (Anew left silent refused answering settled) = renewed.Anew settled
   renewal_of old new (Refuses silent none dead) = Refused dead
+  renewal_of old new (Tries deed ending moves) = Tried deed ending moves
+  renewal_of old new (Looks rest) = Rested rest
 
   -- the store, if it is there, may be called
   abbrev pub MayBeCalled : Kept (Store D g) → Type 0

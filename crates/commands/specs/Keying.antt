@@ -6,7 +6,6 @@ use Rattle.stored_ledgers.specs.declared.keying.ChangeKey.TheVariants as change
 use Rattle.stored_ledgers.specs.Keying.{HasKeyed}
 use Rattle.command_texts.specs.declared.fault.Fault.{Fault}
 use Rattle.command_texts.specs.declared.fault.Fault.TheVariants.{NoTenant, DigestTaken, Unavailable}
-use Rattle.command_texts.specs.declared.fault.Fault.TheVariants.{Output}
 
 -- the fault that the program tells where a key is not changed
 abbrev pub key_fault : ChangeKey → Fault
@@ -14,11 +13,10 @@ key_fault change.NoTenant = NoTenant
 key_fault change.DigestTaken = DigestTaken
 key_fault (change.Unavailable why) = Unavailable
 
--- the tenant has the key, also where that cannot be told; or there is no such tenant, or else another
--- has the digest, or nothing is known but that all is as before
+-- the tenant has the key; or there is no such tenant, or else another has the digest, or nothing is
+-- known but that all is as before
 abbrev pub IsChanged : List ℕ → List ℕ → Database → Database → Result ⊤ Fault → Type 0
 IsChanged name digest old new (Ok done) = HasKeyed name digest old new (Ok tt)
-IsChanged name digest old new (Err Output) = HasKeyed name digest old new (Ok tt)
 IsChanged name digest old new (Err NoTenant) = HasKeyed name digest old new (Err change.NoTenant)
 IsChanged name digest old new (Err DigestTaken) =
     HasKeyed name digest old new (Err change.DigestTaken)

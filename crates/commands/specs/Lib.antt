@@ -10,3 +10,7 @@ pub mod Migrating
 pub mod Program
 pub mod Asking
 pub mod Extracts
+pub mod GivenKeys
+pub mod Orders
+pub mod Listing
+pub mod Copying

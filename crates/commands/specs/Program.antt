@@ -19,11 +19,13 @@ use Rattle.command_line.specs.declared.fault.LineFault.{LineFault}
 use Rattle.command_line.specs.declared.fault.LineFault.TheVariants.{Refused, Version, Memory}
 use Rattle.command_texts.specs.Faults.{status_of}
 use Rattle.command_texts.specs.Lines.{IsWritten, added_line, changed_line, damage_line}
-use Rattle.command_texts.specs.Lines.{fault_line, new_ledger_line, schema_line}
+use Rattle.command_texts.specs.Lines.{copied_line, fault_line, new_ledger_line, schema_line, stopped_line}
 use Rattle.command_line.specs.declared.commands.StatementWords.{StatementWords}
 use Rattle.commands.specs.Asking.{MeansPeriod, read_form}
 use Rattle.statement.specs.declared.period.Period.{Period}
+use Rattle.commands.specs.GivenKeys.{IsGivenKey, AreLinesTold}
 use Rattle.commands.specs.declared.ended.Ended.{Ended}
+use Rattle.commands.specs.declared.given_key.GivenKey.{GivenKey}
 use Rattle.command_texts.specs.declared.fault.Fault.{Fault}
 use Rattle.command_texts.specs.declared.fault.Fault.TheVariants.{BadName, BadKey, BadAccount}
 use Rattle.command_texts.specs.declared.fault.Fault.TheVariants.{BadVersion, BadTime, BadFormat}
@@ -46,23 +48,34 @@ IsNoneOr text (Some found) = found ≡ text
 abbrev pub IsCalm : {O : Type 0} → Ended O → Type 0
 IsCalm ended = (ended.is_damaged ≡ false) × (ended.made ≡ None)
 
+-- a word on the command line that is no key
+abbrev pub IsNoKey : Option (List ℕ) → Type 0
+IsNoKey None = ⊥
+IsNoKey (Some word) = (word ≢ codes "-") × (key_of word ≡ None)
+
+-- a line is told, and behind it the key, where no word gives one and it is drawn
+abbrev pub TellsKey :
+    Option (List ℕ) → Option (List ℕ) → Option (List ℕ) → List ℕ → Type 0
+TellsKey word old new line = (key : GivenKey) × IsGivenKey word key × AreLinesTold old new line key
+
 -- a tenant is added, and a line tells so, and whether the file has become a new ledger; before the
 -- file is opened the name is judged, then the key
-pub record AddsTenant {O : Type 0} (written : O → Option (List ℕ)) (db name key : List ℕ) (out : O)
-    (result : Result (Ended O) Fault) : Type 0 where
+pub record AddsTenant {O : Type 0} (written : O → Option (List ℕ)) (db name : List ℕ)
+    (key : Option (List ℕ)) (out : O) (result : Result (Ended O) Fault) : Type 0 where
   pub name_first : ¬ IsTenantName name → result ≡ Err BadName
-  pub key_next : IsTenantName name → key_of key ≡ None → result ≡ Err BadKey
-  pub line : IfOk result (λ ended. Appends (written out) (written ended.out) (added_line name))
+  pub key_next : IsTenantName name → IsNoKey key → result ≡ Err BadKey
+  pub line : IfOk result (λ ended. TellsKey key (written out) (written ended.out) (added_line name))
   pub calm : IfOk result (λ ended. ended.is_damaged ≡ false)
   pub made : IfOk result (λ ended. IsNoneOr db (text_in ended.made))
 
 -- a tenant's key is changed, and a line tells so; before the file is opened the name is judged, then
 -- the key
-pub record ChangesKey {O : Type 0} (written : O → Option (List ℕ)) (name key : List ℕ) (out : O)
-    (result : Result (Ended O) Fault) : Type 0 where
+pub record ChangesKey {O : Type 0} (written : O → Option (List ℕ)) (name : List ℕ)
+    (key : Option (List ℕ)) (out : O) (result : Result (Ended O) Fault) : Type 0 where
   pub name_first : ¬ IsTenantName name → result ≡ Err BadName
-  pub key_next : IsTenantName name → key_of key ≡ None → result ≡ Err BadKey
-  pub line : IfOk result (λ ended. Appends (written out) (written ended.out) (changed_line name))
+  pub key_next : IsTenantName name → IsNoKey key → result ≡ Err BadKey
+  pub line :
+      IfOk result (λ ended. TellsKey key (written out) (written ended.out) (changed_line name))
   pub calm : IfOk result IsCalm
 
 -- a statement is written; before the file is opened the name is judged, then the account's id, then
@@ -96,6 +109,19 @@ pub record Migrates {O : Type 0} (written : O → Option (List ℕ)) (to : List 
   pub line : IfOk result (λ ended. Appends (written out) (written ended.out) (schema_line to))
   pub calm : IfOk result IsCalm
 
+-- a line tells how many bytes a copy has
+pub record Copies {O : Type 0} (written : O → Option (List ℕ)) (out : O)
+    (result : Result (Ended O) Fault) : Type 0 where
+  pub line : IfOk result (λ ended. (bytes : List ℕ)
+      × Appends (written out) (written ended.out) (copied_line bytes))
+  pub calm : IfOk result IsCalm
+
+-- a line tells that the service has ended
+pub record Stops {O : Type 0} (written : O → Option (List ℕ)) (out : O)
+    (result : Result (Ended O) Fault) : Type 0 where
+  pub line : IfOk result (λ ended. Appends (written out) (written ended.out) stopped_line)
+  pub calm : IfOk result IsCalm
+
 -- the versions are written
 pub record TellsVersion {O : Type 0} (written : O → Option (List ℕ)) (out : O)
     (result : Result (Ended O) Fault) : Type 0 where
@@ -110,16 +136,20 @@ DoesNothing out result = result ≡ Ok (record { out = out; is_damaged = false; 
 abbrev pub Does :
     {O : Type 0} → (O → Option (List ℕ)) → Command → O → Result (Ended O) Fault → Type 0
 Does written command.Lists out result = DoesNothing out result
-Does written (command.Serve db address port requests limits) out result = DoesNothing out result
+Does written (command.Serve db address port requests standby limits) out result = DoesNothing out result
 Does written (command.AddTenant db name key) out result =
-    AddsTenant written db.now name.now key.now out result
+    AddsTenant written db.now name.now (text_in key) out result
 Does written (command.ChangeKey db name key) out result =
-    ChangesKey written name.now key.now out result
+    ChangesKey written name.now (text_in key) out result
 Does written (command.Statement db tenant account asked) out result =
     WritesStatement tenant.now account.now asked result
 Does written (command.Check db) out result = Checks written out result
 Does written (command.Migrate db to) out result = Migrates written to.now out result
 Does written (command.Lint route) out result = DoesNothing out result
+Does written (command.Tenants db) out result = IfOk result IsCalm
+Does written (command.Status db prometheus) out result = IfOk result IsCalm
+Does written (command.Copy db to) out result = Copies written out result
+Does written (command.Stop db) out result = Stops written out result
 
 -- standard error, before and behind the program
 pub record Told : Type 0 where

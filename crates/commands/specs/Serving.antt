@@ -1,5 +1,5 @@
 -- What serving many clients comes to, until so many messages were replied to.
-use Rattle.std.specs.Prelude.{◌≡◌, ◌≤◌, ◌<◌, ℕ, List, ⊤, Result, OnOk, OnErr}
+use Rattle.std.specs.Prelude.{◌≡◌, ◌≢◌, ◌≤◌, ◌<◌, ℕ, List, Result, Ok, OnErr}
 use Rattle.sqlite_disk.specs.declared.Disk as disk
 use Rattle.chain.specs.Ledgers.{Tenants}
 use Rattle.service.specs.Courses.{Event}
@@ -15,19 +15,20 @@ use Rattle.polling.specs.Peers.{Doing}
 use Rattle.polling.specs.Seating.{replies_in}
 use Rattle.polling.specs.Serving.{Hall, Rules, Serves, rules, tellings}
 use Rattle.store.specs.StoreLaws.{store_meaning}
-use Rattle.store.specs.Stores.{IsLive}
 use Rattle.store.specs.declared.store.Store.{Store}
-use Rattle.commands.specs.Kept.{kept_meaning, kept_store, Renews, renewal_seen}
+use Rattle.commands.specs.Kept.{kept_meaning, kept_store, IsLiveKept, Renews, renewal_seen}
+use Rattle.commands.specs.declared.serving.Served.{Served}
+use Rattle.commands.specs.declared.serving.Served.TheVariants.{Enough}
 use Rattle.commands.specs.declared.kept.Kept.{Kept}
-use Rattle.commands.specs.declared.kept.Kept.TheVariants.{Open}
 use Rattle.command_texts.specs.declared.fault.Fault.{Fault}
 
 -- clients were served from the first that came, until so many messages were replied to, and no
--- more; or, with a fault, fewer were, and peers told 2^64 - 1 times at least what had happened; each
+-- more, or fewer were, since it was asked to end; or, with a fault, fewer were, and peers told 2^64 - 1
+-- times at least what had happened; each
 -- was written a beginning of the replies to its own messages, in order, one a message; and over live
 -- ledgers all that was done is a course, in which each tenant sees its own deeds alone
 pub record ServesClients {S C P : Type 0} (r : Rules S C P) (ledgers : S) (moments : C) (peers : P)
-    (most : ℕ) (ledgers_now : S) (moments_now : C) (peers_now : P) (result : Result ⊤ Fault) :
+    (most : ℕ) (ledgers_now : S) (moments_now : C) (peers_now : P) (result : Result Served Fault) :
     Type 0 where
   pub deeds : List Deed
   pub last : Hall S C P
@@ -50,8 +51,8 @@ pub record ServesClients {S C P : Type 0} (r : Rules S C P) (ledgers : S) (momen
       → CourseSince (IsSince renewals (empty_hall ledgers moments peers) deeds last served) events
       began now
       → (digest : List ℕ) → SeesItself began events now digest
-  pub enough : OnOk result (replies_in deeds ≡ most)
-  pub few : OnErr result (replies_in deeds < most)
+  pub enough : result ≡ Ok Enough → replies_in deeds ≡ most
+  pub few : result ≢ Ok Enough → replies_in deeds < most
   pub asked : OnErr result (most_turns ≤ tellings served)
 
 module _ {D : Type 0} {g : disk.Ghosts D} {C P : Type 0} (gives : C → ℕ → C → Type 0)
@@ -64,14 +65,14 @@ module _ {D : Type 0} {g : disk.Ghosts D} {C P : Type 0} (gives : C → ℕ → 
   -- clients were served by a store, whenever it was opened again, or by what stood in its place; and
   -- if it was live when this began, all that was done is a course of what happened to it, begun anew
   -- only where an opening was refused or a store opened anew
-  pub record ServesStore (store : Store D g) (moments : C) (peers : P) (most : ℕ) (moments_now : C)
-      (peers_now : P) (result : Result ⊤ Fault) : Type 0 where
+  pub record ServesStore (first : Kept (Store D g)) (moments : C) (peers : P) (most : ℕ) (moments_now : C)
+      (peers_now : P) (result : Result Served Fault) : Type 0 where
     pub kept : Kept (Store D g)
     pub served :
-        ServesClients store_rules (Whole (Open store)) moments peers most (Whole kept) moments_now
+        ServesClients store_rules (Whole first) moments peers most (Whole kept) moments_now
         peers_now result
     pub course :
-        IsLive store
+        IsLiveKept store_meaning first
         → HasLed kept_store
-        (IsSince renewal_seen (empty_hall (Whole (Open store)) moments peers) served.deeds
+        (IsSince renewal_seen (empty_hall (Whole first) moments peers) served.deeds
         served.last served.served) kept

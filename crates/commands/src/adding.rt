@@ -1,36 +1,36 @@
 //! New tenants.
-ghost use Rattle.std.specs.Prelude.{◌≡◌, false, OnOk};
-ghost use Rattle.std.specs.Io.KnownBytes.{Appends};
+ghost use Rattle.std.specs.Prelude.{◌≡◌};
+ghost use Rattle.service.specs.Courses.{Tried};
+ghost use Rattle.service.specs.Deeds.{Joined};
+ghost use Rattle.service.specs.Openings.{run_meaning, Moves};
+ghost use Rattle.store.specs.StoreLaws.{store_meaning};
 ghost use Rattle.store.specs.Stores.{Follows, IsLive, IsUsable, OfDatabases};
 ghost use Rattle.commands.specs.Adding.{IsAdded, add_fault};
-ghost use Rattle.command_texts.specs.Lines.{added_line};
+ghost use Rattle.commands.specs.Orders.{ending_told};
 
-use command_texts::{Fault, put_added};
-use records::Drain;
+use command_texts::Fault;
 use sqlite_disk::Disk;
 use store::{AddTenant, Store};
 use tenants::TenantName;
 
-/// Adds a tenant, and tells so. Where that cannot be written the tenant is added all the same.
-pub(crate) fn add_tenant<D: Disk + Drop, O: Drain>(
+/// Adds a tenant.
+pub(crate) fn add_tenant<D: Disk + Drop>(
     store: &mut Store<D>,
     name: &TenantName,
     digest: &[u8; 32],
-    out: &mut O,
 ) -> Result<(), Fault>
-    requires usable { IsUsable store.old }
-    requires open { O.failed out.old ≡ false }
+    requires { IsUsable store.old }
     ensures told { IsLive store.new → OfDatabases
         (λ old new. IsAdded name.now digest.now old new result) store.old store.new }
-    ensures line { OnOk result
-        (Appends (O.written out.old) (O.written out.new) (added_line name.now)) }
+    ensures moves { Moves (run_meaning store_meaning) store.old
+        (Tried (Joined digest.now) (ending_told result)) store.new }
     ensures usable { IsUsable store.new }
     ensures follows { Follows store.old store.new }
 {
-    if let Err(why) = store.add_tenant(name, digest) {
-        return Err(add_fault(why));
+    match store.add_tenant(name, digest) {
+        Ok(()) => Ok(()),
+        Err(why) => Err(add_fault(why)),
     }
-    put_added(out, name)
 }
 
 // What the program tells where a tenant is not added.

@@ -1,37 +1,42 @@
-//! Serves a store to many clients at once.
-ghost use Rattle.std.specs.Prelude.{◌≡◌, ◌⊎◌, IfErr, Ok, Err};
+//! Serves a store to many clients at once, and to an operator.
+ghost use Rattle.std.specs.Prelude.{◌≡◌, ◌⊎◌, IfErr, IfOk, IfSome, Ok, Err};
 ghost use Rattle.std.specs.declared.net.ip_addr.IpAddr.{IpAddr as AnIpAddr};
 ghost use Rattle.command_line.specs.Values.{text_in};
 ghost use Rattle.store.specs.Stores.{IsUsable};
+ghost use Rattle.commands.specs.Kept.{kept_of};
 ghost use Rattle.commands.specs.Listening.{ReadsListening};
 ghost use Rattle.commands.specs.Openings.{IsOpeningFault};
 ghost use Rattle.commands.specs.Serving.{ServesStore};
 
 use crate::SystemMoments;
+use crate::bell::Bell;
 use crate::counting::CountingAudit;
+use crate::desk::HostDesk;
 use crate::given_limits::limits_of;
 use crate::kept::Kept;
 use crate::opening::open_served;
+use crate::orders::Orders;
 use crate::renewing::{Home, Renewing};
-use crate::serving::serve_clients;
+use crate::serving::{Served, serve_clients};
 use command_line::LimitWords;
 use command_texts::{Fault, address, tell_fault};
 use polling::Peers;
 use records::Streamed;
 use service::Moments;
-use sockets::{Operator, Sockets};
+use sockets::{Counts, Operator, Sockets};
 use sqlite_disk::Disk;
 use sqlite_std_file::File;
 use std::alloc::Global;
-use std::io;
+use std::cell::Cell;
 use std::net::{IpAddr, Ipv4Addr, SocketAddr};
 use std::time::{Clock, Duration};
 use store::Store;
 
-/// Whoever reads standard error. The service goes on where nobody does.
+/// Whoever reads standard error, and rings at the desk. The service goes on where nobody does.
 #[derive(Drop)]
 struct Console<'a> {
     rt: &'a HostRuntime,
+    bell: &'a Bell,
 }
 
 impl Operator for Console<'_> {
@@ -44,41 +49,99 @@ impl Operator for Console<'_> {
     fn tell_accepting(&self) {
         let _ = self.rt.eprintln(format_args!("clients are taken again"));
     }
+
+    fn rings(&self) {
+        self.bell.ring();
+    }
+
+    fn is_busy(&self) -> bool {
+        self.bell.is_busy()
+    }
+
+    fn is_stopping(&self) -> bool {
+        self.bell.is_stopping()
+    }
+
+    fn notes(&self, counts: &Counts) {
+        self.bell.note(counts);
+    }
 }
 
-/// A file of this machine. The service goes on where nobody reads what it tells on standard error.
+/// A file of this machine, and where it is served. The service goes on where nobody reads what it
+/// tells on standard error.
 #[derive(Drop)]
 struct HostFile<'a> {
     rt: &'a HostRuntime,
     path: &'a str,
+    address: SocketAddr,
     audit: CountingAudit,
+    /// When the last opening began, by the machine's clock.
+    began: Cell<Duration>,
+    /// Whether it was told that the file is served.
+    is_told: Cell<bool>,
 }
 
 impl Home<File> for HostFile<'_> {
     fn open_store(&self) -> Result<Store<File>, Fault> {
+        self.began.set(self.now());
         open_served(self.rt, self.path, &self.audit)
     }
 
     fn tell(&self, fault: Fault) {
-        let _ = tell_fault(&mut Streamed::new(self.rt.stderr()), fault);
+        if fault == Fault::InUse {
+            let path = self.path;
+            let _ = self.rt.eprintln(format_args!("standing by for {path}"));
+        } else {
+            let _ = tell_fault(&mut Streamed::new(self.rt.stderr()), fault);
+        }
     }
 
     fn tell_answers(&self, _store: &Store<File>) {
-        let path = self.path;
-        let _ = self.rt.eprintln(format_args!("serving {path} again"));
+        if self.is_told.get() {
+            let path = self.path;
+            let _ = self.rt.eprintln(format_args!("serving {path} again"));
+        } else {
+            self.tell_serving();
+        }
     }
 }
 
-impl HostFile<'_> {
+impl<'a> HostFile<'a> {
+    fn new(rt: &'a HostRuntime, path: &'a str, address: SocketAddr) -> HostFile<'a> {
+        HostFile {
+            rt,
+            path,
+            address,
+            audit: CountingAudit::new(),
+            began: Cell::new(Duration::ZERO),
+            is_told: Cell::new(false),
+        }
+    }
+
+    // The store, if it can be opened now; none where another process has the file and it is waited
+    // for.
+    fn first_store(&self, standby: bool) -> Result<Option<Store<File>>, Fault>
+        ensures usable { IfOk result (λ store. IfSome store IsUsable) }
+        ensures fault { IfErr result IsOpeningFault }
+    {
+        match self.open_store() {
+            Ok(store) => Ok(Some(store)),
+            Err(Fault::InUse) if standby => Ok(None),
+            Err(fault) => Err(fault),
+        }
+    }
+
+    fn now(&self) -> Duration {
+        self.rt.monotonic().unwrap_or(Duration::ZERO)
+    }
+
     // Tells that the file is served, where, how many tenants it has, and how long its opening took.
-    fn tell_serving(&self, address: SocketAddr, began: io::Result<Duration>) {
-        let path = self.path;
+    fn tell_serving(&self) {
+        self.is_told.set(true);
+        let (path, address) = (self.path, self.address);
         let tenants = self.audit.tenants();
         let noun = if tenants == 1 { "tenant" } else { "tenants" };
-        let millis = match (began, self.rt.monotonic()) {
-            (Ok(began), Ok(now)) => now.saturating_sub(began).as_millis(),
-            _ => 0,
-        };
+        let millis = self.now().saturating_sub(self.began.get()).as_millis();
         let seconds = millis / 1000;
         let tenths = millis % 1000 / 100;
         let _ = self.rt.eprintln(format_args!(
@@ -98,74 +161,80 @@ fn listening(word: Option<&str>) -> Result<IpAddr, Fault>
 }
 
 /// Serves the ledger in a file on a port of an address, of 127.0.0.1 where none is given, at the
-/// moments of the machine's clock, within limits, until `most` messages were replied to. The port is
-/// bound first, so that clients wait while the file is opened, and are served once it is.
+/// moments of the machine's clock, within limits, until `most` messages were replied to, or an operator
+/// stops it. The port is bound first, so that clients wait while the file is opened, and are served
+/// once it is. With `standby` it is waited for a file that another process has: until that lets go of
+/// it, clients are answered that the service is unavailable. Once the file is open an operator may ask
+/// beside it.
 pub fn serve_file(
     rt: &HostRuntime,
     db: &str,
     address: Option<&str>,
     port: u16,
     limits: &LimitWords,
+    standby: bool,
     most: u64,
-) -> Result<(), Fault>
+) -> Result<Served, Fault>
     ensures address_first { ((ip : AnIpAddr) → ¬ ReadsListening (text_in address.entry) (Ok ip))
         → result ≡ Err Fault.BadAddress }
     ensures fault { IfErr result (λ fault. IsOpeningFault fault
         ⊎ (fault ≡ Fault.Socket) ⊎ (fault ≡ Fault.BadAddress)) }
 {
     let asked = SocketAddr::new(listening(address)?, port);
-    let console = Console { rt };
+    let bell = Bell::new();
+    let console = Console { rt, bell: &bell };
     let Ok(mut peers) = Sockets::listen(rt, rt, &console, asked, limits_of(limits)) else {
         return Err(Fault::Socket);
     };
-    let bound = peers.local_addr().unwrap_or(asked);
-    serve_to(rt, &mut peers, db, bound, most)
-}
-
-// Serves the ledger in a file to those who are connected at an address.
-fn serve_to<P: Peers>(
-    rt: &HostRuntime,
-    peers: &mut P,
-    db: &str,
-    address: SocketAddr,
-    most: u64,
-) -> Result<(), Fault>
-    ensures { IfErr result (λ fault. IsOpeningFault fault ⊎ (fault ≡ Fault.Socket)) }
-{
-    let home = HostFile {
-        rt,
-        path: db,
-        audit: CountingAudit::new(),
-    };
-    let began = rt.monotonic();
-    let store = home.open_store()?;
-    home.tell_serving(address, began);
+    let home = HostFile::new(rt, db, peers.local_addr().unwrap_or(asked));
+    let store = home.first_store(standby)?;
+    let mut desk = HostDesk::new(rt, db, &bell, peers.watcher().ok());
+    if store.is_some() {
+        desk.open();
+        home.tell_serving();
+    }
     let mut moments = SystemMoments::new(rt);
-    serve_store(rt.alloc(), peers, &home, store, &mut moments, rt, most)
+    let served = serve_store(
+        rt.alloc(),
+        &mut peers,
+        &home,
+        store,
+        &mut moments,
+        rt,
+        &mut desk,
+        most,
+    );
+    desk.close();
+    served
 }
 
-/// Serves a store to those who are connected, until `most` messages were replied to.
+/// Serves a store to those who are connected, until `most` messages were replied to, or an operator
+/// asks that it ends.
+///
+/// Between turns an operator's orders are carried out, one at a time. Without a store one is opened
+/// first, likewise.
 ///
 /// Where the store's disk has failed, the store is opened again, over the same files or else anew,
 /// before anything else is done: at once, and while that is refused, after a second, and then after
 /// twice the time that was waited for, up to a minute. Between these attempts each message is
 /// answered that the service is unavailable. `home` is told why, the first time, and that the store
 /// answers again, once it does.
-pub fn serve_store<D: Disk + Drop, P: Peers, H: Home<D>, C: Moments, K: Clock>(
+pub fn serve_store<D: Disk + Drop, P: Peers, H: Home<D>, C: Moments, K: Clock, O: Orders>(
     alloc: Global,
     peers: &mut P,
     home: &H,
-    store: Store<D>,
+    store: Option<Store<D>>,
     moments: &mut C,
     clock: &K,
+    orders: &mut O,
     most: u64,
-) -> Result<(), Fault>
-    requires { IsUsable store }
-    ensures served { ServesStore C.gives P.does store moments.old peers.old most moments.new
+) -> Result<Served, Fault>
+    requires { IfSome store IsUsable }
+    ensures served { ServesStore C.gives P.does (kept_of store) moments.old peers.old most moments.new
         peers.new result }
     ensures fault { IfErr result (λ fault. fault ≡ Fault.Socket) }
 {
-    let mut kept = Kept::Open(store);
-    let mut renewing = Renewing::new(home, clock);
+    let mut kept = Kept::of(store);
+    let mut renewing = Renewing::new(home, clock, orders);
     serve_clients(alloc, peers, &mut kept, &mut renewing, moments, most)
 }

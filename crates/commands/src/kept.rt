@@ -1,6 +1,7 @@
 //! Ledgers that may not be there.
+ghost use Rattle.std.specs.Prelude.{◌≡◌};
 ghost use Rattle.commands.specs.Kept.{kept_meaning, kept_stays, kept_then, kept_lived};
-ghost use Rattle.commands.specs.Kept.{kept_fails, kept_valid};
+ghost use Rattle.commands.specs.Kept.{kept_fails, kept_of, kept_valid};
 
 use chain::{BatchFault, Ledgers, RoundWork, Rounds, Work};
 use records::Unavailable;
@@ -11,6 +12,18 @@ pub(crate) enum Kept<L> {
     Open(L),
     /// Each call answers that the disk failed.
     Closed,
+}
+
+impl<L> Kept<L> {
+    /// Ledgers, or none where they are still to be opened.
+    pub(crate) fn of(ledgers: Option<L>) -> Kept<L>
+        ensures { result ≡ kept_of ledgers }
+    {
+        match ledgers {
+            Some(ledgers) => Kept::Open(ledgers),
+            None => Kept::Closed,
+        }
+    }
 }
 
 impl<L: Ledgers> Ledgers for Kept<L> {

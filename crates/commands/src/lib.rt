@@ -4,24 +4,34 @@
 
 mod adding;
 mod asked;
+mod bell;
+mod calling;
+mod copied;
 mod counting;
+mod desk;
 mod ended;
 mod extracts;
 mod file_serving;
+mod given_key;
 mod given_limits;
 mod kept;
 mod keying;
+mod listing;
 mod moments;
 mod opening;
+mod orders;
 mod over_files;
 mod reasons;
 mod renewing;
 mod serving;
 mod statements;
+mod status;
 mod whole_program;
 
 pub use file_serving::{serve_file, serve_store};
 pub use moments::SystemMoments;
+pub use orders::{Done, Order, Orders};
 pub use reasons::{Place, tell_file_fault};
 pub use renewing::Home;
+pub use serving::Served;
 pub use whole_program::program;

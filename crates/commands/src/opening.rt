@@ -233,6 +233,7 @@ pub(crate) fn open_fault(fault: OpenFault) -> Fault
     ensures named { IsOpeningFault result }
 {
     match fault {
+        OpenFault::InUse => Fault::InUse,
         OpenFault::Unreadable => Fault::Unreadable,
         OpenFault::NotALedger => Fault::NotALedger,
         OpenFault::OldSchema => Fault::OldSchema,

@@ -32,6 +32,10 @@ impl<'a> Place<'a> {
             | Command::ChangeKey { db, .. }
             | Command::Statement { db, .. }
             | Command::Check { db }
+            | Command::Tenants { db }
+            | Command::Status { db, .. }
+            | Command::Stop { db }
+            | Command::Copy { db, .. }
             | Command::Migrate { db, .. } => Some(Place {
                 path: db,
                 is_made: false,

@@ -1,4 +1,5 @@
-//! A store that is opened again where its disk fails.
+//! A store that is seen to between turns: opened again where its disk fails, and an operator's orders
+//! are carried out on it.
 ghost use Rattle.std.specs.Prelude.{◌≡◌, ◌≤◌, ◌*◌, min, false, IfErr, IfOk, IsTrue, OnErr, OnOk};
 ghost use Rattle.service.specs.Openings.{run_meaning, IsSettled, IsOpened};
 ghost use Rattle.store.specs.Stores.{IsLive, IsReady, IsUsable};
@@ -8,8 +9,10 @@ ghost use Rattle.commands.specs.Openings.{IsOpeningFault};
 
 use crate::kept::Kept;
 use crate::opening::open_fault;
+use crate::orders::{Orders, carry_out};
+use crate::serving::Stops;
 use command_texts::Fault;
-use polling::Reopen;
+use polling::Steward;
 use records::Unavailable;
 use sqlite_disk::Disk;
 use std::time::{Clock, Duration};
@@ -47,42 +50,26 @@ struct Pause {
     seconds: u64,
 }
 
-/// Opens a store again where its disk has failed: at once, and then, while that is refused, after a
-/// second, and after twice the time that was waited for, up to a minute.
+/// Carries out an operator's orders, and opens a store again where its disk has failed: at once, and
+/// then, while that is refused, after a second, and after twice the time that was waited for, up to a
+/// minute.
 #[derive(Drop)]
-pub(crate) struct Renewing<'a, H, K: Clock> {
+pub(crate) struct Renewing<'a, H, K: Clock, O> {
     home: &'a H,
     clock: &'a K,
+    orders: &'a mut O,
     /// Since the last attempt, where that was refused.
     pause: Option<Pause>,
 }
 
-impl<'a, H, K: Clock> Renewing<'a, H, K> {
-    pub(crate) fn new(home: &'a H, clock: &'a K) -> Self {
+impl<'a, H, K: Clock, O> Renewing<'a, H, K, O> {
+    pub(crate) fn new(home: &'a H, clock: &'a K, orders: &'a mut O) -> Self {
         Renewing {
             home,
             clock,
+            orders,
             pause: None,
         }
-    }
-
-    // Where the clock cannot be read it is time.
-    fn is_time(&self) -> bool {
-        match (self.pause, self.clock.monotonic()) {
-            (Some(pause), Ok(now)) => now >= pause.until,
-            _ => true,
-        }
-    }
-
-    // The next attempt is made behind a pause.
-    fn put_off(&mut self) {
-        let seconds = match self.pause {
-            Some(pause) => twice(pause.seconds),
-            None => FIRST_PAUSE,
-        };
-        let now = self.clock.monotonic().unwrap_or(Duration::ZERO);
-        let until = now.saturating_add(Duration::from_secs(seconds));
-        self.pause = Some(Pause { until, seconds });
     }
 }
 
@@ -93,7 +80,16 @@ fn twice(seconds: u64) -> u64
     seconds.saturating_mul(2).min(LONGEST_PAUSE)
 }
 
-impl<D: Disk + Drop, H: Home<D>, K: Clock> Reopen<Kept<Store<D>>> for Renewing<'_, H, K> {
+impl<H, K: Clock, O: Orders> Stops for Renewing<'_, H, K, O> {
+    ghost stops = { λ renewing. O.stops renewing.orders.now };
+
+    fn is_stopping(&self) -> bool {
+        self.orders.is_stopping()
+    }
+}
+
+impl<D: Disk + Drop, H: Home<D>, K: Clock, O: Orders> Steward<Kept<Store<D>>>
+    for Renewing<'_, H, K, O> {
     ghost renews = { λ old new. Renews old new };
 
     fn is_settled(kept: &Kept<Store<D>>) {
@@ -103,25 +99,62 @@ impl<D: Disk + Drop, H: Home<D>, K: Clock> Reopen<Kept<Store<D>>> for Renewing<'
         }
     }
 
-    fn reopen(&mut self, kept: &mut Kept<Store<D>>) {
-        if is_answering(kept) || !self.is_time() {
-            return;
-        }
-        match opened_again(self.home, kept) {
-            Ok(()) => {
-                if self.pause.is_some() {
-                    tell_answers(self.home, kept);
-                }
-                self.pause = None;
-            }
-            Err(fault) => {
-                if self.pause.is_none() {
-                    self.home.tell(fault);
-                }
-                self.put_off();
-            }
+    fn attend(&mut self, kept: &mut Kept<Store<D>>) {
+        match self.orders.next(is_answering(kept)) {
+            Some(order) => carry_out(kept, self.orders, &order),
+            None => renew(self.home, self.clock, &mut self.pause, kept),
         }
     }
+}
+
+// Opens a store again that does not answer, where it is time to.
+fn renew<D: Disk + Drop, H: Home<D>, K: Clock>(
+    home: &H,
+    clock: &K,
+    pause: &mut Option<Pause>,
+    kept: &mut Kept<Store<D>>,
+)
+    requires { MayBeCalled kept.old }
+    ensures renews { Renews kept.old kept.new }
+    ensures usable { MayBeCalled kept.new }
+{
+    if is_answering(kept) || !is_time(clock, *pause) {
+        return;
+    }
+    match opened_again(home, kept) {
+        Ok(()) => {
+            if pause.is_some() {
+                tell_answers(home, kept);
+            }
+            *pause = None;
+        }
+        Err(fault) => {
+            if pause.is_none() {
+                home.tell(fault);
+            }
+            *pause = Some(next_pause(clock, *pause, fault));
+        }
+    }
+}
+
+// Whether a pause is over. Where the clock cannot be read it is.
+fn is_time<K: Clock>(clock: &K, pause: Option<Pause>) -> bool {
+    match (pause, clock.monotonic()) {
+        (Some(pause), Ok(now)) => now >= pause.until,
+        _ => true,
+    }
+}
+
+// How long no attempt is made behind one that was refused, and behind the pause before it. Another
+// process that has the file may let go of it at any time, and to look for that costs nothing.
+fn next_pause<K: Clock>(clock: &K, before: Option<Pause>, fault: Fault) -> Pause {
+    let seconds = match before {
+        Some(pause) if fault != Fault::InUse => twice(pause.seconds),
+        _ => FIRST_PAUSE,
+    };
+    let now = clock.monotonic().unwrap_or(Duration::ZERO);
+    let until = now.saturating_add(Duration::from_secs(seconds));
+    Pause { until, seconds }
 }
 
 // Whether a store is there that answers calls.

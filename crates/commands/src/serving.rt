@@ -1,5 +1,5 @@
-//! Serving many clients, until so many messages were replied to.
-ghost use Rattle.std.specs.Prelude.{◌≡◌, IfErr};
+//! Serving many clients, until so many messages were replied to, or it is asked to end.
+ghost use Rattle.std.specs.Prelude.{◌≡◌, Bool, Ok, IfErr, IsTrue};
 ghost use Rattle.service.specs.Seen.{Whole};
 ghost use Rattle.polling.specs.Serving.{rules};
 ghost use Rattle.commands.specs.Serving.{ServesClients};
@@ -7,7 +7,7 @@ ghost use Rattle.commands.specs.Serving.{ServesClients};
 use chain::Rounds;
 use command_texts::Fault;
 use polling::{
-    Peers, Reopen, Seats, each_is_served, serve_ready, serving_begins_empty, serving_goes_on,
+    Peers, Seats, Steward, each_is_served, serve_ready, serving_begins_empty, serving_goes_on,
     serving_is_a_course, write_rest,
 };
 use service::Moments;
@@ -16,20 +16,40 @@ use std::alloc::Global;
 /// How many bytes are read of a client at once.
 const PIECE: usize = 65_536;
 
-/// Serves those who are connected, until `most` messages were replied to; then what is left of
-/// replies is written. `Socket` where fewer were in 2^64 - 1 rounds.
-pub(crate) fn serve_clients<L: Rounds, H: Reopen<L>, C: Moments, P: Peers>(
+/// Who may ask that serving ends.
+pub(crate) trait Stops {
+    // Whether it is asked.
+    ghost stops: { Self → Bool };
+
+    fn is_stopping(&self) -> bool
+        ensures { result ≡ stops self.now };
+}
+
+/// Why serving has ended.
+#[derive(Clone, Copy, Debug, PartialEq, Eq)]
+pub enum Served {
+    /// As many messages were replied to as there were to be.
+    Enough,
+    /// It was asked to end.
+    Stopped,
+}
+
+/// Serves those who are connected, until `most` messages were replied to, or nothing more has happened
+/// and `home` says that it is to end; then what is left of replies is written. `Socket` where fewer
+/// were in 2^64 - 1 rounds.
+pub(crate) fn serve_clients<L: Rounds, H: Steward<L> + Stops, C: Moments, P: Peers>(
     alloc: Global,
     peers: &mut P,
     ledgers: &mut L,
     home: &mut H,
     moments: &mut C,
     most: u64,
-) -> Result<(), Fault>
+) -> Result<Served, Fault>
     requires { L.means.is_usable ledgers.old }
     ensures served { ServesClients (rules L.means C.gives H.renews P.does)
         (Whole ledgers.old) moments.old peers.old most (Whole ledgers.new) moments.new peers.new
         result }
+    ensures stopped { result ≡ Ok Served.Stopped → IsTrue (H.stops home.new) }
     ensures fault { IfErr result (λ fault. fault ≡ Fault.Socket) }
 {
     serving_begins_empty::<L, C, P>();
@@ -46,7 +66,11 @@ pub(crate) fn serve_clients<L: Rounds, H: Reopen<L>, C: Moments, P: Peers>(
         );
         if left == 0 {
             write_rest::<L, H, C, P>(peers, &mut seats);
-            return Ok(());
+            return Ok(Served::Enough);
+        }
+        if home.is_stopping() {
+            write_rest::<L, H, C, P>(peers, &mut seats);
+            return Ok(Served::Stopped);
         }
     }
     Err(Fault::Socket)

@@ -5,7 +5,10 @@ ghost use Rattle.commands.specs.Program.{Does, HasRun, IsMadeTold, IsRefusalTold
 ghost use Rattle.commands.specs.Program.{TellsVersion, told};
 
 use crate::ended::Ended;
-use crate::over_files::{run_add_tenant, run_change_key, run_check, run_migrate, run_statement};
+use crate::over_files::{
+    run_add_tenant, run_change_key, run_check, run_copy, run_migrate, run_statement, run_status,
+    run_stop, run_tenants,
+};
 use crate::reasons::{Place, tell_file_fault};
 use command_line::{Command, LineFault, command, version_text};
 use command_texts::{Fault, put_text, tell_fault, tell_new_ledger};
@@ -127,5 +130,9 @@ fn run<'a, O: Drain + Drop>(
         } => run_statement(rt, db, tenant, account, &words, out),
         Command::Check { db } => run_check(rt, db, out),
         Command::Migrate { db, to } => run_migrate(rt, db, to, out),
+        Command::Copy { db, to } => run_copy(rt, db, to, out),
+        Command::Tenants { db } => run_tenants(rt, db, out),
+        Command::Status { db, prometheus } => run_status(rt, db, prometheus, out),
+        Command::Stop { db } => run_stop(rt, db, out),
     }
 }

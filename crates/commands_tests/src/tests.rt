@@ -6,6 +6,7 @@ mod files;
 mod firms;
 mod homes;
 mod moments;
+mod orders;
 mod periods;
 mod program;
 mod scripted;

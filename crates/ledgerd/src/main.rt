@@ -39,15 +39,16 @@ fn status(rt: &HostRuntime, words: &[String]) -> u8 {
                 address,
                 port,
                 requests,
+                standby,
                 limits,
             },
         ) => {
-            let served = serve_file(rt, db, address, port, &limits, requests);
+            let served = serve_file(rt, db, address, port, &limits, standby, requests);
             let place = Place {
                 path: db,
                 is_made: false,
             };
-            tell(rt, served.map(|()| 0), Some(place))
+            tell(rt, served.map(|_| 0), Some(place))
         }
         _ => {
             let (out, mut err) = (Streamed::new(rt.stdout()), Streamed::new(rt.stderr()));

@@ -39,6 +39,7 @@ no_newer_by_audit r cause is newer = audit_is_other cause (let e = is in cc)
 upgrade_is_other : (cause : OpenFault) → upgrade_fault cause ≡ fault.NewerSchema → ⊥
 upgrade_is_other (opening.Unavailable why) is = cc
 upgrade_is_other (opening.Damaged damage) is = cc
+upgrade_is_other opening.InUse is = cc
 upgrade_is_other opening.Unreadable is = cc
 upgrade_is_other opening.NotALedger is = cc
 upgrade_is_other opening.OldSchema is = cc
@@ -51,6 +52,7 @@ no_newer_by_upgrade r cause is newer = upgrade_is_other cause (let e = is in cc)
 upgrade_undamaged : (cause : OpenFault) (P : Damage → Type 0) → IfDamaged (upgrade_fault cause) P
 upgrade_undamaged (opening.Unavailable why) P = tt
 upgrade_undamaged (opening.Damaged damage) P = tt
+upgrade_undamaged opening.InUse P = tt
 upgrade_undamaged opening.Unreadable P = tt
 upgrade_undamaged opening.NotALedger P = tt
 upgrade_undamaged opening.OldSchema P = tt

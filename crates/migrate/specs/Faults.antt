@@ -17,6 +17,7 @@ audit_fault audit.Memory = Unavailable Memory
 abbrev pub upgrade_fault : OpenFault → MigrateFault
 upgrade_fault (opening.Unavailable why) = Unavailable why
 upgrade_fault (opening.Damaged damage) = Unavailable Size
+upgrade_fault opening.InUse = Unavailable Size
 upgrade_fault opening.Unreadable = Unavailable Size
 upgrade_fault opening.NotALedger = Unavailable Size
 upgrade_fault opening.OldSchema = Unavailable Size

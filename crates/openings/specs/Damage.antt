@@ -12,11 +12,12 @@ use Rattle.ledger_sql.specs.TableRows.{version_rows}
 use Rattle.ledger_sql.specs.Values.{version_values}
 use Rattle.openings.specs.Whole.{AreAllRows}
 use Rattle.openings.specs.declared.opening.OpenFault.{OpenFault}
-use Rattle.openings.specs.declared.opening.OpenFault.TheVariants.{Unreadable, NotALedger, OldSchema}
+use Rattle.openings.specs.declared.opening.OpenFault.TheVariants.{InUse, Unreadable, NotALedger, OldSchema}
 use Rattle.openings.specs.declared.opening.OpenFault.TheVariants.{NewerSchema, Damaged, Unavailable}
 
 -- a fact of the damage that is told, if it is
 abbrev pub IfDamaged : OpenFault → (Damage → Type 0) → Type 0
+IfDamaged InUse P = Unit {0}
 IfDamaged Unreadable P = Unit {0}
 IfDamaged NotALedger P = Unit {0}
 IfDamaged OldSchema P = Unit {0}

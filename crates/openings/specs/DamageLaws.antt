@@ -12,6 +12,7 @@ use Rattle.openings.specs.declared.opening.OpenFault.TheVariants as fault
 -- a fact that follows of each damage
 pub if_damaged_more : (told : OpenFault) (P Q : Damage → Type 0)
     → ((damage : Damage) → P damage → Q damage) → IfDamaged told P → IfDamaged told Q
+if_damaged_more fault.InUse P Q more is = tt
 if_damaged_more fault.Unreadable P Q more is = tt
 if_damaged_more fault.NotALedger P Q more is = tt
 if_damaged_more fault.OldSchema P Q more is = tt

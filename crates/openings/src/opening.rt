@@ -21,6 +21,8 @@ use std::io::ErrorKind;
 /// Why a store was not opened.
 #[derive(Clone, Copy, Debug, PartialEq, Eq)]
 pub enum OpenFault {
+    /// Another process has the files: they are two at a path.
+    InUse,
     /// The database refuses the files, or the ledger's tables do not come first in them, or are
     /// not made as a ledger's.
     Unreadable,
@@ -113,7 +115,8 @@ pub(crate) fn open_on<D: Disk + Drop>(
     }
 }
 
-/// The two files at a path, made where they are missing. `:memory:` and a URI are refused.
+/// The two files at a path, made where they are missing. `:memory:` and a URI are refused, and files
+/// that another process has are `InUse`.
 pub fn files_at<St: Start>(
     rt: &HostRuntime,
     path: &str,
@@ -128,6 +131,7 @@ pub fn files_at<St: Start>(
     }
     match sqlite_std_file::open(rt, path, start) {
         Ok(files) => Ok(files),
+        Err(PathError::Busy) => Err(OpenFault::InUse),
         Err(PathError::OutOfMemory) => Err(OpenFault::Unavailable(Unavailable::Memory)),
         Err(PathError::Io(error)) if error.kind() == ErrorKind::OutOfMemory => {
             Err(OpenFault::Unavailable(Unavailable::Memory))

@@ -5,3 +5,4 @@ mod BatchLemmas
 mod EntryRows
 mod KeptLists
 mod PrefixSums
+mod Rekeyed

@@ -1,5 +1,5 @@
 -- The tenants of a book, each known by its digest.
-use Rattle.std.specs.Prelude.{◌≡◌, ◌≢◌, ℕ, Bool, List, Option, Some}
+use Rattle.std.specs.Prelude.{◌≡◌, ◌≢◌, ℕ, Bool, List, Option, Some, IsNone}
 use Rattle.std.specs.List.{find}
 use Rattle.std.specs.Option.{option_map}
 use Rattle.std.specs.Str.{bytes_eq}
@@ -28,3 +28,12 @@ pub record IsCopy (tenant copy : Tenant) : Type 0 where
 pub record ChangesOne (digest : List ℕ) (state : State) (old new : List Tenant) : Type 0 where
   pub own : state_with digest new ≡ Some state
   pub others : (other : List ℕ) → other ≢ digest → state_with other new ≡ state_with other old
+
+-- whoever was known by one digest is known by another one, and every other tenant's tables are as
+-- they were
+pub record IsRekeyed (was digest : List ℕ) (old new : List Tenant) : Type 0 where
+  pub has : state_with digest new ≡ state_with was old
+  pub gone : was ≢ digest → IsNone (state_with was new)
+  pub others :
+      (other : List ℕ) → other ≢ was → other ≢ digest →
+      state_with other new ≡ state_with other old

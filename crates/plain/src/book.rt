@@ -1,11 +1,11 @@
-ghost use Rattle.std.specs.Prelude.{◌≡◌, [], ◌∷◌, ◌++◌, is_some, IfOk, IfErr, IsNone, OnOk, OnErr};
+ghost use Rattle.std.specs.Prelude.{◌≡◌, ◌≢◌, [], ◌∷◌, ◌++◌, is_some, IfOk, IfErr, IsNone, OnOk, OnErr};
 ghost use Rattle.std.specs.List.{position};
 ghost use Rattle.std.specs.Option.{option_copied_mut};
 ghost use Rattle.std.specs.Borrow.{sem};
 ghost use Rattle.records.specs.Valid.{IsValid};
 ghost use Rattle.chain.specs.Ledgers.{AreValid, KeepsAll, IsRun};
 ghost use Rattle.plain.specs.BookLedgers.{machines_in};
-ghost use Rattle.plain.specs.Book.{has_digest, state_with, machine_with, ChangesOne, IsCopy};
+ghost use Rattle.plain.specs.Book.{has_digest, state_with, machine_with, ChangesOne, IsCopy, IsRekeyed};
 ghost use Rattle.plain.specs.Lending.{LendsTables, LendsTablesOf};
 
 use crate::PlainTables;
@@ -85,6 +85,20 @@ impl Book {
         ensures { result ≡ is_some (machine_with digest.now self.now) }
     {
         place_of(&self.tenants, digest).is_some()
+    }
+
+    /// Gives whoever is known by one digest another one, by which nobody else is known. Where nobody
+    /// is known by the first, nothing changes.
+    pub fn rekey(&mut self, was: &[u8; 32], digest: &[u8; 32])
+        requires { was.now ≢ digest.now → IsNone (state_with digest.now self.old) }
+        ensures rekeyed { IsRekeyed was.now digest.now self.old self.new }
+        ensures usable { AreValid (machines_in self.old) → AreValid (machines_in self.new) }
+    {
+        for tenant in self.tenants.iter_mut() {
+            if tenant.digest == *was {
+                tenant.digest = *digest;
+            }
+        }
     }
 
     /// The tables of the tenant with this digest, to read and change.

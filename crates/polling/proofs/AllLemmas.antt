@@ -159,7 +159,7 @@ module _ {S C P : Type 0} where
       (λ all are.
       Tells told peers_now (subst (λ (p : P). r.does p (Said told) peers_now) (sym are) does))
 
-  -- the ledgers are opened again
+  -- a steward has attended to the ledgers
   pub again_all :
       (r : Rules S C P) (ledgers ledgers_now : S) (moments : C) (peers : P)
       (seats : ℕ → Option Talk) (next : ℕ) → r.renews ledgers ledgers_now →

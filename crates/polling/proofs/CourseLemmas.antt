@@ -5,7 +5,7 @@ use Rattle.std.proofs.lemmas.List.{append-nil}
 use Rattle.std.specs.List.{AllByRecursion, flat_map}
 use Rattle.ledger_http.specs.declared.reply.Reply.{Reply}
 use Rattle.ledger_http.specs.Question.{asked_of}
-use Rattle.chain.specs.Ledgers.{LedgersMeaning, Tenants}
+use Rattle.chain.specs.Ledgers.{LedgersMeaning, Tenants, KeepsAll}
 use Rattle.service.specs.Deeds as service
 use Rattle.service.specs.Connections.{Connection, IsAnswered, IsTurnedAway, LacksMemory}
 use Rattle.service.specs.ConnectionEvents.{event_in}
@@ -22,8 +22,16 @@ use Rattle.clients.specs.Deeds as life
 use Rattle.polling.specs.Serving.{Hall, Rules, Happens, Did, Tells, Stirs, Goes, Loses, Again, Rests, Passes, Fails, Serves, Begin, Then}
 use Rattle.polling.specs.Serving.{AreAsBefore, HasFailed, IsToldUnavailable, AreToldUnavailable}
 use Rattle.polling.specs.Serving.{events_by, events_of}
-use Rattle.polling.specs.Courses.{Renewed, Stayed, Opened, Anew, Refused, AreOfOpening, IsAnew}
+use Rattle.polling.specs.Courses.{Renewed, Stayed, Opened, Anew, Refused, Tried, Rested, IsAtRest, AreOfOpening, IsAnew}
 use Rattle.polling.specs.Courses.{AreRenewals, AreOf, BeginsWith, IsSince, Start, Onward, From, IsCourse, ServesEachAlone}
+
+-- what an opening finds of ledgers at rest
+found_at_rest :
+    {S : Type 0} (t : RunMeaning S) (old new : S) (found : Tenants) →
+    t.may_find old found ⊎ (t.is_live new × KeepsAll (t.tenants new) found) →
+    FoundAfterAll t old [] new found
+found_at_rest t old new found (inl before) = All_as_before tt before
+found_at_rest t old new found (inr now) = All_as_now now.0 now.1
 
 -- an exchange leads on, by its event where it has one
 exchange_more :
@@ -47,7 +55,20 @@ exchange_more t gives move Since Now old new reply (inr (inr lacks)) on settled 
     subst (HasLed (run_meaning t) Now) (sym lacks.cut.ledgers)
     (same_more Since Now (run_meaning t) old.ledgers on led)
 
--- so does opening again
+-- so do ledgers at rest, of which nothing is told
+rest_more :
+    {S : Type 0} (t : RunMeaning S) (Since Now : List Event → Tenants → Type 0) (old new : S) →
+    IsAtRest t old new → GoesOn Since [] Now → HasLed t Since old → HasLed t Now new
+rest_more t Since Now old new rest on led =
+    events_more Since Now t old new [] on tt
+    (record {
+      happen = λ live. fun_ext (rest.same live);
+      lived = rest.lived;
+      found = λ found may. found_at_rest t old new found (rest.found found may);
+    })
+    led
+
+-- so does what a steward does
 opening_more :
     {S : Type 0} (t : RunMeaning S) (Since Now : List Event → Tenants → Type 0) (old new : S)
     (renewed : Renewed t old new) →
@@ -61,6 +82,11 @@ opening_more t Since Now old new (Opened opened) on anew led =
     (λ (deeds : List service.Deed). on (Reopened deeds ∷ []) (deeds, refl)) opened led
 opening_more t Since Now old new (Anew settled) on anew led = begun_anew t Now new (anew tt)
 opening_more t Since Now old new (Refused dead) on anew led = begun_anew t Now new (anew tt)
+opening_more t Since Now old new (Tried deed ending moves) on anew led =
+    event_more Since Now t old new (course.Tried deed ending)
+    (on (course.Tried deed ending ∷ []) refl) (λ events. tt) moves led
+opening_more t Since Now old new (Rested rest) on anew led =
+    rest_more t Since Now old new rest (on [] refl) led
 
 -- so do ledgers of the same machines, of which nothing is told
 as_before_more :

@@ -1,10 +1,12 @@
 -- Serving as a course: what has happened to the ledgers since they were last opened anew.
-use Rattle.std.specs.Prelude.{◌≡◌, ℕ, List, [], ◌∷◌, ◌++◌}
+use Rattle.std.specs.Prelude.{◌≡◌, ◌⊎◌, ℕ, List, [], ◌∷◌, ◌++◌}
 use Rattle.std.proofs.Common.{ap}
-use Rattle.chain.specs.Ledgers.{LedgersMeaning, Tenants}
+use Rattle.chain.specs.Ledgers.{LedgersMeaning, Tenants, KeepsAll}
 use Rattle.service.specs.Deeds as service
-use Rattle.service.specs.Courses.{Event, Reopened}
-use Rattle.service.specs.Openings.{RunMeaning, run_meaning, IsSettled, IsOpened, MayBegin}
+use Rattle.service.specs.Courses.{Event, Ending, Reopened}
+use Rattle.service.specs.Courses as course
+use Rattle.service.specs.Openings.{RunMeaning, run_meaning, IsSettled, IsOpened, MayBegin, Moves}
+use Rattle.service.specs.Openings.{FoundAfter, As_now, As_before, As_done}
 use Rattle.service.specs.Openings.{CourseSince, HasLed}
 use Rattle.service.specs.OwnDeeds.{SeesItself}
 use Rattle.service.specs.Seen.{Whole, seen}
@@ -12,16 +14,40 @@ use Rattle.clients.specs.Deeds.{Deed}
 use Rattle.polling.specs.Serving.{Hall, Rules, Happens, Did, Again, Fails, Serves, Begin, Then}
 use Rattle.polling.specs.Serving.{events_by, events_of}
 
--- what opening again makes of ledgers: they stay as they are; they are opened again, and are what
--- was to be found; they are opened anew, whatever was before; or that is refused, and they are not
--- live
+-- ledgers of the same machines, of which an opening finds what it might have found before, or what
+-- is there
+pub record IsAtRest {S : Type 0} (t : RunMeaning S) (old new : S) : Type 0 where
+  pub lived : t.is_live new → t.is_live old
+  pub same : t.is_live new → KeepsAll (t.tenants old) (t.tenants new)
+  pub found :
+      (found : Tenants) → t.may_find new found
+      → t.may_find old found ⊎ (t.is_live new × KeepsAll (t.tenants new) found)
+
+-- what a steward makes of ledgers: they stay as they are; they are opened again, and are what was to
+-- be found; they are opened anew, whatever was before; that is refused, and they are not live; a deed
+-- was tried that an operator asked for, and this is what came of it; or an operator has read them,
+-- which tells nothing of any tenant
 pub data Renewed {S : Type 0} (t : RunMeaning S) (old new : S) : Type 0 where
   Stayed : new ≡ old → Renewed t old new
   Opened : IsOpened t old new → Renewed t old new
   Anew : IsSettled t new → Renewed t old new
   Refused : (t.is_live new → ⊥) → Renewed t old new
+  Tried :
+      (deed : service.Deed) (ending : Ending) → Moves t old (course.Tried deed ending) new →
+      Renewed t old new
+  Rested : IsAtRest t old new → Renewed t old new
 
--- the same, as it is seen between messages
+-- what may be found after an event, as it is seen between messages
+abbrev pub found_seen :
+    {S : Type 0} (t : LedgersMeaning S) (old : S) (event : Event) (new : S) (found : Tenants)
+    → FoundAfter (run_meaning t) old event new found
+    → FoundAfter (run_meaning (seen t)) (Whole old) event (Whole new) found
+found_seen t old event new found (As_now live keeps) = As_now live keeps
+found_seen t old event new found (As_before still before) = As_before still before
+found_seen t old event new found (As_done deed more untold live done) =
+    As_done deed more untold live done
+
+-- what a steward makes of ledgers, as it is seen between messages
 abbrev pub renewed_seen :
     {S : Type 0} (t : LedgersMeaning S) {old new : S} → Renewed (run_meaning t) old new
     → Renewed (run_meaning (seen t)) (Whole old) (Whole new)
@@ -29,14 +55,26 @@ renewed_seen t (Stayed same) = Stayed (ap Whole same)
 renewed_seen t (Opened opened) = Opened (record { member = opened.member; found = opened.found })
 renewed_seen t (Anew settled) = Anew settled
 renewed_seen t (Refused dead) = Refused dead
+renewed_seen t {old} {new} (Tried deed ending moves) =
+    Tried deed ending
+    (record {
+      happens = moves.happens;
+      lived = moves.lived;
+      found = λ found may.
+          found_seen t old (course.Tried deed ending) new found (moves.found found may);
+    })
+renewed_seen t (Rested rest) =
+    Rested (record { lived = rest.lived; same = rest.same; found = rest.found })
 
--- the events of it: none, or that deeds were found done
+-- the events of it: none, or that deeds were found done, or how a deed ended that was tried
 abbrev pub AreOfOpening :
     {S : Type 0} {t : RunMeaning S} {old new : S} → Renewed t old new → List Event → Type 0
 AreOfOpening (Stayed same) events = events ≡ []
 AreOfOpening (Opened opened) events = (deeds : List service.Deed) × (events ≡ Reopened deeds ∷ [])
 AreOfOpening (Anew settled) events = ⊥
 AreOfOpening (Refused dead) events = ⊥
+AreOfOpening (Tried deed ending moves) events = events ≡ course.Tried deed ending ∷ []
+AreOfOpening (Rested rest) events = events ≡ []
 
 -- behind it nothing is said of what was before
 abbrev pub IsAnew :
@@ -45,14 +83,16 @@ IsAnew (Stayed same) = ⊥
 IsAnew (Opened opened) = ⊥
 IsAnew (Anew settled) = Unit {0}
 IsAnew (Refused dead) = Unit {0}
+IsAnew (Tried deed ending moves) = ⊥
+IsAnew (Rested rest) = ⊥
 
--- whatever opens ledgers again does one of these
+-- whatever a steward does is one of these
 abbrev pub AreRenewals : {S C P : Type 0} → Rules S C P → Type 0
 AreRenewals {S} r = (old new : S) → r.renews old new → Renewed (run_meaning r.means) old new
 
 module _ {S C P : Type 0} {r : Rules S C P} (renewals : AreRenewals r) where
   -- the events of what happens: those of messages that were replied to, if they were read whole;
-  -- those of an opening; and no others
+  -- those of what a steward does; and no others
   abbrev pub AreOf :
       {old new : Hall S C P} {deeds : List Deed} → Happens S C P r old deeds new → List Event
       → Type 0

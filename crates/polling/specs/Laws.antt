@@ -10,7 +10,7 @@ use Rattle.polling.specs.Seating.{AreEmpty, Held, held_by, Keeps, ServesAll, rep
 use Rattle.polling.specs.declared.seats.Seats.{Seats}
 
 -- what is written to a new client is a beginning of the replies to its own messages, in order, one
--- a message, over ledgers that are opened again between them
+-- a message, over ledgers to which a steward attends between them
 abbrev pub EachIsServed : {S C P : Type 0} → Rules S C P → Type 0
 EachIsServed {S} {C} {P} r =
     (first last : Hall S C P) (deeds : List Deed)
@@ -22,8 +22,8 @@ EachIsServed {S} {C} {P} r =
     → IsServed r.means r.gives (come_from client deeds) later (written_to client deeds)
     (last.room.talks client)
 
--- where opening again changes nothing and no messages share a round, the deeds are a run of the
--- same ledgers
+-- where the steward changes nothing and no messages share a round, the deeds are a run of the same
+-- ledgers
 abbrev pub AreLives : {S C P : Type 0} → Rules S C P → Type 0
 AreLives {S} {C} {P} r =
     ((old new : S) → r.renews old new → new ≡ old)

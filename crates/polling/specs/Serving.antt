@@ -27,7 +27,7 @@ hall ledgers moments peers talks gone = record {
   gone = gone;
 }
 
--- what ledgers mean, which moments are given, what opening again makes of ledgers, and what each
+-- what ledgers mean, which moments are given, what a steward makes of ledgers, and what each
 -- doing makes of peers
 pub record Rules (S C P : Type 0) : Type 1 where
   pub means : LedgersMeaning S
@@ -35,7 +35,7 @@ pub record Rules (S C P : Type 0) : Type 1 where
   pub renews : S → S → Type 0
   pub does : P → Doing → P → Type 0
 
--- ledgers are opened again between transactions alone
+-- a steward attends to ledgers between transactions alone
 abbrev pub renews_seen : {S : Type 0} → (S → S → Type 0) → Seen S → Seen S → Type 0
 renews_seen renews (Whole old) (Whole new) = renews old new
 renews_seen renews old new = ⊥
@@ -117,8 +117,8 @@ module _ {S C : Type 0} {t : LedgersMeaning S} {gives : C → ℕ → C → Type
       AreToldUnavailable gone lives × IsToldUnavailable gone deed
 
 -- a deed of a client that has not gone, with what peers did of it; peers tell something; anything
--- else among them; a client goes; it goes, and what was read of it last is lost; the ledgers are
--- opened again; a round begins, ends or is taken back; moments were given for a round that was not
+-- else among them; a client goes; it goes, and what was read of it last is lost; a steward attends to
+-- the ledgers; a round begins, ends or is taken back; moments were given for a round that was not
 -- kept; or the disk fails with a round, and all its clients are told that the ledgers are unavailable
 pub data Happens (S C P : Type 0) (r : Rules S C P) (old : Hall S C P) :
     List Deed → Hall S C P → Type 0 where

@@ -9,7 +9,7 @@ use crate::seats::Seats;
 use crate::serving::{follow, let_go};
 use crate::step::Step;
 use crate::turn::write_all;
-use crate::{Peers, Reopen, Told};
+use crate::{Peers, Steward, Told};
 use chain::Ledgers;
 use clients::Client;
 use service::Moments;
@@ -30,7 +30,7 @@ fn are_written(clients: &BTreeMap<u64, Client>) -> bool
 }
 
 /// Writes what is left of the reply to a client. There is more to do where not all is written.
-fn write_left<L: Ledgers, H: Reopen<L>, C: Moments, P: Peers>(
+fn write_left<L: Ledgers, H: Steward<L>, C: Moments, P: Peers>(
     peers: &mut P,
     number: u64,
     client: &mut Client,
@@ -52,7 +52,7 @@ fn write_left<L: Ledgers, H: Reopen<L>, C: Moments, P: Peers>(
 }
 
 /// Writes what is left of the reply to the client with a number, where it is seated.
-fn write_in<L: Ledgers, H: Reopen<L>, C: Moments, P: Peers>(
+fn write_in<L: Ledgers, H: Steward<L>, C: Moments, P: Peers>(
     peers: &mut P,
     clients: &mut BTreeMap<u64, Client>,
     number: u64,
@@ -72,7 +72,7 @@ fn write_in<L: Ledgers, H: Reopen<L>, C: Moments, P: Peers>(
 }
 
 /// Writes what is left of the reply to a client, and lets it go where its connection is broken.
-fn write_one<L: Ledgers, H: Reopen<L>, C: Moments, P: Peers>(
+fn write_one<L: Ledgers, H: Steward<L>, C: Moments, P: Peers>(
     peers: &mut P,
     seats: &mut Seats,
     number: u64,
@@ -89,7 +89,7 @@ fn write_one<L: Ledgers, H: Reopen<L>, C: Moments, P: Peers>(
 }
 
 /// Lets a new client go, which has come too late.
-fn turn_away<L: Ledgers, H: Reopen<L>, C: Moments, P: Peers>(peers: &mut P, seats: &mut Seats)
+fn turn_away<L: Ledgers, H: Steward<L>, C: Moments, P: Peers>(peers: &mut P, seats: &mut Seats)
     ensures { (ledgers : L) → (moments : C) →
         ServesAll (rules L.means C.gives H.renews P.does)
         (held_by ledgers moments peers.old seats.old)
@@ -105,7 +105,7 @@ fn turn_away<L: Ledgers, H: Reopen<L>, C: Moments, P: Peers>(peers: &mut P, seat
 
 /// Does what the next thing that has happened asks for, but answers no message and reads nothing.
 /// Says whether anything had happened.
-fn write_next<L: Ledgers, H: Reopen<L>, C: Moments, P: Peers>(
+fn write_next<L: Ledgers, H: Steward<L>, C: Moments, P: Peers>(
     peers: &mut P,
     seats: &mut Seats,
 ) -> bool
@@ -137,7 +137,7 @@ fn write_next<L: Ledgers, H: Reopen<L>, C: Moments, P: Peers>(
 
 /// Writes what is left of all replies, until nothing is, or nothing more has happened. No message
 /// is answered and nothing is read; who is late is let go, and so is who comes.
-pub fn write_rest<L: Ledgers, H: Reopen<L>, C: Moments, P: Peers>(peers: &mut P, seats: &mut Seats)
+pub fn write_rest<L: Ledgers, H: Steward<L>, C: Moments, P: Peers>(peers: &mut P, seats: &mut Seats)
     ensures serves { (ledgers : L) → (moments : C) →
         ServesAll (rules L.means C.gives H.renews P.does)
         (held_by ledgers moments peers.old seats.old)

@@ -9,7 +9,7 @@ use crate::seats::Seats;
 use crate::serving::follow;
 use crate::sharing::share_round;
 use crate::turn::{Turned, finish};
-use crate::{Peers, Reopen};
+use crate::{Peers, Steward};
 use chain::Rounds;
 use clients::Client;
 use service::Moments;
@@ -18,7 +18,7 @@ use std::collections::BTreeMap;
 
 /// Writes what is left of the reply to the client with a number, where it is seated. Where nothing
 /// is, it has its turn, if it may be answered.
-fn finish_in<L: Rounds, H: Reopen<L>, C: Moments, P: Peers>(
+fn finish_in<L: Rounds, H: Steward<L>, C: Moments, P: Peers>(
     alloc: Global,
     peers: &mut P,
     clients: &mut BTreeMap<u64, Client>,
@@ -49,7 +49,7 @@ fn finish_in<L: Rounds, H: Reopen<L>, C: Moments, P: Peers>(
 
 /// Does so, and lets the client go where it is to. Of so many replies that are wanted it says how many
 /// there were.
-fn finish_one<L: Rounds, H: Reopen<L>, C: Moments, P: Peers>(
+fn finish_one<L: Rounds, H: Steward<L>, C: Moments, P: Peers>(
     alloc: Global,
     peers: &mut P,
     seats: &mut Seats,
@@ -85,7 +85,7 @@ fn finish_one<L: Rounds, H: Reopen<L>, C: Moments, P: Peers>(
 }
 
 /// Does so for each of these clients.
-fn finish_each<L: Rounds, H: Reopen<L>, C: Moments, P: Peers>(
+fn finish_each<L: Rounds, H: Steward<L>, C: Moments, P: Peers>(
     alloc: Global,
     peers: &mut P,
     seats: &mut Seats,
@@ -120,7 +120,7 @@ fn finish_each<L: Rounds, H: Reopen<L>, C: Moments, P: Peers>(
 
 /// Answers the messages of these clients in one round, if they are several. Where none is answered so,
 /// the next clients are served alone.
-fn share<L: Rounds, H: Reopen<L>, C: Moments, P: Peers>(
+fn share<L: Rounds, H: Steward<L>, C: Moments, P: Peers>(
     alloc: Global,
     clients: &mut BTreeMap<u64, Client>,
     numbers: &[u64],
@@ -149,7 +149,7 @@ fn share<L: Rounds, H: Reopen<L>, C: Moments, P: Peers>(
 
 /// Serves those who are gathered where nobody more is to be waited for, with so many replies at most,
 /// and says how many there were.
-pub(crate) fn serve_due<L: Rounds, H: Reopen<L>, C: Moments, P: Peers>(
+pub(crate) fn serve_due<L: Rounds, H: Steward<L>, C: Moments, P: Peers>(
     alloc: Global,
     peers: &mut P,
     seats: &mut Seats,

@@ -3,30 +3,31 @@ ghost use Rattle.polling.specs.Courses.{IsCourse, ServesEachAlone};
 ghost use Rattle.polling.specs.Laws.{EachIsServed, AreLives, BeginsEmpty, GoesOn, EndsTold};
 ghost use Rattle.polling.specs.Serving.{rules};
 
-use crate::{Peers, Reopen};
+use crate::{Peers, Steward};
 use chain::Ledgers;
 use clients::clients_are_served_in_rounds;
 use service::{Moments, each_tenant_sees_itself, responses_move_within};
 
-/// In whatever pieces messages come, whatever others ask between, and whenever the ledgers are
-/// opened again, what is written to a client is a beginning of the replies to its own messages, in
+/// In whatever pieces messages come, whatever others ask between, and whatever the steward does to the
+/// ledgers, what is written to a client is a beginning of the replies to its own messages, in
 /// order, one a message.
-pub fn each_is_served<L: Ledgers, H: Reopen<L>, C: Moments, P: Peers>()
+pub fn each_is_served<L: Ledgers, H: Steward<L>, C: Moments, P: Peers>()
     ensures { EachIsServed (rules L.means C.gives H.renews P.does) }
 {
     clients_are_served_in_rounds::<L, C>();
 }
 
-/// Where opening again changes nothing and no messages share a round, all that was done is a run of
+/// Where the steward changes nothing and no messages share a round, all that was done is a run of
 /// deeds of the same ledgers.
-pub fn serving_is_a_run<L: Ledgers, H: Reopen<L>, C: Moments, P: Peers>()
+pub fn serving_is_a_run<L: Ledgers, H: Steward<L>, C: Moments, P: Peers>()
     ensures { AreLives (rules L.means C.gives H.renews P.does) }
 {}
 
-/// All that is done over live ledgers, whenever they are opened again, is a course of what happens to
-/// them, with what an opening finds done. It begins anew where they are opened anew, or where that is
-/// refused. In it a tenant's replies and its machine are those of its own deeds alone.
-pub fn serving_is_a_course<L: Ledgers, H: Reopen<L>, C: Moments, P: Peers>()
+/// All that is done over live ledgers, whenever they are opened again and whatever an operator asks
+/// for, is a course of what happens to them, with what an opening finds done. It begins anew where
+/// they are opened anew, or where that is refused. In it a tenant's replies and its machine are those
+/// of its own deeds alone.
+pub fn serving_is_a_course<L: Ledgers, H: Steward<L>, C: Moments, P: Peers>()
     ensures course { IsCourse (rules L.means C.gives H.renews P.does) }
     ensures alone { ServesEachAlone (rules L.means C.gives H.renews P.does) }
 {
@@ -41,7 +42,7 @@ pub fn serving_begins_empty<L: Ledgers, C: Moments, P: Peers>()
 
 /// What is done behind what was done leads on from the hall in which that began. Where it ended
 /// though not enough was done, those who are connected told something in it.
-pub fn serving_goes_on<L: Ledgers, H: Reopen<L>, C: Moments, P: Peers>()
+pub fn serving_goes_on<L: Ledgers, H: Steward<L>, C: Moments, P: Peers>()
     ensures served { GoesOn (rules L.means C.gives H.renews P.does) }
     ensures told { EndsTold (rules L.means C.gives H.renews P.does) }
 {}

@@ -7,12 +7,12 @@ mod gathering;
 mod laws;
 mod peers;
 mod putting;
-mod reopen;
 mod round;
 mod seats;
 mod serving;
 mod sharing;
 mod step;
+mod steward;
 mod turn;
 
 pub use finishing::write_rest;
@@ -20,6 +20,6 @@ pub use laws::{
     each_is_served, serving_begins_empty, serving_goes_on, serving_is_a_course, serving_is_a_run,
 };
 pub use peers::{Peers, Read, Told, Written};
-pub use reopen::Reopen;
 pub use seats::Seats;
 pub use serving::serve_ready;
+pub use steward::Steward;

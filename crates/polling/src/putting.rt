@@ -6,7 +6,7 @@ ghost use Rattle.polling.specs.Round.{AreCopied, ArePut, AreTold};
 ghost use Rattle.polling.specs.Seating.{SeatsNow, seats_in};
 
 use crate::round::{Member, Round};
-use crate::{Peers, Reopen};
+use crate::{Peers, Steward};
 use chain::Ledgers;
 use clients::{Client, rounds_reply};
 use ledger_http::{Refusal, Reply, meanings_are_unique};
@@ -28,7 +28,7 @@ fn put_one(clients: &mut BTreeMap<u64, Client>, member: Member, reply: Reply)
 }
 
 /// Puts the replies of a round that was kept, and says how many there were.
-pub(crate) fn put_all<L: Ledgers, H: Reopen<L>, C: Moments, P: Peers>(
+pub(crate) fn put_all<L: Ledgers, H: Steward<L>, C: Moments, P: Peers>(
     clients: &mut BTreeMap<u64, Client>,
     round: &Round,
     replies: Vec<Reply>,
@@ -52,7 +52,7 @@ pub(crate) fn put_all<L: Ledgers, H: Reopen<L>, C: Moments, P: Peers>(
 }
 
 /// Tells all clients of a round that the ledgers are unavailable, and says how many there are.
-pub(crate) fn tell_all<L: Ledgers, H: Reopen<L>, C: Moments, P: Peers>(
+pub(crate) fn tell_all<L: Ledgers, H: Steward<L>, C: Moments, P: Peers>(
     clients: &mut BTreeMap<u64, Client>,
     round: &Round,
 ) -> u64

@@ -11,7 +11,7 @@ use crate::gathering::{Gathered, Place};
 use crate::seats::{Seats, seat, unseat};
 use crate::step::Step;
 use crate::turn::{Turned, turn};
-use crate::{Peers, Reopen, Told};
+use crate::{Peers, Steward, Told};
 use chain::{Ledgers, Rounds};
 use clients::Client;
 use service::Moments;
@@ -19,7 +19,7 @@ use std::alloc::Global;
 use std::collections::BTreeMap;
 
 /// Gives the client with a number its turn, where it is seated.
-fn turn_in<L: Ledgers, H: Reopen<L>, C: Moments, P: Peers>(
+fn turn_in<L: Ledgers, H: Steward<L>, C: Moments, P: Peers>(
     alloc: Global,
     peers: &mut P,
     clients: &mut BTreeMap<u64, Client>,
@@ -47,7 +47,7 @@ fn turn_in<L: Ledgers, H: Reopen<L>, C: Moments, P: Peers>(
 }
 
 /// Does what a client's step asks for: it is told as ready again, or goes.
-pub(crate) fn follow<L: Ledgers, H: Reopen<L>, C: Moments, P: Peers>(
+pub(crate) fn follow<L: Ledgers, H: Steward<L>, C: Moments, P: Peers>(
     peers: &mut P,
     clients: &mut BTreeMap<u64, Client>,
     number: u64,
@@ -67,7 +67,7 @@ pub(crate) fn follow<L: Ledgers, H: Reopen<L>, C: Moments, P: Peers>(
 }
 
 /// Gives a client its turn, and lets it go where it is to. Says whether a message was replied to.
-fn serve_one<L: Ledgers, H: Reopen<L>, C: Moments, P: Peers>(
+fn serve_one<L: Ledgers, H: Steward<L>, C: Moments, P: Peers>(
     alloc: Global,
     peers: &mut P,
     seats: &mut Seats,
@@ -100,7 +100,7 @@ fn serve_one<L: Ledgers, H: Reopen<L>, C: Moments, P: Peers>(
 }
 
 /// Gives a new client a seat. Where memory is wanting for it, the client is let go.
-fn join<L: Ledgers, H: Reopen<L>, C: Moments, P: Peers>(
+fn join<L: Ledgers, H: Steward<L>, C: Moments, P: Peers>(
     alloc: Global,
     peers: &mut P,
     seats: &mut Seats,
@@ -123,7 +123,7 @@ fn join<L: Ledgers, H: Reopen<L>, C: Moments, P: Peers>(
 }
 
 /// Lets a client go.
-pub(crate) fn let_go<L: Ledgers, H: Reopen<L>, C: Moments, P: Peers>(
+pub(crate) fn let_go<L: Ledgers, H: Steward<L>, C: Moments, P: Peers>(
     peers: &mut P,
     seats: &mut Seats,
     number: u64,
@@ -149,7 +149,7 @@ enum Done {
 
 /// Gathers a client whose next message may share a round, puts one off where enough records are looked
 /// at in this turn, and gives any other its turn. Says how many messages were replied to.
-fn serve_or_gather<L: Rounds, H: Reopen<L>, C: Moments, P: Peers>(
+fn serve_or_gather<L: Rounds, H: Steward<L>, C: Moments, P: Peers>(
     alloc: Global,
     peers: &mut P,
     seats: &mut Seats,
@@ -183,7 +183,7 @@ fn serve_or_gather<L: Rounds, H: Reopen<L>, C: Moments, P: Peers>(
 }
 
 /// Does what was told, and says how many messages were replied to.
-fn serve_told<L: Rounds, H: Reopen<L>, C: Moments, P: Peers>(
+fn serve_told<L: Rounds, H: Steward<L>, C: Moments, P: Peers>(
     alloc: Global,
     peers: &mut P,
     seats: &mut Seats,
@@ -227,13 +227,13 @@ fn is_over(told: Told, gathered: &Gathered) -> bool
 }
 
 /// Does what the next thing that has happened asks for, and serves those who are gathered where
-/// nobody more is to be waited for. Before that the ledgers are opened again, where they have failed.
-fn serve_next<L: Rounds, H: Reopen<L>, C: Moments, P: Peers>(
+/// nobody more is to be waited for. Before that the steward attends to the ledgers.
+fn serve_next<L: Rounds, H: Steward<L>, C: Moments, P: Peers>(
     alloc: Global,
     peers: &mut P,
     seats: &mut Seats,
     ledgers: &mut L,
-    home: &mut H,
+    steward: &mut H,
     moments: &mut C,
     piece: &mut [u8],
     gathered: &mut Gathered,
@@ -247,7 +247,7 @@ fn serve_next<L: Rounds, H: Reopen<L>, C: Moments, P: Peers>(
     ensures few { replies_of result ≤ most }
     ensures usable { L.means.is_usable ledgers.new }
 {
-    home.reopen(ledgers);
+    steward.attend(ledgers);
     let told = peers.told(seats.next);
     if is_over(told, gathered) {
         return Done::Nothing;
@@ -264,13 +264,14 @@ fn serve_next<L: Rounds, H: Reopen<L>, C: Moments, P: Peers>(
 
 /// Serves all who are ready, one turn after the other, until nothing more has happened or so many
 /// messages were replied to, and says how many were. Messages that are ready at once share a round.
-/// Before each turn the ledgers are opened again, where they have failed.
-pub fn serve_ready<L: Rounds, H: Reopen<L>, C: Moments, P: Peers>(
+/// Before each turn the steward attends to the ledgers: opens them again where they have failed, and
+/// does what an operator asks for.
+pub fn serve_ready<L: Rounds, H: Steward<L>, C: Moments, P: Peers>(
     alloc: Global,
     peers: &mut P,
     seats: &mut Seats,
     ledgers: &mut L,
-    home: &mut H,
+    steward: &mut H,
     moments: &mut C,
     piece: &mut [u8],
     most: u64,
@@ -296,7 +297,7 @@ pub fn serve_ready<L: Rounds, H: Reopen<L>, C: Moments, P: Peers>(
             peers,
             seats,
             ledgers,
-            home,
+            steward,
             moments,
             piece,
             &mut gathered,

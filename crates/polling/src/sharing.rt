@@ -6,7 +6,7 @@ ghost use Rattle.polling.specs.Seating.{ServesAll, held, seats_in};
 
 use crate::putting::{put_all, tell_all};
 use crate::round::copy_all;
-use crate::{Peers, Reopen};
+use crate::{Peers, Steward};
 use chain::Rounds;
 use clients::Client;
 use records::Unavailable;
@@ -17,7 +17,7 @@ use std::collections::BTreeMap;
 /// Answers the next messages of clients in one round, of so many at most, and says how many are
 /// answered. There are none where the round is refused for want of memory or size, or would be of one
 /// message alone. Where the disk fails with it, each is told that the ledgers are unavailable.
-pub(crate) fn share_round<L: Rounds, H: Reopen<L>, C: Moments, P: Peers>(
+pub(crate) fn share_round<L: Rounds, H: Steward<L>, C: Moments, P: Peers>(
     alloc: Global,
     clients: &mut BTreeMap<u64, Client>,
     numbers: &[u64],

@@ -5,7 +5,7 @@ ghost use Rattle.service.specs.Seen.{Seen};
 ghost use Rattle.polling.specs.Serving.{rules};
 ghost use Rattle.polling.specs.Seating.{ServesOne};
 
-use crate::{Peers, Read, Reopen, Written};
+use crate::{Peers, Read, Steward, Written};
 use chain::Ledgers;
 use clients::Client;
 use service::Moments;
@@ -32,7 +32,7 @@ fn length_of(client: &Client) -> u64
 }
 
 /// Reads a piece of what a client sends. Where memory is wanting for it, the client goes.
-fn read_piece<L: Ledgers, H: Reopen<L>, C: Moments, P: Peers>(
+fn read_piece<L: Ledgers, H: Steward<L>, C: Moments, P: Peers>(
     peers: &mut P,
     number: u64,
     client: &mut Client,
@@ -59,7 +59,7 @@ fn read_piece<L: Ledgers, H: Reopen<L>, C: Moments, P: Peers>(
 
 /// Reads a piece of what a client sends. Those who are connected are told first how long the message
 /// is that is waited for.
-pub(crate) fn read_some<L: Ledgers, H: Reopen<L>, C: Moments, P: Peers>(
+pub(crate) fn read_some<L: Ledgers, H: Steward<L>, C: Moments, P: Peers>(
     peers: &mut P,
     number: u64,
     client: &mut Client,
@@ -75,7 +75,7 @@ pub(crate) fn read_some<L: Ledgers, H: Reopen<L>, C: Moments, P: Peers>(
 }
 
 /// Writes what of the reply to a client is not written, as much as is taken at once.
-pub(crate) fn write_some<L: Ledgers, H: Reopen<L>, C: Moments, P: Peers>(
+pub(crate) fn write_some<L: Ledgers, H: Steward<L>, C: Moments, P: Peers>(
     peers: &mut P,
     number: u64,
     client: &mut Client,

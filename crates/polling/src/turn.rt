@@ -6,7 +6,7 @@ ghost use Rattle.polling.specs.Serving.{rules};
 ghost use Rattle.polling.specs.Seating.{ServesOne, count_of};
 
 use crate::step::{Step, read_some, write_some};
-use crate::{Peers, Reopen};
+use crate::{Peers, Steward};
 use chain::Ledgers;
 use clients::{Answered, Client, giving_up_replies, whole_ledgers_are_seen};
 use service::Moments;
@@ -24,7 +24,7 @@ pub(crate) struct Turned {
 }
 
 /// Writes until nothing is left of the reply, or it would wait, or it was written to often enough.
-pub(crate) fn write_all<L: Ledgers, H: Reopen<L>, C: Moments, P: Peers>(
+pub(crate) fn write_all<L: Ledgers, H: Steward<L>, C: Moments, P: Peers>(
     peers: &mut P,
     number: u64,
     client: &mut Client,
@@ -48,7 +48,7 @@ pub(crate) fn write_all<L: Ledgers, H: Reopen<L>, C: Moments, P: Peers>(
 
 /// Reads more of a client's next message. Where memory is wanting for a body that is due, the last
 /// reply says so.
-fn read_or_give_up<L: Ledgers, H: Reopen<L>, C: Moments, P: Peers>(
+fn read_or_give_up<L: Ledgers, H: Steward<L>, C: Moments, P: Peers>(
     peers: &mut P,
     number: u64,
     client: &mut Client,
@@ -81,7 +81,7 @@ fn read_or_give_up<L: Ledgers, H: Reopen<L>, C: Moments, P: Peers>(
 }
 
 /// Answers the next message of a client, or reads more of it where that has not come.
-pub(crate) fn answer_or_read<L: Ledgers, H: Reopen<L>, C: Moments, P: Peers>(
+pub(crate) fn answer_or_read<L: Ledgers, H: Steward<L>, C: Moments, P: Peers>(
     alloc: Global,
     peers: &mut P,
     number: u64,
@@ -118,7 +118,7 @@ pub(crate) fn answer_or_read<L: Ledgers, H: Reopen<L>, C: Moments, P: Peers>(
 
 /// Writes what is left of the reply to a client. Where nothing is, it has its turn, if it may be
 /// answered.
-pub(crate) fn finish<L: Ledgers, H: Reopen<L>, C: Moments, P: Peers>(
+pub(crate) fn finish<L: Ledgers, H: Steward<L>, C: Moments, P: Peers>(
     alloc: Global,
     peers: &mut P,
     number: u64,
@@ -146,7 +146,7 @@ pub(crate) fn finish<L: Ledgers, H: Reopen<L>, C: Moments, P: Peers>(
 
 /// A client's turn: what is left of the last reply is written, and one message at most answered, or
 /// a piece read of it. Behind the last reply of all it goes.
-pub(crate) fn turn<L: Ledgers, H: Reopen<L>, C: Moments, P: Peers>(
+pub(crate) fn turn<L: Ledgers, H: Steward<L>, C: Moments, P: Peers>(
     alloc: Global,
     peers: &mut P,
     number: u64,

@@ -15,14 +15,14 @@ use Rattle.ledger_http.specs.declared.reply.Reply.{Reply}
 use Rattle.ledger_http.specs.ReplyText.{reply_text}
 use Rattle.ledger_http.specs.Question.{Question}
 use Rattle.service.specs.Responds.{Answers}
-use Rattle.service.specs.Deeds.{Deed, asking, deeds_in, tenant_of, after_deed}
+use Rattle.service.specs.Deeds.{Deed, asking, deeds_in, tenant_of, digest_after, after_deed}
 use Rattle.service.specs.Deeds.{IsDeedDone, AreDone}
 use Rattle.service.specs.Courses.{Event, Replied, Tried, Reopened, IsReplied, Happens, Course}
 use Rattle.service.specs.Courses.{Begin, Then, is_unavailable}
 use Rattle.service.specs.Courses.{Done, Declined, Unavailable as NotThere}
 use Rattle.service.specs.OwnDeeds.{Happening, Told, Untold, deed_of, happenings_in, if_own}
-use Rattle.service.specs.OwnDeeds.{own_happenings, replies_in, after_all, told_of, told_in_turn}
-use Rattle.service.specs.OwnDeeds.{SeesItself}
+use Rattle.service.specs.OwnDeeds.{own_among, digest_behind, replies_in, after_all, told_of}
+use Rattle.service.specs.OwnDeeds.{told_in_turn, SeesItself}
 use Rattle.service.specs.EventLaws.{told_unavailable, told_available}
 
 pub after_more :
@@ -43,29 +43,58 @@ told_more tenant (own ∷ owns) more =
     (told_in_turn (after_deed (deed_of own) tenant) owns)
     (told_in_turn (after_all (after_deed (deed_of own) tenant) owns) more))
 
--- the replies among these happenings and the new machine are those of the happenings
-record IsSeen (old new : Tenants) (digest : List ℕ) (owns : List Happening) : Type 0 where
-  pub told : flat_map replies_in owns ≡ told_in_turn (old digest) owns
-  pub left : new digest ≡ after_all (old digest) owns
+among_more :
+    (digest : List ℕ) (happenings more : List Happening) →
+    own_among digest (happenings ++ more)
+    ≡ own_among digest happenings ++ own_among (digest_behind digest happenings) more
+among_more digest [] more = refl
+among_more digest (happening ∷ happenings) more =
+    let next = digest_after (deed_of happening) digest in
+    ap (λ (owns : List Happening). if_own digest happening ++ owns)
+    (among_more next happenings more)
+    ∙ sym (append_assoc (if_own digest happening) (own_among next happenings)
+    (own_among (digest_behind next happenings) more))
+
+behind_more :
+    (digest : List ℕ) (happenings more : List Happening) →
+    digest_behind digest (happenings ++ more) ≡ digest_behind (digest_behind digest happenings) more
+behind_more digest [] more = refl
+behind_more digest (happening ∷ happenings) more =
+    behind_more (digest_after (deed_of happening) digest) happenings more
+
+-- the replies among a tenant's own of these happenings and its new machine are those of its own
+record IsSeen (old new : Tenants) (digest : List ℕ) (happenings : List Happening) : Type 0 where
+  pub told :
+      flat_map replies_in (own_among digest happenings)
+      ≡ told_in_turn (old digest) (own_among digest happenings)
+  pub left :
+      new (digest_behind digest happenings)
+      ≡ after_all (old digest) (own_among digest happenings)
 
 none_seen : (old new : Tenants) (digest : List ℕ) → new digest ≡ old digest → IsSeen old new digest []
 none_seen old new digest same = record { told = refl; left = same }
 
 more_seen :
-    (old mid new : Tenants) (digest : List ℕ) (owns more : List Happening) →
-    IsSeen old mid digest owns → IsSeen mid new digest more → IsSeen old new digest (owns ++ more)
-more_seen old mid new digest owns more a b = record {
-  told =
-      flat_map-append replies_in owns more
-      ∙ (ap (λ (texts : List (List ℕ)). texts ++ flat_map replies_in more) a.told
-      ∙ (ap (λ (texts : List (List ℕ)). told_in_turn (old digest) owns ++ texts)
-      (b.told ∙ ap (λ (m : Option Machine). told_in_turn m more) a.left)
-      ∙ sym (told_more (old digest) owns more)));
-  left =
-      b.left
-      ∙ (ap (λ (m : Option Machine). after_all m more) a.left
-      ∙ sym (after_more (old digest) owns more));
-}
+    (old mid new : Tenants) (digest : List ℕ) (happenings more : List Happening) →
+    IsSeen old mid digest happenings → IsSeen mid new (digest_behind digest happenings) more →
+    IsSeen old new digest (happenings ++ more)
+more_seen old mid new digest happenings more a b =
+    let owns = own_among digest happenings in
+    let since = own_among (digest_behind digest happenings) more in
+    record {
+      told =
+          rw (among_more digest happenings more)
+          (flat_map-append replies_in owns since
+          ∙ (ap (λ (texts : List (List ℕ)). texts ++ flat_map replies_in since) a.told
+          ∙ (ap (λ (texts : List (List ℕ)). told_in_turn (old digest) owns ++ texts)
+          (b.told ∙ ap (λ (m : Option Machine). told_in_turn m since) a.left)
+          ∙ sym (told_more (old digest) owns since))));
+      left =
+          rw (among_more digest happenings more, behind_more digest happenings more)
+          (b.left
+          ∙ (ap (λ (m : Option Machine). after_all m since) a.left
+          ∙ sym (after_more (old digest) owns since)));
+    }
 
 -- a deed was done, and the reply to it, if one was told, is the one to it
 record Befalls (old new : Tenants) (happening : Happening) : Type 0 where
@@ -76,30 +105,35 @@ record Befalls (old new : Tenants) (happening : Happening) : Type 0 where
 own_seen :
     (own : Bool) (old new : Tenants) (digest : List ℕ) (happening : Happening) →
     bytes_eq (tenant_of (deed_of happening)) digest ≡ own → Befalls old new happening →
-    IsSeen old new digest (if own then happening ∷ [] else [])
+    (flat_map replies_in (if own then happening ∷ [] else [])
+    ≡ told_in_turn (old digest) (if own then happening ∷ [] else []))
+    × (new (digest_after (deed_of happening) digest)
+    ≡ after_all (old digest) (if own then happening ∷ [] else []))
 own_seen true old new digest happening is b =
-    let same = (bytes_eq-Decides (tenant_of (deed_of happening)) digest).0 is in
-    record {
-      told =
-          flat_map-cons replies_in happening []
+    let same = (bytes_eq-Decides (tenant_of (deed_of happening)) digest).0 is in (
+      flat_map-cons replies_in happening []
           ∙ ap (λ (texts : List (List ℕ)). texts ++ [])
-          (b.told ∙ ap (λ (d : List ℕ). told_of happening (old d)) same);
-      left =
-          sym (ap new same)
-          ∙ (b.done.own ∙ ap (λ (d : List ℕ). after_deed (deed_of happening) (old d)) same);
-    }
-own_seen false old new digest happening is b =
-    none_seen old new digest
-    (b.done.others digest (λ same.
-    true≢false
-    (sym ((bytes_eq-Decides (tenant_of (deed_of happening)) digest).1 (sym same)) ∙ is)))
+          (b.told ∙ ap (λ (d : List ℕ). told_of happening (old d)) same),
+      ap (λ (d : List ℕ). new (digest_after (deed_of happening) d)) (sym same)
+          ∙ (b.done.own ∙ ap (λ (d : List ℕ). after_deed (deed_of happening) (old d)) same),
+    )
+own_seen false old new digest happening is b = (
+  refl,
+  b.done.others digest (λ same.
+      true≢false
+      (sym ((bytes_eq-Decides (tenant_of (deed_of happening)) digest).1 (sym same)) ∙ is)),
+)
 
 one_seen :
     (old new : Tenants) (digest : List ℕ) (happening : Happening) → Befalls old new happening →
-    IsSeen old new digest (flat_map (if_own digest) (happening ∷ []))
+    IsSeen old new digest (happening ∷ [])
 one_seen old new digest happening b =
-    rw (flat_map-cons (if_own digest) happening [], append-nil (if_own digest happening))
-    (own_seen (bytes_eq (tenant_of (deed_of happening)) digest) old new digest happening refl b)
+    let seen =
+    own_seen (bytes_eq (tenant_of (deed_of happening)) digest) old new digest happening refl b in
+    record {
+      told = rw (append-nil (if_own digest happening)) seen.0;
+      left = rw (append-nil (if_own digest happening)) seen.1;
+    }
 
 untold_befalls :
     (old new : Tenants) (deed : Deed) → IsDeedDone deed old new → Befalls old new (Untold deed)
@@ -107,20 +141,17 @@ untold_befalls old new deed done = record { done = done; told = refl }
 
 dones_seen :
     (deeds : List Deed) (old new : Tenants) (digest : List ℕ) → AreDone deeds old new →
-    IsSeen old new digest (flat_map (if_own digest) (map Untold deeds))
+    IsSeen old new digest (map Untold deeds)
 dones_seen [] old new digest keeps = none_seen old new digest (keeps digest)
 dones_seen (deed ∷ deeds) old new digest done =
-    rw (flat_map-append (if_own digest) (Untold deed ∷ []) (map Untold deeds))
-    (more_seen old done.0 new digest (flat_map (if_own digest) (Untold deed ∷ []))
-    (flat_map (if_own digest) (map Untold deeds))
+    more_seen old done.0 new digest (Untold deed ∷ []) (map Untold deeds)
     (one_seen old done.0 digest (Untold deed) (untold_befalls old done.0 deed done.1))
-    (dones_seen deeds done.0 new digest done.2))
+    (dones_seen deeds done.0 new (digest_after deed digest) done.2)
 
 answer_seen :
     (asked : Result Question Early) (old new : Tenants) (digest text : List ℕ) (moment : ℕ) →
     Answers old new asked moment text →
-    IsSeen old new digest
-    (flat_map (if_own digest) (map (λ deed. Told deed text) (deeds_in asked moment)))
+    IsSeen old new digest (map (λ deed. Told deed text) (deeds_in asked moment))
 answer_seen (Ok question) old new digest text moment a =
     one_seen old new digest (Told (asking question moment) text) (record {
       done = record { may = tt; own = a.own; others = a.others };
@@ -133,8 +164,7 @@ reply_seen :
     (old new : Tenants) (digest : List ℕ) → is_unavailable reply ≡ untold →
     IsReplied asked moment reply old new →
     IsSeen old new digest
-    (flat_map (if_own digest) (if untold then [] else
-    map (λ deed. Told deed (reply_text reply)) (deeds_in asked moment)))
+    (if untold then [] else map (λ deed. Told deed (reply_text reply)) (deeds_in asked moment))
 reply_seen true asked moment reply old new digest is h =
     none_seen old new digest (h.same (told_unavailable reply is) digest)
 reply_seen false asked moment reply old new digest is h =
@@ -143,7 +173,7 @@ reply_seen false asked moment reply old new digest is h =
 
 event_seen :
     (event : Event) (old new : Tenants) (digest : List ℕ) → Happens old event new →
-    IsSeen old new digest (flat_map (if_own digest) (happenings_in event))
+    IsSeen old new digest (happenings_in event)
 event_seen (Replied asked moment reply) old new digest h =
     reply_seen (is_unavailable reply) asked moment reply old new digest refl h
 event_seen (Tried deed Done) old new digest h =
@@ -159,23 +189,16 @@ flat_more {X} {A} f xs x =
     flat_map-append f xs (x ∷ [])
     ∙ ap (λ (ys : List A). flat_map f xs ++ ys) (flat_map-cons f x [] ∙ append-nil (f x))
 
-owns_more :
-    (digest : List ℕ) (events : List Event) (event : Event) →
-    own_happenings digest (events ++ event ∷ [])
-    ≡ own_happenings digest events ++ flat_map (if_own digest) (happenings_in event)
-owns_more digest events event =
-    ap (flat_map (if_own digest)) (flat_more happenings_in events event)
-    ∙ flat_map-append (if_own digest) (flat_map happenings_in events) (happenings_in event)
-
 all_seen :
     (old new : Tenants) (events : List Event) → Course old events new → (digest : List ℕ) →
-    IsSeen old new digest (own_happenings digest events)
+    IsSeen old new digest (flat_map happenings_in events)
 all_seen old new es Begin digest = none_seen old new digest refl
 all_seen old new es (Then events mid event next course follows happens) digest =
-    rw (owns_more digest events event)
-    (more_seen old mid next digest (own_happenings digest events)
-    (flat_map (if_own digest) (happenings_in event)) (all_seen old mid events course digest)
-    (event_seen event mid next digest happens))
+    let before = flat_map happenings_in events in
+    rw (flat_more happenings_in events event)
+    (more_seen old mid next digest before (happenings_in event)
+    (all_seen old mid events course digest)
+    (event_seen event mid next (digest_behind digest before) happens))
 
 -- each tenant sees its own requests alone
 pub sees_itself :

@@ -13,7 +13,7 @@ use Rattle.ledger_http.specs.declared.refusal.Refusal.{Refusal}
 use Rattle.wire.specs.declared.request.Request.{Request}
 use Rattle.wire.specs.declared.request.Request.TheVariants as asks
 use Rattle.service.specs.Served.{left_by, served_by}
-use Rattle.service.specs.Deeds.{Deed, Asked, Joined, after_deed}
+use Rattle.service.specs.Deeds.{Deed, Asked, Joined, Keyed, after_deed}
 use Rattle.service.specs.OwnDeeds.{Happening, deed_of, own_happenings, after_all}
 use Rattle.service.specs.Retries.{IsAsked, HasAsked}
 use Rattle.service.proofs.OwnDeedLemmas.{after_more, sees_itself}
@@ -72,6 +72,7 @@ module _ (Leads : Machine → Machine → Type 0) (laws : StepLaws Leads)
       leads = served_leads m meaning moment;
     }
     deed_leads (Joined digest) m = record { next = m; is = refl; leads = laws.itself m }
+    deed_leads (Keyed was other) m = record { next = m; is = refl; leads = laws.itself m }
 
     all_lead :
         (owns : List Happening) (m now : Machine) → after_all (Some m) owns ≡ Some now → Leads m now

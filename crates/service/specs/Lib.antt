@@ -1,6 +1,7 @@
 pub mod Served
 pub mod Replies
 pub mod Deeds
+pub mod DeedLaws
 pub mod Reading
 pub mod Responds
 pub mod Connections
@@ -8,6 +9,7 @@ pub mod Sound
 pub mod Courses
 pub mod Seen
 pub mod OwnDeeds
+pub mod OwnDeedLaws
 pub mod ConnectionEvents
 pub mod Openings
 pub mod EventLaws

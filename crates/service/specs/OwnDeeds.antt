@@ -1,11 +1,13 @@
--- What one tenant sees of a course: its own deeds, and what it is told.
+-- What one tenant sees of a course, under each of its digests in turn: its own deeds, and what it is
+-- told.
 use Rattle.std.specs.Prelude.{◌≡◌, ℕ, List, [], ◌∷◌, ◌++◌, map, bytes_eq, Option}
 use Rattle.std.specs.Prelude.{if◌then◌else◌}
 use Rattle.std.specs.List.{flat_map}
 use Rattle.records.specs.Machine.{Machine}
 use Rattle.chain.specs.Ledgers.{Tenants}
 use Rattle.ledger_http.specs.ReplyText.{reply_text}
-use Rattle.service.specs.Deeds.{Deed, deeds_in, tenant_of, after_deed, reply_to_deed}
+use Rattle.service.specs.Deeds.{Deed, deeds_in, tenant_of, digest_after, after_deed}
+use Rattle.service.specs.Deeds.{reply_to_deed}
 use Rattle.service.specs.Courses.{Done, Declined, Unavailable, is_unavailable}
 use Rattle.service.specs.Courses.{Event, Replied, Tried, Reopened, Course}
 
@@ -34,9 +36,25 @@ abbrev pub if_own : List ℕ → Happening → List Happening
 if_own digest happening =
     if bytes_eq (tenant_of (deed_of happening)) digest then happening ∷ [] else []
 
--- all that happened to that tenant
+-- those that happened to whoever had this digest before them, under the digest that it had by then
+abbrev pub own_among : List ℕ → List Happening → List Happening
+own_among digest [] = []
+own_among digest (happening ∷ more) =
+    if_own digest happening ++ own_among (digest_after (deed_of happening) digest) more
+
+-- and the digest that it has behind them
+abbrev pub digest_behind : List ℕ → List Happening → List ℕ
+digest_behind digest [] = digest
+digest_behind digest (happening ∷ more) =
+    digest_behind (digest_after (deed_of happening) digest) more
+
+-- all that happened in these events to whoever had this digest before them
 abbrev pub own_happenings : List ℕ → List Event → List Happening
-own_happenings digest events = flat_map (if_own digest) (flat_map happenings_in events)
+own_happenings digest events = own_among digest (flat_map happenings_in events)
+
+-- and the digest that it has since then
+abbrev pub digest_since : List ℕ → List Event → List ℕ
+digest_since digest events = digest_behind digest (flat_map happenings_in events)
 
 -- the replies that it got
 abbrev pub replies_in : Happening → List (List ℕ)
@@ -61,11 +79,13 @@ told_in_turn tenant [] = []
 told_in_turn tenant (happening ∷ more) =
     told_of happening tenant ++ told_in_turn (after_deed (deed_of happening) tenant) more
 
--- the replies to a tenant and its machine afterwards are those of its own deeds alone
+-- the replies to a tenant and its machine afterwards, under the digest that it has then, are those of
+-- its own deeds alone
 pub record SeesItself (old : Tenants) (events : List Event) (new : Tenants) (digest : List ℕ) :
     Type 0 where
   pub told : replies_to digest events ≡ told_in_turn (old digest) (own_happenings digest events)
-  pub left : new digest ≡ after_all (old digest) (own_happenings digest events)
+  pub left :
+      new (digest_since digest events) ≡ after_all (old digest) (own_happenings digest events)
 
 -- the law of courses
 abbrev pub EachSeesItself : Type 0

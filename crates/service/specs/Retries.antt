@@ -13,7 +13,7 @@ use Rattle.wire.specs.declared.request.Request.{Request}
 use Rattle.wire.specs.declared.request.Request.TheVariants.{Transfers}
 use Rattle.service.specs.Deeds.{Asked}
 use Rattle.service.specs.Courses.{Event, Course}
-use Rattle.service.specs.OwnDeeds.{Happening, deed_of, own_happenings, after_all}
+use Rattle.service.specs.OwnDeeds.{Happening, deed_of, own_happenings, digest_since, after_all}
 
 -- among what happened to a tenant is a request that was answered, or answered `unavailable` and
 -- found done, and this is its machine then
@@ -27,7 +27,8 @@ pub record IsAsked (began : Option Machine) (owns : List Happening) (request : R
   pub asks : deed_of own ≡ Asked caller (Ok request) moment
   pub held : after_all began before ≡ Some m
 
--- in a course this request of a tenant was done at this machine, and it has this one now
+-- in a course this request of the tenant that had this digest was done at this machine, and it has
+-- this one now, under the digest that it has by then
 pub record HasAsked (digest : List ℕ) (request : Request) (moment : ℕ) (m now : Machine) :
     Type 0 where
   pub began : Tenants
@@ -35,7 +36,7 @@ pub record HasAsked (digest : List ℕ) (request : Request) (moment : ℕ) (m no
   pub events : List Event
   pub course : Course began events last
   pub asked : IsAsked (began digest) (own_happenings digest events) request moment m
-  pub held : last digest ≡ Some now
+  pub held : last (digest_since digest events) ≡ Some now
 
 -- a batch that was done, and whose every event was accepted, adds nothing when it is sent again
 abbrev pub RetriesAddNothing :

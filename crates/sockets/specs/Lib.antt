@@ -6,3 +6,5 @@ pub mod Reading
 pub mod Turn
 pub mod Room
 pub mod Shortage
+pub mod Tokens
+pub mod Closing

@@ -1,4 +1,5 @@
 //! All who are connected, and the queue of those who are ready.
+use crate::counts::Counts;
 use crate::limits::Limits;
 use crate::lingering::Lingering;
 use crate::peer::Peer;
@@ -17,6 +18,7 @@ pub(crate) struct Guests {
     pub(crate) stages: Stages,
     pub(crate) room: Room,
     pub(crate) lingering: Lingering,
+    pub(crate) counts: Counts,
     /// Those who are ready, each once.
     queue: VecDeque<u64>,
     /// How many of them stood there when it was last waited.
@@ -26,6 +28,8 @@ pub(crate) struct Guests {
     has_seen_all: bool,
     /// Whether it is still to be looked for those who have had their time.
     is_judging: bool,
+    /// Whether no more is to be begun. What comes then is not looked at.
+    is_closing: bool,
 }
 
 impl Guests {
@@ -36,10 +40,12 @@ impl Guests {
             stages: Stages::new(alloc),
             room: Room::new(alloc, limits.room),
             lingering: Lingering::new(alloc)?,
+            counts: Counts::new(),
             queue: VecDeque::new(alloc),
             left: 0,
             has_seen_all: false,
             is_judging: false,
+            is_closing: false,
         })
     }
 
@@ -70,6 +76,7 @@ impl Guests {
         self.stages.enter(number, stage)?;
         match self.peers.insert(number, Peer::new(stream, stage)) {
             Ok(_) => {
+                self.counts.joined();
                 self.again(number);
                 Ok(())
             }
@@ -80,10 +87,14 @@ impl Guests {
         }
     }
 
-    /// Something has come of a client, or may be taken by it, or its input ends.
+    /// Something has come of a client, or may be taken by it, or its input ends. Where all is closing
+    /// only those are woken who have not taken all of a reply, and nobody to be read.
     pub(crate) fn wake(&mut self, number: u64, is_ending: bool) {
         if let Some(peer) = self.peers.get_mut(&number) {
-            peer.can_read = true;
+            if self.is_closing && !peer.is_written_to() {
+                return;
+            }
+            peer.can_read = peer.can_read || !self.is_closing;
             peer.is_ending = peer.is_ending || is_ending;
         }
         self.again(number);
@@ -109,6 +120,25 @@ impl Guests {
         self.left = self.queue.len();
         self.has_seen_all = has_seen_all;
         self.is_judging = has_seen_all;
+    }
+
+    /// No more is to be begun: what comes from now on is not looked at.
+    pub(crate) fn begin_closing(&mut self) {
+        self.is_closing = true;
+    }
+
+    /// Whether somebody has not taken all of a reply.
+    pub(crate) fn is_anybody_written_to(&self) -> bool {
+        self.peers.values().any(|peer| peer.is_written_to())
+    }
+
+    /// The next whose turn it is, of all who are ready, one turn after the other.
+    pub(crate) fn next_at_end(&mut self) -> Option<u64> {
+        if let Some(number) = self.next_ready() {
+            return Some(number);
+        }
+        self.begin_turns(false);
+        self.next_ready()
     }
 
     /// Whether somebody's turn may be left.
@@ -191,6 +221,7 @@ impl Guests {
                     return false;
                 }
                 peer.is_over = true;
+                peer.is_late = true;
                 self.stages.leave(number, peer.stage);
                 true
             }
@@ -203,6 +234,7 @@ impl Guests {
         let Some(peer) = self.peers.remove(&number) else {
             return;
         };
+        self.counts.left(peer.is_late);
         self.stages.leave(number, peer.stage);
         self.give_back(number, peer.stage, peer.reading.room(), now);
         if peer.is_over {

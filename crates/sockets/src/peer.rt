@@ -24,6 +24,8 @@ pub(crate) struct Peer {
     pub(crate) stage: Stage,
     /// Whether nothing more can come of it, so that it need not be lingered for.
     pub(crate) is_over: bool,
+    /// Whether it is to go since it is late.
+    pub(crate) is_late: bool,
 }
 
 impl Peer {
@@ -36,6 +38,7 @@ impl Peer {
             reading: Reading::new(),
             stage,
             is_over: false,
+            is_late: false,
         }
     }
 
@@ -52,6 +55,11 @@ impl Peer {
             self.is_over = true;
         }
         is_done
+    }
+
+    /// Whether it has not taken all of a reply.
+    pub(crate) fn is_written_to(&self) -> bool {
+        !self.is_over && matches!(self.stage, Stage::Reply(_))
     }
 
     /// Reads what has come, where something may have. A piece that is not filled took all of it, and
@@ -89,7 +97,10 @@ impl Peer {
                 self.reading.gave(count);
                 self.change(stages, number, self.stage.behind_bytes(limits, now))
             }
-            polling::Read::Waits => !self.stage.is_over(now),
+            polling::Read::Waits => {
+                self.is_late = self.stage.is_over(now);
+                !self.is_late
+            }
             polling::Read::Ended => {
                 self.is_over = true;
                 true
@@ -124,7 +135,10 @@ impl Peer {
                     self.change(stages, number, part)
                 }
             }
-            Written::Waits => self.change(stages, number, part) && !part.is_over(now),
+            Written::Waits => {
+                self.is_late = part.is_over(now);
+                self.change(stages, number, part) && !self.is_late
+            }
             Written::Broken => false,
         };
         if goes_on {

@@ -2,15 +2,6 @@
 ghost use Rattle.std.specs.Prelude.{◌≡◌, false};
 ghost use Rattle.sockets.specs.Shortage.{told_behind, tidings};
 
-/// Who is told what becomes of the service.
-pub trait Operator {
-    /// Nobody is accepted for the moment, since descriptors or memory are wanting.
-    fn tell_short(&self);
-
-    /// All who waited are accepted again.
-    fn tell_accepting(&self);
-}
-
 /// What there is to tell.
 #[derive(Clone, Copy, Debug, PartialEq, Eq)]
 pub(crate) enum Tidings {

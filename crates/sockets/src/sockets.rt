@@ -1,11 +1,15 @@
 //! Clients over sockets.
+use crate::closing::Closing;
 use crate::door::Door;
 use crate::guests::Guests;
 use crate::limits::Limits;
+use crate::operator::Operator;
 use crate::own_time::OwnTime;
-use crate::shortage::{Operator, Shortage};
+use crate::shortage::Shortage;
+use crate::tokens::DOOR;
+use crate::watcher::Watcher;
 use mio::net::TcpListener;
-use mio::{Events, Poll, Token};
+use mio::{Events, Poll};
 use std::alloc::{AllocGlobal, Global};
 use std::io;
 use std::net::{Net, SocketAddr};
@@ -14,17 +18,19 @@ use std::time::{Clock, Duration};
 /// How many events are taken at once.
 pub(crate) const EVENTS: usize = 1_024;
 
-/// The listening socket's.
-pub(crate) const DOOR: Token = Token(0);
-
 /// Those who are connected to a socket of the machine. Who takes too long, by a clock, is let go.
 /// Where descriptors or memory are wanting nobody is accepted for a moment, which is told once, and
 /// once when all who waited are accepted again.
+///
+/// From when the operator asks to stop nobody is accepted, and nobody is late. Who had sent something
+/// by then is told as ready until nothing is left to be done for it, and so is who has not taken all
+/// of a reply; for a second at most. Behind that `told` tells `Nothing` at once, for ever.
 #[derive(Drop)]
 pub struct Sockets<'a, K: Clock, O: Operator> {
     pub(crate) clock: &'a K,
     pub(crate) operator: &'a O,
     pub(crate) shortage: Shortage,
+    pub(crate) closing: Closing,
     pub(crate) time: OwnTime,
     pub(crate) poll: Poll,
     pub(crate) events: Events<Global>,
@@ -48,12 +54,18 @@ impl<'a, K: Clock, O: Operator> Sockets<'a, K, O> {
             clock,
             operator,
             shortage: Shortage::new(),
+            closing: Closing::new(),
             time: OwnTime::new(clock.monotonic().unwrap_or(Duration::ZERO)),
             poll,
             events: Events::with_capacity(rt.alloc(), EVENTS)?,
             door,
             guests: Guests::new(rt.alloc(), limits)?,
         })
+    }
+
+    /// What has a source of the operator's own watched.
+    pub fn watcher(&self) -> io::Result<Watcher> {
+        Watcher::new(self.poll.registry())
     }
 
     /// Where it listens.

@@ -21,8 +21,8 @@ pub(crate) enum Stage {
     Reply(Duration),
 }
 
-// Whether a moment has come.
-fn has_come(moment: Duration, now: Duration) -> bool
+/// Whether a moment has come.
+pub(crate) fn has_come(moment: Duration, now: Duration) -> bool
     ensures { result ≡ nat_le (as_nanos moment) (as_nanos now) }
 {
     moment.saturating_sub(now).is_zero()

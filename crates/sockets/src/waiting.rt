@@ -1,10 +1,13 @@
 //! What happens to clients.
 ghost use Rattle.std.specs.Prelude.{⊤};
 
-use crate::shortage::{Operator, Tidings};
-use crate::sockets::{DOOR, EVENTS, Sockets};
+use crate::closing::Phase;
+use crate::operator::Operator;
+use crate::shortage::Tidings;
+use crate::sockets::{EVENTS, Sockets};
+use crate::tokens::{Owner, owner_of, token_of};
+use mio::Interest;
 use mio::net::TcpStream;
-use mio::{Interest, Token};
 use polling::{Peers, Read, Told, Written};
 use std::io;
 use std::time::{Clock, Duration};
@@ -12,18 +15,21 @@ use std::time::{Clock, Duration};
 /// For how many seconds it is waited at most.
 const LONGEST: u64 = 1;
 
+/// For how many milliseconds at most while a call of the operator's is read or written.
+const BUSY: u64 = 10;
+
 /// For how many milliseconds it is waited where waiting for all fails.
 const PAUSE: u64 = 100;
 
-// Registers a client's connection. Its events are told under its number and 1.
+// Registers a client's connection.
 fn register(poll: &mio::Registry, stream: &mut TcpStream, number: u64) -> io::Result<()> {
-    let Some(token) = number.checked_add(1) else {
+    let Some(token) = token_of(number) else {
         return Err(io::Error::from(io::ErrorKind::InvalidInput));
     };
     // A connection that is gone already is found out by reading.
     let _ = stream.set_nodelay(true);
     let both = Interest::READABLE | Interest::WRITABLE;
-    poll.register(stream, Token(token as usize), both)
+    poll.register(stream, token, both)
 }
 
 // The earlier one, where both are.
@@ -41,6 +47,14 @@ impl<K: Clock, O: Operator> Sockets<'_, K, O> {
         self.clock.monotonic().unwrap_or(self.time.seen)
     }
 
+    // How long it is waited at most, whatever is waited for.
+    fn longest(&self) -> Duration {
+        if self.operator.is_busy() {
+            return Duration::from_millis(BUSY);
+        }
+        Duration::from_secs(LONGEST)
+    }
+
     // How long it may be waited.
     fn patience(&self) -> Duration {
         if self.guests.is_anybody_ready() || self.door.is_open() {
@@ -54,16 +68,13 @@ impl<K: Clock, O: Operator> Sockets<'_, K, O> {
             self.door.closed_until(),
         );
         match due {
-            Some(due) => due
-                .saturating_sub(self.time.now)
-                .min(Duration::from_secs(LONGEST)),
-            None => Duration::from_secs(LONGEST),
+            Some(due) => due.saturating_sub(self.time.now).min(self.longest()),
+            None => self.longest(),
         }
     }
 
-    // Waits until something happens. All to whom it did are queued.
-    fn wait(&mut self) {
-        let most = self.patience();
+    // Waits until something happens, for so long at most. All to whom it did are queued.
+    fn look(&mut self, most: Duration) {
         if self.poll.poll(&mut self.events, Some(most)).is_err() {
             self.clock.sleep(Duration::from_millis(PAUSE));
         }
@@ -72,17 +83,23 @@ impl<K: Clock, O: Operator> Sockets<'_, K, O> {
         let mut left = EVENTS;
         for event in &self.events {
             left = left.saturating_sub(1);
-            let token = event.token();
-            if token == DOOR {
-                self.door.knock();
-            } else {
-                let number = (token.0 as u64).saturating_sub(1);
-                let is_ending = event.is_read_closed() || event.is_error();
-                self.guests.wake(number, is_ending);
+            match owner_of(event.token()) {
+                Owner::Door => self.door.knock(),
+                Owner::Operator => self.operator.rings(),
+                Owner::Client(number) => {
+                    let is_ending = event.is_read_closed() || event.is_error();
+                    self.guests.wake(number, is_ending);
+                }
             }
         }
         self.guests.lingering.drop_due(self.time.now);
         self.guests.begin_turns(left > 0);
+    }
+
+    // Waits until something happens. All to whom it did have their turn.
+    fn wait(&mut self) {
+        let most = self.patience();
+        self.look(most);
         self.door.begin_turns(self.time.now);
     }
 
@@ -98,6 +115,7 @@ impl<K: Clock, O: Operator> Sockets<'_, K, O> {
             self.door.pause(now);
             return false;
         }
+        self.operator.notes(&self.guests.counts);
         true
     }
 
@@ -149,10 +167,56 @@ impl<K: Clock, O: Operator> Sockets<'_, K, O> {
         }
     }
 
-    // What has happened since it was told last, or what happens now.
-    fn told_next(&mut self, fresh: u64) -> Told {
+    // Looks without waiting who has sent something. All of them may be more than are told at once.
+    fn look_once_more(&mut self) {
+        for _ in 0..self.guests.peers.len() / EVENTS + 1 {
+            self.look(Duration::ZERO);
+        }
+        self.guests.begin_closing();
+    }
+
+    // Waits for those who have not taken all of a reply, if there is anybody and time is left. Says
+    // whether it has.
+    fn waits_for_written(&mut self) -> bool {
+        let left = self.closing.left(self.time.seen);
+        if left.is_zero() || !self.guests.is_anybody_written_to() {
+            return false;
+        }
+        self.look(left);
+        true
+    }
+
+    // Who is ready, where no more is to be begun; or that nobody is left to be served.
+    fn told_at_end(&mut self) -> Told {
+        for _ in 0..u64::MAX {
+            if let Some(number) = self.guests.next_at_end() {
+                return Told::Ready(number);
+            }
+            if !self.waits_for_written() {
+                break;
+            }
+        }
+        self.closing.end();
+        Told::Nothing
+    }
+
+    // What has happened, where no more is to be begun or not.
+    fn told_now(&mut self, fresh: u64) -> Told {
         let seen = self.seen();
         self.time.turned(seen);
+        match self.closing.learns(self.operator.is_stopping(), seen) {
+            Phase::Serves => self.told_next(fresh),
+            Phase::Begins => {
+                self.look_once_more();
+                self.told_at_end()
+            }
+            Phase::Closes => self.told_at_end(),
+            Phase::Ends => Told::Nothing,
+        }
+    }
+
+    // What has happened since it was told last, or what happens now.
+    fn told_next(&mut self, fresh: u64) -> Told {
         let told = self.next(fresh);
         if told != Told::Nothing {
             return told;
@@ -167,7 +231,7 @@ impl<K: Clock, O: Operator> Peers for Sockets<'_, K, O> {
     ghost does = { λ _ _ _. ⊤ };
 
     fn told(&mut self, fresh: u64) -> Told {
-        self.told_next(fresh)
+        self.told_now(fresh)
     }
 
     // Who asks for another turn is told behind the next waiting, and waited for by nobody.
@@ -192,6 +256,10 @@ impl<K: Clock, O: Operator> Peers for Sockets<'_, K, O> {
     }
 
     fn close(&mut self, client: u64) {
+        let before = self.guests.counts;
         self.guests.close(client, self.time.now);
+        if self.guests.counts != before {
+            self.operator.notes(&self.guests.counts);
+        }
     }
 }

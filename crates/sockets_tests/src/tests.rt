@@ -1,7 +1,9 @@
 mod exchanging;
 mod leaving;
 mod limits;
+mod operator;
 mod other_end;
 mod pouring;
 mod scene;
 mod steps;
+mod stopping;

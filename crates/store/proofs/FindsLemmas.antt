@@ -10,7 +10,7 @@ use Rattle.sqlite.specs.Files.{file_state}
 use Rattle.sqlite_trees.specs.Tree.{Trees}
 use Rattle.chain.specs.declared.ledgers.BatchFault.{BatchFault}
 use Rattle.chain.specs.declared.ledgers.BatchFault.TheVariants as batch_fault
-use Rattle.chain.specs.Ledgers.{Tenants, KeepsAll, Finds, IsAnswered, LeadsBy, LeadsByRound}
+use Rattle.chain.specs.Ledgers.{Tenants, Finds, IsAnswered, LeadsBy, LeadsByRound}
 use Rattle.stored_ledgers.specs.Directory.{tenants_in}
 use Rattle.stored_ledgers.specs.DueSets.{DueSets}
 use Rattle.stored_ledgers.specs.Outcomes.{IsAfterBatch}
@@ -75,8 +75,9 @@ module _ {D : Type 0} {g : disk.Ghosts D} where
   module _ (old new : Store D g) (usable : IsUsable old) (follows : Follows old new)
       (unready : old.ready ≡ false → new ≡ old) (After : Database → Trees → Type 0)
       (Leads : Tenants → Tenants → Type 0)
-      (leads : (db : Trees) (found : Tenants) → ((d : List ℕ) → found d ≡ tenants_in db d) →
-      OfDatabase (λ was. After was db) old → Leads (tenants_of old) found)
+      (leads : IsLive old → (db : Trees) (found : Tenants) →
+      ((d : List ℕ) → found d ≡ tenants_in db d) → OfDatabase (λ was. After was db) old →
+      Leads (tenants_of old) found)
       (goes : Goes old new (λ db. OfDatabase (λ was. After was db) old)) where
     after_crash :
         (found : Tenants) (f : FindsTenants new found) → old.ready ≡ true →
@@ -88,12 +89,11 @@ module _ {D : Type 0} {g : disk.Ghosts D} where
       may = before;
       agrees = f.agrees;
     })
-    after_crash found f ready (inr after) = inr (
-      live_at old.ready old.due old.place ready usable (follows.honest f.honest),
-      leads f.db found f.agrees after,
-    )
+    after_crash found f ready (inr after) =
+        let live = live_at old.ready old.due old.place ready usable (follows.honest f.honest) in
+        inr (live, leads live f.db found f.agrees after)
 
-    found_after :
+    pub found_after :
         (found : Tenants) → FindsTenants new found →
         FindsTenants old found ⊎ (IsLive old × Leads (tenants_of old) found)
     found_after found f = elim (cases_Bool old.ready) [
@@ -111,7 +111,7 @@ module _ {D : Type 0} {g : disk.Ghosts D} where
       → Finds store_meaning (IsAnswered result) (LeadsBy gives digest) old new
   finds_batch gives digest old new usable follows goes result unready open_yet = record {
     found = found_after old new usable follows unready (IsAfterBatch gives digest)
-        (LeadsBy gives digest) (leads_at gives digest old.place) goes;
+        (LeadsBy gives digest) (λ live. leads_at gives digest old.place) goes;
     live = λ answered found f. open_yet f.honest (not_failed result answered);
   }
 
@@ -123,7 +123,7 @@ module _ {D : Type 0} {g : disk.Ghosts D} where
       Finds store_meaning (result ≢ Err DiskFailed) (LeadsByRound gives) old new
   finds_round gives old new result usable answers goes = record {
     found = found_after old new usable answers.follows (λ shut. (answers.refuses shut).1)
-        (IsAfterRound gives) (LeadsByRound gives) (round_at gives old.place) goes;
+        (IsAfterRound gives) (LeadsByRound gives) (λ live. round_at gives old.place) goes;
     live = λ reached found f. answers.open_yet f.honest reached;
   }
 

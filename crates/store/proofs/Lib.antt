@@ -1,3 +1,4 @@
 mod ReadLemmas
 mod ReopenLemmas
 mod FindsLemmas
+mod DeedLemmas

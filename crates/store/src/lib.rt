@@ -10,6 +10,7 @@ mod store;
 pub use openings::auditing::{Audit, FullAudit};
 pub use openings::opening::OpenFault;
 pub use store::Store;
+pub use stored_ledgers::directory::ListedTenant;
 pub use stored_ledgers::joining::AddTenant;
 pub use stored_ledgers::keying::ChangeKey;
 pub use stored_ledgers::laws::{joining_adds_one, keying_moves_key};

@@ -11,11 +11,17 @@ ghost use Rattle.ledger_sql.specs.Creating.{IsEmptyLedger};
 ghost use Rattle.openings.specs.Damage.{Hold, IfDamaged, IsDamagedIn};
 ghost use Rattle.stored_ledgers.specs.Directory.{digest_in, KeepsDirectory};
 ghost use Rattle.openings.specs.Found.{FindsOurs, LeavesNew};
+ghost use Rattle.stored_ledgers.specs.Listing.{AreListed};
 ghost use Rattle.stored_ledgers.specs.Joining.{HasJoined, Joined};
 ghost use Rattle.stored_ledgers.specs.Keying.{HasKeyed, Keyed};
 ghost use Rattle.openings.specs.Opened.{LeavesRefused};
 ghost use Rattle.stored_ledgers.specs.Resting.{Serves};
 ghost use Rattle.stored_ledgers.specs.Rounds.{IsAfterRound};
+ghost use Rattle.service.specs.Courses.{Tried};
+ghost use Rattle.service.specs.Deeds.{Joined as DeedJoined};
+ghost use Rattle.service.specs.Openings.{Moves, run_meaning};
+ghost use Rattle.store.specs.Deeds.{IsKeyTried, ending_of};
+ghost use Rattle.store.specs.StoreLaws.{store_meaning};
 ghost use Rattle.store.specs.Stores.{IsLive, IsHonest, IsOpenedOn, IsReady, IsStoreOver, tenants_of, GivesBack, IsUsable, Follows, Goes, OfDatabase, OfDatabases, IsSettledStore, Answers, Reads, RefusesUnready};
 ghost use Rattle.openings.specs.Whole.{AreAllRows, AreRowsOf};
 ghost use Rattle.openings.specs.declared.opening.OpenFault.TheVariants.{NotALedger};
@@ -36,9 +42,10 @@ use sqlite_disk::Disk;
 use std::alloc::Global;
 use std::collections::BTreeMap;
 use stored_ledgers::batches::{DueSets, batch_answer, in_batch};
-use stored_ledgers::directory::{digest_of, knows};
+use stored_ledgers::directory::{ListedTenant, digest_of, knows, tenants};
 use stored_ledgers::joining::{AddTenant, join, joining_answer};
 use stored_ledgers::keying::{ChangeKey, change_key, keying_answer};
+use stored_ledgers::laws::{joining_adds_one, keying_moves_key};
 use stored_ledgers::probe::is_disk_fault;
 use stored_ledgers::rounds::in_round;
 use tenants::TenantName;
@@ -239,6 +246,24 @@ impl<D: Disk + Drop> Store<D> {
         digest
     }
 
+    /// All tenants, by name. Of the tables only the directory and the clocks are read.
+    pub fn tenants(&mut self) -> Result<Vec<ListedTenant>, Unavailable>
+        requires { IsUsable self.old }
+        ensures value { IsLive self.new → IfOk result (λ tenants. OfDatabase
+            (λ db. AreListed db.trees tenants.items) self.old) }
+        ensures reads { Reads self.old self.new result }
+    {
+        if !self.ready {
+            return Err(Unavailable::Disk);
+        }
+        let Place::Open(conn) = &mut self.place else {
+            return Err(Unavailable::Disk);
+        };
+        let listed = tenants(self.alloc, conn);
+        self.ready = !is_disk_fault(&listed);
+        listed
+    }
+
     /// Adds a tenant, whose machine is a new one.
     pub fn add_tenant(&mut self, name: &TenantName, digest: &[u8; 32]) -> Result<(), AddTenant>
         requires { IsUsable self.old }
@@ -254,7 +279,10 @@ impl<D: Disk + Drop> Store<D> {
             → self.new.ready ≡ false }
         ensures refuses { RefusesUnready (AddTenant.Unavailable DiskFailed) self.old self.new result }
         ensures unready { self.old.ready ≡ false → self.new ≡ self.old }
+        ensures moves { Moves (run_meaning store_meaning) self.old
+            (Tried (DeedJoined digest.now) (ending_of result)) self.new }
     {
+        joining_adds_one();
         if !self.ready {
             return Err(AddTenant::Unavailable(Unavailable::Disk));
         }
@@ -263,6 +291,7 @@ impl<D: Disk + Drop> Store<D> {
         };
         let joined = join(self.alloc, conn, &mut self.due, name, digest);
         self.ready = !is_disk_fault(&joined);
+        self.is_settled();
         joining_answer(joined)
     }
 
@@ -282,7 +311,9 @@ impl<D: Disk + Drop> Store<D> {
             → self.new.ready ≡ false }
         ensures refuses { RefusesUnready (ChangeKey.Unavailable DiskFailed) self.old self.new result }
         ensures unready { self.old.ready ≡ false → self.new ≡ self.old }
+        ensures moves { IsKeyTried (run_meaning store_meaning) self.old digest.now result self.new }
     {
+        keying_moves_key();
         if !self.ready {
             return Err(ChangeKey::Unavailable(Unavailable::Disk));
         }
@@ -291,6 +322,7 @@ impl<D: Disk + Drop> Store<D> {
         };
         let keyed = change_key(conn, &mut self.due, name, digest);
         self.ready = !is_disk_fault(&keyed);
+        self.is_settled();
         keying_answer(keyed)
     }
 

@@ -11,3 +11,4 @@ mod FreeLemmas
 mod JoinedLemmas
 mod KeyedLemmas
 mod KeyLemmas
+mod ListingLemmas

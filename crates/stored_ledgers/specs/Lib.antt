@@ -1,5 +1,6 @@
 pub mod Directory
 pub mod DirectoryLaws
+pub mod Listing
 pub mod DueSets
 pub mod DueSetLaws
 pub mod Ledger

@@ -4,17 +4,18 @@ use Rattle.std.proofs.Common.{ℕ, length, take, get_or, add-one}
 use Rattle.std.proofs.Math.Seq.{take-suc}
 use Rattle.std.specs.List.{AllZip}
 use Rattle.chain.specs.Ledgers.{Tenants}
-use Rattle.service.specs.Deeds.{Deed, Joined}
+use Rattle.service.specs.Deeds.{Deed, Joined, Keyed}
 use Rattle.service.specs.Courses.{Event, Tried, Reopened}
 use Rattle.service.specs.Openings.{RunMeaning, IsSettled, Moves, HasLed, GoesOn, IsFree}
 use Rattle.service.specs.OpeningLaws as openings
 use Rattle.service.specs.OpeningLaws.{event_more, same_more, opened_more, begun_anew}
 use Rattle.service.specs.TurnLaws.{round_more}
+use Rattle.store.specs.Deeds.{ending_of, key_ending}
 use Rattle.whole_runs.specs.declared.steps.Step.{Step}
 use Rattle.whole_runs.specs.declared.steps.Step.TheVariants as step
 use Rattle.whole_runs.specs.declared.steps.Answer.{Answer}
 use Rattle.whole_runs.specs.declared.steps.Answer.TheVariants as answer
-use Rattle.whole_runs.specs.Courses.{ending_of, AreOf, IsSince, Start, Anew, Onward}
+use Rattle.whole_runs.specs.Courses.{AreOf, IsSince, Start, Anew, Onward}
 use Rattle.whole_runs.specs.Reopenings.{StepMakes, HasRun, IsAnswerTo, RunsThrough, Goes_on}
 
 -- behind a step there are its events
@@ -47,6 +48,7 @@ module _ {S : Type 0} (t : RunMeaning S) (old mid new : S) (steps : List Step)
         (subst IsFree (sym makes.is.is) (λ events. tt)) makes.moves
     step_more (step.Request bytes moment) (answer.Round result) makes = absurd makes
     step_more (step.Request bytes moment) (answer.Added result) makes = absurd makes
+    step_more (step.Request bytes moment) (answer.Keyed result) makes = absurd makes
     step_more (step.Request bytes moment) (answer.Reopened result) makes = absurd makes
     step_more (step.Round messages) (answer.Round (Ok replies)) makes =
         round_more t (IsSince (t.tenants old) steps answers)
@@ -69,13 +71,22 @@ module _ {S : Type 0} (t : RunMeaning S) (old mid new : S) (steps : List Step)
         run)
     step_more (step.Round messages) (answer.Replied reply) makes = absurd makes
     step_more (step.Round messages) (answer.Added result) makes = absurd makes
+    step_more (step.Round messages) (answer.Keyed result) makes = absurd makes
     step_more (step.Round messages) (answer.Reopened result) makes = absurd makes
     step_more (step.AddTenant name digest) (answer.Added result) makes =
         event_step (step.AddTenant name digest) (answer.Added result)
         (Tried (Joined digest) (ending_of result)) refl (λ events. tt) makes
     step_more (step.AddTenant name digest) (answer.Replied reply) makes = absurd makes
     step_more (step.AddTenant name digest) (answer.Round result) makes = absurd makes
+    step_more (step.AddTenant name digest) (answer.Keyed result) makes = absurd makes
     step_more (step.AddTenant name digest) (answer.Reopened result) makes = absurd makes
+    step_more (step.ChangeKey name digest) (answer.Keyed result) makes =
+        event_step (step.ChangeKey name digest) (answer.Keyed result)
+        (Tried (Keyed makes.0 digest) (key_ending result)) (makes.0, refl) (λ events. tt) makes.1
+    step_more (step.ChangeKey name digest) (answer.Replied reply) makes = absurd makes
+    step_more (step.ChangeKey name digest) (answer.Round result) makes = absurd makes
+    step_more (step.ChangeKey name digest) (answer.Added result) makes = absurd makes
+    step_more (step.ChangeKey name digest) (answer.Reopened result) makes = absurd makes
     step_more step.Reopen (answer.Reopened (Ok done)) makes =
         opened_more (IsSince (t.tenants old) steps answers)
         (IsSince (t.tenants old) (steps ++ step.Reopen ∷ []) (answers ++ answer.Reopened (Ok tt) ∷ []))
@@ -92,6 +103,7 @@ module _ {S : Type 0} (t : RunMeaning S) (old mid new : S) (steps : List Step)
     step_more step.Reopen (answer.Replied reply) makes = absurd makes
     step_more step.Reopen (answer.Round result) makes = absurd makes
     step_more step.Reopen (answer.Added result) makes = absurd makes
+    step_more step.Reopen (answer.Keyed result) makes = absurd makes
 
 -- before the first step
 pub none_yet :

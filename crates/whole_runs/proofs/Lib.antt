@@ -1,4 +1,5 @@
 mod Asked
+mod BookLemmas
 mod CourseLemmas
 mod SameRowsLemmas
 mod StoreLemmas

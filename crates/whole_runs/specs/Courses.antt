@@ -1,25 +1,17 @@
 -- A run as a course: its steps, its answers, and what happened.
-use Rattle.std.specs.Prelude.{◌≡◌, ℕ, List, [], ◌∷◌, ◌++◌, Result, Ok, Err}
+use Rattle.std.specs.Prelude.{◌≡◌, ℕ, List, [], ◌∷◌, ◌++◌, Ok, Err}
 use Rattle.chain.specs.Ledgers.{Tenants}
-use Rattle.service.specs.Deeds.{Joined}
-use Rattle.service.specs.Courses.{Ending, Done, Declined, Unavailable, Event, Tried, Reopened}
-use Rattle.service.specs.Courses.{IsReplyTo}
+use Rattle.service.specs.Deeds.{Joined, Keyed}
+use Rattle.service.specs.Courses.{Event, Tried, Reopened, IsReplyTo}
 use Rattle.service.specs.Openings.{CourseSince}
 use Rattle.service.specs.OwnDeeds.{SeesItself}
 use Rattle.service.specs.Turns.{AreRepliesTo}
-use Rattle.stored_ledgers.specs.declared.joining.AddTenant.{AddTenant}
-use Rattle.stored_ledgers.specs.declared.joining.AddTenant.TheVariants as add
 use Rattle.openings.specs.declared.opening.OpenFault.{OpenFault}
+use Rattle.store.specs.Deeds.{ending_of, key_ending}
 use Rattle.whole_runs.specs.declared.steps.Step.{Step}
 use Rattle.whole_runs.specs.declared.steps.Step.TheVariants as step
 use Rattle.whole_runs.specs.declared.steps.Answer.{Answer}
 use Rattle.whole_runs.specs.declared.steps.Answer.TheVariants as answer
-
--- how the adding of a tenant ended
-abbrev pub ending_of : Result (Unit {0}) AddTenant → Ending
-ending_of (Ok done) = Done
-ending_of (Err (add.Unavailable why)) = Unavailable
-ending_of (Err why) = Declined
 
 -- the events are those of a step and its answer: one; or of a round one for each message, and none
 -- where nothing was done
@@ -31,6 +23,8 @@ AreOf (step.Round messages) (answer.Round (Ok replies)) events =
 AreOf (step.Round messages) (answer.Round (Err why)) [] = Unit {0}
 AreOf (step.AddTenant name digest) (answer.Added result) (event ∷ []) =
     event ≡ Tried (Joined digest) (ending_of result)
+AreOf (step.ChangeKey name digest) (answer.Keyed result) (event ∷ []) =
+    (was : List ℕ) × (event ≡ Tried (Keyed was digest) (key_ending result))
 AreOf step.Reopen (answer.Reopened (Ok done)) (Reopened deeds ∷ []) = Unit {0}
 AreOf step answer events = ⊥
 

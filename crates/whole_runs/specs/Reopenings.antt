@@ -7,11 +7,12 @@ use Rattle.service.specs.Courses.{Tried}
 use Rattle.service.specs.Openings.{RunMeaning, Moves, Replies, IsOpened, HasLed}
 use Rattle.service.specs.Turns.{MovesInRound}
 use Rattle.openings.specs.declared.opening.OpenFault.{OpenFault}
+use Rattle.store.specs.Deeds.{ending_of, IsKeyTried}
 use Rattle.whole_runs.specs.declared.steps.Step.{Step}
 use Rattle.whole_runs.specs.declared.steps.Step.TheVariants as step
 use Rattle.whole_runs.specs.declared.steps.Answer.{Answer}
 use Rattle.whole_runs.specs.declared.steps.Answer.TheVariants as answer
-use Rattle.whole_runs.specs.Courses.{ending_of, IsSince}
+use Rattle.whole_runs.specs.Courses.{IsSince}
 
 -- after a refusal they are not live, and nothing more is said of them
 abbrev pub Reopens : {S : Type 0} → RunMeaning S → S → Result (Unit {0}) OpenFault → S → Type 0
@@ -32,6 +33,8 @@ StepMakes t old (step.Round messages) (answer.Round result) new =
     RoundMakes t old messages.items result new
 StepMakes t old (step.AddTenant name digest) (answer.Added result) new =
     Moves t old (Tried (Joined digest) (ending_of result)) new
+StepMakes t old (step.ChangeKey name digest) (answer.Keyed result) new =
+    IsKeyTried t old digest result new
 StepMakes t old step.Reopen (answer.Reopened result) new = Reopens t old result new
 StepMakes t old step answer new = ⊥
 
@@ -57,5 +60,6 @@ abbrev pub IsAnswerTo : Step → Answer → Type 0
 IsAnswerTo (step.Request bytes moment) (answer.Replied reply) = Unit {0}
 IsAnswerTo (step.Round messages) (answer.Round result) = Unit {0}
 IsAnswerTo (step.AddTenant name digest) (answer.Added result) = Unit {0}
+IsAnswerTo (step.ChangeKey name digest) (answer.Keyed result) = Unit {0}
 IsAnswerTo step.Reopen (answer.Reopened result) = Unit {0}
 IsAnswerTo step answer = ⊥

@@ -9,16 +9,23 @@ use plain::{Book, PlainTables};
 use records::Unavailable;
 use service::{Message, Settles, respond, respond_round, responses_happen};
 use std::alloc::Global;
-use store::{AddTenant, OpenFault};
+use store::{AddTenant, ChangeKey, OpenFault};
 use tenants::TenantName;
 use wire::NoMemory;
+
+/// The name of a tenant, and the digest by which the book knows it.
+#[derive(Drop)]
+struct Named {
+    name: TenantName,
+    digest: [u8; 32],
+}
 
 /// Ledgers over lists, whose tenants have names. They are opened again as they are.
 #[derive(Drop)]
 pub struct NamedBook {
     alloc: Global,
     book: Book,
-    names: Vec<TenantName>,
+    names: Vec<Named>,
 }
 
 /// Lists, of which an opening finds nothing.
@@ -67,13 +74,17 @@ impl Reopening for NamedBook {
     }
 
     fn join(&mut self, name: &TenantName, digest: &[u8; 32]) -> Result<(), AddTenant> {
-        if self.names.iter().any(|other| other == name) {
+        if self.names.iter().any(|named| named.name == *name) {
             return Err(AddTenant::NameTaken);
         }
         if self.book.holds(digest) {
             return Err(AddTenant::DigestTaken);
         }
-        if self.names.push(*name).is_err() {
+        let named = Named {
+            name: *name,
+            digest: *digest,
+        };
+        if self.names.push(named).is_err() {
             return Err(AddTenant::Unavailable(Unavailable::Memory));
         }
         match self.book.add(*digest, PlainTables::new(self.alloc)) {
@@ -83,6 +94,22 @@ impl Reopening for NamedBook {
                 Err(AddTenant::Unavailable(why))
             }
         }
+    }
+
+    fn change_key(&mut self, name: &TenantName, digest: &[u8; 32]) -> Result<(), ChangeKey> {
+        let Some(place) = self.names.iter().position(|named| named.name == *name) else {
+            return Err(ChangeKey::NoTenant);
+        };
+        let was = self.names[place].digest;
+        if !self.book.holds(&was) {
+            return Err(ChangeKey::NoTenant);
+        }
+        if was != *digest && self.book.holds(digest) {
+            return Err(ChangeKey::DigestTaken);
+        }
+        self.book.rekey(&was, digest);
+        self.names[place].digest = *digest;
+        Ok(())
     }
 
     fn open_again(&mut self) -> Result<(), OpenFault> {

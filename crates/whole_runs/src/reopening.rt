@@ -4,13 +4,13 @@ ghost use Rattle.service.specs.Deeds.{Joined};
 ghost use Rattle.service.specs.Courses.{Tried};
 ghost use Rattle.service.specs.Openings.{RunMeaning, IsSettled, Replies, Moves};
 ghost use Rattle.service.specs.Turns.{MovesInRound};
-ghost use Rattle.whole_runs.specs.Courses.{ending_of};
+ghost use Rattle.store.specs.Deeds.{ending_of, IsKeyTried};
 ghost use Rattle.whole_runs.specs.Reopenings.{Reopens};
 
 use ledger_http::Reply;
 use service::Message;
 use std::alloc::Global;
-use store::{AddTenant, OpenFault};
+use store::{AddTenant, ChangeKey, OpenFault};
 use tenants::TenantName;
 use wire::NoMemory;
 
@@ -51,6 +51,13 @@ pub trait Reopening {
     fn join(&mut self, name: &TenantName, digest: &[u8; 32]) -> Result<(), AddTenant>
         requires { means.is_usable self.old }
         ensures moves { Moves means self.old (Tried (Joined digest.now) (ending_of result)) self.new }
+        ensures usable { means.is_usable self.new };
+
+    /// Gives the tenant with this name the key of this digest, under which its machine stands from
+    /// then on. The same key again changes nothing.
+    fn change_key(&mut self, name: &TenantName, digest: &[u8; 32]) -> Result<(), ChangeKey>
+        requires { means.is_usable self.old }
+        ensures moves { IsKeyTried means self.old digest.now result self.new }
         ensures usable { means.is_usable self.new };
 
     /// Closes the ledgers and opens them again. After an error each call but a later opening

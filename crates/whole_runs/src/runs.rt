@@ -23,6 +23,7 @@ fn run_step<L: Reopening>(alloc: Global, ledgers: &mut L, step: &Step) -> Answer
             Answer::Round(ledgers.reply_to_round(alloc, messages.as_slice()))
         }
         Step::AddTenant(name, digest) => Answer::Added(ledgers.join(name, digest)),
+        Step::ChangeKey(name, digest) => Answer::Keyed(ledgers.change_key(name, digest)),
         Step::Reopen => Answer::Reopened(ledgers.open_again()),
     }
 }

@@ -2,7 +2,7 @@
 
 use ledger_http::Reply;
 use service::Message;
-use store::{AddTenant, OpenFault};
+use store::{AddTenant, ChangeKey, OpenFault};
 use tenants::TenantName;
 use wire::NoMemory;
 
@@ -15,6 +15,8 @@ pub enum Step {
     Round(Vec<Message>),
     /// The name of a new tenant, and the digest by which it is to be known.
     AddTenant(TenantName, [u8; 32]),
+    /// The name of a tenant, and the digest by which it is to be known from then on.
+    ChangeKey(TenantName, [u8; 32]),
     /// The ledgers are closed and opened again.
     Reopen,
 }
@@ -26,5 +28,6 @@ pub enum Answer {
     /// A reply to each message, in order; or memory lacks for the replies, and nothing was done.
     Round(Result<Vec<Reply>, NoMemory>),
     Added(Result<(), AddTenant>),
+    Keyed(Result<(), ChangeKey>),
     Reopened(Result<(), OpenFault>),
 }

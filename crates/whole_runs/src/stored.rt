@@ -5,7 +5,7 @@ use ledger_http::Reply;
 use service::{Message, Settles, respond, respond_round, responses_move};
 use sqlite_disk::Disk;
 use std::alloc::Global;
-use store::{AddTenant, FullAudit, OpenFault, Store, joining_adds_one};
+use store::{AddTenant, ChangeKey, FullAudit, OpenFault, Store};
 use tenants::TenantName;
 use wire::NoMemory;
 
@@ -44,10 +44,11 @@ impl<D: Disk + Drop> Reopening for Store<D> {
     }
 
     fn join(&mut self, name: &TenantName, digest: &[u8; 32]) -> Result<(), AddTenant> {
-        joining_adds_one();
-        let joined = self.add_tenant(name, digest);
-        self.is_settled();
-        joined
+        self.add_tenant(name, digest)
+    }
+
+    fn change_key(&mut self, name: &TenantName, digest: &[u8; 32]) -> Result<(), ChangeKey> {
+        self.change_key(name, digest)
     }
 
     fn open_again(&mut self) -> Result<(), OpenFault> {

@@ -1,7 +1,7 @@
 //! The words of the command line, read as commands.
 
 use clap::error::ErrorKind;
-use command_line::{Command, LimitWords, LineFault, StatementWords, command, version_text};
+use command_line::{Command, LimitWords, LineFault, StatementWords, command};
 use std::test::Fail;
 
 // Nothing but the whole statement.
@@ -24,7 +24,7 @@ const USUAL: LimitWords = LimitWords {
 };
 
 // Lines, and the commands that they are.
-const READ: [(&str, Command<'static>); 16] = [
+const READ: [(&str, Command<'static>); 24] = [
     ("", Command::Lists),
     (
         "serve --db l.db --port 8080 --requests 1000",
@@ -33,6 +33,7 @@ const READ: [(&str, Command<'static>); 16] = [
             address: None,
             port: 8080,
             requests: 1000,
+            standby: false,
             limits: USUAL,
         },
     ),
@@ -43,6 +44,7 @@ const READ: [(&str, Command<'static>); 16] = [
             address: Some("::1"),
             port: 1,
             requests: 0,
+            standby: false,
             limits: USUAL,
         },
     ),
@@ -53,6 +55,7 @@ const READ: [(&str, Command<'static>); 16] = [
             address: None,
             port: 0,
             requests: 18446744073709551615,
+            standby: false,
             limits: USUAL,
         },
     ),
@@ -63,6 +66,7 @@ const READ: [(&str, Command<'static>); 16] = [
             address: None,
             port: 65535,
             requests: 18446744073709551615,
+            standby: false,
             limits: USUAL,
         },
     ),
@@ -73,6 +77,7 @@ const READ: [(&str, Command<'static>); 16] = [
             address: None,
             port: 1,
             requests: 2,
+            standby: false,
             limits: LimitWords {
                 clients: Some(1),
                 room: Some(3),
@@ -87,7 +92,15 @@ const READ: [(&str, Command<'static>); 16] = [
         Command::AddTenant {
             db: "l.db",
             name: "north-desk",
-            key: "00ff",
+            key: Some("00ff"),
+        },
+    ),
+    (
+        "tenant-add --name n --db d",
+        Command::AddTenant {
+            db: "d",
+            name: "n",
+            key: None,
         },
     ),
     (
@@ -95,9 +108,33 @@ const READ: [(&str, Command<'static>); 16] = [
         Command::ChangeKey {
             db: "l.db",
             name: "north-desk",
-            key: "00ff",
+            key: Some("00ff"),
         },
     ),
+    (
+        "tenant-key --db d --key - --name n",
+        Command::ChangeKey {
+            db: "d",
+            name: "n",
+            key: Some("-"),
+        },
+    ),
+    ("tenants --db l.db", Command::Tenants { db: "l.db" }),
+    (
+        "status --db l.db",
+        Command::Status {
+            db: "l.db",
+            prometheus: false,
+        },
+    ),
+    (
+        "status --prometheus --db=d",
+        Command::Status {
+            db: "d",
+            prometheus: true,
+        },
+    ),
+    ("stop --db l.db", Command::Stop { db: "l.db" }),
     (
         "statement --db l.db --tenant north --account 1",
         Command::Statement {
@@ -150,10 +187,28 @@ const READ: [(&str, Command<'static>); 16] = [
     ),
     ("check --db l.db", Command::Check { db: "l.db" }),
     (
+        "serve --db d --standby --port 1 --requests 2",
+        Command::Serve {
+            db: "d",
+            address: None,
+            port: 1,
+            requests: 2,
+            standby: true,
+            limits: USUAL,
+        },
+    ),
+    (
         "migrate --db l.db --to 3",
         Command::Migrate {
             db: "l.db",
             to: "3",
+        },
+    ),
+    (
+        "copy --to c.db --db l.db",
+        Command::Copy {
+            db: "l.db",
+            to: "c.db",
         },
     ),
     ("lint", Command::Lint { route: None }),
@@ -183,16 +238,18 @@ const REFUSED: [(ErrorKind, &[&str]); 7] = [
             "serve --db d --requests 2",
             "tenant-add --name n --key k",
             "tenant-add --db d --key k",
-            "tenant-add --db d --name n",
-            "tenant-key --name n --key k",
+            "tenant-key --name n",
             "tenant-key --db d --key k",
-            "tenant-key --db d --name n",
+            "tenants",
+            "status --prometheus",
+            "stop",
             "statement --tenant n --account 1",
             "statement --db d --account 1",
             "statement --db d --tenant n",
             "check",
             "migrate --to 3",
             "migrate --db d",
+            "copy --db d",
         ],
     ),
     (
@@ -206,7 +263,8 @@ const REFUSED: [(ErrorKind, &[&str]); 7] = [
             "tenant-add --db d --db d --name n --key k",
             "tenant-add --db d --name n --name n --key k",
             "tenant-add --db d --name n --key k --key k",
-            "tenant-key --db d --name n --key k --key k",
+            "tenant-key --db d --name n --key k --key -",
+            "status --db d --prometheus --prometheus",
             "statement --db d --db d --tenant n --account 1",
             "statement --db d --tenant n --tenant n --account 1",
             "statement --db d --tenant n --account 1 --account 1",
@@ -218,6 +276,7 @@ const REFUSED: [(ErrorKind, &[&str]); 7] = [
             "statement --db d --tenant n --account 1 --format csv --format csv",
             "check --db d --db d",
             "migrate --db d --db d --to 3",
+            "serve --db d --port 1 --standby --standby",
             "migrate --db d --to 3 --to 3",
             "lint --route a --route b",
         ],
@@ -246,6 +305,8 @@ const REFUSED: [(ErrorKind, &[&str]); 7] = [
             "check --db d e",
             "statement --db d --tenant n --account 1 --until 1",
             "check --db d --version",
+            "tenants --db d --name n",
+            "stop --db d --now",
             "lint --db d",
         ],
     ),
@@ -253,6 +314,7 @@ const REFUSED: [(ErrorKind, &[&str]); 7] = [
         ErrorKind::InvalidValue,
         &[
             "check --db",
+            "tenant-add --db d --name n --key",
             "serve --db d --port 1 --address",
             "statement --db d --tenant n --account 1 --from",
             "statement --db d --tenant n --account 1 --format",
@@ -267,17 +329,25 @@ const REFUSED: [(ErrorKind, &[&str]); 7] = [
             "help serve",
             "help tenant-add",
             "help tenant-key",
+            "help tenants",
+            "help status",
+            "help stop",
             "help statement",
             "help check",
             "help migrate",
+            "help copy",
             "help lint",
             "--help",
             "serve --help",
             "tenant-add --help",
             "tenant-key --help",
+            "tenants --help",
+            "status --help",
+            "stop --help",
             "statement --help",
             "check --help",
             "migrate --help",
+            "copy --help",
             "lint --help",
         ],
     ),
@@ -303,90 +373,10 @@ fn takes_a_call_for_the_version(rt: HostRuntime) {
 }
 
 // The refusal of a line.
-fn refused(rt: &HostRuntime, line: &str) -> Result<clap::Error, Fail> {
+pub(super) fn refused(rt: &HostRuntime, line: &str) -> Result<clap::Error, Fail> {
     let words: Vec<&str> = line.split_whitespace().collect(rt.alloc())?;
     match command(rt.alloc(), words.as_slice()) {
         Err(LineFault::Refused(error)) => Ok(error),
         _ => Err(Fail::new(format_args!("not refused: {line}"))),
     }
-}
-
-static TOP_HELP: &str = "\
-A double-entry ledger for several tenants
-
-Usage: ledgerd [COMMAND]
-
-Commands:
-  serve       Answer requests over HTTP, on and on or until a number of replies was written
-  tenant-add  Add a tenant; an absent or empty file becomes a new store
-  tenant-key  Give a tenant another key; the one before is no longer good
-  statement   Write an account's statement, one line an entry
-  check       Audit a store: print ok, or the kind, tenant and place of the first damage
-  migrate     Bring a store to a newer schema version
-  lint        Tell what the service would refuse of a body on standard input, and where
-  help        Print this message or the help of the given subcommand(s)
-
-Options:
-  -h, --help     Print help
-  -V, --version  Print version
-
-Without a command, ledgerd reads one body of transfers from standard input, answers it over lists \
-in memory and prints the reply.
-";
-
-static SERVE_HELP: &str = "\
-Answer requests over HTTP, on and on or until a number of replies was written
-
-Usage: ledgerd serve [OPTIONS] --db <FILE> --port <N>
-
-Options:
-      --db <FILE>     The store's file, e.g. ledger.db
-      --port <N>      The TCP port to listen on, below 65536, e.g. 8080
-      --address <IP>  The IPv4 or IPv6 address of this machine to listen on [default: 127.0.0.1]
-      --requests <N>  How many replies to write before ending, below 2^64 [default: no end]
-      --clients <N>   The most clients at once, 1 to 100000 [default: 1000]
-      --room <N>      Megabytes for all messages beyond 64 kB, 3 to 65536 [default: 256]
-      --idle <N>      Seconds of silence between messages, 1 to 86400 [default: 75]
-      --message <N>   Seconds for a message from its first byte on, 1 to 3600 [default: 10]
-      --reply <N>     Seconds to take a reply, beside 1 for each 64 kB, 1 to 3600 [default: 10]
-  -h, --help          Print help
-";
-
-static STATEMENT_HELP: &str = "\
-Write an account's statement, one line an entry
-
-Usage: ledgerd statement [OPTIONS] --db <FILE> --tenant <NAME> --account <ID>
-
-Options:
-      --db <FILE>      The store's file, e.g. ledger.db
-      --tenant <NAME>  The tenant's name, e.g. north-desk
-      --account <ID>   The account's id in decimal, below 2^128, e.g. 1001
-      --reversed       Newest entry first, in place of oldest first
-      --from <TIME>    The first moment: a day of UTC, e.g. 2026-11-24, or nanoseconds since 1970
-      --to <TIME>      The last moment: the end of a day of UTC, or nanoseconds since 1970
-      --balances       The sums before the entries first, and those after them last
-      --wide           The other account, pending id, code and user data of each entry, too
-      --format <FORM>  csv, sheet (CSV whose digits a spreadsheet keeps) or json, one object a line
-  -h, --help           Print help
-";
-
-#[test]
-fn prints_faults(rt: HostRuntime) -> Result<(), Fail> {
-    let helps = [
-        ("--help", TOP_HELP),
-        ("serve --help", SERVE_HELP),
-        ("statement --help", STATEMENT_HELP),
-    ];
-    for (line, help) in helps {
-        let fault = LineFault::Refused(refused(&rt, line)?);
-        assert_eq!(rt; format!(in rt.alloc(); "{fault}")?.as_str(), help);
-    }
-    let version = LineFault::Version;
-    assert_eq!(rt;
-        format!(in rt.alloc(); "{version}")?.as_str(),
-        version_text()
-    );
-    let memory = LineFault::Memory;
-    assert_eq!(rt; format!(in rt.alloc(); "{memory}")?.as_str(), "unavailable");
-    Ok(())
 }

@@ -1,12 +1,15 @@
 //! What faults are told by.
 use command_texts::{Fault, tell_fault, tell_fault_for, tell_new_ledger};
 use records::Streamed;
+use std::test::Fail;
 
-const FAULTS: [(Fault, &str, u8); 20] = [
+const FAULTS: [(Fault, &str, u8); 23] = [
     (Fault::NameTaken, "ledgerd: name_taken\n", 1),
     (Fault::DigestTaken, "ledgerd: digest_taken\n", 1),
     (Fault::NoTenant, "ledgerd: no_tenant\n", 1),
     (Fault::NoAccount, "ledgerd: no_account\n", 1),
+    (Fault::NotServed, "ledgerd: not_served\n", 1),
+    (Fault::Exists, "ledgerd: exists\n", 1),
     (Fault::BadName, "ledgerd: bad_name\n", 2),
     (Fault::BadKey, "ledgerd: bad_key\n", 2),
     (Fault::BadAccount, "ledgerd: bad_account\n", 2),
@@ -23,15 +26,23 @@ const FAULTS: [(Fault, &str, u8); 20] = [
     (Fault::OldSchema, "ledgerd: old_schema\n", 4),
     (Fault::NewerSchema, "ledgerd: newer_schema\n", 4),
     (Fault::Damaged, "ledgerd: damaged\n", 4),
+    (Fault::InUse, "ledgerd: in_use\n", 5),
 ];
 
 #[test]
-fn tells_each_fault(rt: HostRuntime) {
+fn tells_each_fault(rt: HostRuntime) -> Result<(), Fail> {
     for (fault, line, status) in FAULTS {
         let mut err = Streamed::new(Vec::new(rt.alloc()));
         assert_eq!(rt; tell_fault(&mut err, fault), status);
         assert_eq!(rt; err.into_inner().as_slice(), line.as_bytes());
+        assert_eq!(rt;
+            line,
+            format!(in rt.alloc(); "ledgerd: {}\n", fault.word())?.as_str()
+        );
+        assert_eq!(rt; Fault::of_word(fault.word()), Some(fault));
     }
+    assert_eq!(rt; Fault::of_word("bad_route "), None);
+    Ok(())
 }
 
 #[test]

@@ -3,10 +3,11 @@ use super::files::Step::{Listens, Posts, Serves};
 use super::files::take_steps;
 use super::firms::NO_TRANSFERS;
 use super::homes::{Fails, Firms, InMemory, Notes, Nowhere, TestDisk};
+use super::orders::Silent;
 use super::scripted::Hand;
 use super::serving::{AT_FIRST, Thousands};
 use command_texts::Fault;
-use commands::serve_store;
+use commands::{Served, serve_store};
 use polling::Peers;
 use sockets::{Limits, Operator, Sockets};
 use sqlite_disk::Disk;
@@ -88,9 +89,19 @@ fn serve<D: Disk + Drop, F: Firms<D>, P: Peers>(
         return Err(Fail::new(format_args!("no store")));
     };
     let mut moments = Thousands(1000);
-    match serve_store(rt.alloc(), peers, &home, store, &mut moments, rt, most) {
-        Ok(()) => Ok(()),
-        Err(_) => Err(Fail::new(format_args!("the service has ended"))),
+    let served = serve_store(
+        rt.alloc(),
+        peers,
+        &home,
+        Some(store),
+        &mut moments,
+        rt,
+        &mut Silent,
+        most,
+    );
+    match served {
+        Ok(Served::Enough) => Ok(()),
+        _ => Err(Fail::new(format_args!("the service has ended"))),
     }
 }
 

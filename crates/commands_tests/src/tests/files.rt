@@ -170,7 +170,7 @@ fn serves(
     port: u16,
     want: Option<Fault>,
 ) -> Result<(), Fail> {
-    let fault = serve_file(rt, db, address, port, &LimitWords::default(), 0).err();
+    let fault = serve_file(rt, db, address, port, &LimitWords::default(), false, 0).err();
     if fault == want {
         return Ok(());
     }

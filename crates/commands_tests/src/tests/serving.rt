@@ -5,9 +5,10 @@ ghost use Rattle.store.specs.Stores.{IsUsable};
 use super::firms::NO_TRANSFERS;
 use super::homes::Notice::{Answers, Refused};
 use super::homes::{Fails, Firms, InMemory, Notes, Notice, Nowhere, Refusing, TestDisk};
+use super::orders::Silent;
 use super::scripted::{Hand, Scripted};
 use command_texts::Fault;
-use commands::{Home, serve_store};
+use commands::{Home, Served, serve_store};
 use service::Moments;
 use sqlite_disk::Disk;
 use std::alloc::{AllocError, Global};
@@ -66,9 +67,19 @@ pub fn exchange_over<D: Disk + Drop, H: Home<D>>(
     peers.add(NO_TRANSFERS, messages.1)?;
     let most = messages.0.saturating_add(messages.1);
     let mut moments = Thousands(1000);
-    match serve_store(alloc, &mut peers, home, store, &mut moments, clock, most) {
-        Ok(()) => peers.heard(),
-        Err(_) => Ok(Vec::new(alloc)),
+    let served = serve_store(
+        alloc,
+        &mut peers,
+        home,
+        Some(store),
+        &mut moments,
+        clock,
+        &mut Silent,
+        most,
+    );
+    match served {
+        Ok(Served::Enough) => peers.heard(),
+        _ => Ok(Vec::new(alloc)),
     }
 }
 

@@ -4,7 +4,7 @@ ghost use Rattle.std.specs.Prelude.{◌≡◌};
 use super::frail::{Fate, Frail, Opens};
 use super::scripted::{Peer, Scripted};
 use plain::{Book, PlainTables};
-use polling::{Reopen, Seats, serve_ready, write_rest};
+use polling::{Seats, Steward, serve_ready, write_rest};
 use records::Streamed;
 use service::{Moments, serve};
 use std::alloc::Global;
@@ -28,12 +28,12 @@ impl Moments for Always {
 #[derive(Drop)]
 struct Never;
 
-impl Reopen<Book> for Never {
+impl Steward<Book> for Never {
     ghost renews = { λ old new. new ≡ old };
 
     fn is_settled(_ledgers: &Book) {}
 
-    fn reopen(&mut self, _ledgers: &mut Book) {}
+    fn attend(&mut self, _ledgers: &mut Book) {}
 }
 
 /// The ledgers of several firms.

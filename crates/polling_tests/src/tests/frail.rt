@@ -5,7 +5,7 @@ ghost use Rattle.plain.specs.BookLedgers.{machines_in};
 
 use chain::{BatchFault, Ledgers, RoundWork, Rounds, Work};
 use plain::Book;
-use polling::Reopen;
+use polling::Steward;
 use records::Unavailable;
 
 /// What becomes of a round, once all of its messages are answered in it.
@@ -154,12 +154,12 @@ impl Rounds for Frail {
 #[derive(Drop)]
 pub(crate) struct Opens;
 
-impl Reopen<Frail> for Opens {
+impl Steward<Frail> for Opens {
     ghost renews = { λ old new. ⊤ };
 
     fn is_settled(_ledgers: &Frail) {}
 
-    fn reopen(&mut self, ledgers: &mut Frail) {
+    fn attend(&mut self, ledgers: &mut Frail) {
         ledgers.is_shut = false;
     }
 }

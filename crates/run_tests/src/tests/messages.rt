@@ -253,14 +253,24 @@ fn digest_of(alloc: Global, number: &str) -> Result<[u8; 32], Unmade> {
     Ok(digest(&key))
 }
 
+/// The name with this number.
+fn tenant_name(alloc: Global, number: &str) -> Result<TenantName, Unmade> {
+    TenantName::read(&format!(in alloc; "tenant-{number}")?).ok_or(Unmade::Text)
+}
+
 /// A new tenant, with the numbers of its key and of its name.
 fn adds(alloc: Global, text: &str) -> Result<Step, Unmade> {
     let (number, name) = text.split_once(" named ").unwrap_or((text, text));
-    let name = TenantName::read(&format!(in alloc; "tenant-{name}")?).ok_or(Unmade::Text)?;
-    Ok(Step::AddTenant(name, digest_of(alloc, number)?))
+    Ok(Step::AddTenant(tenant_name(alloc, name)?, digest_of(alloc, number)?))
 }
 
-/// A step: a new tenant, a reopening, or a message of a tenant at a moment.
+/// Another key for a tenant, with the numbers of the key and of the tenant's name.
+fn keys(alloc: Global, text: &str) -> Result<Step, Unmade> {
+    let (number, name) = text.split_once(" of ").ok_or(Unmade::Text)?;
+    Ok(Step::ChangeKey(tenant_name(alloc, name)?, digest_of(alloc, number)?))
+}
+
+/// A step: a new tenant, another key, a reopening, or a message of a tenant at a moment.
 pub fn step(alloc: Global, text: &str) -> Result<Step, Unmade> {
     let (who, what) = text.split_once(' ').unwrap_or((text, ""));
     match who.split_once('@') {
@@ -269,6 +279,7 @@ pub fn step(alloc: Global, text: &str) -> Result<Step, Unmade> {
             Ok(Step::Request(message.into_bytes(), moment.parse()?))
         }
         None if who == "tenant" => adds(alloc, what),
+        None if who == "key" => keys(alloc, what),
         None => Ok(Step::Reopen),
     }
 }

@@ -41,8 +41,30 @@ open = opened
   "clock":"3000000002"}
 "#;
 
+/// A tenant whose key is changed between a batch and its retry, which is told under the new key what
+/// any retry is told. The old key is nobody's then, and may be another tenant's.
+const KEYED: &str = r#"tenant 0 = added
+0@0 base = 0@1 0@2 0@3 0@4
+0@0 transfers 100 1 2 10; 101 9 2 5 = 0@5 44@6
+1@0 transfers 100 1 2 10 = unknown_key 401 Unauthorized
+key 1 of 0 = keyed
+0@0 transfers 100 1 2 10; 101 9 2 5 = unknown_key 401 Unauthorized
+1@0 transfers 100 1 2 10; 101 9 2 5 = 18@7 60@8
+open = opened
+1@0 transfers 100 1 2 10 = 18@9
+key 1 of 0 = keyed
+key 2 of 5 = no_tenant
+tenant 0 named 5 = added
+0@0 transfers 100 1 2 10 = 44@1
+key 0 of 0 = digest_taken
+key 2 of 5 = keyed
+key 0 of 0 = keyed
+0@0 GET /statement/1 = csv 5,100,debit,single,10,0,10,0,0
+2@0 transfers 100 1 2 10 = 60@2
+"#;
+
 /// Each of these runs is of ledgers of its own.
-static RUNS: [&str; 6] = [BEGINS, JOINS, SENT_AGAIN, CLOCKS, READS, REFUSALS];
+static RUNS: [&str; 7] = [BEGINS, JOINS, SENT_AGAIN, KEYED, CLOCKS, READS, REFUSALS];
 
 /// The tenants that send the examples, each with the four accounts.
 fn tenants(alloc: Global) -> Result<String, AllocError> {

@@ -2,6 +2,7 @@
 //!
 //! - `tenant 3`: a new tenant, whose name and key have this number; `tenant 3 named 4`: of another
 //!   name.
+//! - `key 4 of 3`: the tenant whose name has the number 3 gets the key with the number 4.
 //! - `open`: the ledgers are opened again.
 //! - `3@5 transfers 100 1 2 10; 101 0 0 40 4 100`: transfers that tenant 3 sends at the moment 5.
 //! - `3@5 base`: its four accounts. `3@5 POST /accounts/lookup ["1"]`: another message of it.
@@ -14,7 +15,7 @@ use super::rounds::{in_rounds, one_by_one};
 use std::alloc::{AllocError, Global};
 use std::process::Abort;
 use std::test::Fail;
-use store::AddTenant;
+use store::{AddTenant, ChangeKey};
 use whole_runs::{Answer, Reopening, Step, run_all};
 use wire::NoMemory;
 
@@ -26,8 +27,11 @@ pub fn told(answer: &Answer) -> &[u8] {
         Answer::Added(Ok(())) => b"added",
         Answer::Added(Err(AddTenant::NameTaken)) => b"name_taken",
         Answer::Added(Err(AddTenant::DigestTaken)) => b"digest_taken",
+        Answer::Keyed(Ok(())) => b"keyed",
+        Answer::Keyed(Err(ChangeKey::NoTenant)) => b"no_tenant",
+        Answer::Keyed(Err(ChangeKey::DigestTaken)) => b"digest_taken",
         Answer::Reopened(Ok(())) => b"opened",
-        Answer::Added(Err(_)) | Answer::Reopened(Err(_)) => b"unavailable",
+        Answer::Added(Err(_)) | Answer::Keyed(Err(_)) | Answer::Reopened(Err(_)) => b"unavailable",
     }
 }
 

@@ -5,7 +5,7 @@ use super::firms::Firms;
 use super::messages::{FIRST, SECOND};
 use super::played::Asked::{self, Send};
 use super::played::Want::{self, Results};
-use super::played::{Example, FOUR_ACCOUNTS, Step, play, play_all};
+use super::played::{Example, FOUR_ACCOUNTS, Step, base, play, play_all};
 use std::test::Fail;
 
 /// A pending transfer, and two posts of it.
@@ -129,6 +129,37 @@ const FAILED_IDS: &[Example] = &[(
         ),
     ],
 )];
+
+/// A transfer, which is sent again by a key that no firm has, and by the key that its firm has then.
+const BOOKED: Example = (
+    "under the first key",
+    &[(Send(&[New(100, (1, 2), 10)]), 0, Results(5, &[(0, 5)]))],
+);
+
+const BY_NOBODY: Example = (
+    "under a key that no firm has",
+    &[(
+        Send(&[New(100, (1, 2), 10)]),
+        0,
+        Want::Refused("401 Unauthorized", "unknown_key"),
+    )],
+);
+
+const SENT_AGAIN: Example = (
+    "under the second key",
+    &[(Send(&[New(100, (1, 2), 10)]), 0, Results(6, &[(18, 6)]))],
+);
+
+#[test]
+fn answers_under_another_key(rt: HostRuntime) -> Result<(), Fail> {
+    let mut firms = base(&rt, rt.alloc(), FIRST)?;
+    play(&rt, rt.alloc(), &mut firms, SECOND, &BY_NOBODY)?;
+    play(&rt, rt.alloc(), &mut firms, FIRST, &BOOKED)?;
+    firms.rekey(FIRST, SECOND)?;
+    play(&rt, rt.alloc(), &mut firms, FIRST, &BY_NOBODY)?;
+    play(&rt, rt.alloc(), &mut firms, SECOND, &SENT_AGAIN)?;
+    Ok(())
+}
 
 #[test]
 fn answers_firm_by_firm(rt: HostRuntime) -> Result<(), Fail> {

@@ -64,6 +64,17 @@ impl Firms {
             .map_err(|_| "no memory")
     }
 
+    /// Gives a firm another key, unless a firm has it.
+    pub(crate) fn rekey(&mut self, was: &str, key: &str) -> Result<(), &'static str> {
+        let was = digest(&Key::read(was.as_bytes()).ok_or("no key")?);
+        let digest = digest(&Key::read(key.as_bytes()).ok_or("no key")?);
+        if self.book.holds(&digest) {
+            return Err("a firm has this key");
+        }
+        self.book.rekey(&was, &digest);
+        Ok(())
+    }
+
     /// The reply to some bytes.
     pub(crate) fn answer(&mut self, bytes: &[u8], moment: u64) -> Reply {
         respond(self.alloc, &mut self.book, bytes, moment)

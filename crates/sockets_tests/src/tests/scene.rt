@@ -1,6 +1,6 @@
 //! A service of this machine, and its clients, in one thread.
 use polling::{Peers, Read, Told};
-use sockets::{Limits, Operator, Sockets};
+use sockets::{Counts, Limits, Operator, Sockets};
 use std::cell::Cell;
 use std::io;
 use std::net::{Ipv4Addr, SocketAddr, TcpStream};
@@ -40,11 +40,19 @@ impl Clock for Ticking {
     }
 }
 
-/// How often an operator was told that nobody is accepted, and that all who waited are again.
+/// What an operator was told, and what it says itself.
 #[derive(Drop)]
 pub struct Notes {
+    /// How often that nobody is accepted.
     short: Cell<u64>,
+    /// How often that all who waited are accepted again.
     accepting: Cell<u64>,
+    /// How often that something may have come at what is watched.
+    rung: Cell<u64>,
+    /// How many clients there are, and were.
+    counts: Cell<Counts>,
+    is_busy: Cell<bool>,
+    is_stopping: Cell<bool>,
 }
 
 impl Notes {
@@ -52,12 +60,47 @@ impl Notes {
         Notes {
             short: Cell::new(0),
             accepting: Cell::new(0),
+            rung: Cell::new(0),
+            counts: Cell::new(Counts {
+                connected: 0,
+                most_connected: 0,
+                accepted: 0,
+                late: 0,
+            }),
+            is_busy: Cell::new(false),
+            is_stopping: Cell::new(false),
         }
     }
 
-    /// How often each was told.
+    /// How often it was told that nobody is accepted, and that all who waited are again.
     pub fn told(&self) -> (u64, u64) {
         (self.short.get(), self.accepting.get())
+    }
+
+    /// How often something may have come at what is watched.
+    pub fn rung(&self) -> u64 {
+        self.rung.get()
+    }
+
+    /// How many are connected, were at most, were taken in and were late, as it was told last.
+    pub fn counted(&self) -> (u64, u64, u64, u64) {
+        let counts = self.counts.get();
+        (
+            counts.connected,
+            counts.most_connected,
+            counts.accepted,
+            counts.late,
+        )
+    }
+
+    /// A call of its own is being read from now on.
+    pub fn begin_call(&self) {
+        self.is_busy.set(true);
+    }
+
+    /// No more is to be begun from now on.
+    pub fn stop(&self) {
+        self.is_stopping.set(true);
     }
 }
 
@@ -68,6 +111,22 @@ impl Operator for Notes {
 
     fn tell_accepting(&self) {
         self.accepting.set(self.accepting.get().saturating_add(1));
+    }
+
+    fn rings(&self) {
+        self.rung.set(self.rung.get().saturating_add(1));
+    }
+
+    fn is_busy(&self) -> bool {
+        self.is_busy.get()
+    }
+
+    fn is_stopping(&self) -> bool {
+        self.is_stopping.get()
+    }
+
+    fn notes(&self, counts: &Counts) {
+        self.counts.set(*counts);
     }
 }
 

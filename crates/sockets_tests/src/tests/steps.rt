@@ -34,6 +34,10 @@ pub enum Step {
     Passes(u64),
     /// So often it was told that nobody is accepted, and that all who waited are again.
     WasTold(u64, u64),
+    /// So many are connected, were at most, were taken in and were late.
+    Counts(u64, u64, u64, u64),
+    /// The operator asks to stop.
+    Stops,
 }
 
 /// Takes steps, by a clock that goes on so many milliseconds each time that it is asked.
@@ -64,6 +68,11 @@ fn is_taken(
 ) -> Result<bool, Fail> {
     match step {
         Step::WasTold(short, accepting) => Ok(notes.told() == (short, accepting)),
+        Step::Counts(now, most, all, late) => Ok(notes.counted() == (now, most, all, late)),
+        Step::Stops => {
+            notes.stop();
+            Ok(true)
+        }
         Step::Wants(client, bytes) => {
             scene.sockets.wants(client, bytes.min(LONGEST));
             Ok(true)

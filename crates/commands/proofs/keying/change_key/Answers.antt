@@ -1,8 +1,12 @@
-use Rattle.std.proofs.Common.{Ok, Err}
+use Rattle.std.proofs.Common.{Err}
+use Rattle.service.specs.Courses.{Tried}
+use Rattle.service.specs.Deeds.{Keyed}
+use Rattle.service.specs.Openings.{run_meaning, Moves}
+use Rattle.store.specs.StoreLaws.{store_meaning}
 use Rattle.stored_ledgers.specs.Keying.{HasKeyed}
 use Rattle.commands.specs.Keying.{IsChanged}
 use Rattle.commands.proofs.AddLemmas.{of_both}
-use Rattle.commands.proofs.KeyLemmas.{told_key_refused, told_changed}
+use Rattle.commands.proofs.KeyLemmas.{told_key_refused, key_ends_refused}
 use Rattle.commands.proofs.keying.change_key.Goals as goal
 
 pub returns-in-Err-clause-told : goal.returns-in-Err-clause-told
@@ -14,11 +18,12 @@ returns-in-Err-clause-told g c = λ live.
     (λ old new. told_key_refused _ _ old new c.in-Err.why c.key_fault.result c.key_fault.ensures)
     (c.in-Err.ensures.told live)
 
-pub returns-clause-told : goal.returns-clause-told
-returns-clause-told g c = λ live.
-    of_both {D = _} {g = g.D.Disk}
-    (λ old new. HasKeyed c.args.name.now c.args.digest.now old new (Ok tt))
-    (λ old new. IsChanged c.args.name.now c.args.digest.now old new c.put_changed.result)
-    c.args.store.now.place c.change_key.new.self.place
-    (λ old new. told_changed _ _ old new c.put_changed.result c.put_changed.ensures.fault)
-    (c.in_default.ensures.told live)
+pub returns-in-Err-clause-moves : goal.returns-in-Err-clause-moves
+returns-in-Err-clause-moves g c =
+    let moved = c.in-Err.ensures.moves in (
+      moved.0,
+      key_ends_refused
+          (λ ending. Moves (run_meaning store_meaning) c.args.store.now
+          (Tried (Keyed moved.0 c.args.digest.now) ending) c.change_key.new.self)
+          c.in-Err.why c.key_fault.result c.key_fault.ensures moved.1,
+    )

@@ -1,6 +1,6 @@
 use Rattle.std.proofs.Common.{sym, subst}
 use Rattle.store.specs.declared.store.Store.{Store}
-use Rattle.commands.specs.Kept.{WasRefused}
+use Rattle.commands.specs.Kept.{WasRefused, Refuses}
 use Rattle.commands.specs.declared.kept.Kept.{Kept}
 use Rattle.commands.specs.declared.kept.Kept.TheVariants.{Open, Closed}
 use Rattle.commands.proofs.RenewLemmas.{anew_so}
@@ -15,6 +15,10 @@ returns-in-Err-Unavailable-Disk-clause-renews g c =
     (subst (λ (was : Kept (Store _ _)). WasRefused was (Open c.reopened.new.store))
     (sym c.in-Open.is) (refused.refused, refused.shut))
     c.open_anew.ensures.answers c.open_anew.ensures.settled c.open_anew.ensures.refused
+
+pub returns-in-Err-clause-renews : goal.returns-in-Err-clause-renews
+returns-in-Err-clause-renews g c =
+    let refused = c.in-Err.ensures in Refuses c.requires.silent refused.refused refused.shut
 
 pub returns-in-Closed-clause-renews : goal.returns-in-Closed-clause-renews
 returns-in-Closed-clause-renews g c =

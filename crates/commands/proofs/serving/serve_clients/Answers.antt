@@ -1,9 +1,10 @@
-use Rattle.std.proofs.Common.{◌≡◌, ◌<◌, [], Ok, Err, arith}
+use Rattle.std.proofs.Common.{◌≡◌, ◌<◌, [], Ok, Err, refl, arith}
 use Rattle.service.specs.Seen.{Whole}
 use Rattle.polling.specs.Laws.{empty_hall}
 use Rattle.polling.specs.Seating.{held_by}
 use Rattle.polling.specs.Serving.{Begin, rules}
 use Rattle.command_texts.specs.declared.fault.Fault.TheVariants.{Socket}
+use Rattle.commands.specs.declared.serving.Served.TheVariants.{Enough, Stopped}
 use Rattle.commands.proofs.ServingLemmas.{ended_short, serves_so}
 use Rattle.commands.proofs.serving.serve_clients.Goals as goal
 
@@ -23,7 +24,7 @@ loop-init g c = record {
 
 pub loop-preserved : goal.loop-preserved
 loop-preserved g c =
-    let r = rules g.L.Ledgers.means g.C.Moments.gives g.H.Reopen.renews g.P.Peers.does in
+    let r = rules g.L.Ledgers.means g.C.Moments.gives g.H.Steward.renews g.P.Peers.does in
     let first = empty_hall (Whole c.args.ledgers.now) c.args.moments.now c.args.peers.now in
     let before = c.loop.invariant in
     let old = held_by c.loop.ledgers c.loop.moments c.loop.peers c.loop.seats in
@@ -60,12 +61,12 @@ returns-then-left-eq0-clause-served g c =
     let all =
     c.serving_goes_on.ensures.served first one.last one.deeds one.all mid new 0 one.keeps
     (c.write_rest.ensures.serves round.new.ledgers round.new.moments) in
-    serves_so (rules g.L.Ledgers.means g.C.Moments.gives g.H.Reopen.renews g.P.Peers.does)
+    serves_so (rules g.L.Ledgers.means g.C.Moments.gives g.H.Steward.renews g.P.Peers.does)
     c.each_is_served.ensures c.serving_is_a_course.ensures.course
     c.serving_is_a_course.ensures.alone (Whole c.args.ledgers.now) c.args.moments.now
     c.args.peers.now
-    c.is_settled.ensures all.last all.deeds all.all new all.keeps c.args.most (Ok tt)
-    (omega (
+    c.is_settled.ensures all.last all.deeds all.all new all.keeps c.args.most (Ok Enough)
+    (λ is. omega (
       arith,
       one.count,
       all.count,
@@ -73,17 +74,49 @@ returns-then-left-eq0-clause-served g c =
       round.ensures.few,
       c.if-left-eq0.true,
     ))
-    tt tt
+    (λ differs. absurd (differs refl))
+    tt
+
+pub returns-then-is_stopping-clause-served : goal.returns-then-is_stopping-clause-served
+returns-then-is_stopping-clause-served g c =
+    let first = empty_hall (Whole c.args.ledgers.now) c.args.moments.now c.args.peers.now in
+    let before = c.loop.invariant in
+    let old = held_by c.loop.ledgers c.loop.moments c.loop.peers c.loop.seats in
+    let round = c.serve_ready-left in
+    let mid = held_by round.new.ledgers round.new.moments round.new.peers round.new.seats in
+    let new =
+    held_by round.new.ledgers round.new.moments c.write_rest-then-is_stopping.new.peers c.write_rest-then-is_stopping.new.seats in
+    let one =
+    c.serving_goes_on.ensures.served first before.last before.deeds before.served old mid
+    round.result before.keeps round.ensures.serves in
+    let all =
+    c.serving_goes_on.ensures.served first one.last one.deeds one.all mid new 0 one.keeps
+    (c.write_rest-then-is_stopping.ensures.serves round.new.ledgers round.new.moments) in
+    serves_so (rules g.L.Ledgers.means g.C.Moments.gives g.H.Steward.renews g.P.Peers.does)
+    c.each_is_served.ensures c.serving_is_a_course.ensures.course
+    c.serving_is_a_course.ensures.alone (Whole c.args.ledgers.now) c.args.moments.now
+    c.args.peers.now
+    c.is_settled.ensures all.last all.deeds all.all new all.keeps c.args.most (Ok Stopped)
+    (λ (is : Ok Stopped ≡ Ok Enough). cc)
+    (λ differs. omega (
+      arith,
+      one.count,
+      all.count,
+      before.left,
+      round.ensures.few,
+      c.if-left-eq0.false,
+    ))
+    tt
 
 pub returns-clause-served : goal.returns-clause-served
 returns-clause-served g c =
     let before = c.loop.invariant in
-    serves_so (rules g.L.Ledgers.means g.C.Moments.gives g.H.Reopen.renews g.P.Peers.does)
+    serves_so (rules g.L.Ledgers.means g.C.Moments.gives g.H.Steward.renews g.P.Peers.does)
     c.each_is_served.ensures c.serving_is_a_course.ensures.course
     c.serving_is_a_course.ensures.alone (Whole c.args.ledgers.now) c.args.moments.now
     c.args.peers.now
     c.is_settled.ensures before.last before.deeds before.served
     (held_by c.loop.ledgers c.loop.moments c.loop.peers c.loop.seats) before.keeps c.args.most
-    (Err Socket) tt
-    (let some = before.wanting (omega arith) in omega (arith, before.left))
+    (Err Socket) (λ (is : Err Socket ≡ Ok Enough). cc)
+    (λ differs. let some = before.wanting (omega arith) in omega (arith, before.left))
     (omega (arith, before.told, c.loop-test.false))

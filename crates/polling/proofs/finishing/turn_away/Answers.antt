@@ -7,13 +7,13 @@ use Rattle.polling.proofs.finishing.turn_away.Goals as goal
 
 pub returns-then-number : goal.returns-then-number
 returns-then-number g c ledgers moments =
-    let r = rules g.L.Ledgers.means g.C.Moments.gives g.H.Reopen.renews g.P.Peers.does in
+    let r = rules g.L.Ledgers.means g.C.Moments.gives g.H.Steward.renews g.P.Peers.does in
     stirs_all r (Whole ledgers) moments c.args.peers.now c.close.new.self (seats_in c.args.seats.now.clients)
     c.args.seats.now.next c.close.ensures
 
 pub returns : goal.returns
 returns g c ledgers moments =
-    let r = rules g.L.Ledgers.means g.C.Moments.gives g.H.Reopen.renews g.P.Peers.does in
+    let r = rules g.L.Ledgers.means g.C.Moments.gives g.H.Steward.renews g.P.Peers.does in
     let next = c.args.seats.now.next in
     let seats = seats_in c.args.seats.now.clients in
     then_all r (held (Whole ledgers) moments c.args.peers.now seats next)

@@ -6,7 +6,7 @@ use Rattle.polling.proofs.finishing.write_next.Goals as goal
 
 pub returns-in-Joined-clause-turn : goal.returns-in-Joined-clause-turn
 returns-in-Joined-clause-turn g c is ledgers moments =
-    let r = rules g.L.Ledgers.means g.C.Moments.gives g.H.Reopen.renews g.P.Peers.does in
+    let r = rules g.L.Ledgers.means g.C.Moments.gives g.H.Steward.renews g.P.Peers.does in
     record {
       before = held_by ledgers moments c.args.peers.now c.args.seats.now;
       told = c.told.result;
@@ -18,7 +18,7 @@ returns-in-Joined-clause-turn g c is ledgers moments =
 
 pub returns-in-Ready-clause-turn : goal.returns-in-Ready-clause-turn
 returns-in-Ready-clause-turn g c is ledgers moments =
-    let r = rules g.L.Ledgers.means g.C.Moments.gives g.H.Reopen.renews g.P.Peers.does in
+    let r = rules g.L.Ledgers.means g.C.Moments.gives g.H.Steward.renews g.P.Peers.does in
     record {
       before = held_by ledgers moments c.args.peers.now c.args.seats.now;
       told = c.told.result;
@@ -30,7 +30,7 @@ returns-in-Ready-clause-turn g c is ledgers moments =
 
 pub returns-in-Late-clause-turn : goal.returns-in-Late-clause-turn
 returns-in-Late-clause-turn g c is ledgers moments =
-    let r = rules g.L.Ledgers.means g.C.Moments.gives g.H.Reopen.renews g.P.Peers.does in
+    let r = rules g.L.Ledgers.means g.C.Moments.gives g.H.Steward.renews g.P.Peers.does in
     record {
       before = held_by ledgers moments c.args.peers.now c.args.seats.now;
       told = c.told.result;
@@ -42,7 +42,7 @@ returns-in-Late-clause-turn g c is ledgers moments =
 
 pub returns-in-Nothing-clause-quiet : goal.returns-in-Nothing-clause-quiet
 returns-in-Nothing-clause-quiet g c is ledgers moments =
-    let r = rules g.L.Ledgers.means g.C.Moments.gives g.H.Reopen.renews g.P.Peers.does in
+    let r = rules g.L.Ledgers.means g.C.Moments.gives g.H.Steward.renews g.P.Peers.does in
     record {
       before = held_by ledgers moments c.args.peers.now c.args.seats.now;
       served = none_served r (held_by ledgers moments c.args.peers.now c.args.seats.now);

@@ -12,7 +12,7 @@ returns-in-Some g c ledgers moments =
 
 pub returns-in-None : goal.returns-in-None
 returns-in-None g c ledgers moments =
-    let r = rules g.L.Ledgers.means g.C.Moments.gives g.H.Reopen.renews g.P.Peers.does in
+    let r = rules g.L.Ledgers.means g.C.Moments.gives g.H.Steward.renews g.P.Peers.does in
     had_none r (Whole ledgers) (Whole ledgers) moments moments c.args.peers.now c.write_in.new.peers
     (seats_in c.args.seats.now.clients) (seats_in c.write_in.new.clients) c.args.seats.now.next
     (c.in-None.ensures.none (Whole ledgers) moments)

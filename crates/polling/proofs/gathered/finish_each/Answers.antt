@@ -7,7 +7,7 @@ use Rattle.polling.proofs.gathered.finish_each.Goals as goal
 pub loop-number-init : goal.loop-number-init
 loop-number-init g c = record {
   serves =
-      none_served (rules g.L.Ledgers.means g.C.Moments.gives g.H.Reopen.renews g.P.Peers.does)
+      none_served (rules g.L.Ledgers.means g.C.Moments.gives g.H.Steward.renews g.P.Peers.does)
       (held_by c.args.ledgers.now c.args.moments.now c.args.peers.now c.args.seats.now);
   few = omega arith;
   usable = c.requires;
@@ -16,7 +16,7 @@ loop-number-init g c = record {
 pub loop-number-preserved : goal.loop-number-preserved
 loop-number-preserved g c = record {
   serves =
-      then_all (rules g.L.Ledgers.means g.C.Moments.gives g.H.Reopen.renews g.P.Peers.does)
+      then_all (rules g.L.Ledgers.means g.C.Moments.gives g.H.Steward.renews g.P.Peers.does)
       (held_by c.args.ledgers.now c.args.moments.now c.args.peers.now c.args.seats.now)
       (held_by c.loop-number.ledgers c.loop-number.moments c.loop-number.peers c.loop-number.seats)
       (held_by c.finish_one-replies.new.ledgers c.finish_one-replies.new.moments c.finish_one-replies.new.peers

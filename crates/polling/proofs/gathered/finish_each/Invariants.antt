@@ -7,7 +7,7 @@ use Rattle.polling.proofs.gathered.finish_each.Given as goal
 abbrev pub invariant-loop-number : goal.invariant-loop-number
 invariant-loop-number g l = record {
   serves :
-      ServesAll (rules g.L.Ledgers.means g.C.Moments.gives g.H.Reopen.renews g.P.Peers.does)
+      ServesAll (rules g.L.Ledgers.means g.C.Moments.gives g.H.Steward.renews g.P.Peers.does)
       (held_by l.fn.ledgers l.fn.moments l.fn.peers l.fn.seats)
       (held_by l.ledgers l.moments l.peers l.seats) l.replies;
   few : l.replies ≤ l.most;

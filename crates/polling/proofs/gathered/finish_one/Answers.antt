@@ -7,7 +7,7 @@ use Rattle.polling.proofs.gathered.finish_one.Goals as goal
 
 pub returns-then-turned-clause-serves : goal.returns-then-turned-clause-serves
 returns-then-turned-clause-serves g c =
-    let r = rules g.L.Ledgers.means g.C.Moments.gives g.H.Reopen.renews g.P.Peers.does in
+    let r = rules g.L.Ledgers.means g.C.Moments.gives g.H.Steward.renews g.P.Peers.does in
     subst
     (λ (replied : Bool).
     ServesAll r (held_by c.args.ledgers.now c.args.moments.now c.args.peers.now c.args.seats.now)
@@ -20,7 +20,7 @@ returns-then-turned-clause-serves g c =
 
 pub returns-else-turned-clause-serves : goal.returns-else-turned-clause-serves
 returns-else-turned-clause-serves g c =
-    let r = rules g.L.Ledgers.means g.C.Moments.gives g.H.Reopen.renews g.P.Peers.does in
+    let r = rules g.L.Ledgers.means g.C.Moments.gives g.H.Steward.renews g.P.Peers.does in
     subst
     (λ (replied : Bool).
     ServesAll r (held_by c.args.ledgers.now c.args.moments.now c.args.peers.now c.args.seats.now)
@@ -33,7 +33,7 @@ returns-else-turned-clause-serves g c =
 
 pub returns-in-None-clause-serves : goal.returns-in-None-clause-serves
 returns-in-None-clause-serves g c =
-    let r = rules g.L.Ledgers.means g.C.Moments.gives g.H.Reopen.renews g.P.Peers.does in
+    let r = rules g.L.Ledgers.means g.C.Moments.gives g.H.Steward.renews g.P.Peers.does in
     had_none r (Whole c.args.ledgers.now) (Whole c.finish_in.new.ledgers) c.args.moments.now
     c.finish_in.new.moments c.args.peers.now c.finish_in.new.peers
     (seats_in c.args.seats.now.clients) (seats_in c.finish_in.new.clients) c.args.seats.now.next

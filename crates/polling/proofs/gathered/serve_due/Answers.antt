@@ -6,12 +6,12 @@ use Rattle.polling.proofs.gathered.serve_due.Goals as goal
 
 pub returns-then-not-is_due-clause-serves : goal.returns-then-not-is_due-clause-serves
 returns-then-not-is_due-clause-serves g c =
-    none_served (rules g.L.Ledgers.means g.C.Moments.gives g.H.Reopen.renews g.P.Peers.does)
+    none_served (rules g.L.Ledgers.means g.C.Moments.gives g.H.Steward.renews g.P.Peers.does)
     (held_by c.args.ledgers.now c.args.moments.now c.args.peers.now c.args.seats.now)
 
 pub returns-clause-serves : goal.returns-clause-serves
 returns-clause-serves g c =
-    then_all (rules g.L.Ledgers.means g.C.Moments.gives g.H.Reopen.renews g.P.Peers.does)
+    then_all (rules g.L.Ledgers.means g.C.Moments.gives g.H.Steward.renews g.P.Peers.does)
     (held_by c.args.ledgers.now c.args.moments.now c.args.peers.now c.args.seats.now)
     (held_by c.share-shared.new.ledgers c.share-shared.new.moments c.args.peers.now
     (record c.args.seats.now { clients = c.share-shared.new.clients }))

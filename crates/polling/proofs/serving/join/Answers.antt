@@ -7,19 +7,19 @@ use Rattle.polling.proofs.serving.join.Goals as goal
 
 pub returns-then-number : goal.returns-then-number
 returns-then-number g c ledgers moments =
-    let r = rules g.L.Ledgers.means g.C.Moments.gives g.H.Reopen.renews g.P.Peers.does in
+    let r = rules g.L.Ledgers.means g.C.Moments.gives g.H.Steward.renews g.P.Peers.does in
     stirs_all r (Whole ledgers) moments c.args.peers.now c.close.new.self (seats_in c.args.seats.now.clients)
     c.args.seats.now.next c.close.ensures
 
 pub returns-in-Ok : goal.returns-in-Ok
 returns-in-Ok g c ledgers moments =
-    let r = rules g.L.Ledgers.means g.C.Moments.gives g.H.Reopen.renews g.P.Peers.does in
+    let r = rules g.L.Ledgers.means g.C.Moments.gives g.H.Steward.renews g.P.Peers.does in
     joined r (Whole ledgers) moments c.args.peers.now (seats_in c.args.seats.now.clients)
     (seats_in c.seat.new.clients) c.args.seats.now.next c.in-Ok.ensures.ok
 
 pub returns-in-Err : goal.returns-in-Err
 returns-in-Err g c ledgers moments =
-    let r = rules g.L.Ledgers.means g.C.Moments.gives g.H.Reopen.renews g.P.Peers.does in
+    let r = rules g.L.Ledgers.means g.C.Moments.gives g.H.Steward.renews g.P.Peers.does in
     let next = c.args.seats.now.next in
     let seats = seats_in c.args.seats.now.clients in
     let seats_now = seats_in c.seat.new.clients in

@@ -7,7 +7,7 @@ use Rattle.polling.proofs.serving.let_go.Goals as goal
 
 pub returns-then-unseat : goal.returns-then-unseat
 returns-then-unseat g c ledgers moments =
-    let r = rules g.L.Ledgers.means g.C.Moments.gives g.H.Reopen.renews g.P.Peers.does in
+    let r = rules g.L.Ledgers.means g.C.Moments.gives g.H.Steward.renews g.P.Peers.does in
     let next = c.args.seats.now.next in
     let seats = seats_in c.args.seats.now.clients in
     let seats_now = seats_in c.unseat.new.clients in
@@ -21,6 +21,6 @@ returns-then-unseat g c ledgers moments =
 
 pub returns-else-unseat : goal.returns-else-unseat
 returns-else-unseat g c ledgers moments =
-    let r = rules g.L.Ledgers.means g.C.Moments.gives g.H.Reopen.renews g.P.Peers.does in
+    let r = rules g.L.Ledgers.means g.C.Moments.gives g.H.Steward.renews g.P.Peers.does in
     unchanged r (Whole ledgers) moments c.args.peers.now (seats_in c.args.seats.now.clients)
     (seats_in c.unseat.new.clients) c.args.seats.now.next (c.if-unseat.ensures.none refl)

@@ -9,13 +9,13 @@ use Rattle.polling.proofs.serving.serve_next.Goals as goal
 
 pub returns-then-is_over-clause-does : goal.returns-then-is_over-clause-does
 returns-then-is_over-clause-does g c =
-    let r = rules g.L.Ledgers.means g.C.Moments.gives g.H.Reopen.renews g.P.Peers.does in
+    let r = rules g.L.Ledgers.means g.C.Moments.gives g.H.Steward.renews g.P.Peers.does in
     record {
-      before = held_by c.reopen.new.ledgers c.args.moments.now c.args.peers.now c.args.seats.now;
+      before = held_by c.attend.new.ledgers c.args.moments.now c.args.peers.now c.args.seats.now;
       served =
-          again_all r (Whole c.args.ledgers.now) (Whole c.reopen.new.ledgers) c.args.moments.now
+          again_all r (Whole c.args.ledgers.now) (Whole c.attend.new.ledgers) c.args.moments.now
           c.args.peers.now (seats_in c.args.seats.now.clients) c.args.seats.now.next
-          c.reopen.ensures.renewed;
+          c.attend.ensures.renewed;
       said =
           subst
           (λ (told : Told). g.P.Peers.does c.args.peers.now (Said told) c.told-told.new.self)
@@ -23,26 +23,26 @@ returns-then-is_over-clause-does g c =
       same =
           refl {
           a =
-          held_by c.reopen.new.ledgers c.args.moments.now c.told-told.new.self
+          held_by c.attend.new.ledgers c.args.moments.now c.told-told.new.self
           c.args.seats.now
           };
     }
 
 pub returns-clause-does : goal.returns-clause-does
 returns-clause-does g c =
-    let r = rules g.L.Ledgers.means g.C.Moments.gives g.H.Reopen.renews g.P.Peers.does in
+    let r = rules g.L.Ledgers.means g.C.Moments.gives g.H.Steward.renews g.P.Peers.does in
     record {
-      before = held_by c.reopen.new.ledgers c.args.moments.now c.args.peers.now c.args.seats.now;
+      before = held_by c.attend.new.ledgers c.args.moments.now c.args.peers.now c.args.seats.now;
       told = c.told-told.result;
       peers = c.told-told.new.self;
       first =
-          again_all r (Whole c.args.ledgers.now) (Whole c.reopen.new.ledgers) c.args.moments.now
+          again_all r (Whole c.args.ledgers.now) (Whole c.attend.new.ledgers) c.args.moments.now
           c.args.peers.now (seats_in c.args.seats.now.clients) c.args.seats.now.next
-          c.reopen.ensures.renewed;
+          c.attend.ensures.renewed;
       said = c.told-told.ensures;
       served =
           then_all r
-          (held_by c.reopen.new.ledgers c.args.moments.now c.told-told.new.self c.args.seats.now)
+          (held_by c.attend.new.ledgers c.args.moments.now c.told-told.new.self c.args.seats.now)
           (held_by c.serve_told-replies.new.ledgers c.serve_told-replies.new.moments
           c.serve_told-replies.new.peers c.serve_told-replies.new.seats)
           (held_by c.serve_due-more.new.ledgers c.serve_due-more.new.moments

@@ -12,7 +12,7 @@ returns-in-Some-clause-serves g c =
 
 pub returns-in-None-clause-serves : goal.returns-in-None-clause-serves
 returns-in-None-clause-serves g c =
-    let r = rules g.L.Ledgers.means g.C.Moments.gives g.H.Reopen.renews g.P.Peers.does in
+    let r = rules g.L.Ledgers.means g.C.Moments.gives g.H.Steward.renews g.P.Peers.does in
     had_none r (Whole c.args.ledgers.now) (Whole c.turn_in.new.ledgers) c.args.moments.now c.turn_in.new.moments
     c.args.peers.now c.turn_in.new.peers (seats_in c.args.seats.now.clients)
     (seats_in c.turn_in.new.clients) c.args.seats.now.next c.in-None.ensures.none

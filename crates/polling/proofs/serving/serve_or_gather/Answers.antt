@@ -7,14 +7,14 @@ use Rattle.polling.proofs.serving.serve_or_gather.Goals as goal
 
 pub returns-in-Gathered-clause-serves : goal.returns-in-Gathered-clause-serves
 returns-in-Gathered-clause-serves g c =
-    unchanged (rules g.L.Ledgers.means g.C.Moments.gives g.H.Reopen.renews g.P.Peers.does)
+    unchanged (rules g.L.Ledgers.means g.C.Moments.gives g.H.Steward.renews g.P.Peers.does)
     (Whole c.args.ledgers.now) c.args.moments.now c.args.peers.now
     (seats_in c.args.seats.now.clients) (seats_in c.place.new.clients) c.args.seats.now.next
     c.place.ensures
 
 pub returns-in-Later-clause-serves : goal.returns-in-Later-clause-serves
 returns-in-Later-clause-serves g c =
-    let r = rules g.L.Ledgers.means g.C.Moments.gives g.H.Reopen.renews g.P.Peers.does in
+    let r = rules g.L.Ledgers.means g.C.Moments.gives g.H.Steward.renews g.P.Peers.does in
     let ledgers = Whole c.args.ledgers.now in
     let moments = c.args.moments.now in
     let next = c.args.seats.now.next in
@@ -28,14 +28,14 @@ returns-in-Later-clause-serves g c =
 
 pub returns-then-serve_one-clause-serves : goal.returns-then-serve_one-clause-serves
 returns-then-serve_one-clause-serves g c =
-    then_all (rules g.L.Ledgers.means g.C.Moments.gives g.H.Reopen.renews g.P.Peers.does)
+    then_all (rules g.L.Ledgers.means g.C.Moments.gives g.H.Steward.renews g.P.Peers.does)
     (held_by c.args.ledgers.now c.args.moments.now c.args.peers.now c.args.seats.now)
     (held_by c.args.ledgers.now c.args.moments.now c.args.peers.now
     (record c.args.seats.now { clients = c.place.new.clients }))
     (held_by c.serve_one.new.ledgers c.serve_one.new.moments c.serve_one.new.peers
     c.serve_one.new.seats)
     0 1 1 refl
-    (unchanged (rules g.L.Ledgers.means g.C.Moments.gives g.H.Reopen.renews g.P.Peers.does)
+    (unchanged (rules g.L.Ledgers.means g.C.Moments.gives g.H.Steward.renews g.P.Peers.does)
     (Whole c.args.ledgers.now) c.args.moments.now c.args.peers.now
     (seats_in c.args.seats.now.clients) (seats_in c.place.new.clients) c.args.seats.now.next
     c.place.ensures)
@@ -43,14 +43,14 @@ returns-then-serve_one-clause-serves g c =
 
 pub returns-else-serve_one-clause-serves : goal.returns-else-serve_one-clause-serves
 returns-else-serve_one-clause-serves g c =
-    then_all (rules g.L.Ledgers.means g.C.Moments.gives g.H.Reopen.renews g.P.Peers.does)
+    then_all (rules g.L.Ledgers.means g.C.Moments.gives g.H.Steward.renews g.P.Peers.does)
     (held_by c.args.ledgers.now c.args.moments.now c.args.peers.now c.args.seats.now)
     (held_by c.args.ledgers.now c.args.moments.now c.args.peers.now
     (record c.args.seats.now { clients = c.place.new.clients }))
     (held_by c.serve_one.new.ledgers c.serve_one.new.moments c.serve_one.new.peers
     c.serve_one.new.seats)
     0 0 0 refl
-    (unchanged (rules g.L.Ledgers.means g.C.Moments.gives g.H.Reopen.renews g.P.Peers.does)
+    (unchanged (rules g.L.Ledgers.means g.C.Moments.gives g.H.Steward.renews g.P.Peers.does)
     (Whole c.args.ledgers.now) c.args.moments.now c.args.peers.now
     (seats_in c.args.seats.now.clients) (seats_in c.place.new.clients) c.args.seats.now.next
     c.place.ensures)

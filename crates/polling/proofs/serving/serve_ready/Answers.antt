@@ -10,7 +10,7 @@ loop-init g c = record { turns = Start; few = omega arith; usable = c.requires }
 
 pub returns-then-replies-most-clause-serves : goal.returns-then-replies-most-clause-serves
 returns-then-replies-most-clause-serves g c =
-    turns_serve (rules g.L.Ledgers.means g.C.Moments.gives g.H.Reopen.renews g.P.Peers.does)
+    turns_serve (rules g.L.Ledgers.means g.C.Moments.gives g.H.Steward.renews g.P.Peers.does)
     (held_by c.args.ledgers.now c.args.moments.now c.args.peers.now c.args.seats.now)
     (held_by c.loop.ledgers c.loop.moments c.loop.peers c.loop.seats) c.loop.counter
     c.loop.replies c.loop.invariant.turns
@@ -20,7 +20,7 @@ returns-then-replies-most-clause-ends g c = Enough c.if-replies-most.true
 
 pub returns-in-Nothing-clause-ends : goal.returns-in-Nothing-clause-ends
 returns-in-Nothing-clause-ends g c =
-    let r = rules g.L.Ledgers.means g.C.Moments.gives g.H.Reopen.renews g.P.Peers.does in
+    let r = rules g.L.Ledgers.means g.C.Moments.gives g.H.Steward.renews g.P.Peers.does in
     let first = held_by c.args.ledgers.now c.args.moments.now c.args.peers.now c.args.seats.now in
     let old = held_by c.loop.ledgers c.loop.moments c.loop.peers c.loop.seats in
     let new =
@@ -33,7 +33,7 @@ returns-in-Nothing-clause-ends g c =
 
 pub returns-in-Nothing-clause-serves : goal.returns-in-Nothing-clause-serves
 returns-in-Nothing-clause-serves g c =
-    let r = rules g.L.Ledgers.means g.C.Moments.gives g.H.Reopen.renews g.P.Peers.does in
+    let r = rules g.L.Ledgers.means g.C.Moments.gives g.H.Steward.renews g.P.Peers.does in
     let first = held_by c.args.ledgers.now c.args.moments.now c.args.peers.now c.args.seats.now in
     let old = held_by c.loop.ledgers c.loop.moments c.loop.peers c.loop.seats in
     let new =
@@ -46,14 +46,14 @@ returns-in-Nothing-clause-serves g c =
 
 pub returns-clause-serves : goal.returns-clause-serves
 returns-clause-serves g c =
-    turns_serve (rules g.L.Ledgers.means g.C.Moments.gives g.H.Reopen.renews g.P.Peers.does)
+    turns_serve (rules g.L.Ledgers.means g.C.Moments.gives g.H.Steward.renews g.P.Peers.does)
     (held_by c.args.ledgers.now c.args.moments.now c.args.peers.now c.args.seats.now)
     (held_by c.loop.ledgers c.loop.moments c.loop.peers c.loop.seats) c.loop.counter
     c.loop.replies c.loop.invariant.turns
 
 pub returns-clause-ends : goal.returns-clause-ends
 returns-clause-ends g c =
-    too_long (rules g.L.Ledgers.means g.C.Moments.gives g.H.Reopen.renews g.P.Peers.does)
+    too_long (rules g.L.Ledgers.means g.C.Moments.gives g.H.Steward.renews g.P.Peers.does)
     (c.loop.replies ≡ c.args.most)
     (held_by c.args.ledgers.now c.args.moments.now c.args.peers.now c.args.seats.now)
     (held_by c.loop.ledgers c.loop.moments c.loop.peers c.loop.seats) c.loop.counter
@@ -61,7 +61,7 @@ returns-clause-ends g c =
 
 pub loop-preserved : goal.loop-preserved
 loop-preserved g c =
-    let r = rules g.L.Ledgers.means g.C.Moments.gives g.H.Reopen.renews g.P.Peers.does in
+    let r = rules g.L.Ledgers.means g.C.Moments.gives g.H.Steward.renews g.P.Peers.does in
     let first = held_by c.args.ledgers.now c.args.moments.now c.args.peers.now c.args.seats.now in
     let old = held_by c.loop.ledgers c.loop.moments c.loop.peers c.loop.seats in
     let new =

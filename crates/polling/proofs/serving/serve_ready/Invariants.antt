@@ -10,7 +10,7 @@ abbrev pub invariant-loop : goal.invariant-loop
 invariant-loop g l = record {
   turns :
       Turns (Seen g.row.L.Denot) g.row.C.Denot g.row.P.Denot
-      (rules g.L.Ledgers.means g.C.Moments.gives g.H.Reopen.renews g.P.Peers.does)
+      (rules g.L.Ledgers.means g.C.Moments.gives g.H.Steward.renews g.P.Peers.does)
       (held_by l.fn.ledgers l.fn.moments l.fn.peers l.fn.seats) l.counter l.replies
       (held_by l.ledgers l.moments l.peers l.seats);
   few : l.replies ≤ l.most;

@@ -11,5 +11,5 @@ returns-in-Late-clause-serves g c = c.let_go.ensures c.args.ledgers.now c.args.m
 
 pub returns-in-Nothing-clause-serves : goal.returns-in-Nothing-clause-serves
 returns-in-Nothing-clause-serves g c =
-    none_served (rules g.L.Ledgers.means g.C.Moments.gives g.H.Reopen.renews g.P.Peers.does)
+    none_served (rules g.L.Ledgers.means g.C.Moments.gives g.H.Steward.renews g.P.Peers.does)
     (held_by c.args.ledgers.now c.args.moments.now c.args.peers.now c.args.seats.now)

@@ -5,10 +5,10 @@ use Rattle.polling.proofs.step.read_some.Goals as goal
 
 pub returns : goal.returns
 returns g c ledgers moments =
-    then_one (rules g.L.Ledgers.means g.C.Moments.gives g.H.Reopen.renews g.P.Peers.does) c.args.number
+    then_one (rules g.L.Ledgers.means g.C.Moments.gives g.H.Steward.renews g.P.Peers.does) c.args.number
     ledgers ledgers ledgers moments moments moments c.args.peers.now c.wants.new.self
     c.read_piece.new.peers c.args.client.now c.args.client.now c.read_piece.new.client
     c.read_piece.result 0 0 0 refl
-    (stirred (rules g.L.Ledgers.means g.C.Moments.gives g.H.Reopen.renews g.P.Peers.does) c.args.number
+    (stirred (rules g.L.Ledgers.means g.C.Moments.gives g.H.Steward.renews g.P.Peers.does) c.args.number
     ledgers moments c.args.peers.now c.wants.new.self c.args.client.now c.wants.ensures)
     (c.read_piece.ensures ledgers moments)

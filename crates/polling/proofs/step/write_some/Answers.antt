@@ -7,7 +7,7 @@ use Rattle.polling.proofs.step.write_some.Goals as goal
 
 pub returns-in-Took : goal.returns-in-Took
 returns-in-Took g c ledgers moments =
-    taken (rules g.L.Ledgers.means g.C.Moments.gives g.H.Reopen.renews g.P.Peers.does) c.args.number
+    taken (rules g.L.Ledgers.means g.C.Moments.gives g.H.Steward.renews g.P.Peers.does) c.args.number
     ledgers moments c.args.peers.now c.write.new.self c.args.client.now c.wrote.new.self
     c.in-Took.count c.wrote.ensures
     (subst
@@ -17,16 +17,16 @@ returns-in-Took g c ledgers moments =
 
 pub returns-in-Waits : goal.returns-in-Waits
 returns-in-Waits g c ledgers moments =
-    stirred (rules g.L.Ledgers.means g.C.Moments.gives g.H.Reopen.renews g.P.Peers.does) c.args.number
+    stirred (rules g.L.Ledgers.means g.C.Moments.gives g.H.Steward.renews g.P.Peers.does) c.args.number
     ledgers moments c.args.peers.now c.write.new.self c.args.client.now c.in-Waits.ensures
 
 pub returns-in-Broken : goal.returns-in-Broken
 returns-in-Broken g c ledgers moments =
-    then_one (rules g.L.Ledgers.means g.C.Moments.gives g.H.Reopen.renews g.P.Peers.does) c.args.number
+    then_one (rules g.L.Ledgers.means g.C.Moments.gives g.H.Steward.renews g.P.Peers.does) c.args.number
     ledgers ledgers ledgers moments moments moments c.args.peers.now c.write.new.self
     c.write.new.self c.args.client.now c.args.client.now c.args.client.now step.Goes 0 0 0
     refl
-    (stirred (rules g.L.Ledgers.means g.C.Moments.gives g.H.Reopen.renews g.P.Peers.does) c.args.number
+    (stirred (rules g.L.Ledgers.means g.C.Moments.gives g.H.Steward.renews g.P.Peers.does) c.args.number
     ledgers moments c.args.peers.now c.write.new.self c.args.client.now c.in-Broken.ensures)
-    (goes (rules g.L.Ledgers.means g.C.Moments.gives g.H.Reopen.renews g.P.Peers.does) c.args.number
+    (goes (rules g.L.Ledgers.means g.C.Moments.gives g.H.Steward.renews g.P.Peers.does) c.args.number
     ledgers moments c.write.new.self c.args.client.now)

@@ -14,7 +14,7 @@ returns-in-Goes-clause-serves g c = c.in-Goes.ensures (Whole c.args.ledgers.now)
 
 pub returns-then-may_answer-clause-serves : goal.returns-then-may_answer-clause-serves
 returns-then-may_answer-clause-serves g c =
-    then_one (rules g.L.Ledgers.means g.C.Moments.gives g.H.Reopen.renews g.P.Peers.does) c.args.number
+    then_one (rules g.L.Ledgers.means g.C.Moments.gives g.H.Steward.renews g.P.Peers.does) c.args.number
     (Whole c.args.ledgers.now) (Whole c.args.ledgers.now) (Whole c.answer_or_read.new.ledgers) c.args.moments.now
     c.args.moments.now c.answer_or_read.new.moments c.args.peers.now c.write_all.new.peers
     c.answer_or_read.new.peers c.args.client.now c.write_all.new.client
@@ -28,11 +28,11 @@ returns-then-goes_on-clause-serves g c = c.in-More.ensures (Whole c.args.ledgers
 
 pub returns-clause-serves : goal.returns-clause-serves
 returns-clause-serves g c =
-    then_one (rules g.L.Ledgers.means g.C.Moments.gives g.H.Reopen.renews g.P.Peers.does) c.args.number
+    then_one (rules g.L.Ledgers.means g.C.Moments.gives g.H.Steward.renews g.P.Peers.does) c.args.number
     (Whole c.args.ledgers.now) (Whole c.args.ledgers.now) (Whole c.args.ledgers.now) c.args.moments.now
     c.args.moments.now c.args.moments.now c.args.peers.now c.write_all.new.peers
     c.write_all.new.peers c.args.client.now c.write_all.new.client c.write_all.new.client step.Goes 0 0 0
     refl
     (c.in-More.ensures (Whole c.args.ledgers.now) c.args.moments.now)
-    (goes (rules g.L.Ledgers.means g.C.Moments.gives g.H.Reopen.renews g.P.Peers.does) c.args.number
+    (goes (rules g.L.Ledgers.means g.C.Moments.gives g.H.Steward.renews g.P.Peers.does) c.args.number
     (Whole c.args.ledgers.now) c.args.moments.now c.write_all.new.peers c.write_all.new.client)

@@ -6,12 +6,12 @@ use Rattle.polling.proofs.turn.write_all.Goals as goal
 
 pub loop-init : goal.loop-init
 loop-init g c ledgers moments =
-    nothing (rules g.L.Ledgers.means g.C.Moments.gives g.H.Reopen.renews g.P.Peers.does) c.args.number
+    nothing (rules g.L.Ledgers.means g.C.Moments.gives g.H.Steward.renews g.P.Peers.does) c.args.number
     ledgers moments c.args.peers.now c.args.client.now
 
 pub returns-in-Waits : goal.returns-in-Waits
 returns-in-Waits g c ledgers moments =
-    then_one (rules g.L.Ledgers.means g.C.Moments.gives g.H.Reopen.renews g.P.Peers.does) c.args.number
+    then_one (rules g.L.Ledgers.means g.C.Moments.gives g.H.Steward.renews g.P.Peers.does) c.args.number
     ledgers ledgers ledgers moments moments moments c.args.peers.now c.loop.peers
     c.write_some.new.peers c.args.client.now c.loop.client c.write_some.new.client step.Waits 0 0 0
     refl
@@ -19,7 +19,7 @@ returns-in-Waits g c ledgers moments =
 
 pub returns-in-Goes : goal.returns-in-Goes
 returns-in-Goes g c ledgers moments =
-    then_one (rules g.L.Ledgers.means g.C.Moments.gives g.H.Reopen.renews g.P.Peers.does) c.args.number
+    then_one (rules g.L.Ledgers.means g.C.Moments.gives g.H.Steward.renews g.P.Peers.does) c.args.number
     ledgers ledgers ledgers moments moments moments c.args.peers.now c.loop.peers
     c.write_some.new.peers c.args.client.now c.loop.client c.write_some.new.client step.Goes 0 0 0
     refl
@@ -27,7 +27,7 @@ returns-in-Goes g c ledgers moments =
 
 pub loop-preserved : goal.loop-preserved
 loop-preserved g c ledgers moments =
-    then_one (rules g.L.Ledgers.means g.C.Moments.gives g.H.Reopen.renews g.P.Peers.does) c.args.number
+    then_one (rules g.L.Ledgers.means g.C.Moments.gives g.H.Steward.renews g.P.Peers.does) c.args.number
     ledgers ledgers ledgers moments moments moments c.args.peers.now c.loop.peers
     c.write_some.new.peers c.args.client.now c.loop.client c.write_some.new.client step.Waits 0 0 0
     refl

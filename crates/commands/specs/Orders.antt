@@ -1,0 +1,59 @@
+-- What carrying out an operator's order makes of a store.
+use Rattle.std.specs.Prelude.{◌≡◌, ℕ, List, Result, Ok, Err}
+use Rattle.sqlite_disk.specs.declared.Disk as disk
+use Rattle.service.specs.Courses.{Ending, Done as IsDone, Declined, Unavailable as WasUnavailable}
+use Rattle.service.specs.Courses.{Tried}
+use Rattle.service.specs.Deeds.{Joined, Keyed}
+use Rattle.service.specs.Openings.{run_meaning, Moves}
+use Rattle.polling.specs.Courses.{IsAtRest}
+use Rattle.stored_ledgers.specs.Listing.{AreListed}
+use Rattle.store.specs.StoreLaws.{store_meaning}
+use Rattle.store.specs.Stores.{IsLive, OfDatabase, OfDatabases}
+use Rattle.store.specs.declared.store.Store.{Store}
+use Rattle.command_texts.specs.declared.fault.Fault.{Fault}
+use Rattle.command_texts.specs.declared.fault.Fault.TheVariants.{Unavailable}
+use Rattle.commands.specs.Adding.{IsAdded}
+use Rattle.commands.specs.Keying.{IsChanged}
+use Rattle.commands.specs.declared.orders.Order.{Order}
+use Rattle.commands.specs.declared.orders.Order.TheVariants.{Tenants, AddTenant, ChangeKey}
+use Rattle.commands.specs.declared.orders.Done.{Done}
+use Rattle.commands.specs.declared.orders.Done.TheVariants.{Listed, Changed}
+
+-- how a deed ended, by what is told of it
+abbrev pub ending_told : {T : Type 0} → Result T Fault → Ending
+ending_told (Ok done) = IsDone
+ending_told (Err Unavailable) = WasUnavailable
+ending_told (Err fault) = Declined
+
+-- what is told without what was done
+abbrev pub told_only : {T : Type 0} → Result T Fault → Result (Unit {0}) Fault
+told_only (Ok done) = Ok tt
+told_only (Err fault) = Err fault
+
+module _ {D : Type 0} {g : disk.Ghosts D} where
+  -- the change of some tenant's key to this digest was tried, and what is told of it is how it ended
+  abbrev pub IsKeyingTold : {T : Type 0} → List ℕ → Store D g → Result T Fault → Store D g → Type 0
+  IsKeyingTold digest old result new =
+      (was : List ℕ)
+      × Moves (run_meaning store_meaning) old (Tried (Keyed was digest) (ending_told result)) new
+
+  -- the tenants are listed, if they could be read
+  abbrev pub IsListingTold : Store D g → Result Done Fault → Type 0
+  IsListingTold store (Ok (Listed tenants)) =
+      OfDatabase (λ db. AreListed db.trees tenants.items) store
+  IsListingTold store (Ok Changed) = ⊥
+  IsListingTold store (Err fault) = fault ≡ Unavailable
+
+  -- what an order comes to: the tenants are listed, and nothing has changed for any; or a deed was
+  -- tried, and what is told of it is how it ended
+  abbrev pub CarriesOut : Order → Store D g → Result Done Fault → Store D g → Type 0
+  CarriesOut Tenants old result new =
+      (IsLive new → IsListingTold old result) × IsAtRest (run_meaning store_meaning) old new
+  CarriesOut (AddTenant name digest) old result new =
+      (IsLive new
+      → OfDatabases (λ before after. IsAdded name digest before after (told_only result)) old new)
+      × Moves (run_meaning store_meaning) old (Tried (Joined digest) (ending_told result)) new
+  CarriesOut (ChangeKey name digest) old result new =
+      (IsLive new
+      → OfDatabases (λ before after. IsChanged name digest before after (told_only result)) old new)
+      × IsKeyingTold digest old result new

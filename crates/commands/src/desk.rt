@@ -1,0 +1,269 @@
+//! The desk at which the operator of a service on this machine asks.
+ghost use Rattle.std.specs.Prelude.{◌≡◌};
+
+use crate::bell::Bell;
+use crate::calling::desk_path;
+use crate::copied::{Progress, begin_copy, copy_on};
+use crate::listing::listed;
+use crate::orders::{Done, Order, Orders};
+use crate::status::status_body;
+use command_texts::Fault;
+use control::{Desk, Order as Asked, added_body, changed_body, copied_body};
+use copies::Copying;
+use sockets::Watcher;
+use std::alloc::Global;
+use std::io;
+use std::time::{Clock, Duration};
+
+/// How many calls that ask nothing of the store are answered in a row.
+const MOST_IN_A_ROW: u32 = 8;
+
+/// The desk of a service, if it has one.
+#[derive(Drop)]
+pub(crate) struct HostDesk<'a> {
+    rt: &'a HostRuntime,
+    bell: &'a Bell,
+    /// The path of the ledger's file.
+    db: &'a str,
+    watcher: Option<Watcher>,
+    desk: Option<Desk>,
+    /// Whether it was tried to open a desk.
+    is_tried: bool,
+    /// A copy that is being made.
+    copying: Option<Copying>,
+    /// When the service began, by the machine's clock.
+    began: Duration,
+    is_stopping: bool,
+}
+
+/// What was found at a desk.
+enum Found {
+    /// Nobody asks for anything.
+    Nothing,
+    /// Something was answered that asks nothing of the store.
+    Answered,
+    /// It is asked to end.
+    Stop,
+    /// Something is asked of the store.
+    Asked(Order),
+}
+
+// The body that tells what an order came to.
+fn body_of(alloc: Global, order: &Order, done: Result<Done, Fault>) -> Result<Vec<u8>, Fault> {
+    match (order, done?) {
+        (_, Done::Listed(tenants)) => listed(alloc, tenants.as_slice()),
+        (Order::ChangeKey { name, .. }, Done::Changed) => Ok(changed_body(alloc, name)?),
+        (Order::AddTenant { name, .. }, Done::Changed) => Ok(added_body(alloc, name)?),
+        (Order::Tenants, Done::Changed) => Err(Fault::Unavailable),
+    }
+}
+
+impl<'a> HostDesk<'a> {
+    pub(crate) fn new(
+        rt: &'a HostRuntime,
+        db: &'a str,
+        bell: &'a Bell,
+        watcher: Option<Watcher>,
+    ) -> Self {
+        HostDesk {
+            rt,
+            bell,
+            db,
+            watcher,
+            desk: None,
+            is_tried: false,
+            copying: None,
+            began: rt.monotonic().unwrap_or(Duration::ZERO),
+            is_stopping: false,
+        }
+    }
+
+    /// The service has ended: who asked for that is told, and the desk is gone.
+    pub(crate) fn close(self) {
+        let HostDesk {
+            rt,
+            bell: _,
+            db: _,
+            watcher: _,
+            desk,
+            is_tried: _,
+            copying,
+            began: _,
+            is_stopping: _,
+        } = self;
+        if let Some(copying) = copying {
+            copying.abandon(rt);
+        }
+        if let Some(desk) = desk {
+            desk.close(rt);
+        }
+    }
+
+    fn now(&self) -> Duration {
+        self.rt.monotonic().unwrap_or(self.began)
+    }
+
+    /// Listens beside the file, which is open. Where that cannot be it is told, and all else goes on.
+    pub(crate) fn open(&mut self) {
+        self.is_tried = true;
+        let Some(path) = desk_path(self.rt, self.db) else {
+            return;
+        };
+        match self.open_at(path.as_str()) {
+            Ok(desk) => self.desk = Some(desk),
+            Err(error) => {
+                let path = path.as_str();
+                let _ = self.rt.eprintln(format_args!(
+                    "no commands while it is served: {path}: {error}"
+                ));
+            }
+        }
+    }
+
+    fn open_at(&self, path: &str) -> io::Result<Desk> {
+        let mut desk = Desk::open(self.rt, path)?;
+        if let Some(watcher) = &self.watcher {
+            watcher.watch(desk.listener())?;
+        }
+        Ok(desk)
+    }
+
+    // Tells the answer to what was asked last.
+    fn answer(&mut self, told: Result<Vec<u8>, Fault>) {
+        let now = self.now();
+        if let Some(desk) = &mut self.desk {
+            match told {
+                Ok(text) => desk.answer(now, Ok(text.as_slice())),
+                Err(fault) => desk.answer(now, Err(fault)),
+            }
+        }
+        self.note_busy();
+    }
+
+    // Whether somebody at the desk is to be looked at soon again.
+    fn note_busy(&self) {
+        let is_busy = match &self.desk {
+            Some(desk) => desk.is_busy() || self.copying.is_some(),
+            None => false,
+        };
+        self.bell.set_busy(is_busy);
+    }
+
+    // Tells whoever asked for a copy what it came to.
+    fn answer_copy(&mut self, told: Result<u64, Fault>) {
+        let now = self.now();
+        let body = match told {
+            Ok(bytes) => copied_body(self.rt.alloc(), bytes).map_err(Fault::from),
+            Err(fault) => Err(fault),
+        };
+        if let Some(desk) = &mut self.desk {
+            match body {
+                Ok(body) => desk.answer_copy(now, Ok(body.as_slice())),
+                Err(fault) => desk.answer_copy(now, Err(fault)),
+            }
+        }
+        self.note_busy();
+    }
+
+    fn begin_copy(&mut self, to: &str) {
+        match begin_copy(self.rt, self.db, to) {
+            Ok(copying) => {
+                self.copying = Some(copying);
+                self.note_busy();
+            }
+            Err(fault) => self.answer_copy(Err(fault)),
+        }
+    }
+
+    // Goes on with a copy, if one is being made.
+    fn go_on(&mut self) {
+        let Some(copying) = self.copying.take() else {
+            return;
+        };
+        match copy_on(self.rt, copying) {
+            Ok(Progress::More(copying)) => self.copying = Some(copying),
+            Ok(Progress::Whole(bytes)) => self.answer_copy(Ok(bytes)),
+            Err(fault) => self.answer_copy(Err(fault)),
+        }
+    }
+
+    // What is asked at the desk next.
+    fn asked(&mut self) -> Option<Asked> {
+        let now = self.now();
+        let asked = match &mut self.desk {
+            Some(desk) => desk.next(now),
+            None => None,
+        };
+        self.note_busy();
+        asked
+    }
+
+    fn look(&mut self) -> Found {
+        match self.asked() {
+            Some(asked) => self.judge(&asked),
+            None => Found::Nothing,
+        }
+    }
+
+    // Answers what asks nothing of the store.
+    fn judge(&mut self, asked: &Asked) -> Found {
+        match asked {
+            Asked::Tenants => Found::Asked(Order::Tenants),
+            Asked::AddTenant { name, digest } => Found::Asked(Order::AddTenant {
+                name: *name,
+                digest: *digest,
+            }),
+            Asked::ChangeKey { name, digest } => Found::Asked(Order::ChangeKey {
+                name: *name,
+                digest: *digest,
+            }),
+            Asked::Status => {
+                let age = self.now().saturating_sub(self.began);
+                self.answer(status_body(self.rt, self.db, &self.bell.counts(), age));
+                Found::Answered
+            }
+            Asked::Copy { to } => {
+                self.begin_copy(to.as_str());
+                Found::Answered
+            }
+            Asked::Stop => Found::Stop,
+        }
+    }
+}
+
+impl Orders for HostDesk<'_> {
+    ghost stops = { λ desk. desk.is_stopping };
+
+    fn next(&mut self, is_answering: bool) -> Option<Order> {
+        if is_answering && !self.is_tried {
+            self.open();
+        }
+        if !self.bell.calls() {
+            return None;
+        }
+        self.go_on();
+        for _ in 0..MOST_IN_A_ROW {
+            match self.look() {
+                Found::Nothing => return None,
+                Found::Answered => {}
+                Found::Stop => {
+                    self.is_stopping = true;
+                    self.bell.stop();
+                    return None;
+                }
+                Found::Asked(order) => return Some(order),
+            }
+        }
+        self.bell.ring();
+        None
+    }
+
+    fn tell(&mut self, order: &Order, done: Result<Done, Fault>) {
+        let told = body_of(self.rt.alloc(), order, done);
+        self.answer(told);
+    }
+
+    fn is_stopping(&self) -> bool {
+        self.is_stopping
+    }
+}

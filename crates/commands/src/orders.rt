@@ -1,0 +1,92 @@
+//! What an operator asks of a store while it is served, and what is done for it.
+ghost use Rattle.std.specs.Prelude.{◌≡◌, Bool};
+ghost use Rattle.store.specs.Stores.{IsUsable};
+ghost use Rattle.store.specs.StoreLaws.{store_meaning};
+ghost use Rattle.commands.specs.Kept.{MayBeCalled, Renews};
+ghost use Rattle.commands.specs.Orders.{CarriesOut};
+
+use crate::adding::add_tenant;
+use crate::kept::Kept;
+use crate::keying::change_key;
+use command_texts::Fault;
+use sqlite_disk::Disk;
+use store::{ListedTenant, Store};
+use tenants::TenantName;
+
+/// What an operator asks of a store.
+#[derive(Clone, Copy, Debug, PartialEq, Eq)]
+pub enum Order {
+    /// Which tenants there are.
+    Tenants,
+    /// A new tenant, known by a key with this digest.
+    AddTenant { name: TenantName, digest: [u8; 32] },
+    /// Another key for a tenant.
+    ChangeKey { name: TenantName, digest: [u8; 32] },
+}
+
+/// What an order came to, where it was carried out.
+#[derive(Drop)]
+pub enum Done {
+    /// These are the tenants.
+    Listed(Vec<ListedTenant>),
+    /// The tenant was added, or has another key.
+    Changed,
+}
+
+/// Where an operator asks for something, and is told what became of it.
+pub trait Orders {
+    // Whether it was asked to end.
+    ghost stops: { Self → Bool };
+
+    /// What is asked of the store next, if anything is. Is told whether a store is there that answers
+    /// calls.
+    fn next(&mut self, is_answering: bool) -> Option<Order>;
+
+    /// Tells what the order that was given last came to.
+    fn tell(&mut self, order: &Order, done: Result<Done, Fault>);
+
+    /// Whether it was asked to end.
+    fn is_stopping(&self) -> bool
+        ensures { result ≡ stops self.now };
+}
+
+// Carries out an order on a store.
+fn carry_out_on<D: Disk + Drop>(store: &mut Store<D>, order: &Order) -> Result<Done, Fault>
+    requires { IsUsable store.old }
+    ensures done { CarriesOut order.now store.old result store.new }
+    ensures usable { IsUsable store.new }
+{
+    match order {
+        Order::Tenants => match store.tenants() {
+            Ok(tenants) => Ok(Done::Listed(tenants)),
+            Err(_) => Err(Fault::Unavailable),
+        },
+        Order::AddTenant { name, digest } => {
+            add_tenant(store, name, digest)?;
+            Ok(Done::Changed)
+        }
+        Order::ChangeKey { name, digest } => {
+            change_key(store, name, digest)?;
+            Ok(Done::Changed)
+        }
+    }
+}
+
+/// Carries out an order, and tells what it came to. Where no store is there, that is `Unavailable`.
+pub(crate) fn carry_out<D: Disk + Drop, O: Orders>(
+    kept: &mut Kept<Store<D>>,
+    orders: &mut O,
+    order: &Order,
+)
+    requires { MayBeCalled kept.old }
+    ensures renews { Renews kept.old kept.new }
+    ensures usable { MayBeCalled kept.new }
+{
+    match kept {
+        Kept::Open(store) => {
+            let done = carry_out_on(store, order);
+            orders.tell(order, done);
+        }
+        Kept::Closed => orders.tell(order, Err(Fault::Unavailable)),
+    }
+}

@@ -1,0 +1,13 @@
+pub mod Bodies
+pub mod Calls
+pub mod Copying
+pub mod Counting
+pub mod Listing
+pub mod Messages
+pub mod Moves
+pub mod Orders
+pub mod Parts
+pub mod Refusals
+pub mod Replies
+pub mod Stages
+pub mod Told

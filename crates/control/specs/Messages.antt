@@ -1,0 +1,54 @@
+-- What a command sends.
+use Rattle.std.specs.Prelude.{ℕ, List, [], ◌∷◌, ◌++◌, codes, decimal, length}
+use Rattle.ledger_http.specs.ReplyText.{line_end}
+use Rattle.serde_json.specs.Data.{Data, string}
+use Rattle.serde_json.specs.Written.{compact_text}
+use Rattle.wire.specs.Reply.{object_with}
+use Rattle.control.specs.Bodies.{named_data}
+use Rattle.control.specs.declared.messages.Call.{Call}
+use Rattle.control.specs.declared.messages.Call.TheVariants.{Tenants, AddTenant, ChangeKey, Status, Copy, Stop}
+
+-- the method and the path of each call
+abbrev pub method_of : Call → List ℕ
+method_of Tenants = codes "GET"
+method_of (AddTenant name key) = codes "POST"
+method_of (ChangeKey name key) = codes "POST"
+method_of Status = codes "GET"
+method_of (Copy to) = codes "POST"
+method_of Stop = codes "POST"
+
+abbrev pub path_of : Call → List ℕ
+path_of Tenants = codes "/control/tenants"
+path_of (AddTenant name key) = codes "/control/tenants"
+path_of (ChangeKey name key) = codes "/control/keys"
+path_of Status = codes "/control/status"
+path_of (Copy to) = codes "/control/copy"
+path_of Stop = codes "/control/stop"
+
+-- a tenant's name and key
+abbrev pub tenant_data : List ℕ → List ℕ → Data
+tenant_data name key =
+    object_with ((codes "name", string name) ∷ (codes "key", string key) ∷ [])
+
+-- the body of each call
+abbrev pub body_text : Call → List ℕ
+body_text Tenants = []
+body_text (AddTenant name key) = compact_text (tenant_data name.now key.now)
+body_text (ChangeKey name key) = compact_text (tenant_data name.now key.now)
+body_text Status = []
+body_text (Copy to) = compact_text (named_data (codes "to") to.now)
+body_text Stop = []
+
+-- the line of the call and the headers, and the empty line behind them
+abbrev pub head_text : List ℕ → List ℕ → ℕ → List ℕ
+head_text method path size =
+    method ++ codes " " ++ path ++ codes " HTTP/1.1" ++ line_end
+    ++ codes "host: control" ++ line_end
+    ++ codes "connection: close" ++ line_end
+    ++ codes "content-length: " ++ decimal size ++ line_end
+    ++ line_end
+
+-- a whole message
+abbrev pub message_text : Call → List ℕ
+message_text call =
+    head_text (method_of call) (path_of call) (length (body_text call)) ++ body_text call

@@ -1,0 +1,35 @@
+//! The operator's socket: what a service is asked while it serves, and how a command asks it. A
+//! message is one of HTTP/1.1 with JSON, and there is one for each connection.
+//!
+//! Proved is what is made of the bytes: what a message asks and what it is refused for, the bytes of
+//! messages and replies, and what a reply tells. What the system does of sockets, files and clocks is
+//! not, so who is connected, read and written to when is only tested.
+#![tactic(auto)]
+
+mod asked;
+mod body;
+mod caller;
+mod calling;
+mod copying;
+mod counting;
+mod desk;
+mod hearing;
+mod listing;
+mod messages;
+mod orders;
+mod parts;
+mod reading;
+mod refusal;
+mod reply;
+mod socket_file;
+mod stage;
+
+pub use body::{added_body, changed_body};
+pub use calling::call;
+pub use copying::{copied_body, copied_in};
+pub use counting::{Count, CountForm, counts_body, put_counted};
+pub use desk::Desk;
+pub use hearing::told;
+pub use listing::{TenantRow, put_listed, tenants_body};
+pub use messages::{Call, message};
+pub use orders::Order;

@@ -1,0 +1,97 @@
+//! What a command sends.
+ghost use Rattle.std.specs.Prelude.{◌≡◌, IfOk};
+ghost use Rattle.serde_json.specs.Written.{compact_text};
+ghost use Rattle.std.specs.String.{string_bytes};
+ghost use Rattle.control.specs.Messages.{body_text, head_text, message_text, method_of, path_of};
+ghost use Rattle.control.specs.Messages.{tenant_data};
+
+use crate::body::named_body;
+use json::Writer;
+use std::alloc::{AllocError, Global};
+
+/// What a command asks of a service. Names and keys stand as they were written: the service judges
+/// them.
+#[derive(Clone, Copy, Debug, PartialEq, Eq)]
+pub enum Call<'a> {
+    /// To list the tenants.
+    Tenants,
+    /// To add one, by its name and its key in hexadecimal digits.
+    AddTenant { name: &'a str, key: &'a str },
+    /// To give one another key.
+    ChangeKey { name: &'a str, key: &'a str },
+    /// To tell its counts.
+    Status,
+    /// To copy the file to a path, which begins with `/`.
+    Copy { to: &'a str },
+    /// To end.
+    Stop,
+}
+
+impl Call<'_> {
+    fn method(&self) -> &'static str
+        ensures { result.now ≡ method_of self.now }
+    {
+        match self {
+            Call::Tenants | Call::Status => "GET",
+            Call::AddTenant { .. } | Call::ChangeKey { .. } | Call::Copy { .. } | Call::Stop =>
+                "POST",
+        }
+    }
+
+    fn path(&self) -> &'static str
+        ensures { result.now ≡ path_of self.now }
+    {
+        match self {
+            Call::Tenants | Call::AddTenant { .. } => "/control/tenants",
+            Call::ChangeKey { .. } => "/control/keys",
+            Call::Status => "/control/status",
+            Call::Copy { .. } => "/control/copy",
+            Call::Stop => "/control/stop",
+        }
+    }
+
+    fn body(&self, alloc: Global) -> Result<Vec<u8>, AllocError>
+        ensures { IfOk result (λ body. body.items ≡ body_text self.now) }
+    {
+        match self {
+            Call::AddTenant { name, key } | Call::ChangeKey { name, key } => {
+                tenant_text(alloc, name, key)
+            }
+            Call::Copy { to } => named_body(alloc, "to", to),
+            Call::Tenants | Call::Status | Call::Stop => Ok(Vec::new(alloc)),
+        }
+    }
+}
+
+// A name and a key, as compact JSON.
+fn tenant_text(alloc: Global, name: &str, key: &str) -> Result<Vec<u8>, AllocError>
+    ensures { IfOk result (λ text. text.items ≡ compact_text (tenant_data name.now key.now)) }
+{
+    let mut writer = Writer::new(Vec::new(alloc));
+    writer.begin_object()?;
+    writer.key("name")?;
+    writer.string(name)?;
+    writer.key("key")?;
+    writer.string(key)?;
+    writer.end_object()?;
+    Ok(writer.into_inner())
+}
+
+// All of a message that stands before its body.
+fn head(alloc: Global, method: &str, path: &str, length: usize) -> Result<String, AllocError>
+    ensures { IfOk result (λ head. string_bytes head ≡ head_text method.now path.now length) }
+{
+    format!(in alloc;
+        "{method} {path} HTTP/1.1\r\nhost: control\r\nconnection: close\r\ncontent-length: {length}\r\n\r\n"
+    )
+}
+
+/// The message of a call.
+pub fn message(alloc: Global, call: &Call<'_>) -> Result<Vec<u8>, AllocError>
+    ensures { IfOk result (λ message. message.items ≡ message_text call.now) }
+{
+    let body = call.body(alloc)?;
+    let mut bytes = head(alloc, call.method(), call.path(), body.len())?.into_bytes();
+    bytes.extend_from_slice(&body)?;
+    Ok(bytes)
+}

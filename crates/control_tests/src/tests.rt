@@ -1,0 +1,8 @@
+//! What callers are told.
+
+mod answers;
+mod copies;
+mod ends;
+mod lists;
+mod refusals;
+mod scene;

@@ -1,0 +1,23 @@
+//! Who sees to the ledgers.
+ghost use Rattle.service.specs.Openings.{run_meaning, IsSettled};
+
+use chain::Ledgers;
+
+/// Who sees to the ledgers between turns: opens them again where they have failed, and does what an
+/// operator asks for.
+pub trait Steward<L: Ledgers> {
+    // What it may make of ledgers.
+    ghost renews: { L → L → Type 0 };
+
+    /// A law: while ledgers are live, an opening finds what is there.
+    fn is_settled(ledgers: &L)
+        requires { L.means.is_usable ledgers.now }
+        ensures { IsSettled (run_meaning L.means) ledgers.now };
+
+    /// Does what is to be done: opens again what has failed, where it is time to, or one deed that an
+    /// operator asks for.
+    fn attend(&mut self, ledgers: &mut L)
+        requires { L.means.is_usable ledgers.old }
+        ensures renewed { renews ledgers.old ledgers.new }
+        ensures usable { L.means.is_usable ledgers.new };
+}

@@ -1,0 +1,28 @@
+//! Who runs the service.
+use crate::counts::Counts;
+
+/// Who runs the service: is told what becomes of it, and may call while it is served.
+pub trait Operator {
+    /// Nobody is accepted for the moment, since descriptors or memory are wanting.
+    fn tell_short(&self);
+
+    /// All who waited are accepted again.
+    fn tell_accepting(&self);
+
+    /// Something may have come at what a `Watcher` was given.
+    fn rings(&self) {}
+
+    /// Whether a call of the operator's is being read or written. Then nobody is waited for longer
+    /// than a hundredth of a second.
+    fn is_busy(&self) -> bool {
+        false
+    }
+
+    /// Whether no more is to be begun. What is told from then on says `Sockets`.
+    fn is_stopping(&self) -> bool {
+        false
+    }
+
+    /// How many clients there are, told where that or another of these numbers has changed.
+    fn notes(&self, _counts: &Counts) {}
+}

@@ -1,0 +1,46 @@
+-- A change of key over lists.
+use Rattle.std.proofs.Common.{◌≡◌, ◌≢◌, Bool, true, false, not, ℕ, List, Option, Some, None}
+use Rattle.std.proofs.Common.{is_some, option_map, bytes_eq, refl, ap, ◌∙◌}
+use Rattle.std.specs.Prelude.{IsNone}
+use Rattle.std.proofs.lemmas.Slice.Eq.{bytes_eq-Decides}
+use Rattle.records.specs.Machine.{Machine}
+use Rattle.chain.specs.Tables.{State}
+use Rattle.plain.specs.declared.book.Tenant.{Tenant}
+use Rattle.plain.specs.Book.{state_with, machine_with, IsRekeyed}
+use Rattle.plain.specs.BookLedgers.{machines_in}
+use Rattle.service.specs.Deeds.{Keyed, IsDeedDone}
+use Rattle.service.specs.DeedLaws.{key_changed}
+
+some_of : (found : Option Machine) → is_some found ≡ true → (m : Machine) × (found ≡ Some m)
+some_of (Some m) there = (m, refl)
+some_of None there = absurd (cc)
+
+none_of : (found : Option Machine) → is_some found ≡ false → found ≡ None
+none_of (Some m) gone = absurd (cc)
+none_of None gone = refl
+
+no_machine : (found : Option State) → IsNone found → option_map (λ (s : State). s.now) found ≡ None
+no_machine None none = refl
+no_machine (Some s) none = absurd (cc)
+
+not_false : (b : Bool) → not b ≡ false → b ≡ true
+not_false true is = refl
+not_false false is = absurd (cc)
+
+pub same_digest : (was digest : List ℕ) → not (bytes_eq was digest) ≡ false → was ≡ digest
+same_digest was digest is =
+    (bytes_eq-Decides was digest).0 (not_false (bytes_eq was digest) is)
+
+-- whoever was known by another digest is known by this one
+pub rekeyed_done :
+    (was digest : List ℕ) (old new : List Tenant) → is_some (machine_with was old) ≡ true →
+    (was ≢ digest → is_some (machine_with digest old) ≡ false) → IsRekeyed was digest old new →
+    IsDeedDone (Keyed was digest) (machines_in old) (machines_in new)
+rekeyed_done was digest old new there free rekeyed =
+    let machine = some_of (machine_with was old) there in
+    key_changed was digest (machines_in old) (machines_in new) machine.0 machine.1
+    (ap (option_map (λ (s : State). s.now)) rekeyed.has ∙ machine.1)
+    (λ moved. none_of (machine_with digest old) (free moved))
+    (λ moved. no_machine (state_with was new) (rekeyed.gone moved))
+    (λ other unlike differs.
+    ap (option_map (λ (s : State). s.now)) (rekeyed.others other unlike differs))
