@@ -49,9 +49,9 @@ session: ledgerd
 	python3 examples/session/compare.py examples/session/README.md
 	python3 examples/session/compare.py --blocks README.md
 
-# The estimate of memory by which the gate's lanes go is too high for these crates: build/lanes.py.
+# `rt ci`, with wrong bodies of different functions tried in one check: build/gate.py.
 test:
-	RT_JOBS=$$(python3 build/lanes.py) rt ci
+	python3 build/gate.py
 
 # The client for Python: its own tests, and the program killed under it. Then the examples that
 # follow a ledger and sum it up.

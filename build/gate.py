@@ -1,0 +1,177 @@
+"""The gate: `rt ci`, in which a crate's wrong bodies are tried together where they turn different
+functions.
+
+    python3 build/gate.py                      the gate
+    python3 build/gate.py must-fail [CRATE..]  the wrong bodies alone
+
+`rt ci` tries each of them in a check of its own, and most of such a check is the same each time: the
+libraries below are read, and the crate's front end runs. Here one check has a wrong body in each of
+many functions, each of another name, and the prover says of each function whether it is proved. A
+wrong body is refused where the very function that it stands in is said not to be. What a function's
+proof needs of others are their contracts, which no wrong body changes, so that none is refused for
+another's sake. What was not refused so is tried by itself, as `rt ci` does, and so is what changes
+more than functions' bodies.
+
+All else is the toolchain's own, from the library beside `rt`. There are as many lanes as
+`build/lanes.py` tells."""
+
+import importlib.machinery
+import importlib.util
+import os
+import pathlib
+import re
+import shutil
+import sys
+import tempfile
+
+import lanes
+
+FN = re.compile(r"(\s*)(?:pub(?:\([^)]*\))? )?(?:const )?(?:unsafe )?fn (\w+)")
+SAYS = re.compile(r"fn (\S+): (.*)")
+
+
+def toolchain():
+    """The program `rt` as a module."""
+    sys.dont_write_bytecode = True
+    path = os.path.realpath(shutil.which("rt"))
+    loader = importlib.machinery.SourceFileLoader("rt", path)
+    rt = importlib.util.module_from_spec(importlib.util.spec_from_loader("rt", loader))
+    sys.argv = [path]
+    loader.exec_module(rt)
+    return rt
+
+
+def function_at(lines, at):
+    """The name of the function in whose body a line stands, or None."""
+    for begin in range(at, -1, -1):
+        found = FN.match(lines[begin])
+        if found:
+            break
+    else:
+        return None
+    indent = found[1]
+    for head in range(begin, at + 1):
+        line = lines[head]
+        if line == f"{indent}}}":
+            return None
+        opens = line == f"{indent}{{" or line.endswith("{") and (
+            head == begin or line.startswith(f"{indent})"))
+        if opens:
+            return found[2] if head < at else None
+    return None
+
+
+class WrongBody:
+    """An edit: what it replaces, as files, texts and new texts, and the names of the functions in whose
+    bodies that stands, or None among them."""
+
+    def __init__(self, crate, path):
+        self.path, self.pairs, self.functions = path, [], set()
+        file = old = None
+        for line in pathlib.Path(path).read_text().split("\n"):
+            key, _, rest = line.partition(": ") if ": " in line else line.partition(":")
+            if key == "file":
+                file = rest.strip()
+            elif key == "old":
+                old = rest
+            elif key == "new":
+                self.pairs.append((file, old, rest))
+        for file, old, _ in self.pairs:
+            self.functions.add(self.place(crate, file, old))
+
+    @staticmethod
+    def place(crate, file, old):
+        """The name of the function whose body has a text, or None."""
+        path = pathlib.Path(crate.folder) / str(file)
+        text = path.read_text() if path.is_file() else ""
+        if not str(file).startswith("src/") or text.count(old) != 1:
+            return None
+        return function_at(text.split("\n"), text[: text.index(old)].count("\n"))
+
+    def stands_alone(self):
+        """Whether it changes something else than functions' bodies."""
+        return not self.pairs or None in self.functions
+
+    def joins(self, group, texts, crate):
+        """Whether it can be tried with others. Then the texts have its words too."""
+        if self.functions & {it for other in group for it in other.functions}:
+            return False
+        changed = {}
+        for file, old, new in self.pairs:
+            text = changed.get(file) or texts.get(file)
+            text = text or (pathlib.Path(crate.folder) / file).read_text()
+            if text.count(old) != 1:
+                return False
+            changed[file] = text.replace(old, new)
+        texts.update(changed)
+        return True
+
+    def is_refused(self, said):
+        """The line that says of its function that it is not proved, or None."""
+        for path, how in said:
+            names = {re.sub(r"\+.*", "", it) for it in path.split("::")}
+            if how != "proved" and self.functions & names:
+                return f"fn {path}: {how}"
+        return None
+
+
+def groups(crate, edits):
+    """The edits, in as few groups as turn different functions, each with the texts that it leaves."""
+    found = []
+    for path in edits:
+        it = WrongBody(crate, path)
+        if it.stands_alone():
+            continue
+        for group, texts in found:
+            if it.joins(group, texts, crate):
+                group.append(it)
+                break
+        else:
+            texts = {}
+            if it.joins([], texts, crate):
+                found.append(([it], texts))
+    return found
+
+
+def try_group(rt, crate, group, texts, flags, kept):
+    """What is to be said of each edit of a group that was refused in one check of all."""
+    ran = rt.checked(crate, texts, flags, kept)
+    lines = ran.stdout.rstrip("\n").split("\n")
+    is_read = not any(rt.unread(it, texts) for it in lines) and not rt.rtlib.STALE.search(ran.stdout)
+    if not is_read or ran.returncode != 1 or not lines[-1].startswith("logic=not-proved"):
+        return {}
+    said = [found.groups() for found in map(SAYS.fullmatch, lines) if found]
+    refused = {it.path: it.is_refused(said) for it in group}
+    label = f"must-fail {crate.name}"
+    return {path: f"{label}/{os.path.basename(path)}: refused, as it must be: {line[:160]}"
+            for path, line in refused.items() if line}
+
+
+def try_together(rt):
+    """`must_fail_all` of `rt`: each edit with whether it was refused and what to say."""
+
+    def all_of(crate, edits, flags):
+        if len(edits) < 2:
+            return [rt.must_fail(crate, it, flags) for it in edits]
+        told = {}
+        with tempfile.TemporaryDirectory(prefix="rt-edits-") as kept:
+            for group, texts in groups(crate, edits):
+                told.update(try_group(rt, crate, group, texts, flags, kept))
+            alone = {it: rt.must_fail(crate, it, flags, kept) for it in edits if it not in told}
+            is_sound = not rt.checked(crate, {}, flags, kept).returncode
+        tried = {**{path: (True, text) for path, text in told.items()}, **alone}
+        return [tried[it] if is_sound and tried[it][0] else rt.must_fail(crate, it, flags)
+                for it in edits]
+
+    return all_of
+
+
+def main(words):
+    rt = toolchain()
+    os.environ.setdefault("RT_JOBS", str(lanes.lanes() or ""))
+    rt.must_fail_all = try_together(rt)
+    return rt.main(words or ["ci"])
+
+
+if __name__ == "__main__":
+    sys.exit(main(sys.argv[1:]))
