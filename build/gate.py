@@ -6,11 +6,11 @@ functions.
 
 `rt ci` tries each of them in a check of its own, and most of such a check is the same each time: the
 libraries below are read, and the crate's front end runs. Here one check has a wrong body in each of
-many functions, each of another name, and the prover says of each function whether it is proved. A
-wrong body is refused where the very function that it stands in is said not to be. What a function's
-proof needs of others are their contracts, which no wrong body changes, so that none is refused for
-another's sake. What was not refused so is tried by itself, as `rt ci` does, and so is what changes
-more than functions' bodies.
+many functions, each of another name, and the prover says of each function whether it is proved, and
+where it is not. A wrong body is refused where that is said of the very function that it stands in, and
+not only of one that it calls. What a function's proof needs of others are their contracts, which no
+wrong body changes, so that none is refused for another's sake. What was not refused so is tried by
+itself, as `rt ci` does, and so is what changes more than functions' bodies.
 
 All else is the toolchain's own, from the library beside `rt`. There are as many lanes as
 `build/lanes.py` tells."""
@@ -42,7 +42,7 @@ def toolchain():
 
 
 def function_at(lines, at):
-    """The name of the function in whose body a line stands, or None."""
+    """The name of the function in whose body a line stands, and its first line; or None."""
     for begin in range(at, -1, -1):
         found = FN.match(lines[begin])
         if found:
@@ -57,16 +57,16 @@ def function_at(lines, at):
         opens = line == f"{indent}{{" or line.endswith("{") and (
             head == begin or line.startswith(f"{indent})"))
         if opens:
-            return found[2] if head < at else None
+            return (found[2], begin) if head < at else None
     return None
 
 
 class WrongBody:
-    """An edit: what it replaces, as files, texts and new texts, and the names of the functions in whose
-    bodies that stands, or None among them."""
+    """An edit: what it replaces, as files, texts and new texts, and where that stands: functions'
+    names, each with its file and the lines up to what is replaced; or None among these."""
 
     def __init__(self, crate, path):
-        self.path, self.pairs, self.functions = path, [], set()
+        self.path, self.pairs = path, []
         file = old = None
         for line in pathlib.Path(path).read_text().split("\n"):
             key, _, rest = line.partition(": ") if ": " in line else line.partition(":")
@@ -76,25 +76,35 @@ class WrongBody:
                 old = rest
             elif key == "new":
                 self.pairs.append((file, old, rest))
-        for file, old, _ in self.pairs:
-            self.functions.add(self.place(crate, file, old))
+        self.places = [self.place(crate, file, old) for file, old, _ in self.pairs]
 
     @staticmethod
     def place(crate, file, old):
-        """The name of the function whose body has a text, or None."""
+        """The name, the file and the lines of the function whose body has a text, or None."""
         path = pathlib.Path(crate.folder) / str(file)
         text = path.read_text() if path.is_file() else ""
         if not str(file).startswith("src/") or text.count(old) != 1:
             return None
-        return function_at(text.split("\n"), text[: text.index(old)].count("\n"))
+        lines = text.split("\n")
+        at = text[: text.index(old)].count("\n")
+        found = function_at(lines, at)
+        if not found:
+            return None
+        name, begin = found
+        indent = FN.match(lines[begin])[1]
+        end = next((it for it in range(at, len(lines)) if lines[it] == f"{indent}}}"), at)
+        return name, file, range(begin + 1, end + 2)
 
     def stands_alone(self):
         """Whether it changes something else than functions' bodies."""
-        return not self.pairs or None in self.functions
+        return not self.places or None in self.places
+
+    def names(self):
+        return {name for name, _, _ in self.places}
 
     def joins(self, group, texts, crate):
         """Whether it can be tried with others. Then the texts have its words too."""
-        if self.functions & {it for other in group for it in other.functions}:
+        if self.names() & {it for other in group for it in other.names()}:
             return False
         changed = {}
         for file, old, new in self.pairs:
@@ -106,13 +116,31 @@ class WrongBody:
         texts.update(changed)
         return True
 
-    def is_refused(self, said):
-        """The line that says of its function that it is not proved, or None."""
-        for path, how in said:
-            names = {re.sub(r"\+.*", "", it) for it in path.split("::")}
-            if how != "proved" and self.functions & names:
-                return f"fn {path}: {how}"
+    def is_refused(self, lines):
+        """The line that says that a function of it is not proved, and not for what it calls; or
+        None."""
+        for line in lines:
+            for name, file, within in self.places:
+                if is_of(line, name) or is_at(line, name, file, within):
+                    return line
         return None
+
+
+def is_of(line, name):
+    """Whether a line says of a function that it is not proved, for itself."""
+    said = SAYS.fullmatch(line)
+    if not said or name not in {re.sub(r"\+.*", "", it) for it in said[1].split("::")}:
+        return False
+    return said[2] == "not proved" or said[2].startswith("no proof") and "did not prove" in said[2]
+
+
+def is_at(line, name, file, within):
+    """Whether a line tells of what is not proved at a function's text, or in what is written of its
+    proof."""
+    if re.match(rf"(\./)?proofs/(.*/)?{name}/\w+\.antt:\d+:\d+: error", line):
+        return True
+    at = re.match(r"(?:note: )?(?:\./)?(src/\S+?):(\d+):\d+: (?:error: )?it is not proved", line)
+    return bool(at) and at[1] == file and int(at[2]) in within
 
 
 def groups(crate, edits):
@@ -140,8 +168,7 @@ def try_group(rt, crate, group, texts, flags, kept):
     is_read = not any(rt.unread(it, texts) for it in lines) and not rt.rtlib.STALE.search(ran.stdout)
     if not is_read or ran.returncode != 1 or not lines[-1].startswith("logic=not-proved"):
         return {}
-    said = [found.groups() for found in map(SAYS.fullmatch, lines) if found]
-    refused = {it.path: it.is_refused(said) for it in group}
+    refused = {it.path: it.is_refused(lines) for it in group}
     label = f"must-fail {crate.name}"
     return {path: f"{label}/{os.path.basename(path)}: refused, as it must be: {line[:160]}"
             for path, line in refused.items() if line}
