@@ -65,7 +65,7 @@ console: ledgerd
 	python3 console/try_console.py $(LEDGERD) docs
 
 faults: ledgerd
-	python3 faults/campaign.py $(LEDGERD) $(if $(SEED),--seed $(SEED))
+	python3 faults/campaign.py $(LEDGERD) $(if $(SEED),--seed $(SEED)) $(if $(JOBS),--jobs $(JOBS))
 
 faults-long: ledgerd
 	python3 faults/campaign.py $(LEDGERD) --long $(if $(SEED),--seed $(SEED))
