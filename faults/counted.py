@@ -10,11 +10,17 @@ import time
 
 from asking import asked, be_there, call, named, told_by, write
 from drawn import moves
+from reopened import fail
+from rounds import Crowd
 from runs import House
 from service import Connection, body_of, check, message, want
 
-COUNTS = ["clients", "clients_accepted", "clients_late", "file_bytes", "log_bytes", "most_clients",
-          "seconds"]
+COUNTS = ["clients", "clients_accepted", "clients_late", "file_bytes", "log_bytes",
+          "longest_turn_microseconds", "most_clients", "refused_reopenings", "reopenings",
+          "replies_2xx", "replies_4xx", "replies_5xx", "round_messages", "rounds", "seconds",
+          "turn_microseconds"]
+# What grows by itself.
+TIMES = ("seconds", "longest_turn_microseconds", "turn_microseconds")
 # Who asks at the socket has so many seconds for a message, and to take the reply; what a busy
 # machine adds is not the service's. So many may be there at once.
 CALL, ADDED, CALLERS = 10, 20, 8
@@ -28,7 +34,7 @@ SOON = ("--clients", str(MOST), "--idle", str(IDLE), "--message", str(MESSAGE))
 def counts(house, *form, prefix=""):
     """The numbers of `status`."""
     status, text, errors = told_by(house, "status", *form)
-    rows = re.findall(f"^{prefix}([a-z_]+) ([0-9]+)$", text, re.M)
+    rows = re.findall(f"^{prefix}([a-z0-9_]+) ([0-9]+)$", text, re.M)
     want((status, errors, len(rows)) == (0, "", text.count("\n")), f"status: {text} {errors}")
     want([name for name, _ in rows] == COUNTS, f"status: {text}")
     return {name: int(number) for name, number in rows}
@@ -37,8 +43,10 @@ def counts(house, *form, prefix=""):
 def forms(house):
     """The numbers in either form, while nothing changes."""
     told = [counts(house), counts(house, "--prometheus", prefix="ledgerd_")]
-    want(told[1]["seconds"] - told[0]["seconds"] in (0, 1), f"the seconds of two answers: {told}")
-    want(told[0] == {**told[1], "seconds": told[0]["seconds"]}, f"the two forms: {told}")
+    times = [[each.pop(name) for name in TIMES] for each in told]
+    want(times[1][0] - times[0][0] in (0, 1), f"the seconds of two answers: {times}")
+    want(all(one <= other for one, other in zip(*times)), f"the times of two answers: {times}")
+    want(told[0] == told[1], f"the two forms: {told}")
 
 
 def until(house, holds, text):
@@ -119,6 +127,40 @@ def late_told(house):
          f"two clients too many: {told}")
     for each in (slow, silent, *many):
         each.close()
+
+
+def work_told(trial):
+    """What was done for clients: replies by their status, two batches in one round, the time of turns,
+    and a file that is opened again."""
+    house = Crowd(trial.fresh(), 2)
+    house.begin()
+    house.gather()
+    first = counts(house)
+    told = answered_together(house, first)
+    want(told["replies_4xx"] == first["replies_4xx"], f"two batches: {first}, then {told}")
+    stranger = Connection(house.service.port)
+    stranger.send(message("GET", "/x", house.desks[0].key))
+    want(stranger.reply()[0] == "404 Not Found", "a route that is none")
+    stranger.close()
+    fail(house)
+    last = until(house, lambda told: told["reopenings"] > first["reopenings"], "it is open again")
+    more = {name: last[name] - told[name] for name in ("replies_2xx", "replies_4xx", "replies_5xx")}
+    want(more == {"replies_2xx": 0, "replies_4xx": 1, "replies_5xx": 1}, f"{told}, then {last}")
+    longest, turns = last["longest_turn_microseconds"], last["turn_microseconds"]
+    want(first["turn_microseconds"] < turns and 0 < longest <= turns, f"times of turns: {last}")
+    house.stop()
+    check(house.program, house.db)
+
+
+def answered_together(house, before):
+    """The numbers behind batches of both tenants that were there at once."""
+    batches = house.draw_all()
+    house.send_at_once(batches)
+    want(len(house.hear(batches)) == 2, "unavailable, with all at hand")
+    told = counts(house)
+    more = {name: told[name] - before[name] for name in ("replies_2xx", "round_messages", "rounds")}
+    want(more == {"replies_2xx": 2, "round_messages": 2, "rounds": 1}, f"{before}, then {told}")
+    return told
 
 
 def callers(trial):

@@ -9,7 +9,7 @@ import tempfile
 
 from asking import (asked, begin_writers, both, call, digest_of, drawn_key, end_writers, listed,
                     look_at_old_key, named, take_in, told_by, write)
-from counted import COUNTS, callers, status_told
+from counted import COUNTS, callers, status_told, work_told
 from drawn import moves
 from runs import House
 from service import (NAME_TAKEN, NO_DESK, PATIENCE, Connection, add_tenant, change_key, check, run,
@@ -42,6 +42,7 @@ def desk(trial):
     check(house.program, house.db)
     look_at_paths(trial)
     taken = status_told(trial)
+    work_told(trial)
     longest = callers(trial)
     return (f"{len(house.names)} tenants beside {writes} batches; {as_nobody}; status as it is "
             f"{taken}; beside callers that do not send or read a command took {longest:.2f} s")

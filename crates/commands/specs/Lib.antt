@@ -14,3 +14,4 @@ pub mod GivenKeys
 pub mod Orders
 pub mod Listing
 pub mod Copying
+pub mod Tally

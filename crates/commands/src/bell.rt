@@ -1,16 +1,18 @@
 //! What the sockets of a service and its operator's desk tell each other.
 
+use crate::tally::Tally;
 use sockets::Counts;
 use std::cell::Cell;
 
-/// Whether somebody has rung at the desk, whether it is busy, and whether the service is to end; and
-/// how many clients there are.
+/// Whether somebody has rung at the desk, whether it is busy, and whether the service is to end; how
+/// many clients there are, and what was done for them.
 #[derive(Drop)]
 pub(crate) struct Bell {
     has_rung: Cell<bool>,
     is_busy: Cell<bool>,
     is_stopping: Cell<bool>,
     counts: Cell<Counts>,
+    tally: Cell<Tally>,
 }
 
 impl Bell {
@@ -21,6 +23,7 @@ impl Bell {
             is_busy: Cell::new(false),
             is_stopping: Cell::new(false),
             counts: Cell::new(Counts::new()),
+            tally: Cell::new(Tally::new()),
         }
     }
 
@@ -55,5 +58,14 @@ impl Bell {
 
     pub(crate) fn note(&self, counts: &Counts) {
         self.counts.set(*counts);
+    }
+
+    pub(crate) fn tally(&self) -> Tally {
+        self.tally.get()
+    }
+
+    /// Changes what is counted.
+    pub(crate) fn set_tally(&self, tally: Tally) {
+        self.tally.set(tally);
     }
 }

@@ -219,7 +219,7 @@ impl<'a> HostDesk<'a> {
             }),
             Asked::Status => {
                 let age = self.now().saturating_sub(self.began);
-                self.answer(status_body(self.rt, self.db, &self.bell.counts(), age));
+                self.answer(status_body(self.rt, self.db, self.bell, age));
                 Found::Answered
             }
             Asked::Copy { to } => {

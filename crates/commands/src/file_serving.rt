@@ -65,6 +65,24 @@ impl Operator for Console<'_> {
     fn notes(&self, counts: &Counts) {
         self.bell.note(counts);
     }
+
+    fn replies(&self, reply: &[u8]) {
+        let mut tally = self.bell.tally();
+        tally.replied(reply);
+        self.bell.set_tally(tally);
+    }
+
+    fn shared(&self, messages: u64) {
+        let mut tally = self.bell.tally();
+        tally.answered_together(messages);
+        self.bell.set_tally(tally);
+    }
+
+    fn turned(&self, took: Duration) {
+        let mut tally = self.bell.tally();
+        tally.turned(took);
+        self.bell.set_tally(tally);
+    }
 }
 
 /// A file of this machine, and where it is served. The service goes on where nobody reads what it
@@ -72,6 +90,7 @@ impl Operator for Console<'_> {
 #[derive(Drop)]
 struct HostFile<'a> {
     rt: &'a HostRuntime,
+    bell: &'a Bell,
     path: &'a str,
     address: SocketAddr,
     audit: CountingAudit,
@@ -96,6 +115,12 @@ impl Home<File> for HostFile<'_> {
         }
     }
 
+    fn tried(&self, is_open: bool) {
+        let mut tally = self.bell.tally();
+        tally.tried(is_open);
+        self.bell.set_tally(tally);
+    }
+
     fn tell_answers(&self, _store: &Store<File>) {
         if self.is_told.get() {
             let path = self.path;
@@ -107,9 +132,15 @@ impl Home<File> for HostFile<'_> {
 }
 
 impl<'a> HostFile<'a> {
-    fn new(rt: &'a HostRuntime, path: &'a str, address: SocketAddr) -> HostFile<'a> {
+    fn new(
+        rt: &'a HostRuntime,
+        bell: &'a Bell,
+        path: &'a str,
+        address: SocketAddr,
+    ) -> HostFile<'a> {
         HostFile {
             rt,
+            bell,
             path,
             address,
             audit: CountingAudit::new(),
@@ -186,7 +217,7 @@ pub fn serve_file(
     let Ok(mut peers) = Sockets::listen(rt, rt, &console, asked, limits_of(limits)) else {
         return Err(Fault::Socket);
     };
-    let home = HostFile::new(rt, db, peers.local_addr().unwrap_or(asked));
+    let home = HostFile::new(rt, &bell, db, peers.local_addr().unwrap_or(asked));
     let store = home.first_store(standby)?;
     let mut desk = HostDesk::new(rt, db, &bell, peers.watcher().ok());
     if store.is_some() {

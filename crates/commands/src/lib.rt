@@ -26,6 +26,7 @@ mod renewing;
 mod serving;
 mod statements;
 mod status;
+mod tally;
 mod whole_program;
 
 pub use file_serving::{serve_file, serve_store};

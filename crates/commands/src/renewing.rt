@@ -36,6 +36,9 @@ pub trait Home<D: Disk + Drop> {
     fn tell(&self, fault: Fault)
         requires { IsOpeningFault fault };
 
+    /// Is told of each time that it was tried to open a store again, and whether one is open now.
+    fn tried(&self, _is_open: bool) {}
+
     /// Is told that a store answers calls again.
     fn tell_answers(&self, store: &Store<D>)
         requires { IsReady store.now };
@@ -121,7 +124,9 @@ fn renew<D: Disk + Drop, H: Home<D>, K: Clock>(
     if is_answering(kept) || !is_time(clock, *pause) {
         return;
     }
-    match opened_again(home, kept) {
+    let opened = opened_again(home, kept);
+    home.tried(opened.is_ok());
+    match opened {
         Ok(()) => {
             if pause.is_some() {
                 tell_answers(home, kept);

@@ -1,8 +1,10 @@
 //! What a service tells of itself.
+ghost use Rattle.std.specs.Prelude.{◌≡◌, ◌/◌, ◌-◌, ◌^◌, min};
+ghost use Rattle.std.specs.Duration.{as_nanos};
 
+use crate::bell::Bell;
 use command_texts::Fault;
 use control::{Count, counts_body};
-use sockets::Counts;
 use std::fs;
 use std::time::Duration;
 
@@ -14,15 +16,23 @@ fn length(rt: &HostRuntime, path: &str) -> u64 {
     }
 }
 
-/// The body that tells for how long a service has run, how many clients it has had, and how long the
-/// files are of the ledger at a path.
+// How many microseconds a time has, up to the greatest number.
+fn microseconds(time: Duration) -> u64
+    ensures { result ≡ min (as_nanos time / 1000) (2 ^ 64 - 1) }
+{
+    u64::try_from(time.as_micros()).unwrap_or(u64::MAX)
+}
+
+/// The body that tells for how long a service has run, how many clients it has had, what it has done
+/// for them, and how long the files are of the ledger at a path.
 pub(crate) fn status_body(
     rt: &HostRuntime,
     db: &str,
-    counts: &Counts,
+    bell: &Bell,
     age: Duration,
 ) -> Result<Vec<u8>, Fault> {
     let log = format!(in rt.alloc(); "{db}-wal")?;
+    let (counts, tally) = (bell.counts(), bell.tally());
     let count = |name, value| Count { name, value };
     let all = [
         count("seconds", age.as_secs()),
@@ -30,6 +40,15 @@ pub(crate) fn status_body(
         count("most_clients", counts.most_connected),
         count("clients_accepted", counts.accepted),
         count("clients_late", counts.late),
+        count("replies_2xx", tally.told),
+        count("replies_4xx", tally.refused),
+        count("replies_5xx", tally.failed),
+        count("rounds", tally.rounds),
+        count("round_messages", tally.shared),
+        count("turn_microseconds", microseconds(tally.busy)),
+        count("longest_turn_microseconds", microseconds(tally.longest)),
+        count("reopenings", tally.reopened),
+        count("refused_reopenings", tally.closed),
         count("file_bytes", length(rt, db)),
         count("log_bytes", length(rt, log.as_str())),
     ];

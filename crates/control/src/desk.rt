@@ -19,6 +19,9 @@ const MOST: usize = 8;
 /// So many milliseconds those who have a reply at the end are waited for at most.
 const LAST_WAIT: u64 = 2_000;
 
+/// So many of them those whose message is not whole.
+const LAST_READ: u64 = 200;
+
 /// So many milliseconds pass between two looks at them.
 const PAUSE: u64 = 10;
 
@@ -59,7 +62,7 @@ impl Desk {
     /// Whether a call is being read or a reply written, so that `next` is to be called again soon
     /// though nobody has come.
     pub fn is_busy(&self) -> bool {
-        self.is_knocked || self.callers.iter().any(|caller| caller.stage.is_busy())
+        self.is_knocked || self.is_busy_with_callers()
     }
 
     /// The next order, if the message of one is whole. Who is not answered by `answer` before the
@@ -142,40 +145,40 @@ impl Desk {
         self.let_go();
     }
 
-    /// Ends: the socket is removed, who asked for the end is told, who waits for a copy is refused, and
-    /// what is left of replies is written for two seconds at most.
+    /// Ends: the socket is removed, who asked for the end is told, and who waits for a copy is refused.
+    /// So is whoever asks for anything else by now, within a fifth of a second. What is left of replies
+    /// is written for two seconds at most.
     pub fn close<R: Files + Clock>(mut self, rt: &R) {
         remove(rt, self.path.as_str(), self.file);
         let begin = rt.monotonic().unwrap_or(Duration::ZERO);
-        self.tell_the_end(begin);
-        for _ in 0..LAST_WAIT / PAUSE {
-            if !self.write_on(begin) {
+        self.accept(begin);
+        for turn in 0..LAST_WAIT / PAUSE {
+            self.end_all(begin, turn < LAST_READ / PAUSE);
+            if !self.is_busy_with_callers() {
                 break;
             }
             rt.sleep(Duration::from_millis(PAUSE));
         }
     }
 
-    // Tells those who asked for the end that it has come, and who waits for a copy that none is made.
-    // Whose message is not whole is let go.
-    fn tell_the_end(&mut self, now: Duration) {
+    // Goes on with each caller, and tells those whose message is whole that the end has come. Whose
+    // message is not is let go where no more is read.
+    fn end_all(&mut self, now: Duration, reads: bool) {
         for caller in self.callers.iter_mut() {
+            let _ = caller.serve(self.alloc, now);
             match caller.stage {
                 Stage::Stops => caller.tell(self.alloc, stopped_body().as_bytes(), now),
-                Stage::Copies => {
+                Stage::Copies | Stage::Waits => {
                     caller.refuse(self.alloc, Refusal::from(Fault::Unavailable), now);
                 }
-                Stage::Reads(_) => caller.stage = Stage::Over,
-                Stage::Waits | Stage::Writes(_) | Stage::Over => {}
+                Stage::Reads(_) if !reads => caller.stage = Stage::Over,
+                Stage::Reads(_) | Stage::Writes(_) | Stage::Over => {}
             }
         }
     }
 
-    // Writes what is left of replies. Says whether anything still is.
-    fn write_on(&mut self, now: Duration) -> bool {
-        for caller in self.callers.iter_mut() {
-            let _ = caller.serve(self.alloc, now);
-        }
+    // Whether a call is being read or a reply written.
+    fn is_busy_with_callers(&self) -> bool {
         self.callers.iter().any(|caller| caller.stage.is_busy())
     }
 }

@@ -176,6 +176,9 @@ pub(crate) fn serve_due<L: Rounds, H: Steward<L>, C: Moments, P: Peers>(
     let numbers = gathered.take(alloc);
     let clients = &mut seats.clients;
     let shared = share::<L, H, C, P>(alloc, clients, &numbers, ledgers, moments, gathered, most);
+    if shared > 0 {
+        peers.shared(shared);
+    }
     let room = most - shared;
     let more = finish_each::<L, H, C, P>(
         alloc, peers, seats, &numbers, ledgers, moments, piece, room,

@@ -52,6 +52,9 @@ pub trait Peers {
     /// Whether something more has happened that `told` tells without waiting.
     fn has_more(&self) -> bool;
 
+    /// So many messages were answered in one round.
+    fn shared(&self, _messages: u64) {}
+
     /// A client wants to be read, whose next message has so many bytes, head and body together; 0
     /// where its head has not come. Told before each reading, and what is told later holds.
     fn wants(&mut self, client: u64, bytes: u64)

@@ -132,6 +132,14 @@ impl Guests {
         self.peers.values().any(|peer| peer.is_written_to())
     }
 
+    /// Whether what is written to a client next is the beginning of a reply.
+    pub(crate) fn begins_reply(&self, number: u64) -> bool {
+        match self.peers.get(&number) {
+            Some(peer) => !peer.is_over && !matches!(peer.stage, Stage::Reply(_)),
+            None => false,
+        }
+    }
+
     /// The next whose turn it is, of all who are ready, one turn after the other.
     pub(crate) fn next_at_end(&mut self) -> Option<u64> {
         if let Some(number) = self.next_ready() {

@@ -1,5 +1,6 @@
 //! Who runs the service.
 use crate::counts::Counts;
+use std::time::Duration;
 
 /// Who runs the service: is told what becomes of it, and may call while it is served.
 pub trait Operator {
@@ -25,4 +26,13 @@ pub trait Operator {
 
     /// How many clients there are, told where that or another of these numbers has changed.
     fn notes(&self, _counts: &Counts) {}
+
+    /// A reply is to be written to a client, whose first bytes are these.
+    fn replies(&self, _reply: &[u8]) {}
+
+    /// So many messages were answered in one round.
+    fn shared(&self, _messages: u64) {}
+
+    /// A turn has taken so long: from when something was told until more is asked for.
+    fn turned(&self, _took: Duration) {}
 }

@@ -203,6 +203,7 @@ impl<K: Clock, O: Operator> Sockets<'_, K, O> {
     // What has happened, where no more is to be begun or not.
     fn told_now(&mut self, fresh: u64) -> Told {
         let seen = self.seen();
+        self.operator.turned(seen.saturating_sub(self.time.seen));
         self.time.turned(seen);
         match self.closing.learns(self.operator.is_stopping(), seen) {
             Phase::Serves => self.told_next(fresh),
@@ -239,6 +240,10 @@ impl<K: Clock, O: Operator> Peers for Sockets<'_, K, O> {
         self.guests.has_turns()
     }
 
+    fn shared(&self, messages: u64) {
+        self.operator.shared(messages);
+    }
+
     fn wants(&mut self, client: u64, bytes: u64) {
         self.guests.wants(client, bytes);
     }
@@ -248,6 +253,9 @@ impl<K: Clock, O: Operator> Peers for Sockets<'_, K, O> {
     }
 
     fn write(&mut self, client: u64, bytes: &[u8]) -> Written {
+        if self.guests.begins_reply(client) {
+            self.operator.replies(bytes);
+        }
         self.guests.write(client, bytes, self.time.now)
     }
 

@@ -6,7 +6,8 @@ use std::fs;
 use std::os::unix::fs::PermissionsExt;
 use std::test::Fail;
 
-// Who asks for the end is told of it once it has come, and then nobody is there any more.
+// Who asks for the end is told of it once it has come, who comes last too; what else is asked then is
+// refused. Then nobody is there any more.
 #[test]
 fn tells_the_end(rt: HostRuntime) -> Result<(), Fail> {
     let path = "end.control";
@@ -22,9 +23,13 @@ fn tells_the_end(rt: HostRuntime) -> Result<(), Fail> {
     assert_eq!(rt; desk.next(at(2)), Some(Order::Stop));
     assert_eq!(rt; desk.next(at(100)), None);
     desk.answer(at(100), Ok(b"{}"));
+    let mut third = calls(&rt, path, &Call::Stop)?;
+    let mut other = calls(&rt, path, &Call::Status)?;
     desk.close(&rt);
-    assert!(rt; is_told(&rt, &mut first, Ok("{\"stopped\":true}"))?);
-    assert!(rt; is_told(&rt, &mut second, Ok("{\"stopped\":true}"))?);
+    for caller in [&mut first, &mut second, &mut third] {
+        assert!(rt; is_told(&rt, caller, Ok("{\"stopped\":true}"))?);
+    }
+    assert!(rt; is_told(&rt, &mut other, Err(Fault::Unavailable))?);
     assert!(rt; hears(&rt, &mut half)?.is_empty());
     assert!(rt; matches!(call(&rt, rt.alloc(), path, &Call::Status), Ok(None)));
     assert!(rt; fs::metadata(&rt, path).is_err());
