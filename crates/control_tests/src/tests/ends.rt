@@ -26,9 +26,9 @@ fn tells_the_end(rt: HostRuntime) -> Result<(), Fail> {
     let mut third = calls(&rt, path, &Call::Stop)?;
     let mut other = calls(&rt, path, &Call::Status)?;
     desk.close(&rt);
-    for caller in [&mut first, &mut second, &mut third] {
-        assert!(rt; is_told(&rt, caller, Ok("{\"stopped\":true}"))?);
-    }
+    assert!(rt; is_told(&rt, &mut first, Ok("{\"stopped\":true}"))?);
+    assert!(rt; is_told(&rt, &mut second, Ok("{\"stopped\":true}"))?);
+    assert!(rt; is_told(&rt, &mut third, Ok("{\"stopped\":true}"))?);
     assert!(rt; is_told(&rt, &mut other, Err(Fault::Unavailable))?);
     assert!(rt; hears(&rt, &mut half)?.is_empty());
     assert!(rt; matches!(call(&rt, rt.alloc(), path, &Call::Status), Ok(None)));

@@ -94,3 +94,27 @@ fn counts_who_makes_room(rt: HostRuntime) -> Result<(), Fail> {
     steps.push(Counts(1, 1, 2, 1))?;
     take_steps(&rt, 0, Allowed(1, 9, LONG, LONG, LONG), &steps)
 }
+
+// A turn lasts from when something is told until more is asked for. Each reply is told as it begins,
+// and none to who is gone.
+#[test]
+fn notes_turns_and_replies(rt: HostRuntime) -> Result<(), Fail> {
+    let clock = Ticking::new(0);
+    let notes = Notes::new();
+    let mut scene = Scene::new(&rt, &clock, &notes, Allowed(9, 9, LONG, LONG, LONG))?;
+    scene.connect(&rt, 0)?;
+    assert_eq!(rt; scene.told(0, 3), Told::Joined);
+    assert_eq!(rt; notes.longest_turn(), Duration::ZERO);
+    clock.pass(700);
+    assert_eq!(rt; scene.told(1, 3), Told::Ready(0));
+    clock.pass(300);
+    assert_eq!(rt; scene.told(1, 1), Told::Nothing);
+    assert_eq!(rt; notes.longest_turn(), Duration::from_millis(700));
+    assert_eq!(rt; scene.sockets.write(0, b"first"), Written::Took(5));
+    assert_eq!(rt; scene.sockets.write(0, b"second"), Written::Took(6));
+    scene.sockets.shared(2);
+    scene.sockets.close(0);
+    assert_eq!(rt; scene.sockets.write(0, b"third"), Written::Broken);
+    assert_eq!(rt; notes.answered(), (2, 2));
+    Ok(())
+}

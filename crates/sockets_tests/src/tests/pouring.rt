@@ -60,6 +60,7 @@ fn writes_a_great_reply_by_and_by(rt: HostRuntime) -> Result<(), Fail> {
     let reply = Vec::from_elem(rt.alloc(), 9u8, 8_000_000)?;
     let poured = pour_all(&mut scene, &reply)?;
     assert!(rt; poured.waits > 0 && poured.sent == 8_000_000);
+    assert_eq!(rt; notes.answered(), (1, 0));
     scene.sockets.close(0);
     for client in &scene.clients {
         client.set_nonblocking(false)?;

@@ -51,6 +51,11 @@ pub struct Notes {
     rung: Cell<u64>,
     /// How many clients there are, and were.
     counts: Cell<Counts>,
+    /// How many replies were begun.
+    replies: Cell<u64>,
+    /// How many messages were answered in rounds.
+    shared: Cell<u64>,
+    longest_turn: Cell<Duration>,
     is_busy: Cell<bool>,
     is_stopping: Cell<bool>,
 }
@@ -67,6 +72,9 @@ impl Notes {
                 accepted: 0,
                 late: 0,
             }),
+            replies: Cell::new(0),
+            shared: Cell::new(0),
+            longest_turn: Cell::new(Duration::ZERO),
             is_busy: Cell::new(false),
             is_stopping: Cell::new(false),
         }
@@ -91,6 +99,15 @@ impl Notes {
             counts.accepted,
             counts.late,
         )
+    }
+
+    /// How many replies were begun, and how many messages answered in rounds.
+    pub fn answered(&self) -> (u64, u64) {
+        (self.replies.get(), self.shared.get())
+    }
+
+    pub fn longest_turn(&self) -> Duration {
+        self.longest_turn.get()
     }
 
     /// A call of its own is being read from now on.
@@ -127,6 +144,18 @@ impl Operator for Notes {
 
     fn notes(&self, counts: &Counts) {
         self.counts.set(*counts);
+    }
+
+    fn replies(&self, _reply: &[u8]) {
+        self.replies.set(self.replies.get().saturating_add(1));
+    }
+
+    fn shared(&self, messages: u64) {
+        self.shared.set(self.shared.get().saturating_add(messages));
+    }
+
+    fn turned(&self, took: Duration) {
+        self.longest_turn.set(self.longest_turn.get().max(took));
     }
 }
 
