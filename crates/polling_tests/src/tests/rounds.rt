@@ -69,6 +69,17 @@ fn many_share_rounds_and_hear_what_each_hears_alone(rt: HostRuntime) -> Result<(
     assert!(rt; written_at(&peers, 0) == written_at(&peers, 31));
     assert!(rt; written_at(&peers, 31) < written_at(&peers, 32));
     assert!(rt; written_at(&peers, 32) == written_at(&peers, 39));
+    assert!(rt; peers.shared_so_far() >= 40);
+    Ok(())
+}
+
+#[test]
+fn who_is_alone_shares_no_round(rt: HostRuntime) -> Result<(), Fail> {
+    let mut firms = Firms::with(rt.alloc(), &KEYS)?;
+    let mut peers = clients(&rt, &[OF_SECOND])?;
+    assert!(rt; firms.serve_ready(&mut peers, 99) == 3);
+    assert!(rt; has_heard(&peers, 0, TO_SECOND.as_bytes()));
+    assert!(rt; peers.shared_so_far() == 0);
     Ok(())
 }
 

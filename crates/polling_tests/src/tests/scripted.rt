@@ -4,6 +4,7 @@ ghost use Rattle.std.specs.Prelude.{⊤};
 
 use polling::{Peers, Read, Told, Written};
 use std::alloc::Global;
+use std::cell::Cell;
 use std::test::Fail;
 
 /// One client: what it still sends, and what it was written.
@@ -86,6 +87,8 @@ pub(crate) struct Scripted<'a> {
     late_at: u64,
     /// How many things were told.
     told: u64,
+    /// How many messages were answered in rounds.
+    shared: Cell<u64>,
 }
 
 impl<'a> Scripted<'a> {
@@ -97,7 +100,13 @@ impl<'a> Scripted<'a> {
             late: None,
             late_at: 0,
             told: 0,
+            shared: Cell::new(0),
         }
+    }
+
+    /// How many messages were answered in rounds.
+    pub(crate) fn shared_so_far(&self) -> u64 {
+        self.shared.get()
     }
 
     /// This client has had its time.
@@ -172,6 +181,10 @@ impl Peers for Scripted<'_> {
     // In each turn round all are told without waiting.
     fn has_more(&self) -> bool {
         self.next != 0
+    }
+
+    fn shared(&self, messages: u64) {
+        self.shared.set(self.shared.get().saturating_add(messages));
     }
 
     fn wants(&mut self, client: u64, bytes: u64) {
