@@ -1,5 +1,5 @@
 //! Serves a store to many clients at once, and to an operator.
-ghost use Rattle.std.specs.Prelude.{◌≡◌, ◌⊎◌, IfErr, IfOk, IfSome, Ok, Err};
+ghost use Rattle.std.specs.Prelude.{◌≡◌, ◌⊎◌, IfErr, IfOk, IfSome, IsTrue, Ok, Err};
 ghost use Rattle.std.specs.declared.net.ip_addr.IpAddr.{IpAddr as AnIpAddr};
 ghost use Rattle.command_line.specs.Values.{text_in};
 ghost use Rattle.store.specs.Stores.{IsUsable};
@@ -225,14 +225,14 @@ pub fn serve_file(
         home.tell_serving();
     }
     let mut moments = SystemMoments::new(rt);
-    let served = serve_store(
+    let (served, desk) = serve_store(
         rt.alloc(),
         &mut peers,
         &home,
         store,
         &mut moments,
         rt,
-        &mut desk,
+        desk,
         most,
     );
     desk.close();
@@ -242,8 +242,8 @@ pub fn serve_file(
 /// Serves a store to those who are connected, until `most` messages were replied to, or an operator
 /// asks that it ends.
 ///
-/// Between turns an operator's orders are carried out, one at a time. Without a store one is opened
-/// first, likewise.
+/// Between turns an operator's orders are carried out, one at a time, and who asks for them is given
+/// back. Without a store one is opened first, likewise.
 ///
 /// Where the store's disk has failed, the store is opened again, over the same files or else anew,
 /// before anything else is done: at once, and while that is refused, after a second, and then after
@@ -257,15 +257,17 @@ pub fn serve_store<D: Disk + Drop, P: Peers, H: Home<D>, C: Moments, K: Clock, O
     store: Option<Store<D>>,
     moments: &mut C,
     clock: &K,
-    orders: &mut O,
+    orders: O,
     most: u64,
-) -> Result<Served, Fault>
+) -> (Result<Served, Fault>, O)
     requires { IfSome store IsUsable }
     ensures served { ServesStore C.gives P.does (kept_of store) moments.old peers.old most moments.new
-        peers.new result }
-    ensures fault { IfErr result (λ fault. fault ≡ Fault.Socket) }
+        peers.new result.0 }
+    ensures stopped { result.0 ≡ Ok Served.Stopped → IsTrue (O.stops result.1) }
+    ensures fault { IfErr result.0 (λ fault. fault ≡ Fault.Socket) }
 {
     let mut kept = Kept::of(store);
     let mut renewing = Renewing::new(home, clock, orders);
-    serve_clients(alloc, peers, &mut kept, &mut renewing, moments, most)
+    let served = serve_clients(alloc, peers, &mut kept, &mut renewing, moments, most);
+    (served, renewing.into_orders())
 }

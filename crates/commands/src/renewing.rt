@@ -56,23 +56,35 @@ struct Pause {
 /// Carries out an operator's orders, and opens a store again where its disk has failed: at once, and
 /// then, while that is refused, after a second, and after twice the time that was waited for, up to a
 /// minute.
-#[derive(Drop)]
 pub(crate) struct Renewing<'a, H, K: Clock, O> {
     home: &'a H,
     clock: &'a K,
-    orders: &'a mut O,
+    orders: O,
     /// Since the last attempt, where that was refused.
     pause: Option<Pause>,
 }
 
 impl<'a, H, K: Clock, O> Renewing<'a, H, K, O> {
-    pub(crate) fn new(home: &'a H, clock: &'a K, orders: &'a mut O) -> Self {
+    pub(crate) fn new(home: &'a H, clock: &'a K, orders: O) -> Self {
         Renewing {
             home,
             clock,
             orders,
             pause: None,
         }
+    }
+
+    /// Gives back whose orders are carried out.
+    pub(crate) fn into_orders(self) -> O
+        ensures { result ≡ self.entry.orders }
+    {
+        let Renewing {
+            home: _,
+            clock: _,
+            orders,
+            pause: _,
+        } = self;
+        orders
     }
 }
 
@@ -84,7 +96,7 @@ fn twice(seconds: u64) -> u64
 }
 
 impl<H, K: Clock, O: Orders> Stops for Renewing<'_, H, K, O> {
-    ghost stops = { λ renewing. O.stops renewing.orders.now };
+    ghost stops = { λ renewing. O.stops renewing.orders };
 
     fn is_stopping(&self) -> bool {
         self.orders.is_stopping()
@@ -104,7 +116,7 @@ impl<D: Disk + Drop, H: Home<D>, K: Clock, O: Orders> Steward<Kept<Store<D>>>
 
     fn attend(&mut self, kept: &mut Kept<Store<D>>) {
         match self.orders.next(is_answering(kept)) {
-            Some(order) => carry_out(kept, self.orders, &order),
+            Some(order) => carry_out(kept, &mut self.orders, &order),
             None => renew(self.home, self.clock, &mut self.pause, kept),
         }
     }

@@ -89,14 +89,14 @@ fn serve<D: Disk + Drop, F: Firms<D>, P: Peers>(
         return Err(Fail::new(format_args!("no store")));
     };
     let mut moments = Thousands(1000);
-    let served = serve_store(
+    let (served, Silent) = serve_store(
         rt.alloc(),
         peers,
         &home,
         Some(store),
         &mut moments,
         rt,
-        &mut Silent,
+        Silent,
         most,
     );
     match served {

@@ -120,15 +120,14 @@ fn ordered_of<D: Disk + Drop, F: Firms<D>>(
     }
     let most = if messages > 0 { messages } else { u64::MAX };
     let mut moments = Thousands(1000);
-    let mut asking = Asking::new(alloc, orders);
-    let served = serve_store(
+    let (served, asking) = serve_store(
         alloc,
         &mut peers,
         &home,
         Some(store),
         &mut moments,
         &clock,
-        &mut asking,
+        Asking::new(alloc, orders),
         most,
     );
     let heard = peers.heard()?;

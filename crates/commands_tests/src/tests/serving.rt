@@ -67,14 +67,14 @@ pub fn exchange_over<D: Disk + Drop, H: Home<D>>(
     peers.add(NO_TRANSFERS, messages.1)?;
     let most = messages.0.saturating_add(messages.1);
     let mut moments = Thousands(1000);
-    let served = serve_store(
+    let (served, Silent) = serve_store(
         alloc,
         &mut peers,
         home,
         Some(store),
         &mut moments,
         clock,
-        &mut Silent,
+        Silent,
         most,
     );
     match served {

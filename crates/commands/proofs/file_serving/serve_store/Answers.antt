@@ -12,14 +12,14 @@ use Rattle.commands.proofs.file_serving.serve_store.Goals as goal
 
 pub returns-clause-served : goal.returns-clause-served
 returns-clause-served g c =
-    let served = c.serve_clients.ensures.served in
+    let served = c.serve_clients-served.ensures.served in
     subst
     (λ (first : Kept (Store _ _)). ServesStore g.C.Moments.gives g.P.Peers.does first c.args.moments.now
-    c.args.peers.now c.args.most c.serve_clients.new.moments c.serve_clients.new.peers
-    c.serve_clients.result)
+    c.args.peers.now c.args.most c.serve_clients-served.new.moments c.serve_clients-served.new.peers
+    c.serve_clients-served.result)
     c.of-kept.ensures
     (record {
-      kept = c.serve_clients.new.ledgers;
+      kept = c.serve_clients-served.new.ledgers;
       served = served;
       course = λ live.
           let led =
