@@ -42,7 +42,7 @@ ledgerd:
 	+@python3 build/prove.py
 
 session: ledgerd
-	test "$$($(LEDGERD) --version | tail -n 1)" = "$$(rt version)"
+	test "$$($(LEDGERD) --version | tail -n 1)" = "$$(rt version | sed 's/^[^ ]*/rattle/')"
 	mkdir -p out
 	$(PLAY) > out/session.txt
 	python3 examples/session/compare.py out/session.txt

@@ -95,8 +95,8 @@ fn looks_at_words_before_files(rt: HostRuntime) -> Result<(), Fail> {
     Ok(())
 }
 
-// The toolchain is that of the README, as `rt version` names it.
-static VERSION: &str = "ledgerd 0.1.0\nschema 3\nrattle-kit-13f logic dac8208d650f15bf\n";
+// The logic is that of the README, with which `rt version` ends.
+static VERSION: &str = "ledgerd 0.1.0\nschema 3\nrattle logic dac8208d650f15bf\n";
 
 #[test]
 fn tells_its_version(rt: HostRuntime) -> Result<(), Fail> {
