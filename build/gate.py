@@ -12,11 +12,13 @@ not only of one that it calls. What a function's proof needs of others are their
 wrong body changes, so that none is refused for another's sake. What was not refused so is tried by
 itself, as `rt ci` does, and so is what changes more than functions' bodies.
 
-All else is the toolchain's own, from the library beside `rt`. There are as many lanes as
-`build/lanes.py` tells."""
+All else is the toolchain's own, from the library beside `rt`; where that has not the parts that are
+called here, each wrong body is tried as `rt ci` does. There are as many lanes as `build/lanes.py`
+tells."""
 
 import importlib.machinery
 import importlib.util
+import inspect
 import os
 import pathlib
 import re
@@ -177,7 +179,7 @@ def try_group(rt, crate, group, texts, flags, kept):
 def try_together(rt):
     """`must_fail_all` of `rt`: each edit with whether it was refused and what to say."""
 
-    def all_of(crate, edits, flags):
+    def all_of(crate, edits, flags, *_):
         if len(edits) < 2:
             return [rt.must_fail(crate, it, flags) for it in edits]
         told = {}
@@ -193,10 +195,24 @@ def try_together(rt):
     return all_of
 
 
+# What is called here, and the names of what it takes.
+CALLED = {"must_fail_all": ["crate", "edits", "flags"], "unread": ["line", "changed"],
+          "must_fail": ["crate", "edit", "flags", "kept"],
+          "checked": ["crate", "texts", "flags", "kept"]}
+
+
+def is_known(rt):
+    """Whether the toolchain has these."""
+    return hasattr(rt.rtlib, "STALE") and all(
+        hasattr(rt, name) and [*inspect.signature(getattr(rt, name)).parameters][: len(takes)] == takes
+        for name, takes in CALLED.items())
+
+
 def main(words):
     rt = toolchain()
     os.environ.setdefault("RT_JOBS", str(lanes.lanes() or ""))
-    rt.must_fail_all = try_together(rt)
+    if is_known(rt):
+        rt.must_fail_all = try_together(rt)
     return rt.main(words or ["ci"])
 
 
