@@ -6,12 +6,15 @@
 PLAYED is what `play.sh` has printed, or a Markdown page with it in a block ```session; with
 `--requests` it is what `try.sh` has, the requests alone. The expected session is `expected.txt`.
 Since clocks are those of the day, the clock that the k-th batch was told becomes `Ck`, a timestamp
-n nanoseconds before it `Ck-n`, and what is a nanosecond or a second behind it `Ck+1` or `Ck+1s`;
-all else stays as it is. With `--blocks` each paragraph of
-the session in PAGE has to stand in the session of README.md beside this file."""
+n nanoseconds before it `Ck-n`, and what is a nanosecond or a second behind it `Ck+1` or `Ck+1s`.
+The k-th key that was drawn becomes `Kk`, and its digest `Dk`. Of `status` the lengths of both files
+become `F` and `L`, what their sum is `F+L`, and what moves by itself `N`; all else stays as it is.
+With `--blocks` each paragraph of the session in PAGE has to stand in the session of README.md
+beside this file."""
 
 import bisect
 import difflib
+import hashlib
 import pathlib
 import re
 import sys
@@ -20,6 +23,8 @@ HERE = pathlib.Path(__file__).resolve().parent
 MOST_EVENTS = 1000
 # The next page is asked for with the one, and a hold for a second is due at the other.
 BEHIND = {1: "1", 10**9: "1s"}
+# The numbers of `status` that are the machine's, and their marks.
+COUNTS = {"clients": "N", "most_clients": "N", "seconds": "N", "file_bytes": "F", "log_bytes": "L"}
 
 
 def session_of(path):
@@ -42,7 +47,13 @@ def requests_of(lines):
     """The lines from the first request over a connection to the last."""
     paragraphs = paragraphs_of(lines)
     served = [it for it in paragraphs if not re.search(r"^> ledgerd ", it, re.M)]
-    return ["", *"\n\n".join(served).splitlines()]
+    return ["", *renumbered("\n\n".join(served)).splitlines()]
+
+
+def renumbered(text):
+    """The text with its clocks counted from 1, where some batches are left out."""
+    left = sorted({int(number) for number in re.findall(r"\bC(\d+)", text)})
+    return re.sub(r"\bC(\d+)", lambda found: f"C{left.index(int(found.group(1))) + 1}", text)
 
 
 def clocks_of(lines):
@@ -61,7 +72,31 @@ def clocks_of(lines):
     return clocks
 
 
-def marked(line, clocks):
+def words_of(lines):
+    """The mark of each key that was drawn, and of its digest."""
+    words, keys = {}, [line[6:] for line in lines if re.fullmatch(r"< key [0-9a-f]{64}", line)]
+    for place, key in enumerate(keys):
+        words[key] = f"K{place + 1}"
+        words[hashlib.sha256(bytes.fromhex(key)).hexdigest()] = f"D{place + 1}"
+    return words
+
+
+def counts_marked(lines):
+    """The lines with marks for the numbers of `status` that are the machine's, and for the bytes of
+    both files."""
+    told = {"file_bytes": 0, "log_bytes": 0}
+    for line in lines:
+        found = re.fullmatch(r"< ([a-z_]+) (\d+)", line)
+        name, number = found.groups() if found else ("", "")
+        if name in COUNTS:
+            told[name] = int(number)
+            line = f"< {name} {COUNTS[name]}"
+        elif name == "copied" and int(number) == told["file_bytes"] + told["log_bytes"]:
+            line = "< copied F+L"
+        yield line
+
+
+def marked(line, clocks, words):
     """The line with each moment told by the batch that it belongs to."""
     def mark(found):
         moment = int(found.group())
@@ -73,6 +108,7 @@ def marked(line, clocks):
             if moment - behind in clocks:
                 return f"C{clocks.index(moment - behind) + 1}+{word}"
         return found.group()
+    line = re.sub(r"\b[0-9a-f]{64}\b", lambda found: words.get(found.group(), found.group()), line)
     return re.sub(r"\b\d{19}\b", mark, line)
 
 
@@ -89,8 +125,8 @@ def compare_blocks(page):
 def compare(path, expected):
     """A played session is the expected one."""
     played = session_of(path)
-    clocks = clocks_of(played)
-    told = [marked(line, clocks) for line in played]
+    clocks, words = clocks_of(played), words_of(played)
+    told = [marked(line, clocks, words) for line in counts_marked(played)]
     if told == expected:
         print(f"{path}: {len(clocks)} batches and their replies are the expected ones")
         return
