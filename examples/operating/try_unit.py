@@ -1,11 +1,11 @@
-"""Tries ledgerd.service of this folder under a systemd of its own, in a container that has no network
-but its own loopback, and ends with 1 at the first thing that does not hold.
+"""Tries ledgerd.service of this folder under a systemd of its own, in a container that has no
+network but its own loopback, and ends with 1 at the first thing that does not hold.
 
     python3 examples/operating/try_unit.py LEDGERD FOLDER
 
 LEDGERD is the program. It needs root, Debian's systemd-container and debootstrap, and 300 MB in
-FOLDER, where the container's files stay for the next time. Nothing of this machine's own systemd is
-touched. `unit_trials.py` is what runs in the container."""
+FOLDER, where the container's files stay for the next time. It takes some minutes, and touches
+nothing of this machine's own systemd. `unit_trials.py` is what runs in the container."""
 
 import os
 import pathlib

@@ -1,6 +1,6 @@
 """What `try_unit.py` runs in its container: the unit is installed, started, stopped, killed, given
-files that are not served, a port that is taken and a file that another unit has. And what the process
-may do is looked at from outside."""
+files that are not served, a port that is taken and a file that another unit has. And what the
+process may do is looked at from outside."""
 
 import http.client
 import json
