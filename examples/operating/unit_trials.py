@@ -157,13 +157,13 @@ class Tenant:
              f"{self.many} were answered, and there are {text.count(chr(10)) - 1}")
 
 
-def fail(word):
-    """The unit, which was started, has failed for this word, and is not started again."""
-    known = until(lambda known: known["ActiveState"] == "failed", word)
+def fail(told, status="4"):
+    """The unit, which was started, has failed and told this, and is not started again."""
+    known = until(lambda known: known["ActiveState"] == "failed", told)
     time.sleep(STAYS)
-    want(shown() == known and (known["ExecMainStatus"], known["NRestarts"]) == ("4", "0"),
-         f"{word}: {known}, and later {shown()}")
-    want(f"ledgerd: {word}\n" in journal(), journal())
+    want(shown() == known and (known["ExecMainStatus"], known["NRestarts"]) == (status, "0"),
+         f"{told}: {known}, and later {shown()}")
+    want(told in journal(), journal())
 
 
 def try_again(status, word, unit=UNIT):
@@ -180,7 +180,7 @@ def install():
     shutil.copy(HERE / f"{UNIT}.service", UNITS)
     system("daemon-reload")
     system("enable", "--now", UNIT)
-    fail("unreadable")
+    fail("ledgerd: unreadable\n")
     return "installed; without a file: status 4, and it stays failed"
 
 
@@ -291,6 +291,7 @@ def stop(tenant):
 
 
 def kill(tenant):
+    """Killed, and stopped by hand, it is started again."""
     process = served()
     os.kill(process, signal.SIGKILL)
     until(lambda known: known["MainPID"] not in ("0", str(process)), "killed")
@@ -305,14 +306,18 @@ def kill(tenant):
 
 
 def spoil(tenant):
-    """Files that are not served; they are put back then."""
+    """A wrong command line, and files that are not served, which are put back then."""
     system("stop", UNIT)
+    add_lines("ExecStart=", f"ExecStart={PROGRAM} serve --db {DB} --port eighty")
+    system("start", UNIT)
+    fail("eighty", "2")
+    add_lines()
     kept = {file: file.read_bytes() for file in (DB, LOG)}
     for word, act in (("damaged", damage), ("unreadable", lambda: put(b"x" * 8192)),
                       ("not_a_ledger", lambda: put(b""))):
         act()
         system("start", UNIT)
-        fail(word)
+        fail(f"ledgerd: {word}\n")
         for file, content in kept.items():
             file.write_bytes(content)
             shutil.chown(file, UNIT, UNIT)
@@ -320,7 +325,8 @@ def spoil(tenant):
         tenant.compare()
         system("stop", UNIT)
     start()
-    return "a file that is damaged, none of a database, empty: status 4, and it stays failed"
+    return ("a wrong command line: status 2; a file that is damaged, no database or empty: status 4; "
+            "it stays failed")
 
 
 def put(content):
@@ -384,9 +390,10 @@ def serve_twice(tenant):
 
 def stop_opening(tenant):
     """Stopped while it opens its file, it is ended, and that is no failure."""
+    longest = 0.0
     for _ in range(40):
         tenant.write(1000)
-    for turn in range(3):
+    for _ in range(3):
         system("restart", UNIT)
         time.sleep(0.2)
         told = ledgerd("status")
@@ -394,7 +401,7 @@ def stop_opening(tenant):
         begun = time.monotonic()
         system("stop", UNIT)
         want(shown()["ActiveState"] == "inactive", f"stopped in an opening: {shown()}")
-        longest = max(time.monotonic() - begun, longest if turn else 0)
+        longest = max(longest, time.monotonic() - begun)
         start()
         tenant.compare()
     return f"stopped while it opens its file: within {longest:.1f} s, and not failed"
