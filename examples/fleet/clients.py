@@ -136,6 +136,11 @@ class Load:
         moments = self.well(instance)
         return max(later - earlier for earlier, later in zip(moments, moments[1:]))
 
+    def refused(self, instance):
+        """When somebody was first told something else."""
+        return min(moment for client in self.clients if client.instance is instance
+                   for moment, what in client.told if what != "200" and moment >= self.begun)
+
     def told(self):
         """How often each thing was told, of what was not an answer."""
         counts = {}

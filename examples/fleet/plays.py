@@ -48,20 +48,24 @@ def killed(fleet, clients):
 
 
 def brick_killed(fleet, clients):
-    """A brick is killed and brought back. Files that were open stay without it until they are opened
-    anew: so the services are handed over, and it heals while they write."""
-    volume, brick = fleet.volume, fleet.volume.bricks[0]
+    """Each brick in turn is killed and brought back. Files that were open stay without it until they
+    are opened anew: so the services are handed over each time, and it heals while they write."""
     with Load(clients) as load:
-        brick.kill()
-        time.sleep(5)
-        volume.start_brick(brick)
-        time.sleep(5)
-        left = wait_until(lambda: counted(volume), "the volume tells nothing")
-        for instance in fleet.instances:
-            hand_over(instance)
-        seconds = volume.heal()
-    return load.tell(f"a brick killed and brought back, {left} files to heal until a hand-over, and "
-                     f"none {seconds:.1f} s later", fleet.instances)
+        told = [kill_brick(fleet, brick) for brick in fleet.volume.bricks]
+    return load.tell(f"bricks killed and brought back, {'; '.join(told)}", fleet.instances)
+
+
+def kill_brick(fleet, brick):
+    volume = fleet.volume
+    brick.kill()
+    time.sleep(4)
+    volume.start_brick(brick)
+    time.sleep(4)
+    left = wait_until(lambda: counted(volume), "the volume tells nothing")
+    for instance in fleet.instances:
+        hand_over(instance)
+    seconds = volume.heal()
+    return f"{brick.name} with {left} files to heal until a hand-over, and none {seconds:.1f} s later"
 
 
 def counted(volume):
@@ -71,26 +75,28 @@ def counted(volume):
 
 
 def cut_off(fleet, clients):
-    """The machine that serves the first instance is cut off from the bricks and brought back."""
-    instance, volume = fleet.instances[0], fleet.volume
+    """The machine that serves the first instance is cut off from the bricks and brought back. The
+    proxy lets go of it before its lock can fall."""
+    instance = fleet.instances[0]
     post = instance.active()
-    machine = post.machine
     with Load(clients) as load:
-        machine.cut(STORE)
+        begun = time.monotonic()
+        post.machine.cut(STORE)
         seconds = taken_over(instance, post)
         time.sleep(2)
-        machine.join(STORE)
+        post.machine.join(STORE)
         returned = stands_by(post)
-        for each in fleet.instances:
-            wait_until(each.active, f"{each.name} is served by nobody")
-        healed = volume.heal()
-    return load.tell(f"cut off under load, taken over in {seconds:.1f} s; it stands by "
-                     f"{returned:.1f} s behind its return, healed {healed:.1f} s later",
+        wait_until(fleet.instances[1].active, "the other instance is served by nobody")
+        healed = fleet.volume.heal()
+    let_go = load.refused(instance) - begun
+    want(let_go < seconds, f"the proxy lets go of it after {let_go} s, taken over after {seconds}")
+    return load.tell(f"cut off under load, the proxy let go of it after {let_go:.1f} s, taken over "
+                     f"in {seconds:.1f} s, healed {healed + returned:.1f} s behind its return",
                      fleet.instances)
 
 
 def stands_by(post):
-    """Waits until a machine that was cut off keeps nothing any more and says so. The seconds."""
+    """Waits until a machine that was cut off says so, and keeps nothing. The seconds."""
     begun = time.monotonic()
     wait_until(lambda: (post.ask() or (0,))[0] == 503, "who was cut off does not stand by", 150)
     told = post.ask(WRITE, post.instance.probe)

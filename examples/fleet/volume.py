@@ -30,6 +30,8 @@ OPTIONS = {
     "performance.open-behind": "off",
     # Two bricks of three write, or nobody does.
     "cluster.quorum-type": "auto",
+    # What a machine that was cut off left half done is healed soon.
+    "cluster.heal-timeout": "10",
 }
 MOUNTED = "attribute-timeout=0,entry-timeout=0"
 
@@ -110,7 +112,10 @@ class Volume:
     def heal(self, patience=PATIENCE):
         """Waits until all bricks are alike. The seconds that it took."""
         begun = time.monotonic()
-        wait_until(lambda: self.left_to_heal() == 0, "the volume does not heal", patience, 0.5)
+        while self.left_to_heal() != 0:
+            if time.monotonic() - begun > patience:
+                raise TimeoutError(self.first.gluster("volume", "heal", VOLUME, "info"))
+            time.sleep(0.5)
         return time.monotonic() - begun
 
 
