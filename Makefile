@@ -4,9 +4,9 @@
 # `make faults-long` all of it, and `make soak` for an hour, or MINUTES=5, all of it at once;
 # `make bench` measures; `make alloc` runs the tests on want of memory with each allocation refused
 # in turn; `make python` tests the client for Python, and `make console` the page for the browser,
-# in chromium.
+# in chromium; `make fleet`, as root, plays two machines on a replicated volume.
 # `make try` and `make run` take a free port, or PORT=8080; `make try STAY=1` leaves it served.
-.PHONY: run try ledgerd session test python console faults faults-long soak bench alloc
+.PHONY: run try ledgerd session test python console fleet faults faults-long soak bench alloc
 
 LEDGERD = crates/ledgerd/out/ledgerd
 PLAY = examples/session/play.sh $(LEDGERD) out/session $(PORT)
@@ -19,6 +19,7 @@ session-calls = $(run-calls)
 ledgerd-calls = rt python3
 python-calls = rt python3
 console-calls = rt python3 curl chromium chromedriver
+fleet-calls = rt python3 unshare nsenter ip glusterd gluster mount.glusterfs haproxy
 faults-calls = rt python3 cc
 faults-long-calls = $(faults-calls)
 soak-calls = $(faults-calls)
@@ -63,6 +64,10 @@ python: ledgerd
 # The page for the browser, in chromium; the pictures in docs/ are made anew.
 console: ledgerd
 	python3 console/try_console.py $(LEDGERD) docs
+
+# Two machines, each with a network and mounts of its own, three bricks and a proxy: as root.
+fleet: ledgerd
+	python3 examples/fleet/try_fleet.py $(LEDGERD)
 
 faults: ledgerd
 	python3 faults/campaign.py $(LEDGERD) $(if $(SEED),--seed $(SEED)) $(if $(JOBS),--jobs $(JOBS))

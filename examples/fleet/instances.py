@@ -17,15 +17,18 @@ class Post:
         self.program, self.instance, self.machine = program, instance, machine
         self.errors = os.path.join(folder, f"{instance.name}-{machine.name}.txt")
         self.process = None
+        open(self.errors, "wb").close()
 
     def begin(self):
-        """Serves, or stands by where the other one serves."""
+        """Serves, or stands by where the other one serves: once it has told which."""
+        before = len(self.lines())
         with open(self.errors, "ab") as errors:
             self.process = self.machine.start(
                 self.program, "serve", "--db", self.instance.db, "--address",
                 self.machine.address(FRONT), "--port", str(self.instance.port), "--standby",
                 stderr=errors)
-        wait_until(self.lines, f"{self.instance.name} tells nothing on {self.machine.name}")
+        wait_until(lambda: len(self.lines()) > before,
+                   f"{self.instance.name} tells nothing on {self.machine.name}")
 
     def lines(self):
         """What its programs have told so far."""

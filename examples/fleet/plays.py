@@ -4,7 +4,7 @@ import time
 
 from clients import Load
 from instances import READ, WRITE
-from machines import STORE, wait_until
+from machines import FRONT, STORE, wait_until
 from service import want
 
 
@@ -16,12 +16,15 @@ def taken_over(instance, post):
 
 
 def hand_over(instance):
+    return hand_over_by(instance.active())
+
+
+def hand_over_by(post):
     """Stops who serves; it stands by then. The seconds until the other one serves."""
-    post = instance.active()
     told = post.command("stop")
     want(told == "stopped\n", f"stop: {told}")
     post.process.wait()
-    seconds = taken_over(instance, post)
+    seconds = taken_over(post.instance, post)
     post.begin()
     return seconds
 
@@ -96,11 +99,14 @@ def cut_off(fleet, clients):
 
 
 def stands_by(post):
-    """Waits until a machine that was cut off says so, and keeps nothing. The seconds."""
+    """Waits until a machine that was cut off says so, and keeps nothing. The seconds. Its program is
+    started again: it would serve again, but its operator could not ask it for anything."""
     begun = time.monotonic()
     wait_until(lambda: (post.ask() or (0,))[0] == 503, "who was cut off does not stand by", 150)
     told = post.ask(WRITE, post.instance.probe)
     want(told and told[0] == 503, f"who was cut off and is back answers {told}")
+    post.kill()
+    post.begin()
     return time.monotonic() - begun
 
 
@@ -118,7 +124,7 @@ def cut_off_idle(fleet, clients):
     believes = post.ask(READ)
     told = post.ask(WRITE, instance.probe, 30)
     want(told and told[0] == 503, f"two processes write one file: {told}")
-    wait_until(lambda: (post.ask() or (0,))[0] == 503, "who was cut off does not stand by", 150)
+    stands_by(post)
     fleet.proxy_goes_on()
     with Load(clients):
         pass
@@ -126,4 +132,20 @@ def cut_off_idle(fleet, clients):
             f"{still[0]} then and {believes[0]} once it was back, and its first write was refused")
 
 
-PLAYS = (handed_over, killed, brick_killed, cut_off, cut_off_idle)
+def unreachable(fleet, clients):
+    """A machine that clients do not reach and that reaches the volume keeps its file: nobody takes
+    over until it is stopped."""
+    instance = fleet.instances[0]
+    post = instance.active()
+    with Load(clients) as load:
+        post.machine.cut(FRONT)
+        time.sleep(20)
+        want(not instance.other(post).is_serving(), "taken over from one that has its file")
+        seconds = hand_over_by(post)
+        post.machine.join(FRONT)
+        wait_until(fleet.instances[1].active, "the other instance is served by nobody")
+    return load.tell(f"out of clients' reach for 20 s, and handed over by stop in {seconds:.1f} s",
+                     fleet.instances)
+
+
+PLAYS = (handed_over, killed, brick_killed, cut_off, cut_off_idle, unreachable)

@@ -3,8 +3,8 @@ that they see with their plain ledgers.
 
     python3 examples/fleet/try_fleet.py LEDGERD [PLAY..]
 
-With no play all are played: handed_over, killed, brick_killed, cut_off, cut_off_idle. Nothing is
-left of it. `python3 examples/fleet/try_defaults.py LEDGERD` shows what happens without the volume's
+With no play all are played: handed_over, killed, brick_killed, cut_off, cut_off_idle, unreachable.
+Nothing is left of it. `python3 examples/fleet/try_defaults.py LEDGERD` shows what happens without the volume's
 options."""
 
 import os
