@@ -1,5 +1,5 @@
-"""Runs a script apart from the rest of this machine: with processes, mounts and networks of its own,
-all of which are gone once it has ended, however it ends."""
+"""Runs a script apart from the rest of this machine: with processes, mounts and networks of its
+own, all of which are gone once it has ended, however it ends."""
 
 import os
 import shutil

@@ -1,5 +1,5 @@
-"""Twenty tenants behind the proxy, each beside a plain ledger of its own: each sends a batch until it
-is answered, and only then the next one."""
+"""Twenty tenants behind the proxy, each beside a plain ledger of its own: each sends a batch until
+it is answered, and only then the next one."""
 
 import random
 import secrets

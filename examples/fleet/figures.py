@@ -52,9 +52,10 @@ class Sender:
 
 
 def event(number):
-    debit, credit = number % 100, (number * 7 + 1) % 100
+    debit = number % 100
+    credit = (debit + 1 + number // 100 % 99) % 100
     return {"id": str(number), "debit_account_id": str(debit + 1), "amount": "1", "ledger": 7,
-            "credit_account_id": str((credit if credit != debit else debit + 1) % 100 + 1), "code": 1}
+            "credit_account_id": str(credit + 1), "code": 1}
 
 
 def rate(senders, many, seconds):

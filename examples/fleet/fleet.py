@@ -1,5 +1,5 @@
-"""A fleet on one machine: a volume of three bricks, two machines that have mounted it, two instances
-of a ledger, each served by one machine while the other stands by, and a proxy in front.
+"""A fleet on one machine: a volume of three bricks, two machines that have mounted it, two
+instances of a ledger, each served by one machine while the other stands by, and a proxy in front.
 
     python3 examples/fleet/fleet.py up LEDGERD [FOLDER]
     python3 examples/fleet/fleet.py on MACHINE COMMAND..
@@ -42,8 +42,9 @@ class Fleet:
             self.volume.mount(machine, os.path.join(folder, f"{name}.log"), mounted)
             self.machines.append(machine)
         left, right = self.machines
-        self.instances = [Instance(self.program, name, port, machines, folder) for (name, port), machines
-                          in zip(PORTS.items(), ((left, right), (right, left)))]
+        self.instances = [
+            Instance(self.program, name, PORTS[name], machines, folder)
+            for name, machines in (("north", (left, right)), ("south", (right, left)))]
         self.begin(os.path.join(folder, "haproxy.txt"))
 
     def begin(self, errors):
@@ -68,8 +69,8 @@ class Fleet:
         self.proxy.send_signal(signal.SIGCONT)
 
     def ask(self, key):
-        """What the proxy answers to a look-up of nothing: its status, and which instance it has asked
-        where that knows no such key."""
+        """What the proxy answers to a look-up of nothing: its status, and which instance it has
+        asked where that knows no such key."""
         asked = http.client.HTTPConnection("127.0.0.1", PROXY, timeout=10)
         try:
             asked.request("POST", "/accounts/lookup", "[]", {"x-ledger-key": key})
@@ -116,7 +117,8 @@ def up(program, folder=FOLDER):
                                  stdout=told, stderr=told, start_new_session=True)
     pathlib.Path(folder, "fleet.pid").write_text(str(fleet.pid))
     ready = pathlib.Path(folder, "ready")
-    wait_until(lambda: ready.exists() or fleet.poll() is not None, "the fleet does not come up", 300)
+    wait_until(lambda: ready.exists() or fleet.poll() is not None, "the fleet does not come up",
+               300)
     if fleet.poll() is not None:
         sys.exit(pathlib.Path(folder, "fleet.txt").read_text())
     print(f"""the fleet is up, in {folder}
@@ -149,10 +151,8 @@ def on(machine, *command):
 def down(folder=FOLDER):
     fleet = is_there(folder)
     if fleet:
-        first = first_of(fleet)
-        os.kill(fleet, signal.SIGTERM)
-        os.kill(first, signal.SIGKILL)
-        wait_until(lambda: not os.path.exists(f"/proc/{first}"), "the fleet does not end")
+        os.kill(first_of(fleet), signal.SIGKILL)
+        wait_until(lambda: not is_there(folder), "the fleet does not end")
     shutil.rmtree(folder, ignore_errors=True)
 
 

@@ -1,5 +1,5 @@
-"""Machines within this one: each has a network and mounts of its own, and nothing else. All of it is
-gone with the processes that hold it."""
+"""Machines within this one: each has a network and mounts of its own, and nothing else. All of it
+is gone with the processes that hold it."""
 
 import atexit
 import os

@@ -29,6 +29,13 @@ def hand_over_by(post):
     return seconds
 
 
+def spread(fleet):
+    """Sees to it that each machine serves one instance."""
+    first, second = (instance.active() for instance in fleet.instances)
+    if first.machine is second.machine:
+        hand_over_by(second)
+
+
 def handed_over(fleet, clients):
     """`stop`, on both instances."""
     with Load(clients) as load:
@@ -51,8 +58,8 @@ def killed(fleet, clients):
 
 
 def brick_killed(fleet, clients):
-    """Each brick in turn is killed and brought back. Files that were open stay without it until they
-    are opened anew: so the services are handed over each time, and it heals while they write."""
+    """Each brick in turn is killed and brought back. Files that were open stay without it until
+    they are opened anew: so the services are handed over, and it heals while they write."""
     with Load(clients) as load:
         told = [kill_brick(fleet, brick) for brick in fleet.volume.bricks]
     return load.tell(f"bricks killed and brought back, {'; '.join(told)}", fleet.instances)
@@ -68,7 +75,7 @@ def kill_brick(fleet, brick):
     for instance in fleet.instances:
         hand_over(instance)
     seconds = volume.heal()
-    return f"{brick.name} with {left} files to heal until a hand-over, and none {seconds:.1f} s later"
+    return f"{brick.name}: {left} files to heal until a hand-over, and none {seconds:.1f} s later"
 
 
 def counted(volume):
@@ -80,6 +87,7 @@ def counted(volume):
 def cut_off(fleet, clients):
     """The machine that serves the first instance is cut off from the bricks and brought back. The
     proxy lets go of it before its lock can fall."""
+    spread(fleet)
     instance = fleet.instances[0]
     post = instance.active()
     with Load(clients) as load:
@@ -98,11 +106,16 @@ def cut_off(fleet, clients):
                      fleet.instances)
 
 
+def health(post):
+    """The status of a reply to /health, or 0 where there is none."""
+    return (post.ask(READ) or (0,))[0]
+
+
 def stands_by(post):
-    """Waits until a machine that was cut off says so, and keeps nothing. The seconds. Its program is
-    started again: it would serve again, but its operator could not ask it for anything."""
+    """Waits until a machine that was cut off says so, and keeps nothing. The seconds. Its program
+    is started again: it would serve again, but its operator could not ask it for anything."""
     begun = time.monotonic()
-    wait_until(lambda: (post.ask() or (0,))[0] == 503, "who was cut off does not stand by", 150)
+    wait_until(lambda: health(post) == 503, "who was cut off does not stand by", 150)
     told = post.ask(WRITE, post.instance.probe)
     want(told and told[0] == 503, f"who was cut off and is back answers {told}")
     post.kill()
@@ -113,15 +126,16 @@ def stands_by(post):
 def cut_off_idle(fleet, clients):
     """The same while nobody asks it for anything: it notices nothing, and is asked to write once it
     is back. Its lock has fallen, and so has its file."""
+    spread(fleet)
     instance = fleet.instances[0]
     post = instance.active()
     fleet.proxy_stands_still()
     post.machine.cut(STORE)
     seconds = taken_over(instance, post)
-    still = post.ask(READ)
+    still = health(post)
     post.machine.join(STORE)
     time.sleep(15)
-    believes = post.ask(READ)
+    believes = health(post)
     told = post.ask(WRITE, instance.probe, 30)
     want(told and told[0] == 503, f"two processes write one file: {told}")
     stands_by(post)
@@ -129,12 +143,13 @@ def cut_off_idle(fleet, clients):
     with Load(clients):
         pass
     return (f"cut off while nobody asked, taken over in {seconds:.1f} s; its /health said "
-            f"{still[0]} then and {believes[0]} once it was back, and its first write was refused")
+            f"{still} then and {believes} once it was back, and its first write was refused")
 
 
 def unreachable(fleet, clients):
     """A machine that clients do not reach and that reaches the volume keeps its file: nobody takes
     over until it is stopped."""
+    spread(fleet)
     instance = fleet.instances[0]
     post = instance.active()
     with Load(clients) as load:

@@ -108,7 +108,8 @@ def main():
     statuses = []
     for name in sys.argv[2:] or CASES:
         with tempfile.TemporaryDirectory(prefix="fleet-") as folder:
-            statuses.append(apart.run(__file__, "apart", folder, os.path.abspath(sys.argv[1]), name))
+            program = os.path.abspath(sys.argv[1])
+            statuses.append(apart.run(__file__, "apart", folder, program, name))
     sys.exit(max(statuses))
 
 

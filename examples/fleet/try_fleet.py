@@ -4,8 +4,7 @@ that they see with their plain ledgers.
     python3 examples/fleet/try_fleet.py LEDGERD [PLAY..]
 
 With no play all are played: handed_over, killed, brick_killed, cut_off, cut_off_idle, unreachable.
-Nothing is left of it. `python3 examples/fleet/try_defaults.py LEDGERD` shows what happens without the volume's
-options."""
+Nothing is left of it. try_defaults.py shows what happens without the volume's options."""
 
 import os
 import pathlib
@@ -46,7 +45,8 @@ def main():
         sys.exit(__doc__)
     apart.look_for_all()
     with tempfile.TemporaryDirectory(prefix="fleet-") as folder:
-        status = apart.run(__file__, "apart", folder, os.path.abspath(sys.argv[1]), *sys.argv[2:])
+        program = os.path.abspath(sys.argv[1])
+        status = apart.run(__file__, "apart", folder, program, *sys.argv[2:])
         if status:
             tell_all(folder)
     sys.exit(status)

@@ -81,7 +81,7 @@ class Volume:
         first = self.first = self.bricks[0]
         for other in self.bricks[1:]:
             first.gluster("peer", "probe", other.address(STORE))
-        wait_until(lambda: first.gluster("peer", "status").count("Peer in Cluster (Connected)") == 2,
+        wait_until(lambda: first.gluster("peer", "status").count("in Cluster (Connected)") == 2,
                    "the bricks' machines do not meet")
         first.gluster("volume", "create", VOLUME, "replica", "3",
                       *(brick.place() for brick in self.bricks), "force")
