@@ -111,22 +111,26 @@ def print_row(name, medians):
           f"{two / volume:.2f} |", flush=True)
 
 
-def takeovers(fleet):
-    """Seconds until the other one serves, with 100,000 transfers and the few before."""
+def takeovers(fleet, folder):
+    """Seconds until the other one serves a file with 100,000 transfers and more, beside those of an
+    audit of its copy on the local disk."""
     from plays import hand_over, taken_over
-    instance = fleet.instances[0]
+    instance, copy = fleet.instances[0], os.path.join(folder, "copy.db")
     sender = Sender(instance.active(), "stored")
     sender.begin()
     for _ in range(STORED // 1000):
         sender.move(1000)
+    instance.active().command("copy", "--to", copy)
     for _ in range(ROUNDS):
         handed = hand_over(instance)
         post = instance.active()
         post.kill()
         killed = taken_over(instance, post)
         post.begin()
-        print(f"handed over in {handed:.1f} s, killed and taken over in {killed:.1f} s; "
-              f"{instance.active().lines()[-1]}", flush=True)
+        begun = time.monotonic()
+        post.machine.run(fleet.program, "check", "--db", copy)
+        print(f"handed over in {handed:.1f} s, killed and taken over in {killed:.1f} s; check of a "
+              f"local copy {time.monotonic() - begun:.1f} s", flush=True)
 
 
 def measure(program, folder, seconds):
@@ -134,7 +138,7 @@ def measure(program, folder, seconds):
     fleet = Fleet(program, folder)
     print(f"load {os.getloadavg()[0]:.1f}", flush=True)
     compare(fleet, folder, float(seconds))
-    takeovers(fleet)
+    takeovers(fleet, folder)
     print(f"load {os.getloadavg()[0]:.1f}", flush=True)
 
 

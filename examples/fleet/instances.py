@@ -72,16 +72,16 @@ class Instance:
     def begin(self):
         for post in self.posts:
             post.begin()
-            wait_until(lambda: self.active(), f"{self.name} is not served")
+            self.active()
 
     def active(self):
-        """Who serves, if anybody does."""
-        return next((post for post in self.posts if post.is_serving()), None)
+        """Who serves, once somebody does."""
+        return wait_until(lambda: next((post for post in self.posts if post.is_serving()), None),
+                          f"{self.name} is served by nobody")
 
     def other(self, post):
         return self.posts[1 - self.posts.index(post)]
 
     def add(self, name, key):
-        """Adds a tenant. It is told on the machine that serves, or on the first."""
-        post = self.active() or self.posts[0]
-        post.command("tenant-add", "--name", name, "--key", key)
+        """Adds a tenant, on the machine that serves."""
+        self.active().command("tenant-add", "--name", name, "--key", key)

@@ -97,7 +97,7 @@ def cut_off(fleet, clients):
         time.sleep(2)
         post.machine.join(STORE)
         returned = stands_by(post)
-        wait_until(fleet.instances[1].active, "the other instance is served by nobody")
+        fleet.instances[1].active()
         healed = fleet.volume.heal()
     let_go = load.refused(instance) - begun
     want(let_go < seconds, f"the proxy lets go of it after {let_go} s, taken over after {seconds}")
@@ -158,7 +158,7 @@ def unreachable(fleet, clients):
         want(not instance.other(post).is_serving(), "taken over from one that has its file")
         seconds = hand_over_by(post)
         post.machine.join(FRONT)
-        wait_until(fleet.instances[1].active, "the other instance is served by nobody")
+        fleet.instances[1].active()
     return load.tell(f"out of clients' reach for 20 s, and handed over by stop in {seconds:.1f} s",
                      fleet.instances)
 

@@ -59,7 +59,7 @@ def bricks(fleet, instance, teller):
             teller.move(post)
             time.sleep(0.05)
 
-    writer = threading.Thread(target=write)
+    writer = threading.Thread(target=write, daemon=True)
     writer.start()
     for brick in fleet.volume.bricks:
         brick.kill()

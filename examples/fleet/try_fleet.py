@@ -36,8 +36,8 @@ def play(program, folder, names):
             post.kill()
         told = instance.posts[0].command("check", check=False)
         want(told == "ok\n", f"check: {instance.name} {told}")
-    print(f"{batches} answers in {time.monotonic() - begun:.0f} s, each as the plain ledgers' where "
-          "it was one; both files are ok", flush=True)
+    print(f"{batches} replies in {time.monotonic() - begun:.0f} s, each answer as the plain "
+          "ledgers'; both files are ok", flush=True)
 
 
 def main():
