@@ -24,7 +24,8 @@ MOST_EVENTS = 1000
 # The next page is asked for with the one, and a hold for a second is due at the other.
 BEHIND = {1: "1", 10**9: "1s"}
 # The numbers of `status` that are the machine's, and their marks.
-COUNTS = {"clients": "N", "most_clients": "N", "seconds": "N", "file_bytes": "F", "log_bytes": "L"}
+COUNTS = {"clients": "N", "most_clients": "N", "seconds": "N", "turn_microseconds": "N",
+          "longest_turn_microseconds": "N", "file_bytes": "F", "log_bytes": "L"}
 
 
 def session_of(path):
