@@ -1,12 +1,17 @@
 """Runs a script apart from the rest of this machine: with processes, mounts and networks of its
-own, all of which are gone once it has ended, however it ends."""
+own, all of which are gone once it has ended."""
 
+import contextlib
 import os
 import shutil
+import signal
 import subprocess
 import sys
+import tempfile
+import time
 
-NEEDED = {"unshare": "util-linux", "nsenter": "util-linux", "ip": "iproute2",
+NEEDED = {"unshare": "util-linux", "nsenter": "util-linux", "setpriv": "util-linux",
+          "ip": "iproute2",
           "glusterd": "glusterfs-server", "gluster": "glusterfs-cli",
           "mount.glusterfs": "glusterfs-client", "haproxy": "haproxy"}
 PATHS = os.pathsep.join((os.environ.get("PATH", ""), "/usr/sbin", "/sbin"))
@@ -38,8 +43,27 @@ def words(script, *given):
 
 
 def run(script, *given):
-    """Runs it, and answers its status."""
-    return subprocess.run(words(script, *given)).returncode
+    """Runs it, and answers its status. It ends with this process."""
+    signal.signal(signal.SIGTERM, lambda *_: sys.exit(1))
+    return subprocess.run(["setpriv", "--pdeathsig", "KILL", *words(script, *given)]).returncode
+
+
+@contextlib.contextmanager
+def scratch():
+    """A new folder, which is taken away."""
+    folder = tempfile.mkdtemp(prefix="fleet-")
+    try:
+        yield folder
+    finally:
+        take_away(folder)
+
+
+def take_away(folder):
+    """Takes a folder away, in which something that was ended may still be writing."""
+    end = time.monotonic() + 10
+    while os.path.exists(folder) and time.monotonic() < end:
+        shutil.rmtree(folder, ignore_errors=True)
+        time.sleep(0.1)
 
 
 def wait_for_all(command):

@@ -11,7 +11,6 @@ import os
 import secrets
 import statistics
 import sys
-import tempfile
 import threading
 import time
 
@@ -146,7 +145,7 @@ def main():
     if len(sys.argv) < 2:
         sys.exit(__doc__)
     apart.look_for_all()
-    with tempfile.TemporaryDirectory(prefix="fleet-") as folder:
+    with apart.scratch() as folder:
         status = apart.run(__file__, "apart", folder, os.path.abspath(sys.argv[1]),
                            *(sys.argv[2:] or ["5"]))
     sys.exit(status)

@@ -12,7 +12,6 @@ import http.client
 import os
 import pathlib
 import secrets
-import shutil
 import signal
 import subprocess
 import sys
@@ -108,9 +107,8 @@ def is_there(folder):
 def up(program, folder=FOLDER):
     apart.look_for_all()
     folder = os.path.abspath(folder)
-    if is_there(folder):
-        sys.exit(f"a fleet is there: {folder}")
-    shutil.rmtree(folder, ignore_errors=True)
+    if os.path.exists(folder):
+        sys.exit(f"{folder} is there: `down` ends a fleet and takes its folder away")
     os.makedirs(folder)
     with open(os.path.join(folder, "fleet.txt"), "wb") as told:
         fleet = subprocess.Popen(apart.words(__file__, "stay", os.path.abspath(program), folder),
@@ -123,7 +121,7 @@ def up(program, folder=FOLDER):
         sys.exit(pathlib.Path(folder, "fleet.txt").read_text())
     print(f"""the fleet is up, in {folder}
 python3 {sys.argv[0]} on front curl http://127.0.0.1:{PROXY}/health
-python3 {sys.argv[0]} on left {program} status --db /mnt/north.db
+python3 {sys.argv[0]} on left {os.path.abspath(program)} status --db /mnt/north.db
 python3 {sys.argv[0]} down""")
 
 
@@ -137,7 +135,7 @@ def stay(program, folder):
 
 
 def on(machine, *command):
-    """Gives a command on one of the machines of the fleet that is up in out/fleet."""
+    """Gives a command on one of the machines of the fleet that is up in out/fleet, in its root."""
     fleet = is_there(FOLDER)
     if not fleet:
         sys.exit(f"no fleet is up in {FOLDER}")
@@ -149,11 +147,13 @@ def on(machine, *command):
 
 
 def down(folder=FOLDER):
+    if not os.path.exists(os.path.join(folder, "fleet.pid")):
+        sys.exit(f"no fleet was made in {folder}")
     fleet = is_there(folder)
     if fleet:
         os.kill(first_of(fleet), signal.SIGKILL)
         wait_until(lambda: not is_there(folder), "the fleet does not end")
-    shutil.rmtree(folder, ignore_errors=True)
+    apart.take_away(folder)
 
 
 COMMANDS = {"up": up, "stay": stay, "on": on, "down": down}

@@ -9,7 +9,6 @@ then the page is wrong that says that the options are needed."""
 import json
 import os
 import sys
-import tempfile
 import threading
 import time
 
@@ -107,7 +106,7 @@ def main():
     apart.look_for_all()
     statuses = []
     for name in sys.argv[2:] or CASES:
-        with tempfile.TemporaryDirectory(prefix="fleet-") as folder:
+        with apart.scratch() as folder:
             program = os.path.abspath(sys.argv[1])
             statuses.append(apart.run(__file__, "apart", folder, program, name))
     sys.exit(max(statuses))

@@ -9,7 +9,6 @@ Nothing is left of it. try_defaults.py shows what happens without the volume's o
 import os
 import pathlib
 import sys
-import tempfile
 import time
 
 import apart
@@ -44,7 +43,7 @@ def main():
     if len(sys.argv) < 2:
         sys.exit(__doc__)
     apart.look_for_all()
-    with tempfile.TemporaryDirectory(prefix="fleet-") as folder:
+    with apart.scratch() as folder:
         program = os.path.abspath(sys.argv[1])
         status = apart.run(__file__, "apart", folder, program, *sys.argv[2:])
         if status:
