@@ -12,8 +12,9 @@ use control::{Desk, Order as Asked, added_body, changed_body, copied_body};
 use copies::Copying;
 use sockets::Watcher;
 use std::alloc::Global;
-use std::io;
+use std::os::unix::fs::MetadataExt;
 use std::time::{Clock, Duration};
+use std::{fs, io};
 
 /// How many calls that ask nothing of the store are answered in a row.
 const MOST_IN_A_ROW: u32 = 8;
@@ -27,10 +28,14 @@ pub(crate) struct HostDesk<'a> {
     db: &'a str,
     watcher: Option<Watcher>,
     desk: Option<Desk>,
-    /// Whether it was tried to open a desk.
-    is_tried: bool,
+    /// The number of the socket's file, where there is a desk.
+    socket: Option<u64>,
+    /// Whether a store was there that answers calls, when it was asked last.
+    was_answering: bool,
     /// A copy that is being made.
     copying: Option<Copying>,
+    /// Until when it rests: as long as its last piece took, so that clients have half of the time.
+    rests_until: Duration,
     /// When the service began, by the machine's clock.
     began: Duration,
     is_stopping: bool,
@@ -58,6 +63,14 @@ fn body_of(alloc: Global, order: &Order, done: Result<Done, Fault>) -> Result<Ve
     }
 }
 
+// The number by which the system knows the file at a path, if there is one.
+fn file_number(rt: &HostRuntime, path: &str) -> Option<u64> {
+    match fs::symlink_metadata(rt, path) {
+        Ok(found) => Some(found.ino()),
+        Err(_) => None,
+    }
+}
+
 impl<'a> HostDesk<'a> {
     pub(crate) fn new(
         rt: &'a HostRuntime,
@@ -71,8 +84,10 @@ impl<'a> HostDesk<'a> {
             db,
             watcher,
             desk: None,
-            is_tried: false,
+            socket: None,
+            was_answering: false,
             copying: None,
+            rests_until: Duration::ZERO,
             began: rt.monotonic().unwrap_or(Duration::ZERO),
             is_stopping: false,
         }
@@ -86,8 +101,10 @@ impl<'a> HostDesk<'a> {
             db: _,
             watcher: _,
             desk,
-            is_tried: _,
+            socket: _,
+            was_answering: _,
             copying,
+            rests_until: _,
             began: _,
             is_stopping: _,
         } = self;
@@ -103,16 +120,23 @@ impl<'a> HostDesk<'a> {
         self.rt.monotonic().unwrap_or(self.began)
     }
 
-    /// Listens beside the file, which is open. Where that cannot be it is told, and all else goes on.
+    /// Listens beside the file, which is open, unless its socket is still there: another process that
+    /// had the file meanwhile has taken it away. Where it cannot be it is told, and all else goes on.
     pub(crate) fn open(&mut self) {
-        self.is_tried = true;
+        self.was_answering = true;
         let Some(path) = desk_path(self.rt, self.db) else {
             return;
         };
-        match self.open_at(path.as_str()) {
-            Ok(desk) => self.desk = Some(desk),
+        let path = path.as_str();
+        if self.socket.is_some() && file_number(self.rt, path) == self.socket {
+            return;
+        }
+        match self.open_at(path) {
+            Ok(desk) => {
+                self.desk = Some(desk);
+                self.socket = file_number(self.rt, path);
+            }
             Err(error) => {
-                let path = path.as_str();
                 let _ = self.rt.eprintln(format_args!(
                     "no commands while it is served: {path}: {error}"
                 ));
@@ -175,13 +199,21 @@ impl<'a> HostDesk<'a> {
         }
     }
 
-    // Goes on with a copy, if one is being made.
+    // Goes on with a copy, if one is being made that does not rest.
     fn go_on(&mut self) {
+        let begun = self.now();
+        if begun < self.rests_until {
+            return;
+        }
         let Some(copying) = self.copying.take() else {
             return;
         };
         match copy_on(self.rt, copying) {
-            Ok(Progress::More(copying)) => self.copying = Some(copying),
+            Ok(Progress::More(copying)) => {
+                self.copying = Some(copying);
+                let ended = self.now();
+                self.rests_until = ended.saturating_add(ended.saturating_sub(begun));
+            }
             Ok(Progress::Whole(bytes)) => self.answer_copy(Ok(bytes)),
             Err(fault) => self.answer_copy(Err(fault)),
         }
@@ -235,9 +267,10 @@ impl Orders for HostDesk<'_> {
     ghost stops = { λ desk. desk.is_stopping };
 
     fn next(&mut self, is_answering: bool) -> Option<Order> {
-        if is_answering && !self.is_tried {
+        if is_answering && !self.was_answering {
             self.open();
         }
+        self.was_answering = is_answering;
         if !self.bell.calls() {
             return None;
         }
