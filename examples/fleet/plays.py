@@ -113,13 +113,11 @@ def health(post):
 
 def stands_by(post):
     """Waits until a machine that was cut off says so, and keeps nothing. The seconds. Its program
-    is started again: it would serve again, but its operator could not ask it for anything."""
+    goes on: it serves again once the other one lets go of the file."""
     begun = time.monotonic()
     wait_until(lambda: health(post) == 503, "who was cut off does not stand by", 150)
     told = post.ask(WRITE, post.instance.probe)
     want(told and told[0] == 503, f"who was cut off and is back answers {told}")
-    post.kill()
-    post.begin()
     return time.monotonic() - begun
 
 
