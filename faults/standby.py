@@ -1,10 +1,12 @@
 """Two processes on one file: one serves it, the other stands by and takes over."""
 
+import os
 import random
 import threading
 import time
 
 from asking import told_by
+from control import ALL, DISK, Control
 from drawn import Requests
 from indexed import Indexed
 from runs import House
@@ -136,8 +138,47 @@ class Pair:
         want(told == expected, f"/health: {told}")
 
 
+def desk_of(house, before=None):
+    """The number of the socket's file, once there is one and another than before."""
+    end = time.monotonic() + PATIENCE
+    while time.monotonic() < end:
+        try:
+            number = os.stat(f"{house.db}.control").st_ino
+        except FileNotFoundError:
+            number = before
+        if number != before:
+            return number
+        time.sleep(0.01)
+    return want(False, "nobody listens for an operator")
+
+
+def had_again(trial):
+    """A service whose disk fails loses its file to one that stands by. Once that has ended it has the
+    file again, and its operator asks it as before."""
+    house, control = House(trial.fresh(), 1), Control(trial.folder)
+    house.begin(control.env)
+    first, desk = house.service, desk_of(house)
+    other = Standby(house.program, house.db, None, ("--standby",))
+    control.refuse(DISK, 0, ALL)
+    want(not house.take_turn(0).batch(house.requests[0].batch()), "answered, with nothing written")
+    other.take_over()
+    desk_of(house, desk)
+    control.end(DISK)
+    want(told_by(house, "stop") == STOPPED, "stop of who has taken over")
+    want(other.served.wait(PATIENCE) == 0, f"stopped: {other.served.returncode}")
+    first.wait_for_lines(3)
+    want(first.lines()[2] == house.well(), f"who has it again tells {first.lines()}")
+    desk_of(house)
+    told = told_by(house, "status")
+    want(told[0] == 0 and "reopenings 1\n" in told[1], f"status of who has it again: {told}")
+    want(told_by(house, "stop") == STOPPED, "stop of who has it again")
+    want(first.served.wait(PATIENCE) == 0, f"stopped: {first.served.returncode}")
+    check(house.program, house.db)
+
+
 def standby(trial):
     """The file is handed over again and again under load, by a stop and by `kill -9`."""
+    had_again(trial)
     times = 100 if trial.is_long else 10
     house = House(trial.fresh(), CLIENTS + 1)
     for each in house.desks:
