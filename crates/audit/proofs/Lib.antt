@@ -15,3 +15,6 @@ pub mod PassedFailed
 pub mod PassedRows
 pub mod WorkedDamage
 pub mod NewerRows
+pub mod EntryPlaces
+pub mod ShapedRows
+pub mod BehindEntries

@@ -1,6 +1,6 @@
 -- The rows of a valid machine lead to it, and with those that it prescribes in another version they
 -- are its rows there.
-use Rattle.std.proofs.Common.{◌≡◌, ◌<◌, ◌≤◌, ℕ, leb, cond, List, [], map, inl, inr, refl, sym, ap, ◌∙◌, subst, arith, IsPermutation}
+use Rattle.std.proofs.Common.{◌≡◌, ◌<◌, ℕ, cond, List, [], inl, inr, sym, ap, ◌∙◌, subst, arith, IsPermutation}
 use Rattle.std.proofs.lemmas.Bool.Decides.{leb_tells}
 use Rattle.std.proofs.lemmas.List.Elements.{All-nil}
 use Rattle.records.specs.Machine.{Machine}
@@ -16,14 +16,15 @@ use Rattle.audit.specs.Newer.{none_failed, LeadsTo, with_derived, SoundRowsAreRe
 use Rattle.audit.specs.Order.{in_order}
 use Rattle.audit.specs.Sound.{AreRowsOf}
 use Rattle.audit.specs.Table.{IsBadTime}
-use Rattle.audit.specs.Told.{Tells, entries_told, machine_told, prescribed}
+use Rattle.audit.specs.Told.{Tells, entries_told}
 use Rattle.audit.proofs.InOrderLemmas.{in_order_same}
 use Rattle.audit.proofs.PassedRows.{Laws, fits, times, replayed, same_clock, can_come, machine_is, told_valid}
-use Rattle.audit.proofs.Readable.{told_of, tells_typed, well_shaped}
+use Rattle.audit.proofs.Readable.{told_of, tells_typed}
+use Rattle.audit.proofs.ShapedRows.{shaped}
 use Rattle.audit.proofs.SoundRows.{ordered}
 
 pub are_read : Laws → SoundRowsAreRead
-are_read laws version rows m valid r = well_shaped r.typed rows r.cells (fits laws version rows m valid r)
+are_read laws version rows m valid r = shaped r.typed rows r.cells (fits laws version rows m valid r)
 
 -- what is read is what the rows tell
 same_told : (laws : Laws) (version : ℕ) (rows : FileRows) (told : TypedRows) (m : Machine) → IsValid m → (r : AreRowsOf version m rows) → Tells rows told → told_of r.typed ≡ told

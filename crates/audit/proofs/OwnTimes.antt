@@ -1,5 +1,5 @@
 -- The timestamps of a valid machine's entries are their own.
-use Rattle.std.proofs.Common.{◌≡◌, ◌≢◌, ◌<◌, ◌≤◌, ◌+◌, ℕ, zero, suc, Bool, eqb, cond, List, [], ◌∷◌, ◌++◌, map, inl, inr, refl, sym, ap, subst, arith}
+use Rattle.std.proofs.Common.{◌≡◌, ◌≢◌, ◌<◌, ◌≤◌, ◌+◌, ℕ, zero, suc, Bool, eqb, cond, List, [], ◌∷◌, ◌++◌, map, Option, inl, inr, refl, sym, ap, subst, arith}
 use Rattle.std.specs.List.{All, count_by}
 use Rattle.std.specs.List.Sorted.{IsPermutation}
 use Rattle.std.proofs.lemmas.Bool.Decides.{eqb_tells}
@@ -12,9 +12,10 @@ use Rattle.records.specs.EntryByEntry.{AreTimestampsApart}
 use Rattle.records.specs.Machine.{Machine}
 use Rattle.rows.specs.Tables.{IsAscendingBy}
 use Rattle.rows.specs.TypedRows.{TypedRows}
-use Rattle.audit.specs.Order.{IsBadRow}
+use Rattle.audit.specs.Order.{IsBadRow, IsFirstPlace, lesser_place}
 use Rattle.audit.specs.Told.{account_times, transfer_times}
 use Rattle.audit.specs.Table.{IsOwnTime, IsBadTime}
+use Rattle.audit.proofs.FirstPlaces.{first_of_two}
 use Rattle.audit.proofs.EntriesApart.{times_at, counted_has, count_map}
 use Rattle.audit.proofs.Readable.{none_bad}
 
@@ -109,3 +110,10 @@ no_bad_time m told apart up_a up_t accounts transfers place bad =
       | inl b ↦ own_times (account_times told) (account_times told) pos_a once_a place b
       | inr b ↦ own_times (transfer_times told) (account_times told ++ transfer_times told) pos_t once_all place b
     ]
+
+-- the first bad time, of the times that are held
+pub first_bad : (typed : TypedRows) (a b t all : List ℕ) (x y o : Option ℕ) → a ≡ account_times typed → b ≡ account_times typed → t ≡ transfer_times typed → all ≡ account_times typed ++ transfer_times typed → IsFirstPlace (IsBadRow (IsOwnTime a) b) x → IsFirstPlace (IsBadRow (IsOwnTime all) t) y → o ≡ lesser_place x y → IsFirstPlace (IsBadTime typed) o
+first_bad typed a b t all x y o same_a same_b same_t same_all first second is =
+    first_of_two (IsBadRow (IsOwnTime (account_times typed)) (account_times typed)) (IsBadRow (IsOwnTime (account_times typed ++ transfer_times typed)) (transfer_times typed)) x y o is
+    (subst (λ (ts : List ℕ). IsFirstPlace (IsBadRow (IsOwnTime (account_times typed)) ts) x) same_b (subst (λ (ts : List ℕ). IsFirstPlace (IsBadRow (IsOwnTime ts) b) x) same_a first))
+    (subst (λ (ts : List ℕ). IsFirstPlace (IsBadRow (IsOwnTime (account_times typed ++ transfer_times typed)) ts) y) same_t (subst (λ (ts : List ℕ). IsFirstPlace (IsBadRow (IsOwnTime ts) t) y) same_all second))

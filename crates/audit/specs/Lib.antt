@@ -1,6 +1,7 @@
 pub mod Order
 pub mod Shapes
 pub mod Told
+pub mod Held
 pub mod Table
 pub mod Damage
 pub mod Sound

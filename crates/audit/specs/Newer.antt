@@ -9,7 +9,7 @@ use Rattle.rows.specs.Tables.{history_key}
 use Rattle.rows.specs.TypedRows.{TypedRows, FileRows}
 use Rattle.running.specs.Entries.{CanCome, AreNext, machine_of}
 use Rattle.audit.specs.Order.{in_order}
-use Rattle.audit.specs.Shapes.{IsMisshapen}
+use Rattle.audit.specs.Shapes.{AreShaped}
 use Rattle.audit.specs.Sound.{AreRowsOf}
 use Rattle.audit.specs.Table.{IsBadTime}
 use Rattle.audit.specs.Told.{Tells, entries_told}
@@ -36,7 +36,7 @@ with_derived version m rows = record rows {
 abbrev pub SoundRowsAreRead : Type 0
 SoundRowsAreRead =
     (version : ℕ) (rows : FileRows) (m : Machine) →
-    IsValid m → AreRowsOf version m rows → (place : ℕ) → IsMisshapen rows place → ⊥
+    IsValid m → AreRowsOf version m rows → AreShaped rows
 
 -- what is read has times of its own
 abbrev pub SoundTimesAreOwn : Type 0

@@ -1,5 +1,5 @@
 -- Rows whose cells can be read.
-use Rattle.std.specs.Prelude.{◌≡◌, ℕ, ℤ, pos, List, [], ◌∷◌, ◌⊎◌}
+use Rattle.std.specs.Prelude.{◌≡◌, ℕ, ℤ, pos, All, List, [], ◌∷◌, ◌⊎◌}
 use Rattle.rows.specs.declared.account_cells.AccountCells.{AccountCells}
 use Rattle.rows.specs.declared.transfer_cells.TransferCells.{TransferCells}
 use Rattle.rows.specs.declared.status_cells.StatusCells.{StatusCells}
@@ -32,6 +32,12 @@ IsStatusRow cells = IsNatural cells.state × IsNatural cells.due
 -- a timestamp that is not negative
 abbrev pub IsHistoryRow : HistoryCells → Type 0
 IsHistoryRow cells = IsNatural cells.timestamp
+
+-- the clock and the entries can be read
+pub record AreShaped (rows : FileRows) : Type 0 where
+  pub clock : HasOneClock rows.clocks
+  pub accounts : All IsAccountRow rows.accounts
+  pub transfers : All IsTransferRow rows.transfers
 
 -- there is no clock at the first place, or a row at this place has a negative number or one that is
 -- beyond its width

@@ -9,25 +9,12 @@ use Rattle.rows.specs.Widths.{AreStorable}
 use Rattle.running.specs.declared.entry.Entry.{Entry}
 use Rattle.running.specs.declared.entry.Entry.TheVariants.{Opened, Moved}
 use Rattle.running.specs.Entries.{time_of, machine_of}
-use Rattle.audit.specs.declared.told.Told.{Told}
 use Rattle.audit.specs.Order.{in_order}
 
 -- the clock, accounts, transfers and failed ids of a file's rows
 pub record Tells (rows : FileRows) (told : TypedRows) : Type 0 where
   pub fits : AreStorable told
   pub cells : cells_of told ≡ record rows { balances = []; statuses = []; history = [] }
-
--- what a `Told` holds
-abbrev pub typed_of : Told → TypedRows
-typed_of told = record {
-  clock = told.clock;
-  accounts = told.accounts.items;
-  transfers = told.transfers.items;
-  balances = [];
-  statuses = [];
-  history = [];
-  failed = told.failed.items;
-}
 
 -- the timestamps of the accounts
 abbrev pub account_times : TypedRows → List ℕ

@@ -1,15 +1,14 @@
 //! Rows as a file has them, and the values that they hold.
 
-ghost use Rattle.std.specs.Prelude.{◌≡◌, ℕ, ◌≤◌, ◌<◌, All, map, length, slice_get, IsSomeAnd, IfOk};
+ghost use Rattle.std.specs.Prelude.{◌≡◌, ◌<◌, List, All, map, length, Some, slice_get, IsSomeAnd};
 ghost use Rattle.std.specs.Bool.{Decides};
-ghost use Rattle.audit.specs.Order.{HasValue, IsBadRow, IsFirstPlace, Differ};
+ghost use Rattle.audit.specs.Order.{IsFirstPlace, Differ};
 
 use records::{Account, Transfer};
 use rows::{
     AccountCells, BalanceCells, BalanceRow, HistoryCells, HistoryRow, StatusCells, StatusRow,
     TransferCells,
 };
-use std::alloc::{AllocError, Global};
 
 /// A row whose cells may hold a value of the model.
 pub(crate) trait Cells {
@@ -129,17 +128,14 @@ impl Cells for HistoryCells {
     }
 }
 
-// The values of rows that all hold one.
-pub(crate) fn values<C: Cells>(alloc: Global, rows: &[C]) -> Result<Vec<C::Value>, AllocError>
-    requires { (place : ℕ) → IsBadRow (HasValue C.cells C.Fits) rows.now place → ⊥ }
-    ensures fit { IfOk result (λ values. All C.Fits values.items) }
-    ensures all { IfOk result (λ values. map C.cells values.items ≡ rows.now) }
+// The value of the row at a place, of rows that all hold one.
+pub(crate) fn value_at<C: Cells>(rows: &[C], place: usize) -> C::Value
+    requires { (values : List C.Value)
+        × All C.Fits values × (map C.cells values ≡ rows.now) × (place < length values) }
+    ensures { (values : List C.Value) →
+        All C.Fits values → map C.cells values ≡ rows.now → slice_get values place ≡ Some result }
 {
-    let mut values = Vec::new(alloc);
-    for row in rows {
-        values.push(row.value().unwrap())?;
-    }
-    Ok(values)
+    rows[place].value().unwrap()
 }
 
 // The first place where the rows are not those of these values.
@@ -178,12 +174,15 @@ fn holds<C: Cells>(row: &C, value: &C::Value) -> bool
 }
 
 // The first place at which this value stands.
-pub(crate) fn first_same<C: Cells>(values: &[C::Value], wanted: &C::Value) -> Option<usize>
-    ensures { IsFirstPlace
-        (λ place. IsSomeAnd (slice_get values.now place) (λ value. value ≡ wanted.now)) result }
+pub(crate) fn first_same<C: Cells>(rows: &[C], wanted: &C::Value) -> Option<usize>
+    requires { (values : List C.Value) × All C.Fits values × (map C.cells values ≡ rows.now) }
+    ensures { (values : List C.Value) →
+        All C.Fits values → map C.cells values ≡ rows.now →
+        IsFirstPlace
+        (λ place. IsSomeAnd (slice_get values place) (λ value. value ≡ wanted.now)) result }
 {
-    for (place, value) in values.iter().enumerate() {
-        if C::is_same(value, wanted) {
+    for place in 0..rows.len() {
+        if C::is_same(&value_at(rows, place), wanted) {
             return Some(place);
         }
     }

@@ -79,17 +79,17 @@ pub(crate) fn status_rows(
     running.status_rows(alloc)
 }
 
-/// The history rows in order of account and timestamp.
+/// The history rows in order of account and timestamp. The tenant's other rows are let go.
 pub(crate) fn history_rows(
     alloc: Global,
     version: u32,
-    running: &Running,
+    running: Running,
 ) -> Result<Vec<HistoryRow>, AllocError>
-    requires { (m : Machine) × IsRunning m running.now }
+    requires { (m : Machine) × IsRunning m running }
     ensures fit { IfOk result (λ rows. All IsStorableHistory rows.items) }
     ensures all { IfOk result
         (λ rows. (m : Machine) →
-        IsRunning m running.now →
+        IsRunning m running →
         rows.items ≡ in_order history_key (rows_for version m).history) }
 {
     rows_fit();
@@ -98,15 +98,9 @@ pub(crate) fn history_rows(
     if version < 2 {
         return Ok(Vec::new(alloc));
     }
-    let mut rows = copied(alloc, running.history_rows())?;
+    let mut rows = running.into_history_rows();
     sort(&mut rows);
     Ok(rows)
-}
-
-fn copied(alloc: Global, rows: &[HistoryRow]) -> Result<Vec<HistoryRow>, AllocError>
-    ensures { IfOk result (λ copy. copy.items ≡ rows.now) }
-{
-    rows.iter().copied().collect(alloc)
 }
 
 fn sort(rows: &mut [HistoryRow])

@@ -1,11 +1,12 @@
-//! The entries of a tenant in order of time.
+//! Where a tenant's entries stand, in order of time.
 
 ghost use Rattle.std.specs.Prelude.{◌≡◌, ℕ, ◌++◌, map, IfOk, IsPermutation};
 ghost use Rattle.std.specs.Ordering.{nat_cmp};
 ghost use Rattle.std.specs.List.Sorted.{IsSortedByKey};
+ghost use Rattle.rows.specs.TypedRows.{TypedRows};
 ghost use Rattle.running.specs.declared.entry.Entry.TheVariants.{Opened, Moved};
-ghost use Rattle.running.specs.Entries.{time_of};
-ghost use Rattle.audit.specs.Told.{typed_of, entries_told};
+ghost use Rattle.audit.specs.Held.{Holds, ArePlacesOf};
+ghost use Rattle.audit.specs.Told.{account_times, transfer_times, entries_told};
 ghost use Rattle.audit.specs.Table.{IsBadTime};
 
 use crate::told::Told;
@@ -13,58 +14,82 @@ use rows::read_in_order;
 use running::Entry;
 use std::alloc::{AllocError, Global};
 
-/// All entries, which have timestamps of their own.
-pub(crate) fn entries(alloc: Global, told: &Told) -> Result<Vec<Entry>, AllocError>
-    requires { (place : ℕ) → IsBadTime (typed_of told.now) place → ⊥ }
-    ensures { IfOk result (λ entries. entries.items ≡ entries_told (typed_of told.now)) }
+/// The place of an entry's row in its table.
+#[derive(Clone, Copy, Debug, PartialEq, Eq)]
+pub(crate) enum RowPlace {
+    Account(usize),
+    Transfer(usize),
+}
+
+/// An entry's timestamp, and where it stands.
+#[derive(Clone, Copy, Debug, PartialEq, Eq)]
+pub(crate) struct EntryPlace {
+    // In nanoseconds.
+    pub(crate) time: u64,
+    pub(crate) row: RowPlace,
+}
+
+/// The places of all entries, which have timestamps of their own, in order of time.
+pub(crate) fn places(alloc: Global, told: &Told) -> Result<Vec<EntryPlace>, AllocError>
+    ensures { IfOk result
+        (λ places. (typed : TypedRows) →
+        Holds told.now typed → ((place : ℕ) → IsBadTime typed place → ⊥) →
+        ArePlacesOf typed (entries_told typed) places.items) }
 {
     read_in_order::<Entry>();
-    let mut entries = as_stored(alloc, told)?;
-    sort(&mut entries);
-    Ok(entries)
+    let mut places = as_stored(alloc, told)?;
+    sort(&mut places);
+    Ok(places)
 }
 
-// The accounts, and then the transfers.
-fn as_stored(alloc: Global, told: &Told) -> Result<Vec<Entry>, AllocError>
+// Those of the accounts, and then of the transfers.
+fn as_stored(alloc: Global, told: &Told) -> Result<Vec<EntryPlace>, AllocError>
     ensures { IfOk result
-        (λ entries. entries.items
-        ≡ map Opened told.now.accounts.items ++ map Moved told.now.transfers.items) }
+        (λ places. (typed : TypedRows) →
+        Holds told.now typed →
+        ArePlacesOf typed (map Opened typed.accounts ++ map Moved typed.transfers)
+        places.items) }
 {
-    let mut entries = opened(alloc, told)?;
-    entries.extend_from_slice(&moved(alloc, told)?)?;
-    Ok(entries)
+    let mut places = of_accounts(alloc, &told.account_times)?;
+    places.extend_from_slice(&of_transfers(alloc, &told.transfer_times)?)?;
+    Ok(places)
 }
 
-fn opened(alloc: Global, told: &Told) -> Result<Vec<Entry>, AllocError>
-    ensures { IfOk result (λ entries. entries.items ≡ map Opened told.now.accounts.items) }
+fn of_accounts(alloc: Global, times: &[u64]) -> Result<Vec<EntryPlace>, AllocError>
+    ensures { IfOk result
+        (λ places. (typed : TypedRows) →
+        times.now ≡ account_times typed →
+        ArePlacesOf typed (map Opened typed.accounts) places.items) }
 {
-    told.accounts
-        .iter()
-        .map(|account| Entry::Opened(*account))
-        .collect(alloc)
-}
-
-fn moved(alloc: Global, told: &Told) -> Result<Vec<Entry>, AllocError>
-    ensures { IfOk result (λ entries. entries.items ≡ map Moved told.now.transfers.items) }
-{
-    told.transfers
-        .iter()
-        .map(|transfer| Entry::Moved(*transfer))
-        .collect(alloc)
-}
-
-fn sort(entries: &mut [Entry])
-    ensures same { IsPermutation entries.old entries.new }
-    ensures sorted { IsSortedByKey time_of nat_cmp entries.new }
-{
-    entries.sort_unstable_by_key(|entry| timestamp(entry));
-}
-
-fn timestamp(entry: &Entry) -> u64
-    ensures { result ≡ time_of entry.now }
-{
-    match entry {
-        Entry::Opened(account) => account.timestamp,
-        Entry::Moved(transfer) => transfer.timestamp,
+    let mut places = Vec::new(alloc);
+    for (place, time) in times.iter().enumerate() {
+        places.push(EntryPlace {
+            time: *time,
+            row: RowPlace::Account(place),
+        })?;
     }
+    Ok(places)
+}
+
+fn of_transfers(alloc: Global, times: &[u64]) -> Result<Vec<EntryPlace>, AllocError>
+    ensures { IfOk result
+        (λ places. (typed : TypedRows) →
+        times.now ≡ transfer_times typed →
+        ArePlacesOf typed (map Moved typed.transfers) places.items) }
+{
+    let mut places = Vec::new(alloc);
+    for (place, time) in times.iter().enumerate() {
+        places.push(EntryPlace {
+            time: *time,
+            row: RowPlace::Transfer(place),
+        })?;
+    }
+    Ok(places)
+}
+
+fn sort(places: &mut [EntryPlace])
+    ensures same { IsPermutation places.old places.new }
+    ensures sorted { IsSortedByKey (λ place. place.time) nat_cmp places.new }
+{
+    places.sort_unstable_by_key(|place| place.time);
 }

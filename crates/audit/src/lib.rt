@@ -8,6 +8,7 @@ mod damage;
 mod derived;
 mod entries;
 mod failed;
+mod in_time;
 mod law;
 mod newer;
 mod replayed;

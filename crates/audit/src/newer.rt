@@ -1,6 +1,6 @@
 //! The rows of a newer version of the schema.
 
-ghost use Rattle.std.specs.Prelude.{◌≡◌, ◌<◌, All, map, IfOk};
+ghost use Rattle.std.specs.Prelude.{◌≡◌, ◌<◌, List, All, map, IfOk};
 ghost use Rattle.records.specs.Machine.{Machine, new_machine};
 ghost use Rattle.records.specs.Valid.{IsValid};
 ghost use Rattle.rows.specs.Cells.{balance_cells, status_cells, history_cells};
@@ -8,20 +8,23 @@ ghost use Rattle.rows.specs.Prescribed.{rows_for};
 ghost use Rattle.rows.specs.Tables.{history_key};
 ghost use Rattle.rows.specs.TypedRows.{lists_of};
 ghost use Rattle.rows.specs.Widths.{IsStorableStatus, IsStorableHistory};
+ghost use Rattle.running.specs.declared.entry.Entry.{Entry};
 ghost use Rattle.running.specs.Entries.{AreNext, machine_of};
 ghost use Rattle.running.specs.Running.{IsRunning};
+ghost use Rattle.audit.specs.Held.{AreEntriesIn};
 ghost use Rattle.audit.specs.Newer.{none_failed};
 ghost use Rattle.audit.specs.Order.{in_order};
 ghost use Rattle.audit.specs.Sound.{AreRowsOf, AreSound};
 
 use crate::derived::{balance_rows, history_rows, status_rows};
-use crate::entries::entries;
+use crate::entries::places;
+use crate::in_time::InTime;
 use crate::sound_law::sound_rows_lead;
 use crate::told::Told;
 use rows::{
     BalanceCells, BalanceRow, HistoryCells, HistoryRow, StatusCells, StatusRow, TenantRows,
 };
-use running::{Entry, ReplayFault, Running, replay};
+use running::{ReplayFault, Running, replay_from};
 use std::alloc::{AllocError, Global};
 
 /// A tenant's rows in another version of the schema, from those in a version without failed ids:
@@ -44,7 +47,7 @@ pub fn rows_in_version(
     let running = sound_machine(alloc, version, &rows)?;
     let balances = balance_list(alloc, to, &running)?;
     let statuses = status_list(alloc, to, &running)?;
-    let history = history_list(alloc, to, &running)?;
+    let history = history_list(alloc, to, running)?;
     Ok(TenantRows {
         balances,
         statuses,
@@ -62,18 +65,23 @@ fn sound_machine(alloc: Global, version: u32, rows: &TenantRows) -> Result<Runni
 {
     sound_rows_lead();
     let told = Told::read(alloc, rows)?;
-    let entries = entries(alloc, &told)?;
-    let mut running = replay_sound(alloc, &entries)?;
+    let places = places(alloc, &told)?;
+    let mut running = replay_sound(alloc, &InTime { rows, places })?;
     running.settle_to(told.clock)?;
     Ok(running)
 }
 
 // Entries that are all accepted.
-fn replay_sound(alloc: Global, entries: &[Entry]) -> Result<Running, AllocError>
-    requires { AreNext new_machine entries.now }
-    ensures { IfOk result (IsRunning (machine_of entries.now)) }
+fn replay_sound(alloc: Global, source: &InTime) -> Result<Running, AllocError>
+    requires { (entries : List Entry)
+        × AreEntriesIn (lists_of source.now.rows.now) source.now.places.items entries
+        × AreNext new_machine entries }
+    ensures { IfOk result
+        (λ running. (entries : List Entry) →
+        AreEntriesIn (lists_of source.now.rows.now) source.now.places.items entries →
+        IsRunning (machine_of entries) running) }
 {
-    match replay(alloc, entries) {
+    match replay_from(alloc, source) {
         Ok(running) => Ok(running),
         Err(ReplayFault::Refused(_)) => unreachable!(),
         Err(ReplayFault::Memory) => Err(AllocError),
@@ -119,10 +127,10 @@ fn statuses_in_cells(alloc: Global, rows: &[StatusRow]) -> Result<Vec<StatusCell
     Ok(list)
 }
 
-fn history_list(alloc: Global, to: u32, running: &Running) -> Result<Vec<HistoryCells>, AllocError>
-    requires { (m : Machine) × IsRunning m running.now }
+fn history_list(alloc: Global, to: u32, running: Running) -> Result<Vec<HistoryCells>, AllocError>
+    requires { (m : Machine) × IsRunning m running }
     ensures { IfOk result (λ list. (m : Machine) →
-        IsRunning m running.now →
+        IsRunning m running →
         list.items ≡ map history_cells (in_order history_key (rows_for to m).history)) }
 {
     let rows = history_rows(alloc, to, running)?;

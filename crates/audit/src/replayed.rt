@@ -1,17 +1,21 @@
 //! The entries of a tenant, replayed.
 
-ghost use Rattle.std.specs.Prelude.{◌≡◌, ℕ, Some, IfOk};
+ghost use Rattle.std.specs.Prelude.{ℕ, Some, IfOk};
 ghost use Rattle.records.specs.Machine.{new_machine};
+ghost use Rattle.rows.specs.TypedRows.{TypedRows, lists_of};
 ghost use Rattle.running.specs.Entries.{IsFirstRefused};
 ghost use Rattle.audit.specs.Order.{IsFirstPlace};
-ghost use Rattle.audit.specs.Told.{typed_of, entries_told};
-ghost use Rattle.audit.specs.Table.{IsRowOf, IsRefusedRow};
+ghost use Rattle.audit.specs.Held.{Holds, ArePlacesOf};
+ghost use Rattle.audit.specs.Told.{Tells, entries_told};
+ghost use Rattle.audit.specs.Table.{IsBadTime, IsRowOf, IsRefusedRow};
 ghost use Rattle.audit.specs.Replayed.{IsReplayed};
 
 use crate::cells::first_same;
+use crate::entries::places;
+use crate::in_time::InTime;
 use crate::told::Told;
-use rows::{AccountCells, TransferCells};
-use running::{Entry, ReplayFault, Running, replay};
+use rows::TenantRows;
+use running::{Entry, EntrySource, ReplayFault, Running, replay_from};
 use std::alloc::{AllocError, Global};
 
 /// What a replay comes to.
@@ -26,33 +30,50 @@ pub(crate) enum Replayed {
 /// The entries in order of time, replayed from nothing.
 pub(crate) fn replay_told(
     alloc: Global,
+    rows: &TenantRows,
     told: &Told,
-    entries: &[Entry],
 ) -> Result<Replayed, AllocError>
-    requires { entries.now ≡ entries_told (typed_of told.now) }
-    ensures { IfOk result (IsReplayed (typed_of told.now)) }
+    requires { (typed : TypedRows)
+        × Tells (lists_of rows.now) typed
+        × Holds told.now typed
+        × ((place : ℕ) → IsBadTime typed place → ⊥) }
+    ensures { IfOk result
+        (λ replayed. (typed : TypedRows) →
+        Tells (lists_of rows.now) typed → Holds told.now typed →
+        ((place : ℕ) → IsBadTime typed place → ⊥) → IsReplayed typed replayed) }
 {
-    match replay(alloc, entries) {
+    let places = places(alloc, told)?;
+    let source = InTime { rows, places };
+    match replay_from(alloc, &source) {
         Ok(running) => Ok(Replayed::Accepted(running)),
-        Err(ReplayFault::Refused(n)) => Ok(Replayed::Refused(refused_place(told, entries, n))),
+        Err(ReplayFault::Refused(n)) => Ok(Replayed::Refused(refused_place(&source, n))),
         Err(ReplayFault::Memory) => Err(AllocError),
     }
 }
 
-fn refused_place(told: &Told, entries: &[Entry], n: usize) -> usize
-    requires all { entries.now ≡ entries_told (typed_of told.now) }
-    requires refused { IsFirstRefused new_machine entries.now n }
-    ensures { IsFirstPlace (IsRefusedRow (typed_of told.now)) (Some result) }
+fn refused_place(source: &InTime, n: usize) -> usize
+    requires { (typed : TypedRows)
+        × Tells (lists_of source.now.rows.now) typed
+        × ArePlacesOf typed (entries_told typed) source.now.places.items
+        × IsFirstRefused new_machine (entries_told typed) n }
+    ensures { (typed : TypedRows) →
+        Tells (lists_of source.now.rows.now) typed →
+        ArePlacesOf typed (entries_told typed) source.now.places.items →
+        IsFirstRefused new_machine (entries_told typed) n →
+        IsFirstPlace (IsRefusedRow typed) (Some result) }
 {
-    place_of(told, &entries[n]).unwrap()
+    place_of(source.rows, &source.entry(n)).unwrap()
 }
 
 // The place of an entry in its table.
-fn place_of(told: &Told, entry: &Entry) -> Option<usize>
-    ensures { IsFirstPlace (λ place. IsRowOf (typed_of told.now) place entry.now) result }
+fn place_of(rows: &TenantRows, entry: &Entry) -> Option<usize>
+    requires { (typed : TypedRows) × Tells (lists_of rows.now) typed }
+    ensures { (typed : TypedRows) →
+        Tells (lists_of rows.now) typed →
+        IsFirstPlace (λ place. IsRowOf typed place entry.now) result }
 {
     match entry {
-        Entry::Opened(account) => first_same::<AccountCells>(&told.accounts, account),
-        Entry::Moved(transfer) => first_same::<TransferCells>(&told.transfers, transfer),
+        Entry::Opened(account) => first_same(&rows.accounts, account),
+        Entry::Moved(transfer) => first_same(&rows.transfers, transfer),
     }
 }

@@ -1,10 +1,10 @@
 //! Rows with cells that cannot be read.
 
-ghost use Rattle.std.specs.Prelude.{◌≡◌, ℕ, ℤ, List, IsTrue};
+ghost use Rattle.std.specs.Prelude.{◌≡◌, ℕ, ℤ, List, All, IsTrue, IfNone};
 ghost use Rattle.std.specs.Bool.{Decides};
 ghost use Rattle.rows.specs.TypedRows.{lists_of};
 ghost use Rattle.audit.specs.Order.{IsBadRow, IsFirstPlace, lesser_place};
-ghost use Rattle.audit.specs.Shapes.{HasOneClock, IsMisshapen};
+ghost use Rattle.audit.specs.Shapes.{HasOneClock, IsMisshapen, AreShaped};
 
 use rows::{AccountCells, HistoryCells, StatusCells, TenantRows, TransferCells};
 
@@ -61,7 +61,8 @@ impl Shaped for HistoryCells {
 
 /// The first place at which a row cannot be read.
 pub(crate) fn first_misshapen(rows: &TenantRows) -> Option<usize>
-    ensures { IsFirstPlace (IsMisshapen (lists_of rows.now)) result }
+    ensures first { IsFirstPlace (IsMisshapen (lists_of rows.now)) result }
+    ensures shaped { IfNone result (AreShaped (lists_of rows.now)) }
 {
     let entries = first(
         first_bad_row(&rows.accounts),
@@ -72,7 +73,8 @@ pub(crate) fn first_misshapen(rows: &TenantRows) -> Option<usize>
 }
 
 fn first_bad_row<R: Shaped>(rows: &[R]) -> Option<usize>
-    ensures { IsFirstPlace (IsBadRow R.IsShaped rows.now) result }
+    ensures first { IsFirstPlace (IsBadRow R.IsShaped rows.now) result }
+    ensures shaped { IfNone result (All R.IsShaped rows.now) }
 {
     for (place, row) in rows.iter().enumerate() {
         if !row.is_shaped() {
@@ -83,7 +85,8 @@ fn first_bad_row<R: Shaped>(rows: &[R]) -> Option<usize>
 }
 
 fn first_without_clock(clocks: &[i64]) -> Option<usize>
-    ensures { IsFirstPlace (λ place. (place ≡ 0) × (HasOneClock clocks.now → ⊥)) result }
+    ensures first { IsFirstPlace (λ place. (place ≡ 0) × (HasOneClock clocks.now → ⊥)) result }
+    ensures one { IfNone result (HasOneClock clocks.now) }
 {
     match clocks {
         [clock] if 0 <= *clock => None,

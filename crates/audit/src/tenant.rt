@@ -1,19 +1,17 @@
 //! The first damage of one tenant.
 
-ghost use Rattle.std.specs.Prelude.{◌≡◌, ℕ, Some, IfOk, IfNone};
-ghost use Rattle.rows.specs.TypedRows.{lists_of};
+ghost use Rattle.std.specs.Prelude.{◌≡◌, Some, IfOk, IfNone};
+ghost use Rattle.rows.specs.TypedRows.{TypedRows, lists_of};
 ghost use Rattle.running.specs.Entries.{machine_of};
 ghost use Rattle.running.specs.Running.{IsRunning};
 ghost use Rattle.audit.specs.Damage.{Finds};
-ghost use Rattle.audit.specs.Shapes.{IsMisshapen};
+ghost use Rattle.audit.specs.Held.{Holds, IsHeld};
 ghost use Rattle.audit.specs.Sound.{AreSound};
 ghost use Rattle.audit.specs.Stages.{IsClearBelow, FindsBelow};
-ghost use Rattle.audit.specs.Table.{IsBadTime};
-ghost use Rattle.audit.specs.Told.{Tells, typed_of, entries_told, machine_told};
+ghost use Rattle.audit.specs.Told.{Tells, entries_told, machine_told};
 
 use crate::DamageKind;
 use crate::derived::settle_if_it_can;
-use crate::entries::entries;
 use crate::failed::first_bad_failed;
 use crate::replayed::{Replayed, replay_told};
 use crate::shape::first_misshapen;
@@ -64,15 +62,13 @@ fn find_in_entries(
     rows: &TenantRows,
     told: &Told,
 ) -> Result<Option<Found>, AllocError>
-    requires tells { Tells (lists_of rows.now) (typed_of told.now) }
-    requires shapes { (place : ℕ) → IsMisshapen (lists_of rows.now) place → ⊥ }
-    requires times { (place : ℕ) → IsBadTime (typed_of told.now) place → ⊥ }
+    requires tells { IsHeld (lists_of rows.now) told.now }
+    requires clear { IsClearBelow version (lists_of rows.now) 3 }
     ensures first { IfOk result (Finds version (lists_of rows.now)) }
     ensures sound { IfOk result (λ found. IfNone found (AreSound version (lists_of rows.now))) }
 {
     cells_tell_rows();
-    let entries = entries(alloc, told)?;
-    match replay_told(alloc, told, &entries)? {
+    match replay_told(alloc, rows, told)? {
         Replayed::Refused(place) => Ok(damage_at(DamageKind::Entry, place)),
         Replayed::Accepted(running) => find_behind(alloc, version, rows, told, running),
     }
@@ -86,9 +82,11 @@ fn find_behind(
     told: &Told,
     running: Running,
 ) -> Result<Option<Found>, AllocError>
-    requires tells { Tells (lists_of rows.now) (typed_of told.now) }
+    requires running { (typed : TypedRows)
+        × Tells (lists_of rows.now) typed
+        × Holds told.now typed
+        × IsRunning (machine_of (entries_told typed)) running }
     requires clear { IsClearBelow version (lists_of rows.now) 4 }
-    requires running { IsRunning (machine_of (entries_told (typed_of told.now))) running }
     ensures first { IfOk result (Finds version (lists_of rows.now)) }
     ensures sound { IfOk result (λ found. IfNone found (AreSound version (lists_of rows.now))) }
 {
@@ -97,14 +95,15 @@ fn find_behind(
     failed_ids_stand_apart();
     let mut running = running;
     let came = settle_if_it_can(&mut running, told.clock)?;
-    let in_tables = find_in_tables(alloc, version, rows, told, &running)?;
+    let bad_failed = first_bad_failed(version, &told.failed, &running);
+    let in_tables = find_in_tables(alloc, version, rows, running)?;
     if let Some(found) = in_tables {
         return Ok(Some(found));
     }
     if !came {
         return Ok(damage_at(DamageKind::Clock, 0));
     }
-    match first_bad_failed(version, &told.failed, &running) {
+    match bad_failed {
         Some(place) => Ok(damage_at(DamageKind::FailedId, place)),
         None => Ok(None),
     }
@@ -115,23 +114,22 @@ fn find_in_tables(
     alloc: Global,
     version: u32,
     rows: &TenantRows,
-    told: &Told,
-    running: &Running,
+    running: Running,
 ) -> Result<Option<Found>, AllocError>
-    requires tells { Tells (lists_of rows.now) (typed_of told.now) }
+    requires running { (typed : TypedRows)
+        × Tells (lists_of rows.now) typed × IsRunning (machine_told typed) running }
     requires clear { IsClearBelow version (lists_of rows.now) 4 }
-    requires running { IsRunning (machine_told (typed_of told.now)) running.now }
     ensures { IfOk result (FindsBelow version (lists_of rows.now) 7) }
 {
-    let balance = first_bad_balance(alloc, version, rows, told, running)?;
+    let balance = first_bad_balance(alloc, version, rows, &running)?;
     if let Some(place) = balance {
         return Ok(damage_at(DamageKind::Balance, place));
     }
-    let status = first_bad_status(alloc, version, rows, told, running)?;
+    let status = first_bad_status(alloc, version, rows, &running)?;
     if let Some(place) = status {
         return Ok(damage_at(DamageKind::Status, place));
     }
-    let history = first_bad_history(alloc, version, rows, told, running)?;
+    let history = first_bad_history(alloc, version, rows, running)?;
     match history {
         Some(place) => Ok(damage_at(DamageKind::History, place)),
         None => Ok(None),

@@ -4,8 +4,9 @@ ghost use Rattle.std.specs.Prelude.{◌≡◌, ◌==◌, ℕ, List, ◌++◌, na
 ghost use Rattle.std.specs.Bool.{Decides};
 ghost use Rattle.std.specs.BTreeMap as tree;
 ghost use Rattle.std.specs.Ordering.{nat_cmp};
+ghost use Rattle.rows.specs.TypedRows.{TypedRows};
 ghost use Rattle.audit.specs.Order.{IsBadRow, IsFirstPlace};
-ghost use Rattle.audit.specs.Told.{typed_of, account_times, transfer_times};
+ghost use Rattle.audit.specs.Held.{Holds};
 ghost use Rattle.audit.specs.Table.{IsOwnTime, IsBadTime};
 
 use crate::shape::first;
@@ -15,32 +16,14 @@ use std::collections::BTreeMap;
 
 /// The first place at which a timestamp is bad.
 pub(crate) fn first_bad_time(alloc: Global, told: &Told) -> Result<Option<usize>, AllocError>
-    ensures { IfOk result (IsFirstPlace (IsBadTime (typed_of told.now))) }
+    ensures { IfOk result
+        (λ first. (typed : TypedRows) →
+        Holds told.now typed → IsFirstPlace (IsBadTime typed) first) }
 {
-    let accounts = accounts_times(alloc, told)?;
-    let transfers = transfers_times(alloc, told)?;
-    let all = both(alloc, &accounts, &transfers)?;
-    let account = first_shared(alloc, &accounts, &accounts)?;
-    let transfer = first_shared(alloc, &transfers, &all)?;
+    let all = both(alloc, &told.account_times, &told.transfer_times)?;
+    let account = first_shared(alloc, &told.account_times, &told.account_times)?;
+    let transfer = first_shared(alloc, &told.transfer_times, &all)?;
     Ok(first(account, transfer))
-}
-
-fn accounts_times(alloc: Global, told: &Told) -> Result<Vec<u64>, AllocError>
-    ensures { IfOk result (λ times. times.items ≡ account_times (typed_of told.now)) }
-{
-    told.accounts
-        .iter()
-        .map(|account| account.timestamp)
-        .collect(alloc)
-}
-
-fn transfers_times(alloc: Global, told: &Told) -> Result<Vec<u64>, AllocError>
-    ensures { IfOk result (λ times. times.items ≡ transfer_times (typed_of told.now)) }
-{
-    told.transfers
-        .iter()
-        .map(|transfer| transfer.timestamp)
-        .collect(alloc)
 }
 
 fn both(alloc: Global, a: &[u64], b: &[u64]) -> Result<Vec<u64>, AllocError>

@@ -1,52 +1,87 @@
-//! What rows tell, in the types of the model.
+//! What rows tell beside the fields of their entries, which stay in their cells.
 
-ghost use Rattle.std.specs.Prelude.{◌≡◌, ℕ, ◌<◌, ◌^◌, pos, All, [], ◌∷◌, map, IfOk};
+ghost use Rattle.std.specs.Prelude.{◌≡◌, ◌<◌, ◌^◌, pos, All, [], ◌∷◌, map, IfOk};
 ghost use Rattle.amount.specs.Column.{column_of};
 ghost use Rattle.rows.specs.TypedRows.{lists_of};
-ghost use Rattle.audit.specs.Shapes.{HasOneClock, IsMisshapen};
-ghost use Rattle.audit.specs.Told.{Tells, typed_of};
+ghost use Rattle.audit.specs.Shapes.{AreShaped, HasOneClock, IsAccountRow, IsTransferRow};
+ghost use Rattle.audit.specs.Held.{IsHeld};
 
-use crate::cells::values;
 use amount::Amount;
-use records::{Account, Transfer};
-use rows::TenantRows;
+use rows::{AccountCells, TenantRows, TransferCells};
 use std::alloc::{AllocError, Global};
 
-/// The clock, the accounts and transfers in order of id, and the failed ids of a tenant.
+/// The clock, the timestamps of accounts and of transfers in order of id, and the failed ids of a
+/// tenant.
 #[derive(Debug, Drop)]
 pub(crate) struct Told {
-    // In nanoseconds.
+    // In nanoseconds, as the timestamps.
     pub(crate) clock: u64,
-    pub(crate) accounts: Vec<Account>,
-    pub(crate) transfers: Vec<Transfer>,
+    pub(crate) account_times: Vec<u64>,
+    pub(crate) transfer_times: Vec<u64>,
     pub(crate) failed: Vec<u128>,
 }
 
 impl Told {
     // Of rows whose cells can all be read.
     pub(crate) fn read(alloc: Global, rows: &TenantRows) -> Result<Told, AllocError>
-        requires { (place : ℕ) → IsMisshapen (lists_of rows.now) place → ⊥ }
-        ensures { IfOk result (λ told. Tells (lists_of rows.now) (typed_of told)) }
+        requires { AreShaped (lists_of rows.now) }
+        ensures { IfOk result (IsHeld (lists_of rows.now)) }
     {
         let clock = clock_in(&rows.clocks);
-        let accounts = values(alloc, &rows.accounts)?;
-        let transfers = values(alloc, &rows.transfers)?;
+        let account_times = times_of_accounts(alloc, &rows.accounts)?;
+        let transfer_times = times_of_transfers(alloc, &rows.transfers)?;
         let failed = ids(alloc, &rows.failed)?;
         Ok(Told {
             clock,
-            accounts,
-            transfers,
+            account_times,
+            transfer_times,
             failed,
         })
     }
 }
 
 fn clock_in(clocks: &[i64]) -> u64
-    requires { (HasOneClock clocks.now → ⊥) → ⊥ }
+    requires { HasOneClock clocks.now }
     ensures only { clocks.now ≡ pos result ∷ [] }
     ensures fits { result < 2 ^ 63 }
 {
     clocks[0] as u64
+}
+
+fn times_of_accounts(alloc: Global, rows: &[AccountCells]) -> Result<Vec<u64>, AllocError>
+    requires { All IsAccountRow rows.now }
+    ensures { IfOk result (λ times. map pos times.items ≡ map (λ row. row.timestamp) rows.now) }
+{
+    let mut times = Vec::new(alloc);
+    for row in rows {
+        times.push(time_of_account(row))?;
+    }
+    Ok(times)
+}
+
+fn time_of_account(row: &AccountCells) -> u64
+    requires { IsAccountRow row.now }
+    ensures { pos result ≡ row.now.timestamp }
+{
+    row.timestamp as u64
+}
+
+fn times_of_transfers(alloc: Global, rows: &[TransferCells]) -> Result<Vec<u64>, AllocError>
+    requires { All IsTransferRow rows.now }
+    ensures { IfOk result (λ times. map pos times.items ≡ map (λ row. row.timestamp) rows.now) }
+{
+    let mut times = Vec::new(alloc);
+    for row in rows {
+        times.push(time_of_transfer(row))?;
+    }
+    Ok(times)
+}
+
+fn time_of_transfer(row: &TransferCells) -> u64
+    requires { IsTransferRow row.now }
+    ensures { pos result ≡ row.now.timestamp }
+{
+    row.timestamp as u64
 }
 
 fn ids(alloc: Global, columns: &[[u8; 16]]) -> Result<Vec<u128>, AllocError>

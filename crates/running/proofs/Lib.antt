@@ -1,5 +1,6 @@
 pub mod KeyedRows
 pub mod HeldMaps
+pub mod HeldTransfers
 pub mod HeldStatuses
 pub mod DueRows
 pub mod NextEntry

@@ -26,6 +26,7 @@ use Rattle.rows.specs.Changes.{with_opened, with_accepted, new_balance, set_both
 use Rattle.engine.proofs.ValidMachineLemmas.{account_unknown, next_entry_of, clock_bound}
 use Rattle.running.specs.declared.running.Running.{Running}
 use Rattle.running.specs.declared.statuses.Statuses.{Statuses}
+use Rattle.running.specs.declared.transfers.Transfers.{Transfers}
 use Rattle.running.specs.Holds.{HoldsAccounts, HoldsTransfers, HoldsStatuses, balance_with, status_with}
 use Rattle.running.specs.Running.{Agrees, IsLast, IsRunning}
 use Rattle.running.proofs.KeyedRows.{none_mapped, none_filtered, stays_none}
@@ -85,7 +86,7 @@ opened m a old new is next law step clock last transfers statuses history =
       last = subst (λ (n : ℕ). IsLast (with_account m a) n) (sym last) (last_account m a next);
       agrees = subst (λ (x : TypedRows). Agrees x new) (sym law) (record {
         accounts = step rows.accounts rows.balances is.agrees.accounts unknown none;
-        transfers = λ q. ap (λ (x : tree.BTreeMap ℕ Transfer). tree.get nat_cmp x q) transfers ∙ is.agrees.transfers q;
+        transfers = subst (λ (x : Transfers). HoldsTransfers rows.transfers x) (sym transfers) is.agrees.transfers;
         statuses = subst (λ (x : Statuses). HoldsStatuses rows.statuses x) (sym statuses) is.agrees.statuses;
         history = history ∙ is.agrees.history;
       });
@@ -135,7 +136,7 @@ pub by_the_end : (m : Machine) (a : Accepted) → IsValid m → IsAccepted m a �
 by_the_end m a valid is = omega (arith, clock_bound m valid, is.next.timestamp.by_clock)
 
 -- without entries
-pub new_tenant : (r : Running) → r.clock ≡ 0 → r.last ≡ 0 → tree.IsEmpty r.accounts → tree.IsEmpty r.transfers → HoldsStatuses [] r.statuses → r.history.items ≡ [] → IsRunning new_machine r
+pub new_tenant : (r : Running) → r.clock ≡ 0 → r.last ≡ 0 → tree.IsEmpty r.accounts → HoldsTransfers [] r.transfers → HoldsStatuses [] r.statuses → r.history.items ≡ [] → IsRunning new_machine r
 unfolding rows_for
 new_tenant r clock last accounts transfers statuses history = record {
   valid = IsValid.new_tenant;
@@ -147,7 +148,7 @@ new_tenant r clock last accounts transfers statuses history = record {
   };
   agrees = record {
     accounts = λ q. ap (lookup (is_at (nat_cmp q))) accounts;
-    transfers = λ q. ap (lookup (is_at (nat_cmp q))) transfers;
+    transfers = transfers;
     statuses = statuses;
     history = history;
   };

@@ -11,7 +11,7 @@ use Rattle.records.specs.declared.side.Side.TheVariants.{Debit, Credit}
 use Rattle.records.specs.declared.balances.Balances.{Balances}
 use Rattle.records.specs.declared.facts.AccountWithBalances.{AccountWithBalances}
 use Rattle.records.specs.declared.facts.PendingState.TheVariants.{Expired}
-use Rattle.records.specs.Machine.{Machine, account_with}
+use Rattle.records.specs.Machine.{Machine, account_with, transfer_with}
 use Rattle.records.specs.Step.{at_clock, max_clock}
 use Rattle.records.specs.Valid.{IsValid}
 use Rattle.engine.specs.After.{balances_released}
@@ -25,7 +25,8 @@ use Rattle.rows.specs.Settling.{is_due_row, is_past_with, balance_row_when, rows
 use Rattle.engine.proofs.ValidMachineLemmas.{sound}
 use Rattle.running.specs.declared.running.Running.{Running}
 use Rattle.running.specs.declared.statuses.Statuses.{Statuses}
-use Rattle.running.specs.Holds.{HoldsAccounts, HoldsStatuses, HasBalances, balance_with, status_with}
+use Rattle.running.specs.declared.transfers.Transfers.{Transfers}
+use Rattle.running.specs.Holds.{HoldsAccounts, HoldsTransfers, HoldsStatuses, HasBalances, balance_with, status_with}
 use Rattle.running.specs.Running.{Agrees, IsLast, IsRunning}
 use Rattle.running.specs.Releasing.{IsReleasing}
 use Rattle.running.proofs.KeyedRows.{none_mapped}
@@ -91,15 +92,15 @@ release_by law m clock done id r is d =
       },
     )
 
-pub release_found : NextLaw → (m : Machine) (clock : ℕ) (done : List ℕ) (id : ℕ) (r : Running) → IsReleasing m clock done r → IsDueNow m clock done id → (t : Transfer) × (tree.get nat_cmp r.transfers id ≡ Some t)
+pub release_found : NextLaw → (m : Machine) (clock : ℕ) (done : List ℕ) (id : ℕ) (r : Running) → IsReleasing m clock done r → IsDueNow m clock done id → (t : Transfer) × (transfer_with id (rows_released m done).transfers ≡ Some t)
 unfolding rows_when
-release_found law m clock done id r is d = let n = release_by law m clock done id r is d in (n.0, is.agrees.transfers id ∙ n.1.next.found)
+release_found law m clock done id r is d = let n = release_by law m clock done id r is d in (n.0, n.1.next.found)
 
-pub release_of : NextLaw → (m : Machine) (clock : ℕ) (done : List ℕ) (id : ℕ) (r : Running) (t : Transfer) → IsReleasing m clock done r → IsDueNow m clock done id → tree.get nat_cmp r.transfers id ≡ Some t → ReleaseOf m done id r t
+pub release_of : NextLaw → (m : Machine) (clock : ℕ) (done : List ℕ) (id : ℕ) (r : Running) (t : Transfer) → IsReleasing m clock done r → IsDueNow m clock done id → transfer_with id (rows_released m done).transfers ≡ Some t → ReleaseOf m done id r t
 unfolding rows_when
 release_of law m clock done id r t is d found =
     let n = release_by law m clock done id r is d in
-    subst (λ (x : Transfer). ReleaseOf m done id r x) (same_Some n.0 t (sym n.1.next.found ∙ sym (is.agrees.transfers id) ∙ found)) n.1
+    subst (λ (x : Transfer). ReleaseOf m done id r x) (same_Some n.0 t (sym n.1.next.found ∙ found)) n.1
 
 -- without it
 pub one_released : (m : Machine) (clock : ℕ) (done : List ℕ) (id : ℕ) (t : Transfer) (old new : Running) → IsReleasing m clock done old → IsDueNow m clock done id → (n : ReleaseOf m done id old t)
@@ -119,7 +120,7 @@ one_released m clock done id t old new is d n statuses accounts last transfers h
       last = subst (λ (x : ℕ). IsLast m x) (sym last) is.last;
       agrees = subst (λ (x : TypedRows). Agrees x new) (sym leaves) (record {
         accounts = accounts;
-        transfers = λ q. ap (λ (x : tree.BTreeMap ℕ Transfer). tree.get nat_cmp x q) transfers ∙ is.agrees.transfers q;
+        transfers = subst (λ (x : Transfers). HoldsTransfers rows.transfers x) (sym transfers) is.agrees.transfers;
         statuses = subst (λ (k : ℕ). HoldsStatuses (set_state k Expired rows.statuses) new.statuses) (sym same) statuses;
         history = history ∙ is.agrees.history;
       });
@@ -140,7 +141,7 @@ still_releasing m clock done old new is statuses last accounts transfers history
   last = subst (λ (x : ℕ). IsLast m x) (sym last) is.last;
   agrees = record {
     accounts = λ q. ap (λ (x : tree.BTreeMap ℕ AccountWithBalances). tree.get nat_cmp x q) accounts ∙ is.agrees.accounts q;
-    transfers = λ q. ap (λ (x : tree.BTreeMap ℕ Transfer). tree.get nat_cmp x q) transfers ∙ is.agrees.transfers q;
+    transfers = subst (λ (x : Transfers). HoldsTransfers (rows_released m done).transfers x) (sym transfers) is.agrees.transfers;
     statuses = statuses;
     history = history ∙ is.agrees.history;
   };
@@ -171,7 +172,7 @@ settled law m clock done old new is none fits time last accounts transfers statu
       };
       agrees = subst (λ (x : TypedRows). Agrees x new) (sym (law m clock done is.valid is.later all)) (record {
         accounts = λ q. ap (λ (x : tree.BTreeMap ℕ AccountWithBalances). tree.get nat_cmp x q) accounts ∙ is.agrees.accounts q;
-        transfers = λ q. ap (λ (x : tree.BTreeMap ℕ Transfer). tree.get nat_cmp x q) transfers ∙ is.agrees.transfers q;
+        transfers = subst (λ (x : Transfers). HoldsTransfers (rows_released m done).transfers x) (sym transfers) is.agrees.transfers;
         statuses = subst (λ (x : Statuses). HoldsStatuses (rows_released m done).statuses x) (sym statuses) is.agrees.statuses;
         history = history ∙ is.agrees.history;
       });

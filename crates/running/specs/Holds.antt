@@ -1,5 +1,6 @@
 -- What each map holds: the rows of a table under their keys.
-use Rattle.std.specs.Prelude.{◌≡◌, ℕ, Bool, false, ◌==◌, ◌&&◌, List, Option, Some, None}
+use Rattle.std.specs.Prelude.{◌≡◌, ℕ, ◌<◌, Bool, false, ◌==◌, ◌&&◌, List, length, slice_get, Option, Some, None, IfSome}
+use Rattle.std.specs.Option.{option_and_then}
 use Rattle.std.specs.BTreeMap as tree
 use Rattle.std.specs.BTreeSet as sorted
 use Rattle.std.specs.Ordering.{nat_cmp, ordering_then}
@@ -15,6 +16,7 @@ use Rattle.rows.specs.declared.status_row.StatusRow.{StatusRow}
 use Rattle.rows.specs.Keyed.{row_with}
 use Rattle.rows.specs.SameRows.{account_from}
 use Rattle.running.specs.declared.statuses.Statuses.{Statuses}
+use Rattle.running.specs.declared.transfers.Transfers.{Transfers}
 
 -- the balance row of an account
 abbrev pub balance_with : ℕ → List BalanceRow → Option BalanceRow
@@ -37,10 +39,15 @@ HasBalances map id balances =
     (account : Account)
     × (tree.get nat_cmp map id ≡ Some (record { account = account; balances = balances }))
 
--- each transfer is there
-abbrev pub HoldsTransfers : List Transfer → tree.BTreeMap ℕ Transfer → Type 0
-HoldsTransfers transfers map =
-    (id : ℕ) → tree.get nat_cmp map id ≡ transfer_with id transfers
+-- the list has the transfers in order of entry, and the map the place of each by its id
+pub record HoldsTransfers (transfers : List Transfer) (t : Transfers) : Type 0 where
+  pub list : t.list.items ≡ transfers
+  pub found :
+      (id : ℕ) →
+      option_and_then (slice_get transfers) (tree.get nat_cmp t.places id)
+      ≡ transfer_with id transfers
+  pub within :
+      (id : ℕ) → IfSome (tree.get nat_cmp t.places id) (λ place. place < length transfers)
 
 -- how due times are ordered: by the time, and then by the transfer
 abbrev pub key_cmp : ℕ × ℕ → ℕ × ℕ → Ordering

@@ -25,7 +25,7 @@ impl Running {
     pub fn transfer(&self, id: u128) -> Option<Transfer>
         ensures { (m : Machine) → IsRunning m self.now → result ≡ transfer_with id m.transfers }
     {
-        self.transfers.get(&id).copied()
+        self.transfers.get(id)
     }
 
     /// What has become of the pending transfer with this id at the clock.

@@ -11,11 +11,14 @@ mod facts;
 mod replaying;
 mod running;
 mod settle;
+mod source;
 mod statuses;
 mod tables;
+mod transfers;
 
 pub use entry::Entry;
 pub use replaying::{
-    ReplayFault, failed_ids_stand_apart, replay, replayed_is_valid, valid_replays,
+    ReplayFault, failed_ids_stand_apart, replay, replay_from, replayed_is_valid, valid_replays,
 };
 pub use running::Running;
+pub use source::EntrySource;

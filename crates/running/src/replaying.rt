@@ -1,11 +1,13 @@
-ghost use Rattle.std.specs.Prelude.{◌≡◌, IfOk, IfErr};
+ghost use Rattle.std.specs.Prelude.{◌≡◌, List, IfOk, IfErr};
 ghost use Rattle.records.specs.Machine.{new_machine};
+ghost use Rattle.running.specs.declared.entry.Entry.{Entry};
 ghost use Rattle.running.specs.declared.replaying.ReplayFault.TheVariants.{Memory};
 ghost use Rattle.running.specs.Entries.{AreNext, IsFirstRefused, machine_of, ReplayedIsValid, ValidReplays, FailedIdsStandApart};
 ghost use Rattle.running.specs.Refused.{IfRefused};
 ghost use Rattle.running.specs.Running.{IsRunning};
 
-use crate::{Entry, Running};
+use crate::source::Listed;
+use crate::{Entry, EntrySource, Running};
 use engine::valid_exactly_entry_by_entry;
 use rows::read_in_order;
 use std::alloc::{AllocError, Global};
@@ -48,9 +50,24 @@ pub fn replay(alloc: Global, entries: &[Entry]) -> Result<Running, ReplayFault>
     ensures refused { IfErr result
         (λ fault. IfRefused fault (IsFirstRefused new_machine entries.now)) }
 {
+    replay_from(alloc, &Listed(entries))
+}
+
+/// The same, of entries that are had one by one.
+pub fn replay_from<S: EntrySource>(alloc: Global, source: &S) -> Result<Running, ReplayFault>
+    requires { (entries : List Entry) × S.has source.now entries }
+    ensures accepted { IfOk result
+        (λ r. (entries : List Entry) →
+        S.has source.now entries →
+        AreNext new_machine entries × IsRunning (machine_of entries) r) }
+    ensures refused { IfErr result
+        (λ fault. IfRefused fault
+        (λ place. (entries : List Entry) →
+        S.has source.now entries → IsFirstRefused new_machine entries place)) }
+{
     let mut running = Running::new(alloc);
-    for (place, entry) in entries.iter().enumerate() {
-        let accepted = running.apply(entry)?;
+    for place in 0..source.len() {
+        let accepted = running.apply(&source.entry(place))?;
         if !accepted {
             return Err(ReplayFault::Refused(place));
         }

@@ -1,15 +1,14 @@
-ghost use Rattle.std.specs.Prelude.{◌≡◌, List, [], ◌∷◌, ◌++◌, None, OnOk};
-ghost use Rattle.records.specs.declared.transfer.Transfer.{Transfer};
-ghost use Rattle.records.specs.Machine.{Machine, new_machine, transfer_with};
+ghost use Rattle.std.specs.Prelude.{◌≡◌, ◌++◌, OnOk};
+ghost use Rattle.records.specs.Machine.{Machine, new_machine};
 ghost use Rattle.records.specs.Accepted.{IsAccepted};
 ghost use Rattle.records.specs.Valid.{IsNextAccount, with_account, with_transfer};
 ghost use Rattle.rows.specs.Changes.{new_history};
-ghost use Rattle.running.specs.Holds.{HoldsTransfers};
 ghost use Rattle.running.specs.Running.{IsRunning};
 
 use crate::accounts::{open, set_both};
 use crate::statuses::Statuses;
-use records::{Accepted, Account, AccountWithBalances, Transfer};
+use crate::transfers::Transfers;
+use records::{Accepted, Account, AccountWithBalances};
 use rows::{HistoryRow, account_rows, transfer_rows};
 use std::alloc::{AllocError, Global};
 use std::collections::BTreeMap;
@@ -24,7 +23,7 @@ pub struct Running {
     // The greatest timestamp of an entry, or 0 without one.
     pub(crate) last: u64,
     pub(crate) accounts: BTreeMap<u128, AccountWithBalances>,
-    pub(crate) transfers: BTreeMap<u128, Transfer>,
+    pub(crate) transfers: Transfers,
     pub(crate) statuses: Statuses,
     // In order of entry.
     pub(crate) history: Vec<HistoryRow>,
@@ -39,7 +38,7 @@ impl Running {
             clock: 0,
             last: 0,
             accounts: BTreeMap::new(alloc),
-            transfers: BTreeMap::new(alloc),
+            transfers: Transfers::new(alloc),
             statuses: Statuses::new(alloc),
             history: Vec::new(alloc),
         }
@@ -77,7 +76,7 @@ impl Running {
         let stored = accepted.stored;
         self.statuses.end_by(accepted.ends)?;
         self.statuses.add_new(&stored)?;
-        keep(&mut self.transfers, &stored)?;
+        self.transfers.keep(&stored)?;
         let debit = accepted.debit_after;
         let credit = accepted.credit_after;
         set_both(&mut self.accounts, &stored, debit, credit)?;
@@ -85,16 +84,6 @@ impl Running {
         self.last = stored.timestamp;
         Ok(())
     }
-}
-
-fn keep(map: &mut BTreeMap<u128, Transfer>, transfer: &Transfer) -> Result<(), AllocError>
-    ensures { OnOk result
-        ((transfers : List Transfer) →
-        HoldsTransfers transfers map.old → transfer_with transfer.now.id transfers ≡ None →
-        HoldsTransfers (transfers ++ transfer.now ∷ []) map.new) }
-{
-    map.insert(transfer.id, *transfer)?;
-    Ok(())
 }
 
 // The two history rows of an accepted transfer.

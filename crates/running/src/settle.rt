@@ -47,7 +47,7 @@ impl Running {
         let Some(id) = self.statuses.expire_next(clock)? else {
             return Ok(false);
         };
-        let transfer = self.transfers.get(&id).copied().unwrap();
+        let transfer = self.transfers.get(id).unwrap();
         release_from(&mut self.accounts, &transfer)?;
         Ok(true)
     }

@@ -41,6 +41,13 @@ impl Running {
     {
         &self.history
     }
+
+    /// The same rows, where the tenant is of no more use.
+    pub fn into_history_rows(self) -> Vec<HistoryRow>
+        ensures { (m : Machine) → IsRunning m self → result.items ≡ history_rows m }
+    {
+        self.history
+    }
 }
 
 fn balances(

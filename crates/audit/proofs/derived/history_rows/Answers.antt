@@ -19,7 +19,7 @@ pub sort-requires : goal.sort-requires
 sort-requires c =
     let m = c.requires.0 in
     let is = c.requires.1 in
-    let rows : c.deref_mut.result.now ≡ history_rows m = c.deref_mut.ensures.value ∙ c.in_ok-rows.ensures ∙ c.history_rows.ensures m is in
+    let rows : c.deref_mut.result.now ≡ history_rows m = c.deref_mut.ensures.value ∙ c.into_history_rows-rows.ensures m is in
     let fits = subst (All IsStorableHistory) ((has_derived c.args.version m c.if-version-lt2.false).history ∙ sym rows) (c.rows_fit.ensures c.args.version m is.valid).history in
     All-weaker IsStorableHistory (λ (row : HistoryRow). row.timestamp < 2 ^ 64) (λ row fit. let short = fit.timestamp in omega (arith, short)) c.deref_mut.result.now fits
 
@@ -28,17 +28,19 @@ returns-clause-fit c =
     let m = c.requires.0 in
     let is = c.requires.1 in
     let ys = c.sort.new.rows in
-    let rows : c.deref_mut.result.now ≡ history_rows m = c.deref_mut.ensures.value ∙ c.in_ok-rows.ensures ∙ c.history_rows.ensures m is in
+    let had = c.into_history_rows-rows.result in
+    let rows : c.deref_mut.result.now ≡ history_rows m = c.deref_mut.ensures.value ∙ c.into_history_rows-rows.ensures m is in
     let fits = subst (All IsStorableHistory) ((has_derived c.args.version m c.if-version-lt2.false).history ∙ sym rows) (c.rows_fit.ensures c.args.version m is.valid).history in
-    subst (All IsStorableHistory) (sym (whole ys (drop (length ys) c.in_ok-rows.rows.items) c.in_ok-rows.rows.len (sym (length_permutation c.deref_mut.result.now ys c.sort.ensures.same ∙ c.deref_mut.ensures.len))))
+    subst (All IsStorableHistory) (sym (whole ys (drop (length ys) had.items) had.len (sym (length_permutation c.deref_mut.result.now ys c.sort.ensures.same ∙ c.deref_mut.ensures.len))))
     (All-permutation IsStorableHistory c.deref_mut.result.now ys c.sort.ensures.same fits)
 
 pub returns-clause-all : goal.returns-clause-all
 unfolding rows_for
 returns-clause-all c m is =
     let ys = c.sort.new.rows in
-    let rows : c.deref_mut.result.now ≡ history_rows m = c.deref_mut.ensures.value ∙ c.in_ok-rows.ensures ∙ c.history_rows.ensures m is in
-    whole ys (drop (length ys) c.in_ok-rows.rows.items) c.in_ok-rows.rows.len (sym (length_permutation c.deref_mut.result.now ys c.sort.ensures.same ∙ c.deref_mut.ensures.len))
+    let had = c.into_history_rows-rows.result in
+    let rows : c.deref_mut.result.now ≡ history_rows m = c.deref_mut.ensures.value ∙ c.into_history_rows-rows.ensures m is in
+    whole ys (drop (length ys) had.items) had.len (sym (length_permutation c.deref_mut.result.now ys c.sort.ensures.same ∙ c.deref_mut.ensures.len))
     ∙ ordered c.read_in_order.ensures.ascending history_key (history_rows m) ys (c.keys_are_distinct.ensures m (rows_for 3 m) is.valid (themselves (rows_for 3 m))).history
     (subst (λ (xs : List HistoryRow). IsPermutation xs ys) rows c.sort.ensures.same) c.sort.ensures.sorted
     ∙ ap (in_order history_key) (sym (has_derived c.args.version m c.if-version-lt2.false).history)

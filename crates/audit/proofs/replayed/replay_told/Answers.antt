@@ -1,13 +1,33 @@
-use Rattle.std.proofs.Common.{List, subst}
+use Rattle.std.proofs.Common.{List, refl, subst}
+use Rattle.records.specs.Machine.{new_machine}
+use Rattle.rows.specs.TypedRows.{lists_of}
 use Rattle.running.specs.declared.entry.Entry.{Entry}
-use Rattle.running.specs.Entries.{machine_of}
-use Rattle.running.specs.Running.{IsRunning}
-use Rattle.audit.specs.Told.{typed_of}
+use Rattle.running.specs.Entries.{IsFirstRefused}
+use Rattle.running.specs.Refused.{IfRefused}
+use Rattle.audit.specs.Held.{AreEntriesIn}
+use Rattle.audit.specs.Told.{entries_told}
 use Rattle.audit.proofs.RefusedRows.{no_refused_row}
 use Rattle.audit.proofs.replayed.replay_told.Goals as goal
 
+pub replay_from-requires : goal.replay_from-requires
+replay_from-requires c =
+    let typed = c.requires.0 in
+    (entries_told typed, (typed, c.requires.1, c.in_ok-places.ensures typed c.requires.2 c.requires.3))
+
 pub returns-in-Ok : goal.returns-in-Ok
-returns-in-Ok c = (
-  no_refused_row (typed_of c.args.told.now) c.args.entries.now c.requires c.in-Ok.ensures.accepted.0,
-  subst (λ (es : List Entry). IsRunning (machine_of es) c.in-Ok.running) c.requires c.in-Ok.ensures.accepted.1,
-)
+returns-in-Ok c typed tells holds good =
+    let replayed = c.in-Ok.ensures.accepted (entries_told typed) (typed, tells, c.in_ok-places.ensures typed holds good) in
+    (no_refused_row typed (entries_told typed) refl replayed.0, replayed.1)
+
+pub refused_place-requires : goal.refused_place-requires
+refused_place-requires c =
+    let typed = c.requires.0 in
+    let places = c.in_ok-places.ensures typed c.requires.2 c.requires.3 in
+    let first = subst (λ fault. IfRefused fault (λ n. (es : List Entry) → AreEntriesIn (lists_of c.args.rows.now) c.in_ok-places.places.items es → IsFirstRefused new_machine es n)) c.in-Err-Refused.field-0-is c.in-Err-Refused.ensures.refused in
+    (typed, c.requires.1, places, first (entries_told typed) (typed, c.requires.1, places))
+
+pub returns-in-Err-Refused : goal.returns-in-Err-Refused
+returns-in-Err-Refused c typed tells holds good =
+    let places = c.in_ok-places.ensures typed holds good in
+    let first = subst (λ fault. IfRefused fault (λ n. (es : List Entry) → AreEntriesIn (lists_of c.args.rows.now) c.in_ok-places.places.items es → IsFirstRefused new_machine es n)) c.in-Err-Refused.field-0-is c.in-Err-Refused.ensures.refused in
+    c.refused_place.ensures typed tells places (first (entries_told typed) (typed, tells, places))

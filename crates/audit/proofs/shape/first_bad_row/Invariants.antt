@@ -1,6 +1,9 @@
-use Rattle.std.proofs.Common.{ℕ, ◌<◌}
+use Rattle.std.proofs.Common.{ℕ, ◌<◌, take}
+use Rattle.std.specs.List.{All}
 use Rattle.audit.specs.Order.{IsBadRow}
 use Rattle.audit.proofs.shape.first_bad_row.Given as goal
 
 abbrev pub invariant-loop-place : goal.invariant-loop-place
-invariant-loop-place g l = (place : ℕ) → place < l.place → IsBadRow g.R.Shaped.IsShaped l.rows place → ⊥
+invariant-loop-place g l =
+    ((place : ℕ) → place < l.place → IsBadRow g.R.Shaped.IsShaped l.rows place → ⊥)
+    × All g.R.Shaped.IsShaped (take l.place l.rows)

@@ -18,7 +18,7 @@ unwrap-transfer-requires c =
     let expired = rw c.in-Some.is at c.in_ok-id.ensures.expired in
     let got = expired (rows_released m done).statuses is.agrees.statuses in
     let n = release_found c.clock_rows.ensures.next m c.args.clock done c.in-Some.id c.args.self.now is (record { row = got.0; found = got.1; due = got.2 }) in
-    ap is_some (c.copied.ensures ∙ c.get.ensures.value ∙ n.1)
+    ap is_some (c.get.ensures (rows_released m done).transfers is.agrees.transfers ∙ n.1)
 
 pub release_from-requires : goal.release_from-requires
 release_from-requires c =
@@ -27,7 +27,7 @@ release_from-requires c =
     let is = c.requires.2 in
     let expired = rw c.in-Some.is at c.in_ok-id.ensures.expired in
     let got = expired (rows_released m done).statuses is.agrees.statuses in
-    let r = release_of c.clock_rows.ensures.next m c.args.clock done c.in-Some.id c.args.self.now c.unwrap-transfer.result is (record { row = got.0; found = got.1; due = got.2 }) (sym c.get.ensures.value ∙ sym c.copied.ensures ∙ c.unwrap-transfer.ensures) in
+    let r = release_of c.clock_rows.ensures.next m c.args.clock done c.in-Some.id c.args.self.now c.unwrap-transfer.result is (record { row = got.0; found = got.1; due = got.2 }) (sym (c.get.ensures (rows_released m done).transfers is.agrees.transfers) ∙ c.unwrap-transfer.ensures) in
     (r.debit, r.credit, r.has_debit, r.has_credit, r.next.debit_holds, r.next.credit_holds)
 
 pub returns-clause-more : goal.returns-clause-more
@@ -37,7 +37,7 @@ returns-clause-more c m done is =
     let expired = rw c.in-Some.is at c.in_ok-id.ensures.expired in
     let got = expired rows.statuses is.agrees.statuses in
     let t = c.unwrap-transfer.result in
-    let found = sym c.get.ensures.value ∙ sym c.copied.ensures ∙ c.unwrap-transfer.ensures in
+    let found = sym (c.get.ensures rows.transfers is.agrees.transfers) ∙ c.unwrap-transfer.ensures in
     let r = release_of c.clock_rows.ensures.next m c.args.clock done id c.args.self.now t is (record { row = got.0; found = got.1; due = got.2 }) found in
     let accounts = c.in_ok-release_from.ensures rows.accounts rows.balances r.debit r.credit is.agrees.accounts r.has_debit r.has_credit in
     (id, one_released m c.args.clock done id t c.args.self.now _ is (record { row = got.0; found = got.1; due = got.2 }) r got.3 accounts refl refl refl)

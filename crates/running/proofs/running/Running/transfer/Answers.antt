@@ -1,7 +1,6 @@
-use Rattle.std.proofs.Common.{◌∙◌}
 use Rattle.rows.specs.Prescribed.{rows_for}
 use Rattle.running.proofs.running.Running.transfer.Goals as goal
 
 pub returns : goal.returns
 unfolding rows_for
-returns c m is = c.copied.ensures ∙ c.get.ensures.value ∙ is.agrees.transfers c.args.id
+returns c m is = c.get.ensures m.transfers is.agrees.transfers

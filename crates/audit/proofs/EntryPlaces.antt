@@ -1,0 +1,161 @@
+-- Entries at their places, in the order of the rows and in order of time.
+use Rattle.std.proofs.Common.{◌≡◌, ◌<◌, false, is_lt, drop, ◌+◌, ℕ, zero, suc, List, [], ◌∷◌, ◌++◌, map, length, take, get_or, slice_get, Option, Some, None, unwrap_or, IfSome, IsSome, refl, sym, ap, ap₂, ◌∙◌, subst, arith}
+use Rattle.std.specs.List.{All}
+use Rattle.std.specs.List.Sorted.{IsPermutation, IsSortedByKey}
+use Rattle.std.specs.Option.{option_map}
+use Rattle.std.specs.Ordering.{nat_cmp}
+use Rattle.std.proofs.lemmas.List.{take_more, map-append, get_or-map, length-map}
+use Rattle.std.proofs.lemmas.List.Elements.{All-nil, All-cons, All-head, All-tail, All-push, All-append}
+use Rattle.std.proofs.lemmas.Option.{slice_get-map, slice_get_within, get_or_from_slice_get}
+use Rattle.std.proofs.lemmas.List.Sorted.{All-permutation, IsPermutation-map, IsPermutation-sym, IsPermutation-trans, length_permutation}
+use Rattle.records.specs.declared.account.Account as record_account
+use Rattle.records.specs.declared.transfer.Transfer as record_transfer
+use Rattle.running.specs.declared.entry.Entry.{Entry}
+use Rattle.running.specs.declared.entry.Entry.TheVariants.{Opened, Moved}
+use Rattle.running.specs.Entries.{time_of}
+use Rattle.rows.specs.TypedRows.{TypedRows}
+use Rattle.audit.specs.declared.entries.EntryPlace.{EntryPlace}
+use Rattle.audit.specs.declared.entries.RowPlace.TheVariants.{Account, Transfer}
+use Rattle.audit.specs.Held.{entry_at, IsTimed, ArePlacesOf}
+use Rattle.audit.specs.Order.{in_order}
+use Rattle.audit.specs.Table.{IsBadTime}
+use Rattle.audit.specs.Told.{account_times, transfer_times, entries_told}
+use Rattle.audit.proofs.EntriesApart.{entries_apart}
+use Rattle.audit.proofs.InOrderLemmas.{OneOrder, in_order_same, in_order_up}
+
+-- no places yet, one more, and those of two tables
+pub no_places : (typed : TypedRows) (places : List EntryPlace) → places ≡ [] → ArePlacesOf typed [] places
+no_places typed places none = subst (ArePlacesOf typed []) (sym none) (record { there = refl; timed = All-nil (IsTimed typed) })
+
+one_place : (typed : TypedRows) (entries : List Entry) (places : List EntryPlace) (k : ℕ) (p : EntryPlace) (e : Entry) → slice_get entries k ≡ Some e → entry_at typed p.row ≡ Some e → p.time ≡ time_of e → ArePlacesOf typed (take k entries) places → ArePlacesOf typed (take (k + 1) entries) (places ++ p ∷ [])
+one_place typed entries places k p e is at time so_far =
+    let f = λ (q : EntryPlace). entry_at typed q.row in
+    let more : take (k + 1) entries ≡ take k entries ++ e ∷ [] =
+    take_more entries k e (slice_get_within entries k e is) ∙ ap (λ (x : Entry). take k entries ++ x ∷ []) (get_or_from_slice_get entries k e e is) in
+    record {
+      there = map-append f places (p ∷ []) ∙ ap₂ (λ xs o. xs ++ o ∷ []) so_far.there at ∙ sym (map-append Some (take k entries) (e ∷ [])) ∙ ap (map Some) (sym more);
+      timed = All-push (IsTimed typed) places p so_far.timed (subst (λ (o : Option Entry). IfSome o (λ x. p.time ≡ time_of x)) (sym at) time);
+    }
+
+-- the row at a place, by its timestamp
+row_with : {A : Type 0} (stamp : A → ℕ) (time : ℕ) (found : Option A) → option_map stamp found ≡ Some time → (a : A) × (found ≡ Some a) × (stamp a ≡ time)
+row_with stamp time None is = absurd cc
+row_with stamp time (Some a) is = (a, refl, cc)
+
+pub one_account : (typed : TypedRows) (times : List ℕ) (places : List EntryPlace) (k time : ℕ) → slice_get times k ≡ Some time → times ≡ account_times typed → ArePlacesOf typed (take k (map Opened typed.accounts)) places → ArePlacesOf typed (take (k + 1) (map Opened typed.accounts)) (places ++ record { time = time; row = Account k } ∷ [])
+one_account typed times places k time here same so_far =
+    let stamp = λ (a : record_account.Account). a.timestamp in
+    let row = row_with stamp time (slice_get typed.accounts k) (sym (slice_get-map stamp typed.accounts k) ∙ ap (λ (ts : List ℕ). slice_get ts k) (sym same) ∙ here) in
+    let at = ap (option_map Opened) row.1 in
+    one_place typed (map Opened typed.accounts) places k (record { time = time; row = Account k }) (Opened row.0) (slice_get-map Opened typed.accounts k ∙ at) at (sym row.2) so_far
+
+pub one_transfer : (typed : TypedRows) (times : List ℕ) (places : List EntryPlace) (k time : ℕ) → slice_get times k ≡ Some time → times ≡ transfer_times typed → ArePlacesOf typed (take k (map Moved typed.transfers)) places → ArePlacesOf typed (take (k + 1) (map Moved typed.transfers)) (places ++ record { time = time; row = Transfer k } ∷ [])
+one_transfer typed times places k time here same so_far =
+    let stamp = λ (t : record_transfer.Transfer). t.timestamp in
+    let row = row_with stamp time (slice_get typed.transfers k) (sym (slice_get-map stamp typed.transfers k) ∙ ap (λ (ts : List ℕ). slice_get ts k) (sym same) ∙ here) in
+    let at = ap (option_map Moved) row.1 in
+    one_place typed (map Moved typed.transfers) places k (record { time = time; row = Transfer k }) (Moved row.0) (slice_get-map Moved typed.transfers k ∙ at) at (sym row.2) so_far
+
+pub both_places : (typed : TypedRows) (es fs : List Entry) (ps qs : List EntryPlace) → ArePlacesOf typed es ps → ArePlacesOf typed fs qs → ArePlacesOf typed (es ++ fs) (ps ++ qs)
+both_places typed es fs ps qs first second =
+    let f = λ (q : EntryPlace). entry_at typed q.row in
+    record {
+      there = map-append f ps qs ∙ ap₂ (λ xs ys. xs ++ ys) first.there second.there ∙ sym (map-append Some es fs);
+      timed = All-append (IsTimed typed) ps qs first.timed second.timed;
+    }
+
+-- the same places in another order are those of the same entries in another order
+abbrev IsSomeEntry : Option Entry → Type 0
+IsSomeEntry o = IsSome o
+
+all_some : (es : List Entry) → All IsSomeEntry (map Some es)
+all_some [] = All-nil IsSomeEntry
+all_some (e ∷ es) = All-cons IsSomeEntry (Some e) (map Some es) refl (all_some es)
+
+some_or : (d : Entry) (o : Option Entry) → IsSome o → o ≡ Some (unwrap_or o d)
+some_or d None some = absurd cc
+some_or d (Some e) some = refl
+
+unwrapped : (d : Entry) (os : List (Option Entry)) → All IsSomeEntry os → os ≡ map Some (map (λ o. unwrap_or o d) os)
+unwrapped d [] all = refl
+unwrapped d (o ∷ os) all = ap₂ (λ x xs. x ∷ xs) (some_or d o (All-head IsSomeEntry o os all)) (unwrapped d os (All-tail IsSomeEntry o os all))
+
+themselves : (d : Entry) (es : List Entry) → map (λ o. unwrap_or o d) (map Some es) ≡ es
+themselves d [] = refl
+themselves d (e ∷ es) = ap (λ xs. e ∷ xs) (themselves d es)
+
+by_default : (d : Entry) (es : List Entry) (os : List (Option Entry)) → IsPermutation (map Some es) os → (fs : List Entry) × (os ≡ map Some fs) × IsPermutation es fs
+by_default d es os same = (
+  map (λ o. unwrap_or o d) os,
+  unwrapped d os (All-permutation IsSomeEntry (map Some es) os same (all_some es)),
+  subst (λ xs. IsPermutation xs (map (λ o. unwrap_or o d) os)) (themselves d es) (IsPermutation-map (λ o. unwrap_or o d) (map Some es) os same),
+)
+
+none_left : {A : Type 0} (xs : List A) → length xs ≡ 0 → xs ≡ []
+none_left [] is = refl
+none_left (x ∷ xs) is = absurd (omega (arith, is))
+
+some_back : (es : List Entry) (os : List (Option Entry)) → IsPermutation (map Some es) os → (fs : List Entry) × (os ≡ map Some fs) × IsPermutation es fs
+some_back [] os same = ([], none_left os (length_permutation [] os same), record { moves = []; below = tt; is = refl })
+some_back (e ∷ es) os same = by_default e (e ∷ es) os same
+
+-- their times are those of the entries
+times_same : (typed : TypedRows) (es : List Entry) (ps : List EntryPlace) → ArePlacesOf typed es ps → map (λ (p : EntryPlace). p.time) ps ≡ map time_of es
+times_same typed [] [] are = refl
+times_same typed [] (p ∷ ps) are = absurd (let e = are.there in cc)
+times_same typed (e ∷ es) [] are = absurd (let f = are.there in cc)
+times_same typed (e ∷ es) (p ∷ ps) are =
+    let at : entry_at typed p.row ≡ Some e = ap (λ (os : List (Option Entry)). get_or os 0 None) are.there in
+    let rest : map (λ (q : EntryPlace). entry_at typed q.row) ps ≡ map Some es = ap (λ (os : List (Option Entry)). drop 1 os) are.there in
+    let time = subst (λ (o : Option Entry). IfSome o (λ f. p.time ≡ time_of f)) at (All-head (IsTimed typed) p ps are.timed) in
+    ap₂ (λ x xs. x ∷ xs) time (times_same typed es ps (record { there = rest; timed = All-tail (IsTimed typed) p ps are.timed }))
+
+-- sorted by their times
+sorted_as : {A B : Type 0} (f : A → ℕ) (g : B → ℕ) (xs : List A) (ys : List B) → map f xs ≡ map g ys → IsSortedByKey f nat_cmp xs → IsSortedByKey g nat_cmp ys
+sorted_as f g [] ys same sorted k d low within = absurd (let long = ap length same ∙ length-map ys g in omega (arith, long, within))
+sorted_as {A} {B} f g (x ∷ xs) ys same sorted k d low within =
+    let all = x ∷ xs in
+    let long : length ys ≡ length all = sym (length-map ys g) ∙ sym (ap length same) ∙ length-map all f in
+    let at : (i : ℕ) → i < length ys → f (get_or all i x) ≡ g (get_or ys i d) =
+    λ i less. sym (get_or-map f all i x 0 (omega (arith, less, long))) ∙ ap (λ ns. get_or ns i 0) same ∙ get_or-map g ys i d 0 less in
+    subst (λ (n : ℕ). is_lt (nat_cmp n (g (get_or ys k d))) ≡ false) (at (k + 1) within)
+    (subst (λ (n : ℕ). is_lt (nat_cmp (f (get_or all (k + 1) x)) n) ≡ false) (at k (omega (arith, within))) (sorted k x low (omega (arith, within, long))))
+
+pub in_time : OneOrder Entry → (typed : TypedRows) (old new : List EntryPlace) → ((place : ℕ) → IsBadTime typed place → ⊥) → ArePlacesOf typed (map Opened typed.accounts ++ map Moved typed.transfers) old → IsPermutation old new → IsSortedByKey (λ (p : EntryPlace). p.time) nat_cmp new → ArePlacesOf typed (entries_told typed) new
+in_time one typed old new good are same sorted =
+    let stored = map Opened typed.accounts ++ map Moved typed.transfers in
+    let f = λ (q : EntryPlace). entry_at typed q.row in
+    let got = some_back stored (map f new) (subst (λ os. IsPermutation os (map f new)) are.there (IsPermutation-map f old new same)) in
+    let here : ArePlacesOf typed got.0 new = record { there = got.1; timed = All-permutation (IsTimed typed) old new same are.timed } in
+    let up = sorted_as (λ (q : EntryPlace). q.time) time_of new got.0 (times_same typed got.0 new here) sorted in
+    let is = one time_of (in_order time_of stored) got.0 (in_order_up time_of stored (entries_apart typed good)) (IsPermutation-trans (in_order time_of stored) stored got.0 (IsPermutation-sym stored (in_order time_of stored) (in_order_same time_of stored)) got.2) up in
+    subst (λ (es : List Entry). ArePlacesOf typed es new) (sym is) here
+
+-- the entry at a place
+inner : (o x : Option Entry) → Some x ≡ option_map Some o → x ≡ o
+inner None x is = absurd cc
+inner (Some e) x is = cc
+
+pub at_place : (typed : TypedRows) (es : List Entry) (ps : List EntryPlace) (k : ℕ) (p : EntryPlace) → ArePlacesOf typed es ps → slice_get ps k ≡ Some p → entry_at typed p.row ≡ slice_get es k
+at_place typed es ps k p are is =
+    let f = λ (q : EntryPlace). entry_at typed q.row in
+    inner (slice_get es k) (entry_at typed p.row) (sym (slice_get-map f ps k ∙ ap (option_map f) is) ∙ ap (λ (os : List (Option Entry)). slice_get os k) are.there ∙ slice_get-map Some es k)
+
+pub as_many : (typed : TypedRows) (es : List Entry) (ps : List EntryPlace) → ArePlacesOf typed es ps → length ps ≡ length es
+as_many typed es ps are = sym (length-map ps (λ (q : EntryPlace). entry_at typed q.row)) ∙ ap length are.there ∙ length-map es Some
+
+pub is_there : {A : Type 0} (xs : List A) (k : ℕ) → k < length xs → IsSome (slice_get xs k)
+is_there [] k within = absurd (omega (arith, within))
+is_there (x ∷ xs) zero within = refl
+is_there (x ∷ xs) (suc k) within = is_there xs k (omega (arith, within))
+
+pub row_within : {A : Type 0} (make : A → Entry) (xs : List A) (k : ℕ) → IsSome (option_map make (slice_get xs k)) → k < length xs
+row_within make [] k some = absurd cc
+row_within make (x ∷ xs) zero some = omega arith
+row_within make (x ∷ xs) (suc k) some = let less = row_within make xs k some in omega (arith, less)
+
+-- and so the entry at the place that is read at one
+pub some_at : (typed : TypedRows) (es : List Entry) (ps : List EntryPlace) (k : ℕ) (p : EntryPlace) → ArePlacesOf typed es ps → slice_get ps k ≡ Some p → IsSome (entry_at typed p.row)
+some_at typed es ps k p are is =
+    let within = slice_get_within ps k p is in
+    subst (λ (o : Option Entry). IsSome o) (sym (at_place typed es ps k p are is)) (is_there es k (let long = as_many typed es ps are in omega (arith, within, long)))
