@@ -4,6 +4,9 @@ use crate::forms::CheckForm::{Equals, Length};
 use crate::forms::ColumnForm::{Bytes, Whole, Words};
 use crate::forms::{IndexForm, KeyForm, TableForm};
 
+/// How many tables say which version a file has.
+pub(crate) const VERSION_TABLES: usize = 1;
+
 /// How many of the tables and of the indexes the list schema has, and the balance schema.
 pub(crate) const LIST_TABLES: usize = 5;
 

@@ -12,4 +12,4 @@ mod shape;
 mod strangers;
 mod tables;
 
-pub use shape::{has_balances, has_lists, is_balances, is_ledger, is_lists};
+pub use shape::{has_balances, has_lists, has_versions, is_balances, is_ledger, is_lists};

@@ -1,14 +1,16 @@
 //! A file's schema against those of a ledger.
 
 ghost use Rattle.std.specs.Prelude.{◌≡◌, ◌↔◌, [], map, IsTrue};
-ghost use Rattle.ledger_sql.specs.Schema.{list_schema, balance_schema};
+ghost use Rattle.ledger_sql.specs.Schema.{after_schema, list_schema, balance_schema};
 ghost use Rattle.ledger_sql.specs.Effects.{IsLedger, StartsAs};
 ghost use Rattle.ledger_shape.specs.Forms.{table_for, index_for};
 ghost use Rattle.ledger_shape.specs.Starts.{Starts};
 
 use crate::fits::fit_all;
 use crate::forms::{IndexForm, TableForm};
-use crate::ledger::{BALANCE_INDEXES, BALANCE_TABLES, INDEXES, LIST_INDEXES, LIST_TABLES, TABLES};
+use crate::ledger::{
+    BALANCE_INDEXES, BALANCE_TABLES, INDEXES, LIST_INDEXES, LIST_TABLES, TABLES, VERSION_TABLES,
+};
 use crate::strangers::are_strangers;
 use sqlite_schema::schema::{Schema, Table};
 
@@ -18,6 +20,13 @@ pub fn is_ledger(schema: &Schema) -> bool
 {
     let tables = schema.tables.as_slice();
     start_as(&TABLES, tables) && are_strangers(&tables[TABLES.len()..])
+}
+
+/// Whether the first table is that of the version, which each version has.
+pub fn has_versions(schema: &Schema) -> bool
+    ensures { IsTrue result ↔ StartsAs after_schema.tables schema.now }
+{
+    start_as(&TABLES[..VERSION_TABLES], schema.tables.as_slice())
 }
 
 /// Whether the tables are first those of version 1, the list schema.

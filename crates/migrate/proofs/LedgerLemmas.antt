@@ -1,5 +1,5 @@
 -- A ledger that is migrated.
-use Rattle.std.proofs.Common.{◌≡◌, ◌<◌, ◌≤◌, ℕ, Bool, true, not, IsTrue, ◌↔◌, Result, Ok, Err, sym, ap, subst, ◌∙◌, arith}
+use Rattle.std.proofs.Common.{◌≡◌, ◌<◌, ◌≤◌, ℕ, Bool, true, false, not, IsTrue, ◌↔◌, Result, Ok, Err, refl, sym, ap, subst, ◌∙◌, arith}
 use Rattle.std.proofs.lemmas.Bool.{both_ways}
 use Rattle.records.specs.declared.unavailable.Unavailable.TheVariants.{Disk as DiskFailed}
 use Rattle.sqlite_disk.specs.declared.Disk as disk
@@ -56,6 +56,16 @@ unless_fault Failed ready fault now told answers failed =
     let yes : fault ≡ true = told.1 failed in
     both_ways ready (now ∙ ap not yes) answers
 
+-- what answers without a fault of the disk answers as before
+pub still_ready : (Failed : Type 0) (fault ready : Bool) → (IsTrue fault ↔ Failed) → ready ≡ true → (Failed → ⊥) → not fault ≡ ready
+still_ready Failed true ready told answers none = absurd (none (told.0 refl))
+still_ready Failed false ready told answers none = sym answers
+
+-- a fault is the same in another answer
+pub other_answer : {T U : Type 0} (a b : MigrateFault) → ◌≡◌ {A = Result T MigrateFault} (Err a) (Err b)
+    → ◌≡◌ {A = Result U MigrateFault} (Err a) (Err b)
+other_answer a b is = let same : a ≡ b = cc in ap Err same
+
 upgrade_disk : (cause : OpenFault) → cause ≡ opening.Unavailable DiskFailed → upgrade_fault cause ≡ fault.Unavailable DiskFailed
 upgrade_disk cause is = ap upgrade_fault is
 
@@ -71,6 +81,11 @@ module _ {D : Type 0} (g : disk.Ghosts D) where
   pub older_open : (ledger : LedgerOfVersion D g) → IsMigratable ledger → IsTrue ledger.ready → ledger.version < 3
       → HasCleanDisk (state_of ledger) → IsOlder (older_schema ledger.version) (state_of ledger)
   older_open ledger is ready less clean = is.older less (clean, is.is_open ready clean)
+
+  -- a ledger that answers is live where its disk was honest
+  pub answers_live : (ledger : LedgerOfVersion D g) → IsMigratable ledger → IsTrue ledger.ready → HasCleanDisk (state_of ledger)
+      → Live (state_of ledger)
+  answers_live ledger is ready clean = (clean, is.is_open ready clean)
 
   -- after a call that changed nothing it is still migratable
   pub still_migratable : (old new : LedgerOfVersion D g) → new.version ≡ old.version → old.version < 3

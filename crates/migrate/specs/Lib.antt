@@ -1,4 +1,5 @@
 pub mod Migrated
+pub mod Naming
 pub mod Faults
 pub mod Filling
 pub mod FillingLaws

@@ -7,6 +7,7 @@ mod fault;
 mod filling;
 mod ledger;
 mod migrating;
+mod naming;
 mod newer;
 mod older;
 mod raising;

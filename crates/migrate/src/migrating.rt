@@ -1,4 +1,5 @@
-ghost use Rattle.std.specs.Prelude.{◌≡◌, ◌≢◌, ◌<◌, ◌≤◌, ◌↔◌, Err, IsOk, IfOk, IfErr, OnOk, OnErr, IsTrue};
+ghost use Rattle.std.specs.Prelude.{◌≡◌, ◌≢◌, ◌<◌, ◌≤◌, ◌↔◌, false, Err, IsOk, IfOk, IfErr};
+ghost use Rattle.std.specs.Prelude.{OnOk, OnErr, IsTrue};
 ghost use Rattle.records.specs.declared.unavailable.Unavailable.TheVariants.{Disk as DiskFailed};
 ghost use Rattle.sqlite.specs.Held.{state};
 ghost use Rattle.sqlite.specs.State.{HasCleanDisk, Survives};
@@ -7,7 +8,8 @@ ghost use Rattle.stored_ledgers.specs.Resting.{IsQuiet, IsSame};
 ghost use Rattle.openings.specs.Damage.{HasFirstDamage};
 ghost use Rattle.migrate.specs.Faults.{IfDamaged};
 ghost use Rattle.migrate.specs.Ledgers.{IsMigratable, state_of};
-ghost use Rattle.migrate.specs.Upgrading.{HasRisen, IsOlder, IsRaised, KeepsMachines, Raised, older_schema};
+ghost use Rattle.migrate.specs.Upgrading.{HasRisen, IsOlder, IsRaised, IsSoundIn, KeepsMachines};
+ghost use Rattle.migrate.specs.Upgrading.{Raised, older_schema};
 
 use crate::raising::raise;
 use crate::{LedgerOfVersion, MigrateFault, rows_in_version};
@@ -24,7 +26,7 @@ use stored_ledgers::batches::DueSets;
 /// Brings a ledger to this version of the schema, in one transaction: each tenant's machine stays,
 /// and its rows are those that it prescribes there, with no id failed. The version that the ledger
 /// has is no change. After a fault the ledger is as it was; after a fault of the disk, or a crash at
-/// any moment, it or the new one is there, whole.
+/// any moment, it or the new one is there, whole. From a fault of the disk on it is not answered.
 pub fn migrate<D: Disk + Drop>(
     alloc: Global,
     ledger: &mut LedgerOfVersion<D>,
@@ -34,18 +36,32 @@ pub fn migrate<D: Disk + Drop>(
     requires known { to ≤ 3 }
     ensures newer { to < ledger.old.version → result ≡ Err MigrateFault.NewerSchema }
     ensures no_newer { ledger.old.version ≤ to → result ≢ Err MigrateFault.NewerSchema }
-    ensures equal { ledger.old.version ≡ to → IsOk result × (ledger.new ≡ ledger.old) }
-    ensures damaged { Live (state_of ledger.new) → IfErr result (λ fault. IfDamaged fault
+    ensures equal { ledger.old.version ≡ to → IsOk result }
+    ensures unmoved { to ≤ ledger.old.version → ledger.new ≡ ledger.old }
+    ensures damaged { HasCleanDisk (state_of ledger.new) → IfErr result (λ fault. IfDamaged fault
         (λ damage. HasFirstDamage ledger.old.version damage (state_of ledger.old).now.trees)) }
     ensures version { OnOk result (ledger.new.version ≡ to) }
     ensures migratable { IsMigratable ledger.new }
-    ensures raised { Live (state_of ledger.new) → ledger.old.version < to → OnOk result
+    ensures sound { HasCleanDisk (state_of ledger.new) → ledger.old.version < to → OnOk result
+        (IsSoundIn ledger.old.version (state_of ledger.old).now.trees) }
+    ensures raised { HasCleanDisk (state_of ledger.new) → ledger.old.version < to → OnOk result
         (HasRisen to (state_of ledger.old).now (state_of ledger.new).now) }
-    ensures kept { Live (state_of ledger.new) → OnOk result
+    ensures kept { HasCleanDisk (state_of ledger.new) → OnOk result
         (KeepsMachines (state_of ledger.old).now.trees (state_of ledger.new).now.trees) }
     ensures same { Live (state_of ledger.new) → OnErr result
         ((state_of ledger.new).now ≡ (state_of ledger.old).now) }
     ensures stays { OnErr result (ledger.new.version ≡ ledger.old.version) }
+    ensures honest { HasCleanDisk (state_of ledger.new) → HasCleanDisk (state_of ledger.old) }
+    ensures lived { Live (state_of ledger.new) → Live (state_of ledger.old) }
+    ensures open { HasCleanDisk (state_of ledger.new) → IsTrue ledger.old.ready
+        → result ≢ Err (MigrateFault.Unavailable DiskFailed)
+        → IsTrue (state_of ledger.new).is_open }
+    ensures ready { result ≢ Err (MigrateFault.Unavailable DiskFailed)
+        → ledger.new.ready ≡ ledger.old.ready }
+    ensures disk { result ≡ Err (MigrateFault.Unavailable DiskFailed)
+        → ledger.new.ready ≡ false }
+    ensures refuses { ledger.old.version < to → ledger.old.ready ≡ false
+        → (result ≡ Err (MigrateFault.Unavailable DiskFailed)) × (ledger.new ≡ ledger.old) }
     ensures finds { Survives (state_of ledger.old) (state_of ledger.new)
         (Raised to (state_of ledger.old).now) }
 {
@@ -68,17 +84,30 @@ fn migrate_older<D: Disk + Drop>(
     requires older { ledger.old.version < to }
     requires known { to ≤ 3 }
     ensures no_newer { result ≢ Err MigrateFault.NewerSchema }
-    ensures damaged { Live (state_of ledger.new) → IfErr result (λ fault. IfDamaged fault
+    ensures damaged { HasCleanDisk (state_of ledger.new) → IfErr result (λ fault. IfDamaged fault
         (λ damage. HasFirstDamage ledger.old.version damage (state_of ledger.old).now.trees)) }
     ensures version { OnOk result (ledger.new.version ≡ to) }
     ensures migratable { IsMigratable ledger.new }
-    ensures raised { Live (state_of ledger.new) → OnOk result
+    ensures sound { HasCleanDisk (state_of ledger.new) → OnOk result
+        (IsSoundIn ledger.old.version (state_of ledger.old).now.trees) }
+    ensures raised { HasCleanDisk (state_of ledger.new) → OnOk result
         (HasRisen to (state_of ledger.old).now (state_of ledger.new).now) }
-    ensures kept { Live (state_of ledger.new) → OnOk result
+    ensures kept { HasCleanDisk (state_of ledger.new) → OnOk result
         (KeepsMachines (state_of ledger.old).now.trees (state_of ledger.new).now.trees) }
     ensures same { Live (state_of ledger.new) → OnErr result
         ((state_of ledger.new).now ≡ (state_of ledger.old).now) }
     ensures stays { OnErr result (ledger.new.version ≡ ledger.old.version) }
+    ensures honest { HasCleanDisk (state_of ledger.new) → HasCleanDisk (state_of ledger.old) }
+    ensures lived { Live (state_of ledger.new) → Live (state_of ledger.old) }
+    ensures open { HasCleanDisk (state_of ledger.new)
+        → result ≢ Err (MigrateFault.Unavailable DiskFailed)
+        → IsTrue (state_of ledger.new).is_open }
+    ensures ready { result ≢ Err (MigrateFault.Unavailable DiskFailed)
+        → ledger.new.ready ≡ ledger.old.ready }
+    ensures disk { result ≡ Err (MigrateFault.Unavailable DiskFailed)
+        → ledger.new.ready ≡ false }
+    ensures refuses { ledger.old.ready ≡ false
+        → (result ≡ Err (MigrateFault.Unavailable DiskFailed)) × (ledger.new ≡ ledger.old) }
     ensures finds { Survives (state_of ledger.old) (state_of ledger.new)
         (Raised to (state_of ledger.old).now) }
 {
@@ -110,6 +139,8 @@ fn raise_rows<S: Alter>(
     ensures no_newer { result ≢ Err MigrateFault.NewerSchema }
     ensures damaged { HasCleanDisk (state S.Store conn.new) → IfErr result (λ fault. IfDamaged fault
         (λ damage. HasFirstDamage version damage (state S.Store conn.old).now.trees)) }
+    ensures sound { HasCleanDisk (state S.Store conn.new) → OnOk result
+        (IsSoundIn version (state S.Store conn.old).now.trees) }
     ensures raised { HasCleanDisk (state S.Store conn.new) → IfOk result
         (λ sets. IsRaised to sets (state S.Store conn.old).now (state S.Store conn.new).now) }
     ensures quiet { HasCleanDisk (state S.Store conn.new) → OnOk result
@@ -141,6 +172,8 @@ fn newer_rows<S: Alter>(
     ensures damaged { HasCleanDisk (state S.Store conn.new) → IfErr result (λ fault. IfDamaged fault
         (λ damage. HasFirstDamage version damage (state S.Store conn.old).now.trees)) }
     ensures version { IfOk result (λ newer. newer.version ≡ to) }
+    ensures sound { HasCleanDisk (state S.Store conn.new) → OnOk result
+        (IsSoundIn version (state S.Store conn.old).now.trees) }
     ensures same { Live (state S.Store conn.new)
         → IsSame (state S.Store conn.old) (state S.Store conn.new) }
     ensures open { HasCleanDisk (state S.Store conn.new)

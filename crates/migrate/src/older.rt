@@ -1,6 +1,6 @@
 //! What an opening looks at in a ledger of an older version.
 
-ghost use Rattle.std.specs.Prelude.{◌≡◌, ◌<◌, All, None, IfErr, IfSome, OnOk, IsTrue};
+ghost use Rattle.std.specs.Prelude.{◌≡◌, ◌<◌, ◌↔◌, All, None, Some, IfErr, IfSome, OnOk, IsTrue};
 ghost use Rattle.audit.specs.Damage.{IsFirstDamage};
 ghost use Rattle.audit.specs.Sound.{AreSound};
 ghost use Rattle.rows.specs.TypedRows.{lists_of};
@@ -8,10 +8,13 @@ ghost use Rattle.sqlite.specs.State.{HasCleanDisk, IsUnchanged};
 ghost use Rattle.sqlite.specs.Held.{state};
 ghost use Rattle.ledger_sql.specs.Frames.{Live, Follows};
 ghost use Rattle.openings.specs.Damage.{HasFirstDamage, IfDamaged, IsNoDamage};
+ghost use Rattle.openings.specs.declared.opening.OpenFault.TheVariants.{NotALedger};
 ghost use Rattle.stored_ledgers.specs.Resting.{IsQuiet, IsSame};
+ghost use Rattle.migrate.specs.Naming.{names_other};
 ghost use Rattle.migrate.specs.Upgrading.{older_schema, IsSoundIn};
 
-use ledger_shape::{has_balances, has_lists, is_balances, is_lists};
+use crate::naming::{names_no_balances, names_no_lists};
+use ledger_shape::{is_balances, is_lists};
 use openings::auditing::Audit;
 use openings::opened::has_names;
 use openings::opening::OpenFault;
@@ -64,26 +67,30 @@ fn audit_older<A: Audit>(alloc: Global, rows: &AllRows, audit: &A) -> Result<(),
     Ok(())
 }
 
-/// Why a file of an older version cannot be migrated: a table of that version is missing, or there
-/// are others than those, behind which no more of a ledger's can be made.
+/// Why a file of an older version cannot be migrated: by name a table of that version is missing, or
+/// one that only newer versions have is there; or the tables are made otherwise; or there are others
+/// than those, behind which no more of a ledger's can be made.
 fn older_refusal(version: u32, schema: &Schema) -> Option<OpenFault>
     requires { version < 3 }
     ensures schema { result ≡ None → schema.now ≡ older_schema version }
+    ensures named { (result ≡ Some NotALedger)
+        ↔ IsTrue (names_other (older_schema version) schema.now) }
     ensures undamaged { IfSome result IsNoDamage }
 {
     if version == 1 {
-        return refusal_unless(is_lists(schema), has_lists(schema));
+        return refusal_unless(is_lists(schema), names_no_lists(schema));
     }
-    refusal_unless(is_balances(schema), has_balances(schema))
+    refusal_unless(is_balances(schema), names_no_balances(schema))
 }
 
-fn refusal_unless(is_it: bool, has_it: bool) -> Option<OpenFault>
+fn refusal_unless(is_it: bool, names_other: bool) -> Option<OpenFault>
     ensures is { result ≡ None → IsTrue is_it }
+    ensures named { (result ≡ Some NotALedger) ↔ IsTrue names_other }
     ensures undamaged { IfSome result IsNoDamage }
 {
-    match (is_it, has_it) {
-        (true, _) => None,
-        (false, true) => Some(OpenFault::Unreadable),
-        (false, false) => Some(OpenFault::NotALedger),
+    match (names_other, is_it) {
+        (true, _) => Some(OpenFault::NotALedger),
+        (false, false) => Some(OpenFault::Unreadable),
+        (false, true) => None,
     }
 }

@@ -9,6 +9,12 @@ mod RisingRows
 mod RuledRows
 mod HeldMachines
 mod OpenedLedger
+mod ThereLemmas
+mod FilledLemmas
 mod OpenedLemmas
 mod KeptSets
 mod DamageLemmas
+mod RefusedLemmas
+mod ToldLemmas
+mod NameLemmas
+mod CaseLemmas

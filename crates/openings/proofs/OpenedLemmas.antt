@@ -17,15 +17,16 @@ use Rattle.sqlite_wal.specs.Reads.{AreClean}
 use Rattle.sqlite_wal.specs.Recovery.{Image}
 use Rattle.sqlite_store.specs.declared.store.FileStore.{FileStore}
 use Rattle.sqlite.specs.Effect.{Database, IsDatabase}
-use Rattle.sqlite.specs.Files.{AreFoundIn, file_state}
+use Rattle.sqlite.specs.Files.{AreFoundIn, file_state, image_of}
 use Rattle.sqlite.specs.Held.{Held}
 use Rattle.sqlite.specs.State.{State, HasCleanDisk, IsUnchanged}
 use Rattle.ledger_sql.specs.Frames.{Follows}
-use Rattle.openings.specs.Found.{HasOrderedTables, IsOpenAt, Yields}
+use Rattle.openings.specs.Found.{FilesStay, HasOrderedTables, IsOpenAt, IsThere, Yields}
 use Rattle.stored_ledgers.specs.DueSets.{DueSets}
 use Rattle.openings.specs.Opened.{CanServe, CoversCells, IsOpened}
 use Rattle.stored_ledgers.specs.Resting.{IsResting, Serves}
 use Rattle.openings.proofs.FileLemmas.{yields_more}
+use Rattle.openings.proofs.ThereLemmas.{there_left}
 
 -- the next row's due time is kept beside those before it
 pub covers_more : (old new : DueSet) (xs : List StatusCells) (i : ℕ) (cells : StatusCells)
@@ -71,19 +72,22 @@ module _ (image : Image) (old new : State) where
         };
       }
 
-  -- and what its files hold once it was refused
-  pub refused_yields : {D : Type 0} (g : disk.Ghosts D) (left : Files D) → (HasCleanDisk old → IsOpenAt image old)
-      → Follows old new → (AreClean g left.log left.db → HasCleanDisk new) → Yields g left new.may_leave
-      → Yields g left (AreFoundIn image)
-  refused_yields g left opened follows honest yields =
-      yields_more g left new.may_leave (AreFoundIn image) (λ clean db may.
-      let last = honest clean in
-      let first : HasCleanDisk old = omega (arith, follows.survives.clean, last) in
-      let at = opened first in
-      elim (follows.survives.crash last db may) [
-        | inl before ↦ subst (AreFoundIn image) (sym (at.settled.only at.opens.is_open db before)) at.found.reads
-        | inr none ↦ absurd none
-      ]) yields
+-- and what its files hold once it was refused
+pub refused_stay : {D : Type 0} (g : disk.Ghosts D) (files left : Files D) (old new : State)
+    → (HasCleanDisk old → IsOpenAt (image_of g files) old)
+    → (HasCleanDisk old → AreClean g files.log files.db) → Follows old new
+    → (AreClean g left.log left.db → HasCleanDisk new) → Yields g left new.may_leave → FilesStay g files left
+refused_stay g files left old new opened honest follows shut yields =
+    let before : AreClean g left.log left.db → HasCleanDisk old =
+    λ clean. let last = shut clean in omega (arith, follows.survives.clean, last) in record {
+      honest = λ clean. honest (before clean);
+      holds = yields_more g left new.may_leave (IsThere (image_of g files)) (λ clean db may.
+          elim (follows.survives.crash (shut clean) db may) [
+            | inl left_before ↦
+                there_left (image_of g files) old (opened (before clean)) db left_before
+            | inr none ↦ absurd none
+          ]) yields;
+    }
 
 -- what was opened and looked at serves
 module _ {D : Type 0} (g : disk.Ghosts D) (image : Image) where

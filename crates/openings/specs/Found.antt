@@ -8,14 +8,18 @@ use Rattle.sqlite_wal.specs.Files.{outcomes}
 use Rattle.sqlite_wal.specs.Reads.{AreClean}
 use Rattle.sqlite_wal.specs.Recovery.{Image}
 use Rattle.sqlite.specs.Closing.{files_left}
-use Rattle.sqlite.specs.Effect.{Database}
+use Rattle.sqlite.specs.Effect.{Database, IsDatabase}
 use Rattle.sqlite.specs.Files.{HoldsDatabase, AreFoundIn, IsCleanLeft, LeavesFiles, image_of}
 use Rattle.sqlite.specs.declared.file.Leftover.{Leftover}
 use Rattle.sqlite.specs.Start.{FindsIn}
-use Rattle.sqlite.specs.State.{State, Opens, IsLive}
+use Rattle.sqlite.specs.State.{State, HasCleanDisk, Opens, IsLive}
 use Rattle.ledger_sql.specs.Creating.{IsEmptyLedger}
 use Rattle.ledger_sql.specs.Rowids.{IsNumbered}
+use Rattle.ledger_sql.specs.Schema.{no_schema}
+use Rattle.records.specs.declared.unavailable.Unavailable.{Unavailable}
 use Rattle.openings.specs.Shape.{has_ours}
+use Rattle.openings.specs.declared.opening.OpenFault.{OpenFault}
+use Rattle.openings.specs.declared.opening.OpenFault.TheVariants as fault
 
 -- while the database is open, a crash leaves what was committed last, and nothing else
 pub record IsSettled (s : State) : Type 0 where
@@ -41,9 +45,25 @@ Yields g files X =
     AreClean g files.log files.db → (image : Image) → outcomes g files.log files.db image
     → ∥ ((db : Trees) × X db × HoldsDatabase image db) ∥₁
 
+-- an opening finds these trees in what the files hold, and no other database is there
+pub record IsThere (image : Image) (trees : Trees) : Type 0 where
+  pub reads : AreFoundIn image trees
+  pub holds : (other : Trees) → HoldsDatabase image other → trees ≡ other
+
+-- so it is of the trees of a database of which this is so
+pub record FindsOne (P : Database → Type 0) (image : Image) : Type 0 where
+  pub db : Database
+  pub sound : IsDatabase db
+  pub there : IsThere image db.trees
+  pub is : P db
+
+-- what the files hold has no table, index or view
+abbrev pub FindsNone : Image → Type 0
+FindsNone = FindsOne (λ db. db.schema ≡ no_schema)
+
 -- what the files hold has a table of a ledger's
 abbrev pub FindsOurs : Image → Type 0
-FindsOurs image = (db : Database) × AreFoundIn image db.trees × IsTrue (has_ours db.schema)
+FindsOurs = FindsOne (λ db. IsTrue (has_ours db.schema))
 
 -- what an opening that failed left in the files
 abbrev pub LeavesUnopened : {D : Type 0} → (g : disk.Ghosts D) → Files D → Files D → Type 0
@@ -51,9 +71,47 @@ LeavesUnopened {D} g files left =
     (rest : Leftover D g) × (files_left rest ≡ (left.log, left.db))
     × (IsCleanLeft rest → LeavesFiles files rest)
 
--- what the making of a ledger that failed leaves: what the opening left, or what the files held or
--- the whole of the new ledger
-abbrev pub LeavesNew : {D : Type 0} → (g : disk.Ghosts D) → Files D → Files D → Type 0
-LeavesNew g files left =
-    LeavesUnopened g files left
-    ⊎ Yields g left (λ db. AreFoundIn (image_of g files) db ⊎ IsEmptyLedger db)
+-- the files that are left hold what these held, and were honest only if these were
+pub record FilesStay {D : Type 0} (g : disk.Ghosts D) (files left : Files D) : Type 0 where
+  pub honest : AreClean g left.log left.db → AreClean g files.log files.db
+  pub holds : Yields g left (IsThere (image_of g files))
+
+-- what an opening that was refused leaves: what the database's own left, or what the files held
+abbrev pub LeavesRefused : {D : Type 0} → (g : disk.Ghosts D) → Files D → Files D → Type 0
+LeavesRefused g files left = LeavesUnopened g files left ⊎ FilesStay g files left
+
+-- the fault speaks of the ledger that is there, or is not, and the database's own opening tells none
+-- such
+abbrev pub IsOfLedger : OpenFault → Type 0
+IsOfLedger fault.InUse = ⊥
+IsOfLedger fault.Unreadable = ⊥
+IsOfLedger fault.NotALedger = Unit {0}
+IsOfLedger fault.OldSchema = Unit {0}
+IsOfLedger fault.NewerSchema = Unit {0}
+IsOfLedger (fault.Damaged damage) = Unit {0}
+IsOfLedger (fault.Unavailable why) = ⊥
+
+-- the fault is that something is unavailable
+abbrev pub IsUnavailable : OpenFault → Type 0
+IsUnavailable told = (why : Unavailable) × (told ≡ fault.Unavailable why)
+
+-- what the making of a ledger that was refused leaves: as an opening; or, where something was
+-- unavailable, what the files held, or the whole of the new ledger in files that held no table
+abbrev pub LeavesNew : {D : Type 0} → (g : disk.Ghosts D) → Files D → OpenFault → Files D → Type 0
+LeavesNew g files told left =
+    LeavesRefused g files left
+    ⊎ (IsUnavailable told × Yields g left (λ db. IsThere (image_of g files) db
+    ⊎ (FindsNone (image_of g files) × IsEmptyLedger db)))
+
+-- an open database without a table, on a disk that was honest so far
+abbrev pub IsBlankHere : State → Type 0
+IsBlankHere s = HasCleanDisk s × (s.now.schema ≡ no_schema)
+
+-- what a making that was refused leaves of an open database: what a crash might have left of it;
+-- or, where something was unavailable, that or the whole of the new ledger, if it had no table
+abbrev pub LeavesFilled :
+    {D : Type 0} → (g : disk.Ghosts D) → State → OpenFault → Files D → Type 0
+LeavesFilled g s told left =
+    Yields g left s.may_leave
+    ⊎ (IsUnavailable told × Yields g left (λ db. s.may_leave db
+    ⊎ ((s.now.schema ≡ no_schema) × IsEmptyLedger db)))

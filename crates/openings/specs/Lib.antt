@@ -7,3 +7,4 @@ pub mod Faults
 pub mod Opened
 pub mod Damage
 pub mod DamageLaws
+pub mod Told

@@ -1,5 +1,5 @@
 -- What an opening looks at.
-use Rattle.std.specs.Prelude.{◌≡◌, ◌⊎◌, ℕ, ℤ, pos, [], List, ◌∷◌, slice_get, string_bytes, Some, All, IsTrue}
+use Rattle.std.specs.Prelude.{◌≡◌, ℕ, ℤ, pos, [], List, ◌∷◌, slice_get, string_bytes, Some, All, IsTrue}
 use Rattle.std.specs.BTreeMap.{get}
 use Rattle.std.specs.Ordering.{int_cmp}
 use Rattle.rows.specs.declared.status_cells.StatusCells.{StatusCells}
@@ -12,12 +12,9 @@ use Rattle.rows.specs.declared.all_rows.TenantOfDigest.{TenantOfDigest}
 use Rattle.rows.specs.TypedRows.{lists_of}
 use Rattle.std.specs.BTreeSet.{contains}
 use Rattle.audit.specs.Sound.{AreSound}
-use Rattle.sqlite_disk.specs.declared.Disk as disk
-use Rattle.sqlite_disk.specs.declared.Files.{Files}
 use Rattle.sqlite_trees.specs.Tree.{Trees}
 use Rattle.sqlite_wal.specs.Recovery.{Image}
 use Rattle.sqlite.specs.Effect.{Database, IsDatabase}
-use Rattle.sqlite.specs.Files.{AreFoundIn, image_of}
 use Rattle.sqlite.specs.Start.{FindsIn}
 use Rattle.sqlite.specs.State.{State}
 use Rattle.ledger_sql.specs.Effects.{IsLedger}
@@ -27,7 +24,8 @@ use Rattle.stored_tables.specs.Covers.{IsCovered}
 use Rattle.tenants.specs.NameText.{IsTenantName}
 use Rattle.stored_ledgers.specs.DueSets.{DueSet, DueSets, AreCovered, due_cmp}
 use Rattle.stored_ledgers.specs.Ledger.{HoldsLedgers}
-use Rattle.openings.specs.Found.{HasOrderedTables, LeavesUnopened, Yields}
+use Rattle.openings.specs.Found.{HasOrderedTables}
+pub use Rattle.openings.specs.Found.{LeavesRefused}
 use Rattle.stored_ledgers.specs.Resting.{IsQuiet}
 use Rattle.openings.specs.Whole.{AreAllRows}
 
@@ -88,8 +86,3 @@ pub record IsOpened (image : Image) (s : State) : Type 0 where
   pub sound : IsDatabase s.now
   pub ordered : HasOrderedTables s.now
   pub found : FindsIn image s
-
--- what an opening that was refused leaves: what the database's own left, or what the files held
-abbrev pub LeavesRefused : {D : Type 0} → (g : disk.Ghosts D) → Files D → Files D → Type 0
-LeavesRefused g files left =
-    LeavesUnopened g files left ⊎ Yields g left (AreFoundIn (image_of g files))

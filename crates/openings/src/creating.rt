@@ -1,6 +1,6 @@
 //! How a new ledger is made in an empty database.
 
-ghost use Rattle.std.specs.Prelude.{◌≡◌, ◌⊎◌, IfOk, IfErr, OnOk, OnErr, IsTrue};
+ghost use Rattle.std.specs.Prelude.{◌≡◌, IfOk, IfErr, OnOk, OnErr, IsTrue};
 ghost use Rattle.sqlite.specs.State.{HasCleanDisk, Opens, Survives};
 ghost use Rattle.sqlite.specs.Files.{file_state, image_of};
 ghost use Rattle.sqlite.specs.Held.{state};
@@ -8,7 +8,8 @@ ghost use Rattle.sqlite_wal.specs.Reads.{AreClean};
 ghost use Rattle.ledger_sql.specs.Creating.{IsEmptyLedger};
 ghost use Rattle.ledger_sql.specs.Frames.{Live, IsUnmarked};
 ghost use Rattle.ledger_sql.specs.Schema.{no_schema, ledger_schema};
-ghost use Rattle.openings.specs.Found.{FindsOurs, LeavesNew, Yields};
+ghost use Rattle.openings.specs.Found.{FilesStay, FindsNone, FindsOurs, IsBlankHere};
+ghost use Rattle.openings.specs.Found.{IsOfLedger, LeavesFilled, LeavesNew};
 ghost use Rattle.stored_ledgers.specs.Resting.{Rests, IsNewLedger, IsSame, Serves};
 ghost use Rattle.stored_ledgers.specs.DueSets.{DueSets};
 ghost use Rattle.openings.specs.Shape.{has_ours};
@@ -70,12 +71,13 @@ pub(crate) fn fill_new<D: Disk + Drop>(
     requires { HasCleanDisk (file_state conn) → Opens (file_state conn) }
     ensures made { IfOk result (λ new. HasCleanDisk (file_state new)
         → IsNewLedger (file_state new)) }
+    ensures blank { IfOk result (λ new. HasCleanDisk (file_state new)
+        → IsBlankHere (file_state conn)) }
     ensures refused { IfErr result (λ e. (e.0 ≡ NotALedger) → HasCleanDisk (file_state conn)
         → IsTrue (has_ours (file_state conn).now.schema)) }
     ensures honest { IfErr result (λ e. AreClean D.Disk e.1.log e.1.db
         → HasCleanDisk (file_state conn)) }
-    ensures left { IfErr result (λ e. Yields D.Disk e.1
-        (λ db. (file_state conn).may_leave db ⊎ IsEmptyLedger db)) }
+    ensures left { IfErr result (λ e. LeavesFilled D.Disk (file_state conn) e.0 e.1) }
 {
     if let Some(fault) = refusal(conn.schema()) {
         return Err((fault, shut(conn)));
@@ -98,9 +100,14 @@ pub fn create_ledger<D: Disk + Drop>(
     ensures made { IfOk result (λ conn. HasCleanDisk (file_state conn)
         → IsNewLedger (file_state conn)) }
     ensures serves { IfOk result (λ conn. (sets : DueSets) → Serves sets (file_state conn)) }
+    ensures blank { IfOk result (λ conn. HasCleanDisk (file_state conn)
+        → FindsNone (image_of D.Disk files)) }
+    ensures honest { IfOk result (λ conn. HasCleanDisk (file_state conn)
+        → AreClean D.Disk files.log files.db) }
     ensures refused { IfErr result (λ e. e.0 ≡ NotALedger → AreClean D.Disk e.1.log e.1.db
         → FindsOurs (image_of D.Disk files)) }
-    ensures left { IfErr result (λ e. LeavesNew D.Disk files e.1) }
+    ensures left { IfErr result (λ e. LeavesNew D.Disk files e.0 e.1) }
+    ensures stay { IfErr result (λ e. IsOfLedger e.0 → FilesStay D.Disk files e.1) }
 {
     let conn = open_on(alloc, files, options)?;
     fill_new(conn)

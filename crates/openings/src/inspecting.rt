@@ -5,7 +5,9 @@ ghost use Rattle.sqlite.specs.State.{HasCleanDisk};
 ghost use Rattle.sqlite.specs.Files.{file_state, image_of};
 ghost use Rattle.sqlite_wal.specs.Reads.{AreClean};
 ghost use Rattle.openings.specs.Damage.{Hold, IfDamaged};
+ghost use Rattle.openings.specs.Found.{FilesStay, IsOfLedger};
 ghost use Rattle.openings.specs.Opened.{IsOpened, LeavesRefused};
+ghost use Rattle.openings.specs.Told.{IsToldBy};
 
 use crate::closing::shut;
 use crate::opening::{OpenFault, open_on};
@@ -25,6 +27,7 @@ pub trait Inspection {
     ghost use Rattle.audit.specs.declared.damage.Damage.{Damage};
     ghost use Rattle.ledger_sql.specs.Frames.{Follows};
     ghost use Rattle.openings.specs.Damage.{IfDamaged};
+    ghost use Rattle.openings.specs.declared.opening.OpenFault.{OpenFault};
 
     // What is known of each answer, whatever the disk has done.
     ghost known: { Self.Found → Type 0 };
@@ -34,6 +37,9 @@ pub trait Inspection {
 
     // Which damage is told of it.
     ghost tells: { Damage → Trees → Type 0 };
+
+    // In which case of the database a fault is told.
+    ghost refuses: { OpenFault → Database → Type 0 } = { λ _ _. Unit {0} };
 
     /// Looks at it, and answers what was found, or why it is refused.
     fn inspect<S: Alter>(
@@ -47,6 +53,8 @@ pub trait Inspection {
         ensures damaged { HasCleanDisk (state S.Store conn.new)
             → IfErr result (λ fault. IfDamaged fault
             (λ damage. tells damage (state S.Store conn.old).now.trees)) }
+        ensures told { HasCleanDisk (state S.Store conn.new)
+            → IfErr result (λ fault. refuses fault (state S.Store conn.old).now) }
         ensures kept { HasCleanDisk (state S.Store conn.new) → OnOk result
             (IsUnchanged (state S.Store conn.old) (state S.Store conn.new)) }
         ensures follows { Follows (state S.Store conn.old) (state S.Store conn.new) };
@@ -70,7 +78,10 @@ pub fn open_inspected<D: Disk + Drop, I: Inspection>(
         → AreClean D.Disk files.log files.db) }
     ensures damaged { IfErr result (λ e. AreClean D.Disk e.1.log e.1.db
         → IfDamaged e.0 (λ damage. Hold D.Disk files (I.tells damage))) }
+    ensures told { IfErr result (λ e. AreClean D.Disk e.1.log e.1.db
+        → IsToldBy I.refuses D.Disk files e.0 e.1) }
     ensures left { IfErr result (λ e. LeavesRefused D.Disk files e.1) }
+    ensures stay { IfErr result (λ e. IsOfLedger e.0 → FilesStay D.Disk files e.1) }
 {
     let mut conn = open_on(alloc, files, options)?;
     match inspection.inspect(alloc, &mut conn) {

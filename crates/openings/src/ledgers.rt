@@ -6,7 +6,9 @@ ghost use Rattle.sqlite.specs.Files.{file_state, image_of};
 ghost use Rattle.sqlite_wal.specs.Reads.{AreClean};
 ghost use Rattle.stored_ledgers.specs.Resting.{Serves};
 ghost use Rattle.openings.specs.Damage.{Hold, IfDamaged, IsDamagedIn};
+ghost use Rattle.openings.specs.Found.{FilesStay, IsOfLedger};
 ghost use Rattle.openings.specs.Opened.{IsOpened, LeavesRefused};
+ghost use Rattle.openings.specs.Told.{IsTold};
 
 use crate::auditing::Audit;
 use crate::inspecting::{Inspection, open_inspected};
@@ -29,12 +31,15 @@ impl<A: Audit> Inspection for ServedInspection<'_, A> {
 
     ghost use Rattle.openings.specs.Damage.{IsDamagedIn};
     ghost use Rattle.openings.specs.Opened.{CanServe};
+    ghost use Rattle.openings.specs.Told.{Tells};
 
     ghost known = { λ _. Unit {0} };
 
     ghost finds = { λ sets db. CanServe sets db };
 
     ghost tells = { λ damage trees. IsDamagedIn 3 damage trees };
+
+    ghost refuses = { λ fault db. Tells fault db };
 
     fn inspect<S: Alter>(
         &self,
@@ -62,7 +67,10 @@ pub fn open_ledger<D: Disk + Drop, A: Audit>(
         → AreClean D.Disk files.log files.db) }
     ensures damaged { IfErr result (λ e. AreClean D.Disk e.1.log e.1.db
         → IfDamaged e.0 (λ damage. Hold D.Disk files (IsDamagedIn CURRENT_VERSION damage))) }
+    ensures told { IfErr result (λ e. AreClean D.Disk e.1.log e.1.db
+        → IsTold D.Disk files e.0 e.1) }
     ensures left { IfErr result (λ e. LeavesRefused D.Disk files e.1) }
+    ensures stay { IfErr result (λ e. IsOfLedger e.0 → FilesStay D.Disk files e.1) }
 {
     open_inspected(alloc, files, options, &ServedInspection { audit })
 }

@@ -7,6 +7,7 @@ pub mod closing;
 pub mod creating;
 mod due_sets;
 pub mod inspecting;
+pub mod laws;
 pub mod ledgers;
 pub mod opened;
 pub mod opening;

@@ -1,12 +1,13 @@
 //! What an opening looks at before a ledger is served.
 
-ghost use Rattle.std.specs.Prelude.{IfOk, IfErr, OnOk, IsTrue};
+ghost use Rattle.std.specs.Prelude.{◌↔◌, IfOk, IfErr, OnOk, IsTrue};
 ghost use Rattle.sqlite.specs.State.{HasCleanDisk, IsUnchanged};
 ghost use Rattle.sqlite.specs.Held.{state};
 ghost use Rattle.ledger_sql.specs.Effects.{IsLedger};
 ghost use Rattle.ledger_sql.specs.Frames.{Live, Follows};
 ghost use Rattle.openings.specs.Damage.{IfDamaged, IsDamagedIn, IsNoDamage};
-ghost use Rattle.openings.specs.Opened.{CanServe, HasCurrentVersion, HasNames};
+ghost use Rattle.openings.specs.Opened.{CanServe, HasNames};
+ghost use Rattle.openings.specs.Told.{IsCurrent, Tells};
 ghost use Rattle.stored_ledgers.specs.Resting.{IsQuiet, IsSame};
 ghost use Rattle.openings.specs.Whole.{AreAllRows};
 
@@ -35,6 +36,8 @@ pub fn examine<S: Alter, A: Audit>(
     ensures damaged { HasCleanDisk (state S.Store conn.new)
         → IfErr result (λ fault. IfDamaged fault
         (λ damage. IsDamagedIn 3 damage (state S.Store conn.old).now.trees)) }
+    ensures told { HasCleanDisk (state S.Store conn.new)
+        → IfErr result (λ fault. Tells fault (state S.Store conn.old).now) }
     ensures kept { HasCleanDisk (state S.Store conn.new) → OnOk result
         (IsUnchanged (state S.Store conn.old) (state S.Store conn.new)) }
     ensures same { Live (state S.Store conn.new) → IsQuiet (state S.Store conn.old)
@@ -52,8 +55,9 @@ pub fn examine<S: Alter, A: Audit>(
 /// Refuses each version of the schema but the current one.
 fn find_current<S: Alter>(alloc: Global, conn: &mut Connection<S>) -> Result<(), OpenFault>
     ensures current { HasCleanDisk (state S.Store conn.new)
-        → IsLedger (state S.Store conn.old).now.schema
-        → OnOk result (HasCurrentVersion (state S.Store conn.old).now.trees) }
+        → OnOk result (IsCurrent (state S.Store conn.old).now) }
+    ensures told { HasCleanDisk (state S.Store conn.new)
+        → IfErr result (λ fault. Tells fault (state S.Store conn.old).now) }
     ensures undamaged { IfErr result IsNoDamage }
     ensures kept { HasCleanDisk (state S.Store conn.new) → OnOk result
         (IsUnchanged (state S.Store conn.old) (state S.Store conn.new)) }
@@ -74,6 +78,8 @@ fn read_ledger<S: Alter>(alloc: Global, conn: &mut Connection<S>) -> Result<AllR
         (IsLedger (state S.Store conn.old).now.schema) }
     ensures read { HasCleanDisk (state S.Store conn.new)
         → IfOk result (AreAllRows CURRENT_VERSION (state S.Store conn.old).now.trees) }
+    ensures told { HasCleanDisk (state S.Store conn.new) → IsCurrent (state S.Store conn.old).now
+        → IfErr result (λ fault. Tells fault (state S.Store conn.old).now) }
     ensures undamaged { IfErr result IsNoDamage }
     ensures names { IfOk result (λ rows. HasNames rows.directory.items) }
     ensures kept { HasCleanDisk (state S.Store conn.new) → OnOk result
@@ -94,7 +100,7 @@ fn read_ledger<S: Alter>(alloc: Global, conn: &mut Connection<S>) -> Result<AllR
 
 /// Whether each tenant has a name that a tenant may have.
 pub fn has_names(directory: &[DirectoryRow]) -> bool
-    ensures { IsTrue result → HasNames directory.now }
+    ensures { IsTrue result ↔ HasNames directory.now }
 {
     directory
         .iter()

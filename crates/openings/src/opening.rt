@@ -1,12 +1,14 @@
 //! How the database of a store is opened.
 
-ghost use Rattle.std.specs.Prelude.{◌≡◌, ◌≢◌, true, false, IsTrue, IfOk, IfErr};
+ghost use Rattle.std.specs.Prelude.{◌≡◌, true, false, IsTrue, IfOk, IfErr};
 ghost use Rattle.sqlite.specs.State.{HasCleanDisk};
 ghost use Rattle.sqlite.specs.Files.{file_state, image_of};
 ghost use Rattle.sqlite_std_file.specs.File.{file_is_usable, IsFresh};
 ghost use Rattle.sqlite_wal.specs.Reads.{AreClean};
 ghost use Rattle.openings.specs.Damage.{IsNoDamage};
-ghost use Rattle.openings.specs.Found.{IsOpenAt, LeavesUnopened};
+ghost use Rattle.openings.specs.Faults.{open_fault_in};
+ghost use Rattle.openings.specs.Told.{IsUnopenedFor};
+ghost use Rattle.openings.specs.Found.{IsOfLedger, IsOpenAt, LeavesUnopened};
 
 use crate::closing::is_settled;
 use audit::{AuditFault, Damage};
@@ -54,7 +56,7 @@ impl From<TableFault> for OpenFault {
 
     fn from(cause: TableFault) -> OpenFault {
         match cause {
-            TableFault::Missing => OpenFault::NotALedger,
+            TableFault::Missing => OpenFault::Unavailable(Unavailable::Disk),
             TableFault::Unavailable(cause) => OpenFault::Unavailable(cause),
         }
     }
@@ -75,17 +77,16 @@ impl From<AuditFault> for OpenFault {
 
 /// What an error at an opening means to the ledger.
 fn open_fault(error: Error) -> OpenFault
-    ensures ledger { result ≢ OpenFault.NotALedger }
+    ensures means { result ≡ open_fault_in error }
+    ensures ledger { IsOfLedger result → ⊥ }
     ensures undamaged { IsNoDamage result }
 {
     match error {
         Error::SqliteFailure(ErrorCode::OutOfMemory) => OpenFault::Unavailable(Unavailable::Memory),
-        Error::SqliteFailure(ErrorCode::SystemIoFailure | ErrorCode::Closed) => {
-            OpenFault::Unavailable(Unavailable::Disk)
-        }
-        Error::SqliteFailure(ErrorCode::DiskFull | ErrorCode::TooBig) => {
-            OpenFault::Unavailable(Unavailable::Size)
-        }
+        Error::SqliteFailure(
+            ErrorCode::SystemIoFailure | ErrorCode::DiskFull | ErrorCode::Closed,
+        ) => OpenFault::Unavailable(Unavailable::Disk),
+        Error::SqliteFailure(ErrorCode::TooBig) => OpenFault::Unavailable(Unavailable::Size),
         _ => OpenFault::Unreadable,
     }
 }
@@ -102,8 +103,10 @@ pub(crate) fn open_on<D: Disk + Drop>(
         → IsOpenAt (image_of D.Disk files) (file_state conn)) }
     ensures honest { IfOk result (λ conn. HasCleanDisk (file_state conn)
         → AreClean D.Disk files.log files.db) }
-    ensures fault { IfErr result (λ e. e.0 ≢ OpenFault.NotALedger) }
+    ensures fault { IfErr result (λ e. IsOfLedger e.0 → ⊥) }
     ensures undamaged { IfErr result (λ e. IsNoDamage e.0) }
+    ensures told { IfErr result (λ e. AreClean D.Disk e.1.log e.1.db
+        → IsUnopenedFor D.Disk files e.0 e.1) }
     ensures left { IfErr result (λ e. LeavesUnopened D.Disk files e.1) }
 {
     match Connection::open_files(alloc, files, options) {

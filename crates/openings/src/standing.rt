@@ -1,33 +1,35 @@
 //! Where a ledger's tables stand among those of a file, and how they are made.
 
 ghost use Rattle.std.specs.Prelude.{◌≡◌, None, IfSome};
-ghost use Rattle.ledger_sql.specs.Effects.{IsLedger};
-ghost use Rattle.openings.specs.Damage.{IsNoDamage};
+ghost use Rattle.ledger_sql.specs.Effects.{IsLedger, StartsAs};
+ghost use Rattle.ledger_sql.specs.Schema.{after_schema};
+ghost use Rattle.openings.specs.Told.{LacksTables, LacksVersions, has_all, has_table};
 
 use crate::opening::OpenFault;
-use ledger_shape::is_ledger;
+use ledger_shape::{has_versions, is_ledger};
 use sqlite_schema::names::same_name;
 use sqlite_schema::schema::{Schema, Table};
 
-/// Why a file cannot be asked for its version: the table of it is not there, or not the first.
+/// Why a file cannot be asked for its version: the table of it is not there, or not the first, or
+/// made in another way.
 pub(crate) fn version_refusal(schema: &Schema) -> Option<OpenFault>
-    ensures { IfSome result IsNoDamage }
+    ensures starts { result ≡ None → StartsAs after_schema.tables schema.now }
+    ensures lacks { IfSome result (λ fault. LacksVersions fault schema.now) }
 {
-    let tables = schema.tables.as_slice();
-    if !has_table(tables, b"schema") {
+    if !has_table(b"schema", schema.tables.as_slice()) {
         return Some(OpenFault::NotALedger);
     }
-    match tables.first() {
-        Some(table) if same_name(b"schema", table.name.as_slice()) => None,
-        _ => Some(OpenFault::Unreadable),
+    if !has_versions(schema) {
+        return Some(OpenFault::Unreadable);
     }
+    None
 }
 
 /// Why a file of the current version cannot be read: a ledger's table is missing, or they are not
 /// the first, or made in another way, or another refers to one of them.
 pub(crate) fn standing_refusal(schema: &Schema) -> Option<OpenFault>
     ensures ledger { result ≡ None → IsLedger schema.now }
-    ensures undamaged { IfSome result IsNoDamage }
+    ensures lacks { IfSome result (λ fault. LacksTables fault schema.now) }
 {
     if !has_all(schema.tables.as_slice()) {
         return Some(OpenFault::NotALedger);
@@ -38,19 +40,23 @@ pub(crate) fn standing_refusal(schema: &Schema) -> Option<OpenFault>
     None
 }
 
-fn has_all(tables: &[Table]) -> bool {
-    has_table(tables, b"schema")
-        && has_table(tables, b"tenant")
-        && has_table(tables, b"clock")
-        && has_table(tables, b"account")
-        && has_table(tables, b"transfer")
-        && has_table(tables, b"balance")
-        && has_table(tables, b"status")
-        && has_table(tables, b"history")
-        && has_table(tables, b"failed")
+fn has_all(tables: &[Table]) -> bool
+    ensures { result ≡ has_all tables.now }
+{
+    has_table(b"schema", tables)
+        && has_table(b"tenant", tables)
+        && has_table(b"clock", tables)
+        && has_table(b"account", tables)
+        && has_table(b"transfer", tables)
+        && has_table(b"balance", tables)
+        && has_table(b"status", tables)
+        && has_table(b"history", tables)
+        && has_table(b"failed", tables)
 }
 
-fn has_table(tables: &[Table], name: &[u8]) -> bool {
+fn has_table(name: &[u8], tables: &[Table]) -> bool
+    ensures { result ≡ has_table name.now tables.now }
+{
     tables
         .iter()
         .any(|table| same_name(name, table.name.as_slice()))

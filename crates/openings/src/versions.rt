@@ -7,6 +7,7 @@ ghost use Rattle.ledger_sql.specs.Effects.{StartsAs};
 ghost use Rattle.ledger_sql.specs.Frames.{Live, Follows};
 ghost use Rattle.ledger_sql.specs.Schema.{after_schema};
 ghost use Rattle.openings.specs.Damage.{IsNoDamage, NamesVersion};
+ghost use Rattle.openings.specs.Told.{LacksVersion, Tells};
 ghost use Rattle.stored_ledgers.specs.Resting.{IsQuiet, IsSame};
 
 use crate::opening::OpenFault;
@@ -23,7 +24,11 @@ pub fn find_version<S: Alter>(alloc: Global, conn: &mut Connection<S>) -> Result
     ensures named { HasCleanDisk (state S.Store conn.new)
         → StartsAs after_schema.tables (state S.Store conn.old).now.schema
         → IfOk result (λ version. NamesVersion (pos version) (state S.Store conn.old).now.trees) }
+    ensures starts { HasCleanDisk (state S.Store conn.new) → OnOk result
+        (StartsAs after_schema.tables (state S.Store conn.old).now.schema) }
     ensures known { IfOk result (λ version. (1 ≤ version) × (version ≤ CURRENT_VERSION)) }
+    ensures told { HasCleanDisk (state S.Store conn.new)
+        → IfErr result (λ fault. Tells fault (state S.Store conn.old).now) }
     ensures undamaged { IfErr result IsNoDamage }
     ensures kept { HasCleanDisk (state S.Store conn.new) → OnOk result
         (IsUnchanged (state S.Store conn.old) (state S.Store conn.new)) }
@@ -41,13 +46,25 @@ pub fn find_version<S: Alter>(alloc: Global, conn: &mut Connection<S>) -> Result
 fn one_version(versions: &[i64]) -> Result<u32, OpenFault>
     ensures named { IfOk result (λ version. versions.now ≡ pos version ∷ []) }
     ensures known { IfOk result (λ version. (1 ≤ version) × (version ≤ CURRENT_VERSION)) }
-    ensures undamaged { IfErr result IsNoDamage }
+    ensures lacks { IfErr result (λ fault. LacksVersion fault versions.now) }
 {
     match versions {
-        [1] => Ok(1),
-        [2] => Ok(2),
-        [3] => Ok(3),
-        [version] if *version > 3 => Err(OpenFault::NewerSchema),
+        [version] => known_version(*version),
         _ => Err(OpenFault::NotALedger),
     }
+}
+
+/// The version with this number, if a ledger may have it.
+fn known_version(number: i64) -> Result<u32, OpenFault>
+    ensures named { IfOk result (λ version. number ≡ pos version) }
+    ensures known { IfOk result (λ version. (1 ≤ version) × (version ≤ CURRENT_VERSION)) }
+    ensures lacks { IfErr result (λ fault. LacksVersion fault (number ∷ [])) }
+{
+    if number < 1 {
+        return Err(OpenFault::NotALedger);
+    }
+    if number > 3 {
+        return Err(OpenFault::NewerSchema);
+    }
+    Ok(number as u32)
 }

@@ -17,7 +17,7 @@ use Rattle.chain.specs.Ledgers.{Tenants, KeepsAll}
 use Rattle.ledger_sql.specs.Frames.{Live}
 use Rattle.stored_ledgers.specs.Directory.{tenants_in}
 use Rattle.stored_ledgers.specs.DueSets.{DueSets}
-use Rattle.openings.specs.Found.{IsSettled, Yields}
+use Rattle.openings.specs.Found.{IsSettled, LeavesUnopened, Yields}
 use Rattle.openings.specs.Opened.{IsOpened}
 use Rattle.stored_ledgers.specs.Resting.{IsResting}
 use Rattle.store.specs.declared.place.Place.{Place}
@@ -173,3 +173,24 @@ module _ {D : Type 0} {g : disk.Ghosts D} where
   -- a crash of the store may have left such a database
   abbrev pub MayHold : Store D g → (Trees → Type 0) → Type 0
   MayHold store P = ∥ ((trees : Trees) × may_find store trees × P trees) ∥₁
+
+  -- a crash of the store may have left a database of which this is so
+  abbrev pub MayHoldOne : Store D g → (Database → Type 0) → Type 0
+  MayHoldOne store P = ∥ ((db : Database) × may_find store db.trees × P db) ∥₁
+
+  -- what an opening may find is what it might have found before, unless the disk has lied
+  pub record KeepsFound (old new : Store D g) : Type 0 where
+    pub honest : IsHonest new → IsHonest old
+    pub found : IsHonest new → (db : Trees) → may_find new db → ∥ may_find old db ∥₁
+
+  -- the database's own opening refused the files, and the store has them as that left them
+  pub record IsUnopened (old new : Store D g) : Type 0 where
+    pub files : Files D
+    pub back : GivesBack old files
+    pub left : Files D
+    pub place : new.place ≡ at.Shut left
+    pub unopened : LeavesUnopened g files left
+
+  -- what a reopening that was refused leaves
+  abbrev pub LeavesStore : Store D g → Store D g → Type 0
+  LeavesStore old new = KeepsFound old new ⊎ IsUnopened old new

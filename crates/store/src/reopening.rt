@@ -3,7 +3,10 @@
 ghost use Rattle.std.specs.Prelude.{◌≡◌, false, IfErr, OnOk, OnErr};
 ghost use Rattle.openings.specs.Damage.{IfDamaged, IsDamagedIn};
 ghost use Rattle.store.specs.Stores.{IsHonest, IsLive, IsReady, IsUsable};
-ghost use Rattle.store.specs.Stores.{Finds, MayHold, may_find};
+ghost use Rattle.openings.specs.Found.{IsOfLedger};
+ghost use Rattle.openings.specs.Told.{Tells};
+ghost use Rattle.store.specs.Stores.{Finds, KeepsFound, LeavesStore};
+ghost use Rattle.store.specs.Stores.{MayHold, MayHoldOne, may_find};
 
 use crate::Store;
 use crate::place::Place;
@@ -27,6 +30,10 @@ impl<D: Disk + Drop> Store<D> {
         ensures honest { IsHonest self.new → OnOk result (IsHonest self.old) }
         ensures damaged { IsHonest self.new → IfErr result (λ fault. IfDamaged fault
             (λ damage. MayHold self.old (IsDamagedIn CURRENT_VERSION damage))) }
+        ensures told { IsHonest self.new → IfErr result (λ fault. IsOfLedger fault
+            → MayHoldOne self.old (Tells fault)) }
+        ensures left { OnErr result (LeavesStore self.old self.new) }
+        ensures kept { IfErr result (λ fault. IsOfLedger fault → KeepsFound self.old self.new) }
         ensures refused { OnErr result (self.new.ready ≡ false) }
         ensures shut { OnErr result (IsLive self.new → ⊥) }
     {
@@ -45,6 +52,10 @@ fn reopened<D: Disk + Drop, A: Audit>(
     ensures honest { IsHonest result.0 → OnOk result.1 (IsHonest store) }
     ensures damaged { IsHonest result.0 → IfErr result.1 (λ fault. IfDamaged fault
         (λ damage. MayHold store (IsDamagedIn CURRENT_VERSION damage))) }
+    ensures told { IsHonest result.0 → IfErr result.1 (λ fault. IsOfLedger fault
+        → MayHoldOne store (Tells fault)) }
+    ensures left { OnErr result.1 (LeavesStore store result.0) }
+    ensures kept { IfErr result.1 (λ fault. IsOfLedger fault → KeepsFound store result.0) }
     ensures refused { OnErr result.1 (result.0.ready ≡ false) }
     ensures shut { OnErr result.1 (IsLive result.0 → ⊥) }
 {

@@ -10,11 +10,12 @@ ghost use Rattle.sqlite_wal.specs.Reads.{AreClean};
 ghost use Rattle.ledger_sql.specs.Creating.{IsEmptyLedger};
 ghost use Rattle.openings.specs.Damage.{Hold, IfDamaged, IsDamagedIn};
 ghost use Rattle.stored_ledgers.specs.Directory.{digest_in, KeepsDirectory};
-ghost use Rattle.openings.specs.Found.{FindsOurs, LeavesNew};
+ghost use Rattle.openings.specs.Found.{FilesStay, FindsNone, FindsOurs, IsOfLedger, LeavesNew};
 ghost use Rattle.stored_ledgers.specs.Listing.{AreListed};
 ghost use Rattle.stored_ledgers.specs.Joining.{HasJoined, Joined};
 ghost use Rattle.stored_ledgers.specs.Keying.{HasKeyed, Keyed};
 ghost use Rattle.openings.specs.Opened.{LeavesRefused};
+ghost use Rattle.openings.specs.Told.{IsTold};
 ghost use Rattle.stored_ledgers.specs.Resting.{Serves};
 ghost use Rattle.stored_ledgers.specs.Rounds.{IsAfterRound};
 ghost use Rattle.service.specs.Courses.{Tried};
@@ -79,9 +80,14 @@ impl<D: Disk + Drop> Store<D> {
         ensures ready { IfOk result IsReady }
         ensures empty { IfOk result (λ store. IsHonest store → IsLive store
             × OfDatabase (λ db. IsEmptyLedger db.trees) store) }
+        ensures blank { IfOk result (λ store. IsHonest store
+            → FindsNone (image_of D.Disk files)) }
+        ensures honest { IfOk result (λ store. IsHonest store
+            → AreClean D.Disk files.log files.db) }
         ensures refused { IfErr result (λ e. e.0 ≡ NotALedger → AreClean D.Disk e.1.log e.1.db
             → FindsOurs (image_of D.Disk files)) }
-        ensures left { IfErr result (λ e. LeavesNew D.Disk files e.1) }
+        ensures left { IfErr result (λ e. LeavesNew D.Disk files e.0 e.1) }
+        ensures stay { IfErr result (λ e. IsOfLedger e.0 → FilesStay D.Disk files e.1) }
     {
         let conn = create_ledger(alloc, files, options)?;
         Ok(Store::over(alloc, conn, BTreeMap::new(alloc), options))
@@ -105,7 +111,10 @@ impl<D: Disk + Drop> Store<D> {
             → AreClean D.Disk files.log files.db) }
         ensures damaged { IfErr result (λ e. AreClean D.Disk e.1.log e.1.db
             → IfDamaged e.0 (λ damage. Hold D.Disk files (IsDamagedIn CURRENT_VERSION damage))) }
+        ensures told { IfErr result (λ e. AreClean D.Disk e.1.log e.1.db
+            → IsTold D.Disk files e.0 e.1) }
         ensures left { IfErr result (λ e. LeavesRefused D.Disk files e.1) }
+        ensures stay { IfErr result (λ e. IsOfLedger e.0 → FilesStay D.Disk files e.1) }
     {
         let (conn, due) = open_ledger(alloc, files, options, audit)?;
         Ok(Store::over(alloc, conn, due, options))

@@ -1,6 +1,8 @@
 -- A run, step by step.
 use Rattle.std.proofs.Common.{◌≡◌, List, [], ◌∷◌, ◌++◌, Ok, Err, refl, sym, subst, ap, ◌∙◌, ◌+◌, ◌<◌}
 use Rattle.std.proofs.Common.{ℕ, length, take, get_or, add-one}
+use Rattle.std.proofs.Common.{◌⊎◌, inl, inr}
+use Rattle.std.proofs.Math.Logic.{∥∥₁_elim}
 use Rattle.std.proofs.Math.Seq.{take-suc}
 use Rattle.std.specs.List.{AllZip}
 use Rattle.chain.specs.Ledgers.{Tenants}
@@ -10,13 +12,16 @@ use Rattle.service.specs.Openings.{RunMeaning, IsSettled, Moves, HasLed, GoesOn,
 use Rattle.service.specs.OpeningLaws as openings
 use Rattle.service.specs.OpeningLaws.{event_more, same_more, opened_more, begun_anew}
 use Rattle.service.specs.TurnLaws.{round_more}
+use Rattle.openings.specs.Found.{IsOfLedger}
+use Rattle.openings.specs.declared.opening.OpenFault.{OpenFault}
+use Rattle.openings.specs.declared.opening.OpenFault.TheVariants as fault
 use Rattle.store.specs.Deeds.{ending_of, key_ending}
 use Rattle.whole_runs.specs.declared.steps.Step.{Step}
 use Rattle.whole_runs.specs.declared.steps.Step.TheVariants as step
 use Rattle.whole_runs.specs.declared.steps.Answer.{Answer}
 use Rattle.whole_runs.specs.declared.steps.Answer.TheVariants as answer
 use Rattle.whole_runs.specs.Courses.{AreOf, IsSince, Start, Anew, Onward}
-use Rattle.whole_runs.specs.Reopenings.{StepMakes, HasRun, IsAnswerTo, RunsThrough, Goes_on}
+use Rattle.whole_runs.specs.Reopenings.{StepMakes, HasRun, IsAnswerTo, IsRefused, RunsThrough, Goes_on}
 
 -- behind a step there are its events
 step_on :
@@ -27,9 +32,38 @@ step_on :
 step_on first steps answers step answer more are events began since =
     Onward steps answers events began step answer more since are
 
+-- a fault is of the ledger that is there, or it is not
+of_ledger : (fault : OpenFault) → IsOfLedger fault ⊎ (¬ IsOfLedger fault)
+of_ledger fault.InUse = inr (λ is. is)
+of_ledger fault.Unreadable = inr (λ is. is)
+of_ledger fault.NotALedger = inl tt
+of_ledger fault.OldSchema = inl tt
+of_ledger fault.NewerSchema = inl tt
+of_ledger (fault.Damaged damage) = inl tt
+of_ledger (fault.Unavailable why) = inr (λ is. is)
+
 module _ {S : Type 0} (t : RunMeaning S) (old mid new : S) (steps : List Step)
     (answers : List Answer) (run : HasRun t old steps answers mid)
   where
+    -- an opening that was refused
+    refused_more :
+        (fault : OpenFault) → IsRefused t mid fault new → IsOfLedger fault ⊎ (¬ IsOfLedger fault) →
+        HasRun t old (steps ++ step.Reopen ∷ []) (answers ++ answer.Reopened (Err fault) ∷ []) new
+    refused_more fault makes (inl is) =
+        let same =
+        same_more (IsSince (t.tenants old) steps answers)
+        (IsSince (t.tenants old) (steps ++ step.Reopen ∷ []) (answers ++ answer.Reopened (Err fault) ∷ []))
+        t mid (step_on (t.tenants old) steps answers step.Reopen (answer.Reopened (Err fault)) [] is) run in
+        record {
+          here = λ live. absurd (makes.shut live);
+          found = λ found may. ∥∥₁_elim (makes.kept is found may) squash₁ (λ before. same.found found before);
+        }
+    refused_more fault makes (inr other) =
+        begun_anew t
+        (IsSince (t.tenants old) (steps ++ step.Reopen ∷ [])
+        (answers ++ answer.Reopened (Err fault) ∷ []))
+        new (λ began may. Anew steps answers fault began other)
+
     event_step :
         (step : Step) (answer : Answer) (event : Event) → AreOf step answer (event ∷ []) →
         IsFree event → Moves t mid event new →
@@ -75,14 +109,15 @@ module _ {S : Type 0} (t : RunMeaning S) (old mid new : S) (steps : List Step)
     step_more (step.Round messages) (answer.Reopened result) makes = absurd makes
     step_more (step.AddTenant name digest) (answer.Added result) makes =
         event_step (step.AddTenant name digest) (answer.Added result)
-        (Tried (Joined digest) (ending_of result)) refl (λ events. tt) makes
+        (Tried (Joined digest) (ending_of result)) refl (λ events. tt) makes.0
     step_more (step.AddTenant name digest) (answer.Replied reply) makes = absurd makes
     step_more (step.AddTenant name digest) (answer.Round result) makes = absurd makes
     step_more (step.AddTenant name digest) (answer.Keyed result) makes = absurd makes
     step_more (step.AddTenant name digest) (answer.Reopened result) makes = absurd makes
     step_more (step.ChangeKey name digest) (answer.Keyed result) makes =
         event_step (step.ChangeKey name digest) (answer.Keyed result)
-        (Tried (Keyed makes.0 digest) (key_ending result)) (makes.0, refl) (λ events. tt) makes.1
+        (Tried (Keyed makes.0.0 digest) (key_ending result)) (makes.0.0, refl) (λ events. tt)
+        makes.0.1
     step_more (step.ChangeKey name digest) (answer.Replied reply) makes = absurd makes
     step_more (step.ChangeKey name digest) (answer.Round result) makes = absurd makes
     step_more (step.ChangeKey name digest) (answer.Added result) makes = absurd makes
@@ -96,10 +131,7 @@ module _ {S : Type 0} (t : RunMeaning S) (old mid new : S) (steps : List Step)
         (Reopened deeds ∷ []) tt)
         makes run
     step_more step.Reopen (answer.Reopened (Err fault)) makes =
-        begun_anew t
-        (IsSince (t.tenants old) (steps ++ step.Reopen ∷ [])
-        (answers ++ answer.Reopened (Err fault) ∷ []))
-        new (λ began may. Anew steps answers fault began)
+        refused_more fault makes (of_ledger fault)
     step_more step.Reopen (answer.Replied reply) makes = absurd makes
     step_more step.Reopen (answer.Round result) makes = absurd makes
     step_more step.Reopen (answer.Added result) makes = absurd makes
@@ -145,10 +177,11 @@ pub through_on :
     (answers more : List Answer) (i : ℕ) (step : Step) (answer : Answer) → i < length steps →
     step ≡ get_or steps i step → more ≡ answers ++ answer ∷ [] →
     RunsThrough t old (take i steps) answers mid → HasRun t old (take i steps) answers mid →
-    StepMakes t mid step answer new → RunsThrough t old (take (i + 1) steps) more new
-through_on t old mid new steps answers more i step answer below is grown through run makes =
+    StepMakes t mid step answer new → IsSettled t new →
+    RunsThrough t old (take (i + 1) steps) more new
+through_on t old mid new steps answers more i step answer below is grown through run makes settled =
     rw (take_step steps i step below is, grown)
-    (Goes_on (take i steps) answers mid step answer new through makes
+    (Goes_on (take i steps) answers mid step answer new through makes settled
     (step_more t old mid new (take i steps) answers run step answer makes))
 
 pub answered_on :

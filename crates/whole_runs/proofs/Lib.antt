@@ -3,3 +3,4 @@ mod BookLemmas
 mod CourseLemmas
 mod SameRowsLemmas
 mod StoreLemmas
+mod TakenLemmas

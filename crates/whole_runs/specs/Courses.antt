@@ -6,6 +6,7 @@ use Rattle.service.specs.Courses.{Event, Tried, Reopened, IsReplyTo}
 use Rattle.service.specs.Openings.{CourseSince}
 use Rattle.service.specs.OwnDeeds.{SeesItself}
 use Rattle.service.specs.Turns.{AreRepliesTo}
+use Rattle.openings.specs.Found.{IsOfLedger}
 use Rattle.openings.specs.declared.opening.OpenFault.{OpenFault}
 use Rattle.store.specs.Deeds.{ending_of, key_ending}
 use Rattle.whole_runs.specs.declared.steps.Step.{Step}
@@ -13,8 +14,8 @@ use Rattle.whole_runs.specs.declared.steps.Step.TheVariants as step
 use Rattle.whole_runs.specs.declared.steps.Answer.{Answer}
 use Rattle.whole_runs.specs.declared.steps.Answer.TheVariants as answer
 
--- the events are those of a step and its answer: one; or of a round one for each message, and none
--- where nothing was done
+-- the events are those of a step and its answer: one; or of a round one for each message; and none
+-- where nothing was done, or an opening was refused for the ledger that is there
 abbrev pub AreOf : Step → Answer → List Event → Type 0
 AreOf (step.Request bytes moment) (answer.Replied reply) (event ∷ []) =
     IsReplyTo bytes.items moment reply event
@@ -26,16 +27,17 @@ AreOf (step.AddTenant name digest) (answer.Added result) (event ∷ []) =
 AreOf (step.ChangeKey name digest) (answer.Keyed result) (event ∷ []) =
     (was : List ℕ) × (event ≡ Tried (Keyed was digest) (key_ending result))
 AreOf step.Reopen (answer.Reopened (Ok done)) (Reopened deeds ∷ []) = Unit {0}
+AreOf step.Reopen (answer.Reopened (Err fault)) [] = IsOfLedger fault
 AreOf step answer events = ⊥
 
--- the events of steps and their answers since the last opening that was refused, or since the
--- beginning where none was, and the machines at that time. After a refused opening the machines
--- are taken as the next opening finds them.
+-- the events of steps and their answers since an opening was refused last, but for the ledger that
+-- is there, or since the beginning where none was, and the machines at that time. After such an
+-- opening the machines are taken as the next opening finds them.
 pub data IsSince (first : Tenants) : List Step → List Answer → List Event → Tenants → Type 0 where
   Start : IsSince first [] [] [] first
   Anew :
       (steps : List Step) (answers : List Answer) (fault : OpenFault) (found : Tenants) →
-      IsSince first (steps ++ step.Reopen ∷ []) (answers ++ answer.Reopened (Err fault) ∷ []) []
+      ¬ IsOfLedger fault → IsSince first (steps ++ step.Reopen ∷ []) (answers ++ answer.Reopened (Err fault) ∷ []) []
       found
   Onward :
       (steps : List Step) (answers : List Answer) (events : List Event) (began : Tenants)

@@ -2,12 +2,13 @@
 ghost use Rattle.service.specs.Following.{ToldStays};
 ghost use Rattle.service.specs.Retries.{RetriesAddNothing, FailedStaysFailed};
 ghost use Rattle.whole_runs.specs.Courses.{RunsServeEachAlone};
-ghost use Rattle.whole_runs.specs.Retries.{HasAskedInRun};
+ghost use Rattle.whole_runs.specs.Retries.{HasAskedInRun, StaysFailedIn};
 ghost use Rattle.records.specs.Step.{account_rules, transfer_rules};
 ghost use Rattle.records.specs.declared.account_result.AccountResult.TheVariants as for_account;
 ghost use Rattle.records.specs.declared.transfer_result.TransferResult.TheVariants as for_transfer;
 ghost use Rattle.wire.specs.declared.request.Request.TheVariants.{Accounts, Transfers};
 
+use crate::Reopening;
 use service::{
     each_tenant_sees_itself, failed_in_course_stays_failed, retried_in_course_adds_nothing,
     told_in_course_stays,
@@ -34,9 +35,10 @@ pub fn retries_add_nothing()
 
 /// A transfer event that failed for good in the course of a run stays failed: sent again, however
 /// often and whenever, as the first event of a closed chain it answers `id_already_failed`, and its
-/// chain changes nothing.
-pub fn stays_failed()
-    ensures { FailedStaysFailed HasAskedInRun }
+/// chain changes nothing. The tenant's machine has to be valid by then, as it is in live ledgers.
+pub fn stays_failed<L: Reopening>()
+    ensures valid { FailedStaysFailed HasAskedInRun }
+    ensures live { StaysFailedIn L.means }
 {
     failed_in_course_stays_failed();
 }

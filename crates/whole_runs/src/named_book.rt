@@ -115,4 +115,6 @@ impl Reopening for NamedBook {
     fn open_again(&mut self) -> Result<(), OpenFault> {
         Ok(())
     }
+
+    ghost valid = { λ a live usable. usable };
 }

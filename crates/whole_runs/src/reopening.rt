@@ -1,11 +1,13 @@
 //! Ledgers that can be closed and opened again.
-ghost use Rattle.std.specs.Prelude.{◌≡◌, IfOk, OnErr};
+ghost use Rattle.std.specs.Prelude.{◌≡◌, Err, IfOk, OnErr};
+ghost use Rattle.chain.specs.Ledgers.{AreValid};
 ghost use Rattle.service.specs.Deeds.{Joined};
 ghost use Rattle.service.specs.Courses.{Tried};
 ghost use Rattle.service.specs.Openings.{RunMeaning, IsSettled, Replies, Moves};
+ghost use Rattle.service.specs.Responds.{RefusesEarly};
 ghost use Rattle.service.specs.Turns.{MovesInRound};
 ghost use Rattle.store.specs.Deeds.{ending_of, IsKeyTried};
-ghost use Rattle.whole_runs.specs.Reopenings.{Reopens};
+ghost use Rattle.whole_runs.specs.Reopenings.{Reopens, TellsTaken};
 
 use ledger_http::Reply;
 use service::Message;
@@ -32,6 +34,7 @@ pub trait Reopening {
     fn reply_to(&mut self, alloc: Global, bytes: &[u8], moment: u64) -> Reply
         requires { means.is_usable self.old }
         ensures replies { Replies means self.old bytes.now moment result self.new }
+        ensures early { RefusesEarly bytes.now result }
         ensures usable { means.is_usable self.new };
 
     /// The replies to messages, in order: they are answered in one round, and where that cannot be,
@@ -51,6 +54,8 @@ pub trait Reopening {
     fn join(&mut self, name: &TenantName, digest: &[u8; 32]) -> Result<(), AddTenant>
         requires { means.is_usable self.old }
         ensures moves { Moves means self.old (Tried (Joined digest.now) (ending_of result)) self.new }
+        ensures taken { TellsTaken means self.old digest.now (result ≡ Err AddTenant.DigestTaken)
+            self.new }
         ensures usable { means.is_usable self.new };
 
     /// Gives the tenant with this name the key of this digest, under which its machine stands from
@@ -58,6 +63,8 @@ pub trait Reopening {
     fn change_key(&mut self, name: &TenantName, digest: &[u8; 32]) -> Result<(), ChangeKey>
         requires { means.is_usable self.old }
         ensures moves { IsKeyTried means self.old digest.now result self.new }
+        ensures taken { TellsTaken means self.old digest.now (result ≡ Err ChangeKey.DigestTaken)
+            self.new }
         ensures usable { means.is_usable self.new };
 
     /// Closes the ledgers and opens them again. After an error each call but a later opening
@@ -66,4 +73,7 @@ pub trait Reopening {
         requires { means.is_usable self.old }
         ensures opened { Reopens means self.old result self.new }
         ensures usable { means.is_usable self.new };
+
+    /// In live ledgers that may be called every tenant's machine is valid.
+    ghost valid: { (a : Self) → means.is_live a → means.is_usable a → AreValid (means.tenants a) };
 }

@@ -1,6 +1,8 @@
 //! Runs a list of steps.
 ghost use Rattle.std.specs.Prelude.{◌≡◌, ◌<◌, ◌++◌, ◌∷◌, [], IfOk, OnErr, vec_len, vec_capacity};
 ghost use Rattle.std.specs.List.{AllZip};
+ghost use Rattle.chain.specs.Ledgers.{AreValid};
+ghost use Rattle.service.specs.Openings.{IsSettled};
 ghost use Rattle.whole_runs.specs.Reopenings.{StepMakes, HasRun, RunsThrough, IsAnswerTo};
 
 use crate::reopening::Reopening;
@@ -34,8 +36,9 @@ fn run_step<L: Reopening>(alloc: Global, ledgers: &mut L, step: &Step) -> Answer
 /// As long as the disk is honest, each tenant's replies other than `unavailable` and its machine
 /// are those of its own requests alone: of those that were answered, and of those that were not and
 /// that the next opening finds done. What is told of the end of the run begins at the last
-/// reopening that was refused; the same is told of each moment of the run and the steps up to
-/// there. Room for all answers is made first: where memory lacks for it, no step is run.
+/// reopening that was refused, but for the ledger that is there; the same is told of each moment of
+/// the run and the steps up to there. Room for all answers is made first: where memory lacks for
+/// it, no step is run.
 pub fn run_all<L: Reopening>(
     alloc: Global,
     ledgers: &mut L,
@@ -48,12 +51,16 @@ pub fn run_all<L: Reopening>(
         RunsThrough L.means ledgers.old steps.now answers.items ledgers.new) }
     ensures answered { IfOk result (λ answers. AllZip IsAnswerTo steps.now answers.items) }
     ensures unrun { OnErr result (ledgers.new ≡ ledgers.old) }
+    ensures settled { IsSettled L.means ledgers.new }
+    ensures valid { L.means.is_live ledgers.new → AreValid (L.means.tenants ledgers.new) }
     ensures usable { L.means.is_usable ledgers.new }
 {
-    let mut answers = Vec::with_capacity(alloc, steps.len())?;
     ledgers.is_settled();
+    let mut answers = Vec::with_capacity(alloc, steps.len())?;
     for step in steps {
-        answers.push_reserved(run_step(alloc, ledgers, step));
+        let answer = run_step(alloc, ledgers, step);
+        ledgers.is_settled();
+        answers.push_reserved(answer);
     }
     Ok(answers)
 }

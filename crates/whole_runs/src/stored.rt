@@ -20,7 +20,7 @@ impl<D: Disk + Drop> Settles<Store<D>> for Stores {
 
 impl<D: Disk + Drop> Reopening for Store<D> {
     ghost use Rattle.service.specs.Openings.{run_meaning};
-    ghost use Rattle.store.specs.StoreLaws.{store_meaning};
+    ghost use Rattle.store.specs.StoreLaws.{store_meaning, valid_tenants};
 
     ghost means = { run_meaning store_meaning };
 
@@ -56,4 +56,6 @@ impl<D: Disk + Drop> Reopening for Store<D> {
         self.is_settled();
         opened
     }
+
+    ghost valid = { λ a live usable. valid_tenants a live usable };
 }

@@ -71,6 +71,26 @@ const LEDGERS: &[&[Act]] = &[
     ],
     &[Runs("UPDATE schema SET version = 0"), IsRefused(NotALedger)],
     &[Runs("UPDATE schema SET version = 2"), IsRefused(NotALedger)],
+    &[
+        Runs("CREATE TABLE balance (amount INTEGER)"),
+        IsRefused(NotALedger),
+    ],
+    &[
+        Migrates(2, Ok(()), 2),
+        Runs("UPDATE schema SET version = 1"),
+        IsRefused(NotALedger),
+    ],
+    &[
+        Migrates(3, Ok(()), 3),
+        Runs("UPDATE schema SET version = 2"),
+        IsRefused(NotALedger),
+    ],
+    &[
+        Migrates(2, Ok(()), 2),
+        Runs("DROP TABLE history"),
+        Runs("CREATE TABLE history (book TEXT)"),
+        IsRefused(Unreadable),
+    ],
     &[Runs("DELETE FROM schema"), IsRefused(NotALedger)],
     &[Runs("DROP TABLE transfer"), IsRefused(NotALedger)],
     &[

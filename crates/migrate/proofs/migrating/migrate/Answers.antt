@@ -10,4 +10,4 @@ pub returns-then-to-ledger-2-clause-finds : goal.returns-then-to-ledger-2-clause
 returns-then-to-ledger-2-clause-finds g c = survives_itself (state_of c.args.ledger.now) _
 
 pub returns-then-to-ledger-2-clause-kept : goal.returns-then-to-ledger-2-clause-kept
-returns-then-to-ledger-2-clause-kept g c live = record { directory = refl; machines = λ number. refl }
+returns-then-to-ledger-2-clause-kept g c clean = record { directory = refl; machines = λ number. refl }

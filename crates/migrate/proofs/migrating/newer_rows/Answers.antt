@@ -1,5 +1,8 @@
-use Rattle.std.proofs.Common.{Err, ap, ◌∙◌}
+use Rattle.std.proofs.Common.{ℕ, All, Err, ap, subst, ◌∙◌}
 use Rattle.std.proofs.lemmas.Result.{err_from_is_err_and}
+use Rattle.rows.specs.declared.all_rows.TenantOfDigest.{TenantOfDigest}
+use Rattle.rows.specs.TypedRows.{lists_of}
+use Rattle.audit.specs.Sound.{AreSound}
 use Rattle.sqlite.specs.Held.{state}
 use Rattle.migrate.specs.Upgrading.{older_schema}
 use Rattle.migrate.specs.UpgradingLaws.{older_quiet}
@@ -30,3 +33,14 @@ returns-in_err-check-clause-damaged g c clean =
 
 pub returns-in_err-check-clause-open : goal.returns-in_err-check-clause-open
 returns-in_err-check-clause-open g c clean told = c.in_ok-older.ensures.open clean (λ failed. no_fault failed)
+
+pub returns-clause-sound : goal.returns-clause-sound
+returns-clause-sound g c clean =
+    let rows = c.in_ok-older.older in
+    let read = c.in_ok-older.ensures.value clean in
+    record {
+      all = rows;
+      read = read;
+      sound = subst (λ (v : ℕ). All (λ (tenant : TenantOfDigest). AreSound v (lists_of tenant.rows)) rows.tenants.items)
+          read.version_is c.in_ok-check.ensures.sound;
+    }

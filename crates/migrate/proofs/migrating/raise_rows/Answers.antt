@@ -18,6 +18,12 @@ raise-requires g c clean1 =
     let is_open = e.open clean1 (λ failed. no_fault failed) in
     still_older (older_schema c.args.version) s0 s1 (c.requires.older clean0) (e.same (clean1, is_open)) is_open
 
+pub returns-clause-sound : goal.returns-clause-sound
+returns-clause-sound g c clean2 =
+    let s1 = state g.S.Store c.newer_rows.new.conn in
+    let clean1 : HasCleanDisk s1 = omega (arith, c.in_ok-due.ensures.survives.clean, clean2) in
+    c.in_ok-newer.ensures.sound clean1
+
 pub returns-clause-raised : goal.returns-clause-raised
 returns-clause-raised g c clean2 =
     let s0 = state g.S.Store c.args.conn.now in

@@ -1,4 +1,4 @@
-use Rattle.std.proofs.Common.{ℕ, All, Err, ap, subst, ◌∙◌, arith}
+use Rattle.std.proofs.Common.{ℕ, All, Err, IfErr, ap, sym, subst, ◌∙◌, arith}
 use Rattle.std.proofs.lemmas.Result.{err_from_is_err_and}
 use Rattle.rows.specs.declared.all_rows.TenantOfDigest.{TenantOfDigest}
 use Rattle.rows.specs.TypedRows.{lists_of}
@@ -12,9 +12,12 @@ use Rattle.ledger_sql.specs.Effects.{IsLedger}
 use Rattle.openings.specs.Damage.{IsDamagedIn}
 use Rattle.openings.specs.Whole.{AreAllRows}
 use Rattle.openings.specs.Opened.{IsExamined}
+use Rattle.openings.specs.Told.{IsCurrent, Tells}
 use Rattle.openings.proofs.OpenedLedger.{examined_holds, examined_covered}
 use Rattle.openings.specs.DamageLaws.{first_of_read}
 use Rattle.openings.proofs.DamageLemmas.{damage_by_audit}
+use Rattle.openings.proofs.NameLemmas.{good_names}
+use Rattle.openings.proofs.ToldLemmas.{names_current, told_by_audit, told_by_want}
 use Rattle.openings.proofs.opened.examine.Goals as goal
 
 pub returns-clause-examined : goal.returns-clause-examined
@@ -29,7 +32,7 @@ returns-clause-examined g c clean sound ordered =
     let read = subst (λ (db : Database). AreAllRows 3 db.trees rows) kept.0.now_is (c.in_ok-rows.ensures.read clean) in
     let examined : IsExamined sets db = record {
       ledger = ledger;
-      version = c.in_ok-find_current.ensures.current first ledger;
+      version = names_current db (c.in_ok-find_current.ensures.current first);
       all = rows;
       read = read;
       names = c.in_ok-rows.ensures.names;
@@ -49,11 +52,42 @@ returns-in_err-audit-clause-damaged g c clean =
     let kept = c.in_ok-find_current.ensures.kept first in
     let rows = c.in_ok-rows.rows in
     let trees = (state g.S.Store c.args.conn.now).now.trees in
-    let ledger = subst (λ (db : Database). IsLedger db.schema) kept.0.now_is (c.in_ok-rows.ensures.ledger clean) in
     let read = subst (λ (db : Database). AreAllRows 3 db.trees rows) kept.0.now_is (c.in_ok-rows.ensures.read clean) in
     damage_by_audit c.from_residual-in_err-audit.result _ (IsFirstDamage rows.version rows.tenants.items)
     (λ (damage : Damage). IsDamagedIn 3 damage trees) (p.1 ∙ ap Err p.2)
     (λ damage told. record {
-      named = c.in_ok-find_current.ensures.current first ledger;
+      named = names_current (state g.S.Store c.args.conn.now).now (c.in_ok-find_current.ensures.current first);
       damaged = first_of_read 3 rows.version trees rows damage read read.version_is told;
+    }) c.in_err-audit.ensures.damaged
+
+pub returns-in_err-rows-clause-told : goal.returns-in_err-rows-clause-told
+returns-in_err-rows-clause-told g c clean =
+    let p = err_from_is_err_and c.from_residual-in_err-rows.result c.from_residual-in_err-rows.ensures.1 in
+    let first : HasCleanDisk (state g.S.Store c.find_current.new.conn) =
+    omega (arith, c.in_err-rows.ensures.follows.survives.clean, clean) in
+    let kept = c.in_ok-find_current.ensures.kept first in
+    let current = subst IsCurrent (sym kept.0.now_is) (c.in_ok-find_current.ensures.current first) in
+    subst (λ (db : Database). IfErr c.from_residual-in_err-rows.result (λ told. Tells told db)) kept.0.now_is
+    (rw (p.1, p.2) (c.in_err-rows.ensures.told clean current))
+
+pub returns-in_err-audit-clause-told : goal.returns-in_err-audit-clause-told
+returns-in_err-audit-clause-told g c clean =
+    let p = err_from_is_err_and c.from_residual-in_err-audit.result c.from_residual-in_err-audit.ensures.1 in
+    let first : HasCleanDisk (state g.S.Store c.find_current.new.conn) =
+    omega (arith, c.in_ok-rows.ensures.follows.survives.clean, clean) in
+    let kept = c.in_ok-find_current.ensures.kept first in
+    let rows = c.in_ok-rows.rows in
+    let db = (state g.S.Store c.args.conn.now).now in
+    let ledger = subst (λ (db : Database). IsLedger db.schema) kept.0.now_is (c.in_ok-rows.ensures.ledger clean) in
+    let read = subst (λ (db : Database). AreAllRows 3 db.trees rows) kept.0.now_is (c.in_ok-rows.ensures.read clean) in
+    let current = c.in_ok-find_current.ensures.current first in
+    told_by_audit c.from_residual-in_err-audit.result _ db (IsFirstDamage rows.version rows.tenants.items)
+    (p.1 ∙ ap Err p.2) (λ damage told. record {
+      current = current;
+      ledger = ledger;
+      names = good_names db.trees rows read c.in_ok-rows.ensures.names;
+      damaged = record {
+        named = names_current db current;
+        damaged = first_of_read 3 rows.version db.trees rows damage read read.version_is told;
+      };
     }) c.in_err-audit.ensures.damaged

@@ -2,6 +2,7 @@ use Rattle.std.proofs.Common.{sym, subst}
 use Rattle.sqlite.specs.Effect.{Database}
 use Rattle.sqlite.specs.Files.{AreFoundIn, file_state, image_of}
 use Rattle.openings.proofs.OrderedTables.{found_ordered}
+use Rattle.openings.proofs.RefusedLemmas.{unopened_for}
 use Rattle.openings.proofs.opening.open_on.Goals as goal
 
 pub returns-in-Ok-clause-opened : goal.returns-in-Ok-clause-opened
@@ -23,3 +24,8 @@ returns-in-Ok-clause-opened g c clean =
 pub returns-in-Err-clause-left : goal.returns-in-Err-clause-left
 returns-in-Err-clause-left g c =
     (c.in-Err.left, sym c.into_files.ensures, c.in-Err.ensures.unharmed)
+
+pub returns-in-Err-clause-told : goal.returns-in-Err-clause-told
+returns-in-Err-clause-told g c clean =
+    unopened_for g.D.Disk c.args.files c.into_files.result c.in-Err.left (sym c.into_files.ensures) c.in-Err.error
+    c.open_fault.result c.open_fault.ensures.means clean c.in-Err.ensures.cause

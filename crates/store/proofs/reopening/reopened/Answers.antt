@@ -1,10 +1,10 @@
-use Rattle.std.proofs.Common.{subst}
+use Rattle.std.proofs.Common.{inl, inr, subst}
 use Rattle.audit.specs.declared.damage.Damage.{Damage}
 use Rattle.openings.specs.Damage.{IsDamagedIn, Hold}
 use Rattle.store.specs.Stores.{MayHold}
 use Rattle.store.specs.Stores.{IsHonestAt}
 use Rattle.openings.specs.DamageLaws.{if_damaged_more}
-use Rattle.store.proofs.ReopenLemmas.{finds_again, held_again}
+use Rattle.store.proofs.ReopenLemmas.{finds_again, held_again, keeps_left, keeps_same, told_again}
 use Rattle.store.proofs.reopening.reopened.Goals as goal
 
 pub returns-in-Ok-clause-found : goal.returns-in-Ok-clause-found
@@ -22,3 +22,36 @@ returns-in-Err-clause-damaged g c honest =
     (λ damage held. held_again g.D.Disk g.met.D.Disk.seen_may_stay c.close-files.result held.honest
     c.args.store.place (IsDamagedIn 3 damage) c.close-files.ensures.back held)
     (c.in-Err.ensures.damaged (subst (λ place. IsHonestAt {g = g.D.Disk} place) c.unopened-in-Err.ensures.place honest))
+
+-- files that may not be used are kept as they are
+pub returns-then-not-may_be_used-clause-left : goal.returns-then-not-may_be_used-clause-left
+returns-then-not-may_be_used-clause-left g c =
+    inl (keeps_same g.D.Disk c.args.store c.unopened.result c.close-files.result c.close-files.ensures.back
+    c.close-files.ensures.honest c.unopened.ensures.place)
+
+pub returns-in-Err-clause-left : goal.returns-in-Err-clause-left
+returns-in-Err-clause-left g c = elim c.in-Err.ensures.left [
+  | inl unopened ↦ inr (record {
+    files = c.close-files.result;
+    back = c.close-files.ensures.back;
+    left = c.in-Err.left;
+    place = c.unopened-in-Err.ensures.place;
+    unopened = unopened;
+  })
+  | inr stay ↦ inl (keeps_left g.D.Disk g.met.D.Disk.seen_may_stay c.args.store c.unopened-in-Err.result
+      c.close-files.result c.in-Err.left c.close-files.ensures.back c.close-files.ensures.honest
+      c.unopened-in-Err.ensures.place stay)
+]
+
+pub returns-in-Err-clause-kept : goal.returns-in-Err-clause-kept
+returns-in-Err-clause-kept g c is =
+    keeps_left g.D.Disk g.met.D.Disk.seen_may_stay c.args.store c.unopened-in-Err.result
+    c.close-files.result c.in-Err.left c.close-files.ensures.back c.close-files.ensures.honest
+    c.unopened-in-Err.ensures.place (c.in-Err.ensures.stay is)
+
+pub returns-in-Err-clause-told : goal.returns-in-Err-clause-told
+returns-in-Err-clause-told g c honest is =
+    let clean = subst (λ place. IsHonestAt {g = g.D.Disk} place) c.unopened-in-Err.ensures.place honest in
+    told_again g.D.Disk g.met.D.Disk.seen_may_stay c.close-files.result
+    ((c.in-Err.ensures.stay is).honest clean) c.args.store.place c.in-Err.fault
+    c.in-Err.left c.close-files.ensures.back (c.in-Err.ensures.told clean) is

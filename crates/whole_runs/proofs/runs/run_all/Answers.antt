@@ -8,26 +8,31 @@ loop-step-init g c = record {
   run = λ live.
       rw c.in_ok-answers.ensures.items
       (none_yet g.L.Reopening.means c.args.ledgers.now live c.is_settled.ensures);
-  through = λ live. rw c.in_ok-answers.ensures.items Begins;
+  through = λ live. rw c.in_ok-answers.ensures.items (Begins c.is_settled.ensures);
   answered = rw c.in_ok-answers.ensures.items tt;
   count = c.in_ok-answers.ensures.len;
   room = c.in_ok-answers.ensures.exact;
   usable = c.requires;
+  settled = c.is_settled.ensures;
 }
 
 pub loop-step-preserved : goal.loop-step-preserved
 loop-step-preserved g c = record {
   run = λ live.
       run_on g.L.Reopening.means _ _ _ _ _ _ _ _ _ (omega arith) c.step-item.is
-      c.push_reserved.ensures.items (c.loop-step.invariant.run live) c.run_step.ensures.makes;
+      c.push_reserved.ensures.items (c.loop-step.invariant.run live) c.run_step-answer.ensures.makes;
   through = λ live.
       through_on g.L.Reopening.means _ _ _ _ _ _ _ _ _ (omega arith) c.step-item.is
       c.push_reserved.ensures.items (c.loop-step.invariant.through live)
-      (c.loop-step.invariant.run live) c.run_step.ensures.makes;
+      (c.loop-step.invariant.run live) c.run_step-answer.ensures.makes c.is_settled-in-loop-step.ensures;
   answered =
       answered_on _ _ _ _ _ _ (omega arith) c.step-item.is c.push_reserved.ensures.items
-      c.loop-step.invariant.answered c.run_step.ensures.answer;
+      c.loop-step.invariant.answered c.run_step-answer.ensures.answer;
   count = c.push_reserved.ensures.len ∙ ap (λ (n : ℕ). n + 1) c.loop-step.invariant.count;
   room = c.push_reserved.ensures.capacity ∙ c.loop-step.invariant.room;
-  usable = c.run_step.ensures.usable;
+  usable = c.run_step-answer.ensures.usable;
+  settled = c.is_settled-in-loop-step.ensures;
 }
+
+pub returns-clause-valid : goal.returns-clause-valid
+returns-clause-valid g c live = g.met.L.Reopening.valid _ live c.loop-step.invariant.usable

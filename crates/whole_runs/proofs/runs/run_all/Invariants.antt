@@ -1,5 +1,6 @@
 use Rattle.std.proofs.Common.{◌≡◌, take, length, vec_len, vec_capacity}
 use Rattle.std.specs.List.{AllZip}
+use Rattle.service.specs.Openings.{IsSettled}
 use Rattle.whole_runs.specs.Reopenings.{HasRun, RunsThrough, IsAnswerTo}
 use Rattle.whole_runs.proofs.runs.run_all.Given as goal
 
@@ -18,4 +19,5 @@ invariant-loop-step g l = record {
   count : vec_len l.answers ≡ l.step-index;
   room : vec_capacity l.answers ≡ length l.steps;
   usable : g.L.Reopening.means.is_usable l.ledgers;
+  settled : IsSettled g.L.Reopening.means l.ledgers;
 }

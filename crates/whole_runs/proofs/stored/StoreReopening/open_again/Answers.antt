@@ -6,4 +6,5 @@ pub returns-clause-opened : goal.returns-clause-opened
 returns-clause-opened g c =
     reopens_so c.args.self.now c.reopen-opened.new.self c.reopen-opened.result
     c.reopen-opened.ensures.found c.reopen-opened.ensures.honest c.reopen-opened.ensures.shut
+    c.reopen-opened.ensures.kept
     (finds_itself c.reopen-opened.new.self c.is_settled.ensures c.reopen-opened.ensures.usable)

@@ -1,0 +1,100 @@
+-- In which case of a database a fault is told.
+use Rattle.std.proofs.Common.{◌≡◌, ℤ, pos, List, [], ◌∷◌, map, Result, Err, IfErr, refl, sym, subst, ◌∙◌}
+use Rattle.std.specs.List.Sorted.{IsPermutation}
+use Rattle.std.proofs.lemmas.List.Sorted.{IsPermutation-sym}
+use Rattle.audit.specs.declared.damage.Damage.{Damage}
+use Rattle.audit.specs.declared.damage.AuditFault.{AuditFault}
+use Rattle.audit.specs.declared.damage.AuditFault.TheVariants as audit
+use Rattle.audit.specs.Damage.{IfDamaged as IfAuditDamaged}
+use Rattle.records.specs.declared.unavailable.Unavailable.{Unavailable}
+use Rattle.sqlite.specs.Effect.{Database}
+use Rattle.sqlite_value.specs.Order.{Row}
+use Rattle.ledger_sql.specs.Effects.{StartsAs}
+use Rattle.ledger_sql.specs.Schema.{after_schema}
+use Rattle.ledger_sql.specs.TableRows.{version_rows}
+use Rattle.ledger_sql.specs.Values.{version_values}
+use Rattle.ledger_sql.specs.declared.table_fault.TableFault.{TableFault}
+use Rattle.ledger_sql.specs.declared.table_fault.TableFault.TheVariants as table
+use Rattle.openings.specs.Damage.{NamesVersion}
+use Rattle.openings.specs.Faults.{damage_fault, open_fault_of}
+use Rattle.openings.specs.Told.{IsCurrent, LacksTables, LacksVersion, LacksVersions, Tells}
+use Rattle.openings.specs.Told.{No_versions, No_version, No_table, Of_version, Of_ledger}
+use Rattle.openings.specs.declared.opening.OpenFault.{OpenFault}
+use Rattle.openings.specs.declared.opening.OpenFault.TheVariants as fault
+use Rattle.openings.proofs.HeldMachines.{only_one}
+
+-- by the table of the version
+pub told_versions : (told : OpenFault) (db : Database) → LacksVersions told db.schema → Tells told db
+told_versions fault.InUse db lacks = absurd lacks
+told_versions fault.Unreadable db lacks = Of_version lacks
+told_versions fault.NotALedger db lacks = No_versions lacks
+told_versions fault.OldSchema db lacks = absurd lacks
+told_versions fault.NewerSchema db lacks = absurd lacks
+told_versions (fault.Damaged damage) db lacks = absurd lacks
+told_versions (fault.Unavailable why) db lacks = tt
+
+-- by the tables of a ledger
+pub told_tables : (told : OpenFault) (db : Database) → IsCurrent db → LacksTables told db.schema → Tells told db
+told_tables fault.InUse db current lacks = absurd lacks
+told_tables fault.Unreadable db current lacks = Of_ledger current lacks
+told_tables fault.NotALedger db current lacks = No_table current lacks
+told_tables fault.OldSchema db current lacks = absurd lacks
+told_tables fault.NewerSchema db current lacks = absurd lacks
+told_tables (fault.Damaged damage) db current lacks = absurd lacks
+told_tables (fault.Unavailable why) db current lacks = tt
+
+-- the versions that were read are the one that the file names
+read_named : (versions : List ℤ) (version : ℤ) → map version_values versions ≡ version_values version ∷ []
+    → versions ≡ version ∷ []
+read_named [] version is = absurd (cc)
+read_named (first ∷ []) version is = cc
+read_named (first ∷ next ∷ rest) version is = absurd (cc)
+
+-- by the versions that were read
+pub told_version : (told : OpenFault) (db : Database) (versions : List ℤ) → StartsAs after_schema.tables db.schema
+    → IsPermutation (version_rows db.trees) (map version_values versions) → LacksVersion told versions → Tells told db
+told_version fault.InUse db versions starts all lacks = absurd lacks
+told_version fault.Unreadable db versions starts all lacks = absurd lacks
+told_version fault.NotALedger db versions starts all lacks = No_version starts (λ version above named.
+    let rows = subst (λ rows. IsPermutation rows (map version_values versions)) named all in
+    lacks version above (read_named versions version
+    (only_one (map version_values versions) (version_values version) (IsPermutation-sym _ _ rows))))
+told_version fault.OldSchema db versions starts all lacks = absurd lacks
+told_version fault.NewerSchema db versions starts all lacks = record {
+  starts = starts;
+  version = lacks.0;
+  is = lacks.1;
+  named = only_one (version_rows db.trees) (version_values lacks.0)
+      (subst (λ read. IsPermutation (version_rows db.trees) (map version_values read)) lacks.2 all);
+}
+told_version (fault.Damaged damage) db versions starts all lacks = absurd lacks
+told_version (fault.Unavailable why) db versions starts all lacks = absurd lacks
+
+-- a call that was in want of something is told as that, whatever the database is
+told_want : (cause : TableFault) (db : Database) → Tells (open_fault_of cause) db
+told_want table.Missing db = tt
+told_want (table.Unavailable why) db = tt
+
+pub told_by_call : {T : Type 0} (r : Result T OpenFault) (cause : TableFault) (db : Database)
+    → r ≡ Err (open_fault_of cause) → IfErr r (λ told. Tells told db)
+told_by_call r cause db is = rw is (told_want cause db)
+
+pub told_by_want : {T : Type 0} (r : Result T OpenFault) (why : Unavailable) (db : Database)
+    → r ≡ Err (fault.Unavailable why) → IfErr r (λ told. Tells told db)
+told_by_want r why db is = rw is tt
+
+-- so is an audit, unless it found damage
+told_audit : (cause : AuditFault) (db : Database) (P : Damage → Type 0)
+    → ((damage : Damage) → P damage → Tells (fault.Damaged damage) db) → IfAuditDamaged cause P
+    → Tells (damage_fault cause) db
+told_audit (audit.Damaged damage) db P more found = more damage found
+told_audit audit.Memory db P more found = tt
+
+pub told_by_audit : {T : Type 0} (r : Result T OpenFault) (cause : AuditFault) (db : Database) (P : Damage → Type 0)
+    → r ≡ Err (damage_fault cause) → ((damage : Damage) → P damage → Tells (fault.Damaged damage) db)
+    → IfAuditDamaged cause P → IfErr r (λ told. Tells told db)
+told_by_audit r cause db P is more found = rw is (told_audit cause db P more found)
+
+-- the current version is named
+pub names_current : (db : Database) → IsCurrent db → NamesVersion (pos 3) db.trees
+names_current db current = subst (λ version. NamesVersion version db.trees) current.is current.named

@@ -1,0 +1,145 @@
+-- Which fault an opening tells, and in which case.
+use Rattle.std.specs.Prelude.{◌≡◌, ◌⊎◌, ℕ, ◌<ℤ◌, pos, true, false, Bool, List, ◌∷◌, [], ℤ, codes}
+use Rattle.std.specs.List.{list_any, list_all}
+use Rattle.rows.specs.declared.all_rows.AllRows.{AllRows}
+use Rattle.audit.specs.declared.damage.Damage.{Damage}
+use Rattle.sqlite_disk.specs.Disk.{MoreFaults}
+use Rattle.sqlite_disk.specs.declared.Disk as disk
+use Rattle.sqlite_disk.specs.declared.Files.{Files}
+use Rattle.sqlite_schema.specs.Names.{same_name}
+use Rattle.sqlite_schema.specs.declared.schema.Schema.{Schema}
+use Rattle.sqlite_schema.specs.declared.schema.Table.{Table}
+use Rattle.sqlite_trees.specs.Tree.{Trees}
+use Rattle.sqlite_wal.specs.Recovery.{Image}
+use Rattle.sqlite.specs.Closing.{files_left}
+use Rattle.sqlite.specs.Effect.{Database}
+use Rattle.sqlite.specs.Files.{HoldsDatabase, IsNothing, faults_left, faults_of, image_of}
+use Rattle.sqlite.specs.declared.file.Leftover.{Leftover}
+use Rattle.ledger_sql.specs.Effects.{StartsAs, IsLedger}
+use Rattle.ledger_sql.specs.Schema.{after_schema, ledger_schema}
+use Rattle.openings.specs.Damage.{IsDamagedIn, NamesVersion}
+use Rattle.openings.specs.Found.{FindsOne, IsUnavailable}
+use Rattle.openings.specs.Opened.{HasNames}
+use Rattle.openings.specs.Whole.{AreAllRows}
+use Rattle.openings.specs.declared.opening.OpenFault.{OpenFault}
+use Rattle.openings.specs.declared.opening.OpenFault.TheVariants as fault
+
+-- a table has this name, but for the case of its letters
+abbrev pub has_table : List ℕ → List Table → Bool
+has_table name tables = list_any (λ table. same_name name table.name) tables
+
+-- each of a ledger's tables is there, by its name
+abbrev pub has_all : List Table → Bool
+has_all tables = list_all (λ ours. has_table ours.name tables) ledger_schema.tables
+
+-- the table of the version is not there; or it is not the first, or not made as a ledger's
+abbrev pub LacksVersions : OpenFault → Schema → Type 0
+LacksVersions fault.NotALedger schema = has_table (codes "schema") schema.tables ≡ false
+LacksVersions fault.Unreadable schema =
+    (has_table (codes "schema") schema.tables ≡ true) × (¬ StartsAs after_schema.tables schema)
+LacksVersions other schema = ⊥
+
+-- a ledger's table is not there; or they are not the first, or not made as a ledger's, or another
+-- one refers to one of them
+abbrev pub LacksTables : OpenFault → Schema → Type 0
+LacksTables fault.NotALedger schema = has_all schema.tables ≡ false
+LacksTables fault.Unreadable schema = (has_all schema.tables ≡ true) × (¬ IsLedger schema)
+LacksTables other schema = ⊥
+
+-- these are not one version above 0; or they are one, and it is above the current one
+abbrev pub LacksVersion : OpenFault → List ℤ → Type 0
+LacksVersion fault.NotALedger versions =
+    (version : ℤ) → pos 0 <ℤ version → ¬ (versions ≡ version ∷ [])
+LacksVersion fault.NewerSchema versions =
+    (version : ℤ) × (pos 3 <ℤ version) × (versions ≡ version ∷ [])
+LacksVersion other versions = ⊥
+
+-- the table of the version comes first, and names one version, of which this is so
+pub record HasVersion (P : ℤ → Type 0) (db : Database) : Type 0 where
+  pub starts : StartsAs after_schema.tables db.schema
+  pub version : ℤ
+  pub is : P version
+  pub named : NamesVersion version db.trees
+
+-- the version is the current one
+abbrev pub IsCurrent : Database → Type 0
+IsCurrent = HasVersion (λ version. version ≡ pos 3)
+
+-- a table of a ledger's name is not made or not placed as a ledger's
+pub data IsMadeOtherwise (db : Database) : Type 0 where
+  Of_version : LacksVersions fault.Unreadable db.schema → IsMadeOtherwise db
+  Of_ledger : IsCurrent db → LacksTables fault.Unreadable db.schema → IsMadeOtherwise db
+
+-- each tenant in the directory, however it is read, has a name that a tenant may have
+abbrev pub HasGoodNames : Trees → Type 0
+HasGoodNames trees = (all : AllRows) → AreAllRows 3 trees all → HasNames all.directory.items
+
+-- a table of a ledger's is missing, or no version is named, or a tenant has a name that none may
+-- have
+pub data IsNoLedger (db : Database) : Type 0 where
+  No_versions : LacksVersions fault.NotALedger db.schema → IsNoLedger db
+  No_version :
+      StartsAs after_schema.tables db.schema →
+      ((version : ℤ) → pos 0 <ℤ version → ¬ NamesVersion version db.trees) → IsNoLedger db
+  No_table : IsCurrent db → LacksTables fault.NotALedger db.schema → IsNoLedger db
+  No_name : IsCurrent db → IsLedger db.schema → ¬ HasGoodNames db.trees → IsNoLedger db
+
+-- the tables are a ledger's of the current version, tenants have names, and this is the first damage
+pub record IsDamagedLedger (damage : Damage) (db : Database) : Type 0 where
+  pub current : IsCurrent db
+  pub ledger : IsLedger db.schema
+  pub names : HasGoodNames db.trees
+  pub damaged : IsDamagedIn 3 damage db.trees
+
+-- the case in which a fault is told of a database that is there
+abbrev pub Tells : OpenFault → Database → Type 0
+Tells fault.InUse db = ⊥
+Tells fault.Unreadable db = IsMadeOtherwise db
+Tells fault.NotALedger db = IsNoLedger db
+Tells fault.OldSchema db = HasVersion (λ version. (pos 0 <ℤ version) × (version <ℤ pos 3)) db
+Tells fault.NewerSchema db = HasVersion (λ version. pos 3 <ℤ version) db
+Tells (fault.Damaged damage) db = IsDamagedLedger damage db
+Tells (fault.Unavailable why) db = Unit {0}
+
+-- the number of a fault's case
+abbrev pub case_of : OpenFault → ℕ
+case_of fault.InUse = 0
+case_of fault.Unreadable = 1
+case_of fault.NotALedger = 2
+case_of fault.OldSchema = 3
+case_of fault.NewerSchema = 4
+case_of (fault.Damaged damage) = 5
+case_of (fault.Unavailable why) = 6
+
+-- of a database one fault is told, unless something is unavailable
+abbrev pub CasesAreApart : Type 0
+CasesAreApart =
+    (db : Database) (a b : OpenFault) → ¬ IsUnavailable a → ¬ IsUnavailable b → Tells a db
+    → Tells b db → case_of a ≡ case_of b
+
+-- what the files hold is no database, and they are not empty
+abbrev pub HoldsNone : Image → Type 0
+HoldsNone image = ¬ (((db : Trees) × HoldsDatabase image db) ⊎ IsNothing image)
+
+-- the database refuses the files: they hold none, or the disk has counted a fault
+pub data IsRefused {D : Type 0} (g : disk.Ghosts D) (files left : Files D) : Type 0 where
+  Holds_none : HoldsNone (image_of g files) → IsRefused g files left
+  Met_fault :
+      (rest : Leftover D g) → files_left rest ≡ (left.log, left.db) →
+      MoreFaults (faults_of g files) (faults_left rest) → IsRefused g files left
+
+-- why the database's own opening refuses two files
+abbrev pub IsUnopenedFor :
+    {D : Type 0} → disk.Ghosts D → Files D → OpenFault → Files D → Type 0
+IsUnopenedFor g files told left =
+    IsUnavailable told ⊎ ((told ≡ fault.Unreadable) × IsRefused g files left)
+
+-- why an opening is refused: as the database's own is; or in a case of the database that is there
+abbrev pub IsToldBy :
+    (OpenFault → Database → Type 0) → {D : Type 0} → disk.Ghosts D → Files D → OpenFault
+    → Files D → Type 0
+IsToldBy Refuses g files told left =
+    IsUnopenedFor g files told left ⊎ FindsOne (Refuses told) (image_of g files)
+
+abbrev pub IsTold : {D : Type 0} → disk.Ghosts D → Files D → OpenFault → Files D → Type 0
+IsTold g files told left = IsToldBy Tells g files told left
