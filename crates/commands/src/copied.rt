@@ -5,7 +5,8 @@ ghost use Rattle.commands.specs.Copying.{copy_fault};
 use crate::calling::real_path;
 use crate::opening::open_file;
 use command_texts::Fault;
-use copies::{CopyFault, Copying, Pass, copy_whole};
+pub(crate) use copies::Progress;
+use copies::{CopyFault, Copying, copy_whole};
 use std::env;
 
 /// A path as any process finds it, whatever folder it is in.
@@ -29,39 +30,12 @@ pub(crate) fn copy_file(rt: &HostRuntime, db: &str, to: &str) -> Result<u64, Fau
     copied.map_err(copy_fault)
 }
 
-/// How far a copy has come.
-#[derive(Drop)]
-pub(crate) enum Progress {
-    /// There is more to be done.
-    More(Copying),
-    /// It is made, and has so many bytes.
-    Whole(u64),
-}
-
-// The end of a copy, whose first pass is over.
-fn end_copy(rt: &HostRuntime, mut copying: Copying) -> Result<u64, CopyFault> {
-    match copying.settle() {
-        Ok(()) => copying.finish(rt),
-        Err(fault) => {
-            copying.abandon(rt);
-            Err(fault)
-        }
-    }
-}
-
-/// Goes on with a copy of a file that is served: by a piece, or to its end. Nothing is written to the
-/// file meanwhile.
-pub(crate) fn copy_on(rt: &HostRuntime, mut copying: Copying) -> Result<Progress, Fault> {
-    match copying.go_on() {
-        Ok(Pass::Goes) => Ok(Progress::More(copying)),
-        Ok(Pass::Ended) => match end_copy(rt, copying) {
-            Ok(bytes) => Ok(Progress::Whole(bytes)),
-            Err(fault) => Err(copy_fault(fault)),
-        },
-        Err(fault) => {
-            copying.abandon(rt);
-            Err(copy_fault(fault))
-        }
+/// Goes on with a copy of a file that is served, by one turn. Nothing is written to the file
+/// meanwhile.
+pub(crate) fn copy_on(rt: &HostRuntime, copying: Copying) -> Result<Progress, Fault> {
+    match copying.go_on(rt) {
+        Ok(progress) => Ok(progress),
+        Err(fault) => Err(copy_fault(fault)),
     }
 }
 

@@ -4,30 +4,49 @@ use crate::fault::CopyFault;
 use crate::files::Files;
 use crate::names::Names;
 
-/// How often is read for one piece, a megabyte each time.
-const READS: u32 = 4;
+/// How many pieces of the database are copied in one turn of the first pass: 4 megabytes.
+const COPIED: u32 = 32;
 
-/// Whether the first pass has come to the end of the database.
-#[derive(Clone, Copy, Debug, PartialEq, Eq)]
-pub enum Pass {
-    Goes,
-    Ended,
+/// How many are compared in one turn of the second: 16 megabytes.
+const COMPARED: u32 = 128;
+
+/// What is done next of a copy, each in one turn or in several.
+#[derive(Clone, Copy)]
+enum Stage {
+    /// The first pass copies the database, from this place on.
+    First(u64),
+    /// The second writes what has changed meanwhile, from this place on.
+    Second(u64),
+    /// All of the copy is made what both files are.
+    Last,
+    /// The copy, whose files have so many bytes, is synced: that of the database.
+    SyncDb(u64),
+    /// And that of the log.
+    SyncLog(u64),
+    /// The copy gets its names.
+    Name(u64),
 }
 
 /// A copy of a ledger's two files, the database and its log. Until it is whole it stands under names
 /// that end in `.part`.
 ///
-/// The first pass copies the database piece by piece, whatever is written meanwhile, so that it may mix
-/// moments. Then `settle` makes all of it what both files are at one moment: from its beginning to its
-/// end nothing may be written to them. Behind that `finish` gives the copy its names.
+/// Two passes copy the database piece by piece, whatever is written meanwhile, so that they may mix
+/// moments. Then one turn makes all of it what both files are at that moment. What is written to them
+/// behind that turn is no matter: the copy is synced and gets its names.
 #[derive(Drop)]
 pub struct Copying {
     files: Files,
     names: Names,
-    /// So many bytes of the database were copied in the first pass.
-    at: u64,
-    /// So many bytes both files have, once they are settled.
-    size: u64,
+    stage: Stage,
+}
+
+/// How far a copy has come.
+#[derive(Drop)]
+pub enum Progress {
+    /// There is more to be done.
+    More(Copying),
+    /// It is made, and its files have so many bytes.
+    Whole(u64),
 }
 
 impl Copying {
@@ -42,8 +61,7 @@ impl Copying {
             Ok(files) => Ok(Copying {
                 files,
                 names,
-                at: 0,
-                size: 0,
+                stage: Stage::First(0),
             }),
             Err(fault) => {
                 names.clear(rt);
@@ -52,42 +70,89 @@ impl Copying {
         }
     }
 
-    /// Copies at most 4 megabytes more of the database, and syncs them.
-    pub fn go_on(&mut self) -> Result<Pass, CopyFault> {
-        for _ in 0..READS {
-            let count = self.files.copy_on(self.at)?;
-            if count == 0 {
-                return Ok(Pass::Ended);
-            }
-            self.at = self.at.saturating_add(count);
-        }
-        self.files.sync()?;
-        Ok(Pass::Goes)
-    }
-
-    /// Makes the copy what both files are now.
-    pub fn settle(&mut self) -> Result<(), CopyFault> {
-        let db = self.files.match_db()?;
-        let log = self.files.copy_log()?;
-        self.size = db.saturating_add(log);
-        Ok(())
-    }
-
-    /// Syncs the copy and gives it its names. Says how many bytes both files have.
-    pub fn finish(self, rt: &HostRuntime) -> Result<u64, CopyFault> {
-        let Copying {
-            files,
-            names,
-            at: _,
-            size,
-        } = self;
-        match files.sync().and_then(|()| names.put_in_place(rt)) {
-            Ok(()) => Ok(size),
+    /// Takes one more turn, during which nothing may be written to the ledger's files. Where it fails
+    /// nothing of the copy is left.
+    pub fn go_on(mut self, rt: &HostRuntime) -> Result<Progress, CopyFault> {
+        match self.take_turn(rt) {
+            Ok(None) => Ok(Progress::More(self)),
+            Ok(Some(bytes)) => Ok(Progress::Whole(bytes)),
             Err(fault) => {
-                names.clear(rt);
+                self.abandon(rt);
                 Err(fault)
             }
         }
+    }
+
+    // Does what comes next. Says how many bytes the copy has, once it is whole.
+    fn take_turn(&mut self, rt: &HostRuntime) -> Result<Option<u64>, CopyFault> {
+        self.stage = match self.stage {
+            Stage::First(at) => self.copy_on(at)?,
+            Stage::Second(at) => self.match_on(at)?,
+            Stage::Last => Stage::SyncDb(self.settle()?),
+            Stage::SyncDb(bytes) => {
+                self.files.sync_db()?;
+                Stage::SyncLog(bytes)
+            }
+            Stage::SyncLog(bytes) => {
+                self.files.sync_log()?;
+                Stage::Name(bytes)
+            }
+            Stage::Name(bytes) => {
+                self.names.put_in_place(rt)?;
+                return Ok(Some(bytes));
+            }
+        };
+        Ok(None)
+    }
+
+    // Copies more of the database, and syncs it.
+    fn copy_on(&mut self, from: u64) -> Result<Stage, CopyFault> {
+        let mut at = from;
+        let mut next = Stage::First(from);
+        for _ in 0..COPIED {
+            let count = self.files.copy_on(at)?;
+            if count == 0 {
+                next = Stage::Second(0);
+                break;
+            }
+            at = at.saturating_add(count);
+            next = Stage::First(at);
+        }
+        self.files.sync_db()?;
+        Ok(next)
+    }
+
+    // Writes what has changed of more of it, and syncs that.
+    fn match_on(&mut self, from: u64) -> Result<Stage, CopyFault> {
+        let mut at = from;
+        let mut next = Stage::Second(from);
+        for _ in 0..COMPARED {
+            let count = self.files.match_on(at)?;
+            if count == 0 {
+                next = Stage::Last;
+                break;
+            }
+            at = at.saturating_add(count);
+            next = Stage::Second(at);
+        }
+        self.files.sync_db()?;
+        Ok(next)
+    }
+
+    // Makes the copy what both files are now. Says how many bytes they have.
+    fn settle(&mut self) -> Result<u64, CopyFault> {
+        let db = self.files.match_db()?;
+        let log = self.files.match_log()?;
+        Ok(db.saturating_add(log))
+    }
+
+    // Makes all of the copy at once.
+    fn make(&mut self, rt: &HostRuntime) -> Result<u64, CopyFault> {
+        let bytes = self.settle()?;
+        self.files.sync_db()?;
+        self.files.sync_log()?;
+        self.names.put_in_place(rt)?;
+        Ok(bytes)
     }
 
     /// Gives the copy up: nothing of it is left.
@@ -96,11 +161,11 @@ impl Copying {
     }
 }
 
-/// Copies a ledger that nobody writes to.
+/// Copies a ledger that nobody writes to. Says how many bytes the copy has.
 pub fn copy_whole(rt: &HostRuntime, from: &str, to: &str) -> Result<u64, CopyFault> {
     let mut copying = Copying::begin(rt, from, to)?;
-    match copying.settle() {
-        Ok(()) => copying.finish(rt),
+    match copying.make(rt) {
+        Ok(bytes) => Ok(bytes),
         Err(fault) => {
             copying.abandon(rt);
             Err(fault)

@@ -1,5 +1,10 @@
+ghost use Rattle.std.specs.Prelude.{◌≡◌};
+ghost use Rattle.std.specs.IoError.{error_kind};
+ghost use Rattle.copies.specs.Faults.{fault_of};
+ghost use Rattle.copies.specs.declared.fault.CopyFault.TheVariants.{Memory};
+
 use std::alloc::AllocError;
-use std::io;
+use std::io::{self, ErrorKind};
 
 /// Why no copy was made. Nothing is left of it then.
 #[derive(Clone, Copy, Debug, PartialEq, Eq)]
@@ -13,15 +18,19 @@ pub enum CopyFault {
 }
 
 impl From<AllocError> for CopyFault {
+    ghost from_gives = { λ _ fault. fault ≡ Memory };
+
     fn from(_error: AllocError) -> CopyFault {
         CopyFault::Memory
     }
 }
 
 impl From<io::Error> for CopyFault {
+    ghost from_gives = { λ error fault. fault ≡ fault_of (error_kind error) };
+
     fn from(error: io::Error) -> CopyFault {
         match error.kind() {
-            io::ErrorKind::OutOfMemory => CopyFault::Memory,
+            ErrorKind::OutOfMemory => CopyFault::Memory,
             _ => CopyFault::Failed,
         }
     }

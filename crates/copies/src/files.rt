@@ -1,13 +1,15 @@
 //! The files of a ledger and of its copy.
+ghost use Rattle.std.specs.Prelude.{◌<◌, vec_len, IfOk};
 
 use crate::fault::CopyFault;
 use crate::names::Names;
-use crate::pieces::{copy_piece, match_piece};
+use crate::pieces::{copy_piece, match_all, match_piece};
 use std::fs::{File, OpenOptions};
 use std::os::unix::fs::OpenOptionsExt;
 
-/// How many bytes are read at once.
-const ROOM: usize = 1024 * 1024;
+/// How many bytes are read at once: so few that those of a file and of its copy stay in a
+/// processor's own cache until they are compared.
+const ROOM: usize = 128 * 1024;
 
 /// Who may read and write a copy.
 const OWNER_ALONE: u32 = 0o600;
@@ -21,6 +23,8 @@ pub(crate) struct Files {
     log_copy: File,
     room: Vec<u8>,
     other: Vec<u8>,
+    /// Without room a file would seem to have ended.
+    ghost has_room: { 0 < vec_len room },
 }
 
 // A new file for its owner alone.
@@ -35,7 +39,10 @@ fn make(rt: &HostRuntime, path: &str) -> Result<File, CopyFault> {
     )
 }
 
-fn zeros(rt: &HostRuntime) -> Result<Vec<u8>, CopyFault> {
+// Room for a piece.
+fn zeros(rt: &HostRuntime) -> Result<Vec<u8>, CopyFault>
+    ensures { IfOk result (λ room. 0 < vec_len room) }
+{
     let mut room = Vec::new(rt.alloc());
     room.resize(ROOM, 0)?;
     Ok(room)
@@ -57,41 +64,36 @@ impl Files {
 
     /// Copies what the database has at a place. Says how many bytes that is: 0 at its end.
     pub(crate) fn copy_on(&mut self, at: u64) -> Result<u64, CopyFault> {
-        let count = copy_piece(&self.db, &self.db_copy, &mut self.room, at)?;
+        let count = copy_piece(&self.db, &mut self.db_copy, &mut self.room, at)?;
         Ok(count as u64)
     }
 
-    /// What was written of the copy stays where the power is lost.
-    pub(crate) fn sync(&self) -> Result<(), CopyFault> {
-        self.db_copy.sync_all()?;
-        self.log_copy.sync_all()?;
-        Ok(())
+    /// The same where most of it is copied already, and has not changed.
+    pub(crate) fn match_on(&mut self, at: u64) -> Result<u64, CopyFault> {
+        let (room, other) = (&mut self.room, &mut self.other);
+        let count = match_piece(&self.db, &mut self.db_copy, room, other, at)?;
+        Ok(count as u64)
     }
 
     /// Makes the copy of the database what that is. Says how many bytes it has.
     pub(crate) fn match_db(&mut self) -> Result<u64, CopyFault> {
-        let mut at = 0;
-        for _ in 0..u32::MAX {
-            let count = match_piece(&self.db, &self.db_copy, &mut self.room, &mut self.other, at)?;
-            if count == 0 {
-                self.db_copy.set_len(at)?;
-                return Ok(at);
-            }
-            at = at.saturating_add(count as u64);
-        }
-        Err(CopyFault::Failed)
+        let (room, other) = (&mut self.room, &mut self.other);
+        match_all(&self.db, &mut self.db_copy, room, other)
     }
 
-    /// Copies the log. Says how many bytes it has.
-    pub(crate) fn copy_log(&mut self) -> Result<u64, CopyFault> {
-        let mut at = 0;
-        for _ in 0..u32::MAX {
-            let count = copy_piece(&self.log, &self.log_copy, &mut self.room, at)?;
-            if count == 0 {
-                return Ok(at);
-            }
-            at = at.saturating_add(count as u64);
-        }
-        Err(CopyFault::Failed)
+    /// The same of the log.
+    pub(crate) fn match_log(&mut self) -> Result<u64, CopyFault> {
+        let (room, other) = (&mut self.room, &mut self.other);
+        match_all(&self.log, &mut self.log_copy, room, other)
+    }
+
+    /// What was written of the database's copy stays where the power is lost.
+    pub(crate) fn sync_db(&self) -> Result<(), CopyFault> {
+        Ok(self.db_copy.sync_all()?)
+    }
+
+    /// The same of the log's.
+    pub(crate) fn sync_log(&self) -> Result<(), CopyFault> {
+        Ok(self.log_copy.sync_all()?)
     }
 }

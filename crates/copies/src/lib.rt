@@ -6,8 +6,9 @@ mod fault;
 mod files;
 mod names;
 mod pieces;
+mod places;
 
-pub use copying::{Copying, Pass, copy_whole};
+pub use copying::{Copying, Progress, copy_whole};
 pub use fault::CopyFault;
 
 #[cfg(test)]

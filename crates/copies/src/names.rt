@@ -1,4 +1,6 @@
 //! The names of a copy.
+ghost use Rattle.std.specs.Prelude.{◌≡◌, IfOk, string_bytes};
+ghost use Rattle.copies.specs.CopyNames.{AreAt};
 
 use crate::fault::CopyFault;
 use std::fs;
@@ -39,7 +41,9 @@ fn folder_of(path: &str) -> &str {
 
 impl Names {
     /// Those of a copy at a path.
-    pub(crate) fn at(rt: &HostRuntime, path: &str) -> Result<Names, CopyFault> {
+    pub(crate) fn at(rt: &HostRuntime, path: &str) -> Result<Names, CopyFault>
+        ensures { IfOk result (AreAt path.now) }
+    {
         let alloc = rt.alloc();
         Ok(Names {
             db: String::from_str(alloc, path)?,
@@ -76,11 +80,15 @@ impl Names {
         Ok(is_taken(rt, db)? || is_taken(rt, self.log.as_str())? || is_taken(rt, journal.as_str())?)
     }
 
-    pub(crate) fn db_part(&self) -> &str {
+    pub(crate) fn db_part(&self) -> &str
+        ensures { result.now ≡ string_bytes self.now.db_part }
+    {
         self.db_part.as_str()
     }
 
-    pub(crate) fn log_part(&self) -> &str {
+    pub(crate) fn log_part(&self) -> &str
+        ensures { result.now ≡ string_bytes self.now.log_part }
+    {
         self.log_part.as_str()
     }
 

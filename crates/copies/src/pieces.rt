@@ -1,59 +1,95 @@
-//! Pieces of files.
-ghost use Rattle.std.specs.Prelude.{◌≤◌, length, IfOk};
+//! Pieces of a file, and of its copy.
+ghost use Rattle.std.specs.Prelude.{◌≡◌, ◌↔◌, ◌<◌, ◌≤◌, ℕ, List, length, take, drop, IsTrue, IfOk, OnOk, Some};
+ghost use Rattle.copies.specs.Places.{Copies, IsCopied, overwritten};
 
 use crate::fault::CopyFault;
-use std::fs::File;
-use std::io::ErrorKind;
-use std::os::unix::fs::FileExt;
+use crate::places::Places;
 
-/// Reads as much as there is from a place on and has room. Says how much that is.
-pub(crate) fn read_from(file: &File, room: &mut [u8], at: u64) -> Result<usize, CopyFault>
-    ensures { IfOk result (λ count. count ≤ length room.new) }
+/// So much of what differs is written at once: a page of the database.
+const PAGE: usize = 4096;
+
+// Whether two parts are the same bytes.
+fn are_same(one: &[u8], other: &[u8]) -> bool
+    ensures { IsTrue result ↔ (one.now ≡ other.now) }
 {
-    let mut count = 0;
-    for _ in 0..u32::MAX {
-        if count == room.len() {
-            return Ok(count);
-        }
-        match file.read_at(&mut room[count..], at.saturating_add(count as u64)) {
-            Ok(0) => return Ok(count),
-            Ok(more) => count += more,
-            Err(error) if error.kind() == ErrorKind::Interrupted => {}
-            Err(error) => return Err(CopyFault::from(error)),
-        }
-    }
-    Err(CopyFault::Failed)
+    one == other
 }
 
-/// Copies what one file has at a place to the same place of another. Says how much that is.
-pub(crate) fn copy_piece(
-    from: &File,
-    to: &File,
+/// Copies what a file has at a place to the same place of its copy. Says how much that is.
+pub(crate) fn copy_piece<F: Places, G: Places>(
+    file: &F,
+    copy: &mut G,
     room: &mut [u8],
     at: u64,
 ) -> Result<usize, CopyFault>
-    ensures { IfOk result (λ count. count ≤ length room.new) }
+    ensures { IfOk result (λ count.
+        Copies at (length room.old) (F.bytes file.now) (G.bytes copy.old) (G.bytes copy.new) count) }
 {
-    let count = read_from(from, room, at)?;
-    to.write_all_at(&room[..count], at)?;
-    Ok(count)
+    let size = file.read_from(room, at)?;
+    copy.write_to(&room[..size], at)?;
+    Ok(size)
 }
 
-/// Makes a piece of a copy what the file has at its place, and writes it only where it is not. Says
-/// how much that is.
-pub(crate) fn match_piece(
-    from: &File,
-    to: &File,
+// Makes of a copy, which has these bytes at a place, what it is to have there, page by page.
+fn mend<G: Places>(copy: &mut G, had: &[u8], part: &[u8], at: u64) -> Result<(), CopyFault>
+    requires { length had.now ≡ length part.now }
+    ensures { OnOk result ((all : List ℕ) → G.bytes copy.old ≡ Some all → at ≤ length all
+        → take (length part.now) (drop at all) ≡ had.now
+        → G.bytes copy.new ≡ Some (overwritten at part.now all)) }
+{
+    let mut done = 0;
+    while done < part.len() {
+        let end = done + PAGE.min(part.len() - done);
+        if !are_same(&had[done..end], &part[done..end]) {
+            let place = at.checked_add(done as u64).ok_or(CopyFault::Failed)?;
+            copy.write_to(&part[done..end], place)?;
+        }
+        done = end;
+    }
+    Ok(())
+}
+
+/// Copies a piece that the copy may have already: then nothing is written, and else the pages alone
+/// that differ. Says how much the file has there.
+pub(crate) fn match_piece<F: Places, G: Places>(
+    file: &F,
+    copy: &mut G,
     room: &mut [u8],
     other: &mut [u8],
     at: u64,
 ) -> Result<usize, CopyFault>
-    ensures { IfOk result (λ count. count ≤ length room.new) }
+    ensures { IfOk result (λ count.
+        Copies at (length room.old) (F.bytes file.now) (G.bytes copy.old) (G.bytes copy.new) count) }
 {
-    let count = read_from(from, room, at)?;
-    let had = read_from(to, other, at)?;
-    if had < count || other[..count] != room[..count] {
-        to.write_all_at(&room[..count], at)?;
+    let count = file.read_from(room, at)?;
+    let had = copy.read_from(other, at)?;
+    if had < count {
+        copy.write_to(&room[..count], at)?;
+    } else if !are_same(&other[..count], &room[..count]) {
+        mend(copy, &other[..count], &room[..count], at)?;
     }
     Ok(count)
+}
+
+/// Makes a copy what the file is. Says how many bytes it has.
+pub(crate) fn match_all<F: Places, G: Places>(
+    file: &F,
+    copy: &mut G,
+    room: &mut [u8],
+    other: &mut [u8],
+) -> Result<u64, CopyFault>
+    requires { 0 < length room.old }
+    ensures { IfOk result (λ size.
+        IsCopied (F.bytes file.now) (G.bytes copy.old) (G.bytes copy.new) size) }
+{
+    let mut at = 0u64;
+    for _ in 0..u32::MAX {
+        let count = match_piece(file, copy, room, other, at)?;
+        if count == 0 {
+            copy.cut(at)?;
+            return Ok(at);
+        }
+        at = at.checked_add(count as u64).ok_or(CopyFault::Failed)?;
+    }
+    Err(CopyFault::Failed)
 }

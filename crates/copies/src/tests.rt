@@ -1,6 +1,6 @@
 //! Copies of files of this machine.
 
-use crate::{CopyFault, Copying, Pass, copy_whole};
+use crate::{CopyFault, Copying, Progress, copy_whole};
 use std::fs;
 use std::os::unix::fs::MetadataExt;
 use std::test::Fail;
@@ -41,11 +41,39 @@ fn count(rt: &HostRuntime, db: &str) -> Result<usize, Fail> {
     Ok(count)
 }
 
-// A file of so many bytes, which are alike.
-fn bytes(rt: &HostRuntime, byte: u8, size: usize) -> Result<Vec<u8>, Fail> {
+// So many bytes of one kind, and behind them so many of another.
+fn bytes(rt: &HostRuntime, size: usize, more: usize) -> Result<Vec<u8>, Fail> {
     let mut all = Vec::new(rt.alloc());
-    all.resize(size, byte)?;
+    all.resize(size, 1)?;
+    all.resize(size.saturating_add(more), 2)?;
     Ok(all)
+}
+
+fn begun(rt: &HostRuntime, from: &str, to: &str) -> Result<Copying, Fail> {
+    match Copying::begin(rt, from, to) {
+        Ok(copying) => Ok(copying),
+        Err(_) => Err(Fail::new(format_args!("no copy begins"))),
+    }
+}
+
+// A copy behind so many turns, none of which is the last.
+fn go_on(rt: &HostRuntime, from: Copying, turns: u32) -> Result<Copying, Fail> {
+    let mut copying = from;
+    for _ in 0..turns {
+        let Ok(Progress::More(next)) = copying.go_on(rt) else {
+            return Err(Fail::new(format_args!("it has ended")));
+        };
+        copying = next;
+    }
+    Ok(copying)
+}
+
+// What is told of a copy at its last turn.
+fn told_at_last(rt: &HostRuntime, copying: Copying) -> Option<u64> {
+    match copying.go_on(rt) {
+        Ok(Progress::Whole(size)) => Some(size),
+        _ => None,
+    }
 }
 
 #[test]
@@ -62,27 +90,38 @@ fn copies_both_files_for_their_owner(rt: HostRuntime) -> Result<(), Fail> {
     clear(&rt, "b.db")
 }
 
-// Of what is written while it is copied, the copy has what stands at its end: also where the file is
-// shorter then.
+// The copy has what stands at the last look at the files: where pages have changed that it had,
+// where the file is longer or shorter. What is written behind that look is no matter.
 #[test]
-fn copies_what_stands_at_its_end(rt: HostRuntime) -> Result<(), Fail> {
+fn copies_what_stands_at_its_last_look(rt: HostRuntime) -> Result<(), Fail> {
     clear(&rt, "c.db")?;
     clear(&rt, "d.db")?;
-    write_both(&rt, "c.db", bytes(&rt, 1, 5_000_000)?.as_slice(), b"first")?;
-    let Ok(mut copying) = Copying::begin(&rt, "c.db", "d.db") else {
-        return Err(Fail::new(format_args!("no copy begins")));
-    };
-    assert_eq!(rt; copying.go_on(), Ok(Pass::Goes));
-    assert_eq!(rt; copying.go_on(), Ok(Pass::Ended));
+    write_both(&rt, "c.db", bytes(&rt, 5_000_000, 0)?.as_slice(), b"first")?;
+    // The first pass takes two turns, the second one.
+    let copying = go_on(&rt, begun(&rt, "c.db", "d.db")?, 2)?;
     write_both(
         &rt,
         "c.db",
-        bytes(&rt, 2, 3_000_000)?.as_slice(),
+        bytes(&rt, 4_999_999, 300_000)?.as_slice(),
+        b"second",
+    )?;
+    let copying = go_on(&rt, copying, 1)?;
+    write_both(
+        &rt,
+        "c.db",
+        bytes(&rt, 2_900_000, 100_001)?.as_slice(),
         b"at last",
     )?;
-    assert_eq!(rt; copying.settle(), Ok(()));
-    assert_eq!(rt; copying.finish(&rt), Ok(3_000_007));
-    assert!(rt; both(&rt, "c.db")? == both(&rt, "d.db")?);
+    let copying = go_on(&rt, copying, 1)?;
+    write_both(&rt, "c.db", b"other pages", b"behind it")?;
+    let copying = go_on(&rt, copying, 2)?;
+    assert_eq!(rt; count(&rt, "d.db")?, 2);
+    assert_eq!(rt; told_at_last(&rt, copying), Some(3_000_008));
+    assert!(rt; fs::read(&rt, "d.db")? == bytes(&rt, 2_900_000, 100_001)?);
+    assert_eq!(rt;
+        fs::read(&rt, "d.db-wal")?.as_slice(),
+        b"at last".as_slice()
+    );
     clear(&rt, "c.db")?;
     clear(&rt, "d.db")
 }
@@ -116,11 +155,10 @@ fn leaves_nothing_where_it_fails(rt: HostRuntime) -> Result<(), Fail> {
     assert_eq!(rt; count(&rt, "h.db")?, 0);
     write_both(&rt, "g.db", b"pages", b"log")?;
     write_both(&rt, "h.db.part", b"half", b"")?;
-    let Ok(copying) = Copying::begin(&rt, "g.db", "h.db") else {
-        return Err(Fail::new(format_args!("no copy begins")));
-    };
-    copying.abandon(&rt);
-    assert_eq!(rt; count(&rt, "h.db")?, 0);
+    for turns in 0..6u32 {
+        go_on(&rt, begun(&rt, "g.db", "h.db")?, turns)?.abandon(&rt);
+        assert_eq!(rt; count(&rt, "h.db")?, 0);
+    }
     let _ = fs::remove_file(&rt, "h.db.part-wal");
     clear(&rt, "g.db")
 }

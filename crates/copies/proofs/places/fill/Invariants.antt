@@ -1,5 +1,5 @@
 use Rattle.std.proofs.Common.{◌≡◌, ◌≤◌, length}
-use Rattle.copies.proofs.pieces.read_from.Given as goal
+use Rattle.copies.proofs.places.fill.Given as goal
 
 -- So much was read, and the room is as long as it was.
 abbrev pub invariant-loop : goal.invariant-loop

@@ -1,0 +1,3 @@
+pub mod CopyNames
+pub mod Faults
+pub mod Places
