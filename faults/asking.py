@@ -12,7 +12,7 @@ import time
 
 from drawn import Requests
 from refused import REFUSALS
-from service import PATIENCE, Connection, Desk, message, want
+from service import PATIENCE, Connection, message, want
 
 
 class Writer(threading.Thread):
@@ -93,9 +93,7 @@ def drawn_key(told, word, name):
 
 def take_in(house, name, key):
     """A tenant that was added is served at once: its accounts are opened."""
-    house.desks.append(Desk(key))
-    house.names.append(name)
-    house.requests.append(Requests(house.random, 10**6 * len(house.desks)))
+    house.take_in(name, key)
     write(house, len(house.desks) - 1, house.requests[-1].accounts(), False)
 
 

@@ -110,6 +110,11 @@ class Tenant(Player, Client):
         self.longest = {"well": 0.0, "behind a fault": 0.0}
 
     def step(self):
+        with self.lock:
+            self.do_one()
+        time.sleep(self.random.expovariate(1 / PAUSE))
+
+    def do_one(self):
         clock, kept = self.be_well(), self.desk.ledger.clock
         want(clock in (None, kept), f"the clock is {clock}, not {kept}, behind {self.weather.kind}")
         name = drawn(self.random, STEPS)
@@ -121,7 +126,6 @@ class Tenant(Player, Client):
             self.once(name, [])
         else:
             self.keep(self.batch(), True, name)
-        time.sleep(self.random.expovariate(1 / PAUSE))
 
     # What is sent.
 
@@ -308,6 +312,19 @@ class Following(Player):
             time.sleep(PAUSE)
         elif not more:
             time.sleep(1)
+
+
+class Operating(Player):
+    """The operator, who changes keys of tenants that nobody follows."""
+
+    def __init__(self, soak, operator, pause):
+        super().__init__(soak, "the operator")
+        self.operator, self.pause = operator, pause
+
+    def step(self):
+        want(self.weather.up.wait(PATIENCE), "not started again")
+        self.operator.act(self.soak.tenants[len(self.soak.followers):])
+        self.soak.is_over.wait(self.pause)
 
 
 class Beside(Player):

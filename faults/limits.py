@@ -15,6 +15,8 @@ from service import Connection, Lost, body_of, message, want
 MOST_CLIENTS = 1000
 # The seconds that a message has, and a quiet client; what a busy machine adds is not the service's.
 MESSAGE, IDLE, ADDED = 10, 75, 20
+# And so many more for which nothing is read: the first is enough, but on a busy machine.
+PAUSES = (6, ADDED, 3 * ADDED)
 # A service with other limits: room for two bodies of 2 MB, and fewer seconds.
 FEW = {"--room": "5", "--clients": "8", "--message": "6", "--idle": "5"}
 # What is told of a shortage, and when it is over.
@@ -107,36 +109,44 @@ def fill(house):
 def slow_message(house):
     """A byte a second of a message: ended 10 seconds behind its first byte, and not answered."""
     connection = Connection(house.service.port)
-    sent = message("POST", "/transfers", house.desks[0].key, b"[]")
     start = time.monotonic()
+    drip(connection, message("POST", "/transfers", house.desks[0].key, b"[]"))
+    took = time.monotonic() - start
+    want(MESSAGE - 1 <= took <= MESSAGE + ADDED, f"a slow message ended after {took:.1f} s")
+
+
+def drip(connection, sent):
+    """Sends a byte a second, until the connection has ended."""
+    connection.socket.settimeout(1)
     for place in range(len(sent)):
         try:
             connection.send(sent[place:place + 1])
-            connection.socket.settimeout(1)
             if not connection.socket.recv(1):
-                break
+                return
         except socket.timeout:
             continue
         except (OSError, Lost):
-            break
-    took = time.monotonic() - start
-    want(MESSAGE - 1 <= took <= MESSAGE + ADDED, f"a slow message ended after {took:.1f} s")
+            return
 
 
 def unread_replies(house):
     """A client that reads none of its replies is let go. On a busy machine that takes longer, since
     what the service takes itself counts for nobody."""
-    want(any(is_let_go(house, pause) for pause in (6, ADDED, 3 * ADDED)),
-         "a client that reads nothing is kept")
+    asked = page_asked(house.desks[1].key) * 40
+    want(any(is_let_go(Connection(house.service.port, room=1 << 16), asked, MESSAGE + pause,
+                       40 * 200_000) for pause in PAUSES), "a client that reads nothing is kept")
 
 
-def is_let_go(house, pause):
-    """Forty pages of a history are asked for at once, and read behind a pause: not all of them."""
+def page_asked(key):
+    """A message that asks for the longest page of the first account's history."""
     page = json.dumps({"account_id": "1", "limit": 1000, "flags": 3}).encode()
-    asked = message("POST", "/history/transfers", house.desks[1].key, page)
-    connection = Connection(house.service.port, room=1 << 16)
-    connection.send(asked * 40)
-    time.sleep(MESSAGE + pause)
+    return message("POST", "/history/transfers", key, page)
+
+
+def is_let_go(connection, asked, pause, most):
+    """Many pages are asked for at once, and read behind a pause: not as many bytes as all have."""
+    connection.send(asked)
+    time.sleep(pause)
     connection.socket.settimeout(5)
     read = 0
     try:
@@ -146,7 +156,7 @@ def is_let_go(house, pause):
         return False
     except OSError:
         pass
-    return read < 40 * 200_000
+    return read < most
 
 
 def other_limits(trial):

@@ -27,9 +27,13 @@ class House:
 
     def add(self, name):
         """A tenant more, which is not served yet."""
-        desk = Desk(self.key())
-        add_tenant(self.program, self.db, name, desk.key)
-        self.desks.append(desk)
+        key = self.key()
+        add_tenant(self.program, self.db, name, key)
+        self.take_in(name, key)
+
+    def take_in(self, name, key):
+        """A tenant that was added."""
+        self.desks.append(Desk(key))
         self.names.append(name)
         self.requests.append(Requests(self.random, 10**6 * len(self.desks)))
 

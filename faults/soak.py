@@ -20,13 +20,18 @@ import kinds
 from control import Control
 from indexed import Indexed
 from limits import fill
+from operators import Operator
 from runs import House
 from service import PATIENCE, Surprise, check, look_at, want
+from stored import look_at_rows
 from trial import Trial
 from weather import Weather
 
 # Two tenants are for those who are slow or silent; their ledgers are no one client's.
 GUESTS, TENANTS, FOLLOWED = 2, 30, 6
+# So many more the operator adds while it is served, and he asks so often from one thing that befalls
+# the service to the next.
+ADDED, ASKED = 8, 10
 # The transfers that a tenant may have at first, and those that come to them in an hour.
 FIRST, HOURLY = 100, 4000
 # Seconds from one thing that befalls the service to the next in the mean, and the longest of those
@@ -48,9 +53,12 @@ class Soak:
         for place in range(GUESTS + TENANTS):
             self.house.add(f"desk-{place}")
         self.control = Control(trial.folder)
-        self.weather = Weather(self.house, self.control, longest)
+        self.operator = Operator(self.house, trial.random.getrandbits(64), ADDED,
+                                 lambda: self.weather.now())
+        self.weather = Weather(self.house, self.control, longest, self.operator.alone)
+        self.operating = kinds.Operating(self, self.operator, every / ASKED)
         self.asked, self.life, self.born, self.grown = 0, 0, 0, 0
-        self.first, self.last = 0, 0
+        self.first, self.last, self.rows = 0, 0, 0
         self.tenants, self.followers, self.others = [], [], []
         self.seen = collections.Counter()
         self.is_over, self.goes_on = threading.Event(), threading.Event()
@@ -74,6 +82,7 @@ class Soak:
         for act in kinds.OTHERS:
             self.others.append(kinds.Beside(self, act))
             self.others[-1].start()
+        self.operating.start()
 
     def open(self, place):
         """Opens a tenant's accounts."""
@@ -105,28 +114,32 @@ class Soak:
         self.compare(is_last=True)
         self.house.service.kill()
         check(self.house.program, self.house.db)
+        self.rows = look_at_rows(self.house, self.compared(), self.trial.random)
         self.weather.look_at_refusals()
 
     def look(self):
         """Raises what surprised a client, and tells how far all is."""
         served = self.house.service.served
         want(served.poll() is None, f"serve ended: {served.poll()} {self.house.service.told()}")
-        for player in (*self.tenants, *self.followers, *self.others):
+        for player in (*self.tenants, *self.followers, *self.others, self.operating):
             if player.surprise:
                 raise Surprise(f"{player.name}: {player.surprise}") from player.surprise
         self.trial.progress(self.line())
 
     def befall(self, kind=None):
         """Something befalls the service, and all are well behind it. With the fifth stop they are
-        compared, and the tenant that was added to the file joins them."""
+        compared. Tenants that were added join them."""
         self.grown = max(self.grown, self.house.service.memory() - self.born)
         stops = self.weather.stops
         self.weather.befall(kind)
         self.until_well()
         if self.weather.stops != stops and self.weather.is_fifth():
             self.compare()
-            self.open(len(self.house.desks) - 1)
-            self.join(len(self.house.desks) - 1)
+        with self.operator.alone:
+            added = range(GUESTS + len(self.tenants), len(self.house.desks))
+        for place in added:
+            self.open(place)
+            self.join(place)
 
     def until_well(self):
         """Until each client that asks was answered, from now on."""
@@ -146,10 +159,10 @@ class Soak:
         """Compares all tenants while those who ask stand still, and what the service takes. For the
         last time all is over then."""
         self.goes_on.clear()
-        while not all(each.is_still for each in (*self.tenants, *self.followers)):
+        while not all(each.is_still for each in (*self.tenants, *self.followers, self.operating)):
             self.look()
             time.sleep(0.02)
-        for desk in (self.house.desks[1], *(each.desk for each in self.tenants)):
+        for desk in self.compared():
             desk.connect(self.house.service)
             for request, reply in kinds.all_of(desk):
                 look_at(request, desk.ask(*request), reply)
@@ -165,6 +178,10 @@ class Soak:
         if is_last:
             self.is_over.set()
         self.goes_on.set()
+
+    def compared(self):
+        """The tenants whose plain ledgers know all."""
+        return [self.house.desks[1], *(each.desk for each in self.tenants)]
 
     def measure(self):
         """Memory and descriptors of the service, where all stand still."""
@@ -203,12 +220,15 @@ class Soak:
         told = ", ".join(f"{name} {many:,}" for name, many in sorted(counted.items())
                          if name not in NOT_MESSAGES)
         befallen = ", ".join(f"{name} {many}" for name, many in sorted(self.weather.counts.items()))
+        asked = ", ".join(f"{name} {many}" for name, many in self.operator.counts.items())
         clients = resource.getrusage(resource.RUSAGE_SELF).ru_maxrss >> 10
         return (f"{self.seconds / 60:.1f} min: {messages(counted):,} messages ({told}), "
                 f"{counted['events']:,} events, {self.stored():,} transfers stored; "
-                f"{self.weather.stops} stops ({befallen}); {counted['unanswered']:,} times "
+                f"{self.weather.stops} stops ({befallen}); the operator's commands {asked}; "
+                f"{counted['unanswered']:,} times "
                 f"unanswered, of these batches {counted['found done']:,} found done and "
-                f"{counted['found not done']:,} not; {self.seen['compared']} times all compared; "
+                f"{counted['found not done']:,} not; {self.seen['compared']} times all compared, "
+                f"and {self.rows:,} rows of the file; "
                 f"the longest wait {', '.join(waits)}; {self.first >> 20} MB at first, "
                 f"{self.last >> 20} at the end, {self.seen['memory'] >> 20} at most, grown by "
                 f"{self.grown >> 20} at most from a start to its end, {self.seen['descriptors']} "

@@ -32,10 +32,11 @@ class Weather:
     """What befalls the service of a house. `kind` is what goes on, until all clients are well
     behind it; None where all is at hand. `turns` grows as soon as something begins."""
 
-    def __init__(self, house, control, longest):
-        """What goes on by itself does for so many seconds at most."""
+    def __init__(self, house, control, longest, alone):
+        """What goes on by itself does for so many seconds at most. While `alone` is held nobody else
+        has the file."""
         self.house, self.control, self.random = house, control, house.random
-        self.longest = longest
+        self.longest, self.alone = longest, alone
         self.kind, self.turns, self.stops, self.behind = None, 0, 0, 0
         self.counts, self.left, self.up = collections.Counter(), [], threading.Event()
 
@@ -78,8 +79,9 @@ class Weather:
 
     def begin_again(self):
         self.stops += 1
-        old = self.look_at_file() if self.is_fifth() else None
-        self.house.start(self.control.env)
+        with self.alone:
+            old = self.look_at_file() if self.is_fifth() else None
+            self.house.start(self.control.env)
         if old:
             self.look_at_key(old)
         self.up.set()
@@ -153,6 +155,10 @@ class Weather:
         """Where calls or allocations were to be refused, some were."""
         for kind, name in (("disk_once", CALLS), ("disk_on", CALLS), ("memory", MEMORIES)):
             want(self.counts[name] or not self.counts[kind], f"{kind}: no {name} were refused")
+
+    def now(self):
+        """What goes on, and how often something has begun."""
+        return self.kind, self.turns
 
     # What is told.
 
