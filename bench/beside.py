@@ -4,62 +4,32 @@
 
 LEDGERD is the program, DATA a folder that is there. Serves a new ledger, on a free port: 20 clients
 as in `bench/rounds.py`, each a tenant of its own with so many accounts (100), send single transfers
-for so many seconds (10). Beside them a process of its own asks on a kept connection, again and
-again, for a transfer that the first tenant has stored. Prints the median and the 99th of a hundred
-of its waits in milliseconds, without the writers and beside them, and whether the latter is within
-20 ms. The machine's load stands at the end."""
+for so many seconds (10). Beside them one asks on a kept connection, again and again, for a transfer
+that the first tenant has stored. Prints the median and the 99th of a hundred of its waits in
+milliseconds, without the writers and beside them, and whether the latter is within 20 ms. The
+machine's load stands at the end."""
 
-import multiprocessing
 import os
 import sys
 import tempfile
 import time
 
-from rounds import Case, Client, message
+from rounds import Asking, Ledger, build, told_by
 
 WRITERS, WITHIN = 20, 20
 
 
-class Reader(Client):
-    """A client that looks its tenant's transfers up, one by one."""
-
-    def __init__(self, case):
-        writer = case.clients[0]
-        super().__init__(case.port, writer.key, 0, 0)
-        self.first, self.stored = writer.first, writer.sent
-
-    def send(self):
-        self.sent += 1
-        wanted = [str(self.first + 1 + self.sent * 7919 % self.stored)]
-        self.begun = time.perf_counter()
-        self.socket.sendall(message(self.key, "/transfers/lookup", wanted))
-
-    def is_good(self, body):
-        return body.startswith(b'{"clock":"') and b'"id":"' in body
-
-    def ask_for(self, seconds):
-        """The seconds of each look-up."""
-        end = time.perf_counter() + seconds
-        while time.perf_counter() < end:
-            self.send()
-            while not self.is_answered():
-                pass
-        return self.waits
-
-
-def read(case, seconds, told):
-    told.send(Reader(case).ask_for(seconds))
-
-
-def asked(case, seconds, meanwhile):
-    """The waits of a reader in a process of its own, in order, and what was done meanwhile."""
-    here, there = multiprocessing.Pipe()
-    reader = multiprocessing.Process(target=read, args=(case, seconds, there))
-    reader.start()
-    done = meanwhile(seconds)
-    waits = sorted(1e3 * wait for wait in here.recv())
-    reader.join()
-    return waits, done
+def look_up(asking, first, many, is_over):
+    """The waits of look-ups of stored transfers until it is over, in order, in milliseconds."""
+    waits, asked = [], 0
+    while not is_over():
+        asked += 1
+        begun = time.perf_counter()
+        told = asking.ask("/transfers/lookup", [str(first + asked * 7919 % many)])
+        waits.append(1e3 * (time.perf_counter() - begun))
+        if b'"id":"' not in told:
+            raise SystemExit(f"not there: {told!r}")
+    return sorted(waits)
 
 
 def tell(name, waits):
@@ -72,16 +42,22 @@ def tell(name, waits):
 
 def main():
     program, data = os.path.abspath(sys.argv[1]), sys.argv[2]
-    accounts, seconds = (int(word) for word in (*sys.argv[3:], "100", "10")[:2])
+    accounts, seconds = (int(word) for word in (*sys.argv[3:], *("100", "10")[len(sys.argv[3:]):]))
     with tempfile.TemporaryDirectory(dir=data) as folder:
-        case = Case(program, folder, WRITERS, WRITERS, accounts)
-        case.play(1)
-        waits, _ = asked(case, seconds / 2, time.sleep)
-        tell("alone", waits)
-        waits, many = asked(case, seconds, case.play)
-        last = tell(f"beside {WRITERS} that send {many / seconds:,.0f} transfers a second", waits)
+        build(folder)
+        ledger = Ledger(program, folder, WRITERS, accounts)
+        many = told_by(ledger.clients(folder, WRITERS, accounts, 1, 1))[0]
+        asking = Asking(ledger.port, ledger.keys[0])
+        # Those of the first client, which has sent its share of them or nearly.
+        stored = 10**9 + 1, max(1, int(many) // WRITERS // 2)
+        end = time.perf_counter() + seconds / 2
+        tell("alone", look_up(asking, *stored, lambda: time.perf_counter() > end))
+        writers = ledger.clients(folder, WRITERS, accounts, 1, seconds)
+        waits = look_up(asking, *stored, lambda: writers.poll() is not None)
+        many, took, _, _ = told_by(writers)
+        last = tell(f"beside {WRITERS} that send {many / took:,.0f} transfers a second", waits)
         print(f"within {WITHIN} ms in 99 of 100: {'yes' if last <= WITHIN else 'no'}")
-        case.end()
+        ledger.end()
     print("load", os.getloadavg()[0])
 
 

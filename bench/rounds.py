@@ -1,27 +1,51 @@
-"""Measures what many clients get done that send single transfers at once.
+"""Measures what many clients get done at once: of `ledgerd`, and in the same run of PostgreSQL 15 by
+its function of the same rules, and of C SQLite in one process with no clients.
 
-    python3 bench/rounds.py LEDGERD DATA [ACCOUNTS] [SECONDS]
+    python3 bench/rounds.py LEDGERD DATA [ACCOUNTS] [SECONDS] [CASE..]
 
-LEDGERD is the program, DATA a folder that is there. Serves a new ledger for each case, on a free
-port: 1, 4, 20 and 64 clients, each a tenant of its own with so many accounts (100), and 20 clients
-of one tenant. A client keeps its connection and sends a transfer once the last one is answered.
-Prints for each case the transfers a second, the median and the 99th of a hundred of a client's
-waits in milliseconds, and the service's processor time a transfer in microseconds; where `strace`
-is there also its syncs a transfer, of two seconds more. The machine's load stands at the end."""
+LEDGERD is the program, DATA a folder that is there, where all may go. A case is CLIENTS/TENANTS/SIZE;
+with none all of CASES are measured, each for so many seconds (3) on new files, with so many accounts
+a tenant (100). It goes on until each client's last batch is answered. A client keeps its connection and sends a batch of SIZE once the last one is
+answered (`peer/clients.c`, for both); client N is of tenant N, or of the first. C SQLite keeps the
+same batches by the same statements, so many by a commit as a round has at most, and judges
+nothing. Prints a line of a table for each case; the machine's load stands at the end. It needs a C
+compiler, `libsqlite3-dev` and `libpq-dev`. Where PostgreSQL 15 is not installed it is left out, and
+where `perf` cannot count calls of the system the syncs are."""
 
 import json
 import os
+import pathlib
 import secrets
-import select
 import shutil
+import signal
 import socket
 import subprocess
 import sys
 import tempfile
 import time
 
-TICK = os.sysconf("SC_CLK_TCK")
-CASES = ((1, 1), (4, 4), (20, 20), (64, 64), (20, 1))
+import postgres
+
+HERE = pathlib.Path(__file__).resolve().parent
+CROWDS = ((1, 1), (4, 4), (20, 20), (100, 100), (4, 1), (20, 1), (100, 1))
+CASES = [(clients, tenants, size) for size in (1, 10, 1000) for clients, tenants in CROWDS]
+# What a round has at most: so many batches, and so many events.
+BATCHES, EVENTS = 32, 1000
+# Before it is measured a case is played for so many seconds, by a few of its clients.
+FIRST, FEW = 1, 4
+HEAD = """| Clients | Tenants | In batches of | Transfers a second | PostgreSQL | C SQLite \
+| Waits | PostgreSQL | In a second of the processor | PostgreSQL | C SQLite | Batches a commit \
+| Syncs a batch |
+|---|---|---|---|---|---|---|---|---|---|---|---|---|"""
+SYNCS = "syscalls:sys_enter_fdatasync,syscalls:sys_enter_fsync"
+
+
+def build(within):
+    """The clients, and the peer in C."""
+    for name, words in (("clients", ("-I/usr/include/postgresql", "-lpq")),
+                        ("peer", ("-lsqlite3",))):
+        subprocess.run(["cc", "-O2", "-o", os.path.join(within, name), HERE / f"peer/{name}.c",
+                        *words], check=True)
 
 
 def free_port():
@@ -30,139 +54,188 @@ def free_port():
         return probe.getsockname()[1]
 
 
-def message(key, route, body):
-    text = json.dumps(body, separators=(",", ":")).encode()
-    return (f"POST {route} HTTP/1.1\r\nx-ledger-key: {key}\r\ncontent-length: {len(text)}\r\n\r\n"
-            ).encode() + text
+class Asking:
+    """A kept connection of a tenant, for what is not measured and for look-ups."""
 
-
-class Client:
-    """A kept connection. Its transfers have ids of its own."""
-
-    def __init__(self, port, key, number, accounts):
-        self.key, self.accounts, self.first, self.sent = key, accounts, number * 10**9, 0
-        self.socket, self.read = socket.create_connection(("127.0.0.1", port)), b""
+    def __init__(self, port, key):
+        self.key, self.socket = key, socket.create_connection(("127.0.0.1", port))
         self.socket.setsockopt(socket.IPPROTO_TCP, socket.TCP_NODELAY, 1)
-        self.begun, self.waits = 0.0, []
 
-    def transfer(self):
-        """The next one, between accounts that are drawn evenly."""
-        mixed = (self.first + self.sent) * 0x9E3779B97F4A7C15 % 2**64
-        debit = (mixed >> 40) % self.accounts
-        credit = (debit + 1 + (mixed >> 20) % 2**20 % (self.accounts - 1)) % self.accounts
-        self.sent += 1
-        return [{"id": str(self.first + self.sent), "debit_account_id": str(1 + debit),
-                 "credit_account_id": str(1 + credit), "amount": "1", "ledger": 7, "code": 1}]
-
-    def send(self):
-        self.begun = time.perf_counter()
-        self.socket.sendall(message(self.key, "/transfers", self.transfer()))
-
-    def is_answered(self):
-        """Reads what is there. Whether the reply is whole."""
-        self.read += self.socket.recv(1 << 16)
-        head, _, body = self.read.partition(b"\r\n\r\n")
-        length = head.lower().partition(b"content-length: ")[2].partition(b"\r\n")[0]
-        if not length or len(body) < int(length):
-            return False
-        if not self.is_good(body):
-            raise SystemExit(f"answered {self.read!r}")
-        self.read = b""
-        self.waits.append(time.perf_counter() - self.begun)
-        return True
-
-    def is_good(self, body):
-        return b'"result":"ok"' in body
-
-    def whole_reply(self):
-        while b"\r\n\r\n" not in self.read or not self.read.endswith(b"}"):
-            self.read += self.socket.recv(1 << 16)
-        self.read = b""
+    def ask(self, route, body):
+        """The body of the reply, which is a good one."""
+        text = json.dumps(body, separators=(",", ":")).encode()
+        self.socket.sendall(f"POST {route} HTTP/1.1\r\nx-ledger-key: {self.key}\r\ncontent-length: "
+                            f"{len(text)}\r\n\r\n".encode() + text)
+        read = b""
+        while True:
+            read += self.socket.recv(1 << 16)
+            head, _, told = read.partition(b"\r\n\r\n")
+            length = head.partition(b"content-length: ")[2].partition(b"\r\n")[0]
+            if length and len(told) == int(length):
+                break
+        if not head.startswith(b"HTTP/1.1 200"):
+            raise SystemExit(f"{route}: {read!r}")
+        return told
 
 
-class Case:
-    """A new ledger that is served, its tenants with their accounts, and its clients."""
+class Ledger:
+    """A new ledger that is served, under other words if they are given, with its tenants and their
+    accounts."""
 
-    def __init__(self, program, folder, clients, tenants, accounts):
-        path, self.port = os.path.join(folder, "ledger.db"), free_port()
-        keys = [secrets.token_hex(32) for _ in range(tenants)]
-        for place, key in enumerate(keys):
-            subprocess.run([program, "tenant-add", "--db", path, "--name", f"desk-{place}", "--key",
-                            key], check=True, stdout=subprocess.DEVNULL)
-        self.served = subprocess.Popen([program, "serve", "--db", path, "--port",
+    def __init__(self, program, within, tenants, accounts, under=()):
+        self.program, self.path = program, os.path.join(within, "ledger.db")
+        self.port, self.played = free_port(), 0
+        self.keys = [secrets.token_hex(32) for _ in range(tenants)]
+        for place, key in enumerate(self.keys):
+            subprocess.run([program, "tenant-add", "--db", self.path, "--name", f"desk-{place}",
+                            "--key", key], check=True, stdout=subprocess.DEVNULL,
+                           stderr=subprocess.DEVNULL)
+        self.served = subprocess.Popen([*under, program, "serve", "--db", self.path, "--port",
                                         str(self.port), "--requests", str(2**64 - 1)],
                                        stderr=subprocess.PIPE)
         self.served.stderr.readline()
-        self.clients = [Client(self.port, keys[place % tenants], place + 1, accounts)
-                        for place in range(clients)]
-        for client in self.clients[:tenants]:
+        for key in self.keys:
+            asking = Asking(self.port, key)
             for first in range(1, accounts + 1, 1000):
-                body = [{"id": str(number), "ledger": 7, "code": 10}
-                        for number in range(first, min(first + 1000, accounts + 1))]
-                client.socket.sendall(message(client.key, "/accounts", body))
-                client.whole_reply()
+                asking.ask("/accounts", [{"id": str(number), "ledger": 7, "code": 10} for number
+                                         in range(first, min(first + 1000, accounts + 1))])
+
+    def clients(self, tools, clients, accounts, size, seconds):
+        """The clients, as a process that has begun."""
+        self.played += 1
+        tenants = min(clients, len(self.keys))
+        words = [os.path.join(tools, "clients"), "http", self.port, clients, tenants, accounts,
+                 size, seconds, self.played * 10**9]
+        begun = subprocess.Popen([str(word) for word in words], stdin=subprocess.PIPE,
+                                 stdout=subprocess.PIPE, text=True)
+        begun.stdin.write("\n".join(self.keys) + "\n")
+        begun.stdin.close()
+        return begun
 
     def processor(self):
-        """Seconds of the service's processor time."""
-        with open(f"/proc/{self.served.pid}/stat", encoding="ascii") as file:
-            fields = file.read().rpartition(")")[2].split()
-        return (int(fields[11]) + int(fields[12])) / TICK
+        return sum(postgres.stat(self.served.pid)[:2])
 
-    def play(self, seconds):
-        """Every client sends for so long. How many transfers were answered."""
-        poll, by_number = select.epoll(), {}
-        for client in self.clients:
-            client.waits = []
-            by_number[client.socket.fileno()] = client
-            poll.register(client.socket.fileno(), select.EPOLLIN)
-            client.send()
-        end, left = time.perf_counter() + seconds, len(self.clients)
-        while left:
-            for number, _ in poll.poll():
-                client = by_number[number]
-                if client.is_answered():
-                    if time.perf_counter() < end:
-                        client.send()
-                    else:
-                        left -= 1
-        poll.close()
-        return sum(len(client.waits) for client in self.clients)
+    def count_syncs(self):
+        """A process that counts them from now on, or None."""
+        if not shutil.which("perf"):
+            return None
+        counting = subprocess.Popen(["perf", "stat", "-x", ",", "-e", SYNCS, "-p",
+                                     str(self.served.pid)], stderr=subprocess.PIPE, text=True)
+        time.sleep(0.2)
+        return counting
 
-    def syncs(self, seconds):
-        """Syncs a transfer, counted by strace."""
-        told = tempfile.NamedTemporaryFile(mode="r")
-        tracing = subprocess.Popen(["strace", "-f", "-c", "-e", "trace=fsync,fdatasync", "-o",
-                                    told.name, "-p", str(self.served.pid)],
-                                   stderr=subprocess.PIPE)
-        tracing.stderr.readline()
-        many = self.play(seconds)
-        tracing.terminate()
-        tracing.wait()
-        calls = sum(int(line.split()[3]) for line in told if line.rstrip().endswith("sync"))
-        return calls / many
+    def counts(self):
+        """How often it has committed for batches, and how many these were, by its own count."""
+        told = subprocess.run([self.program, "status", "--db", self.path], check=True, text=True,
+                              stdout=subprocess.PIPE).stdout
+        numbers = {name: int(number) for name, number in map(str.split, told.splitlines())}
+        alone = numbers["replies_2xx"] - numbers["round_messages"]
+        return numbers["rounds"] + alone, numbers["replies_2xx"]
 
     def end(self):
         self.served.kill()
         self.served.wait()
 
 
+def told_by(clients):
+    """What clients tell at their end: transfers, seconds, the median of their waits, the 99th of a
+    hundred."""
+    words = clients.stdout.read().split()
+    if clients.wait():
+        raise SystemExit("the clients have failed")
+    return [float(word) for word in words]
+
+
+def syncs_told(counting):
+    """How many a process has counted, or None."""
+    if not counting:
+        return None
+    counting.send_signal(signal.SIGINT)
+    counts = [line.split(",")[0] for line in counting.communicate()[1].splitlines()]
+    return sum(map(int, counts)) if counts and all(map(str.isdigit, counts)) else None
+
+
+def of_ledgerd(program, within, case, accounts, seconds):
+    """Transfers a second, waits, transfers in a second of the processor, batches a commit, and syncs
+    a batch, which may not be known."""
+    clients, tenants, size = case
+    with tempfile.TemporaryDirectory(dir=within) as folder:
+        ledger = Ledger(program, folder, tenants, accounts)
+        told_by(ledger.clients(within, min(clients, FEW), accounts, size, FIRST))
+        (commits, batches), counting = ledger.counts(), ledger.count_syncs()
+        used = ledger.processor()
+        many, took, half, most = told_by(ledger.clients(within, clients, accounts, size, seconds))
+        used, syncs = ledger.processor() - used, syncs_told(counting)
+        last, answered = ledger.counts()
+        ledger.end()
+    return (many / took, (half, most), many / used, (answered - batches) / (last - commits),
+            syncs and syncs / (many / size))
+
+
+def of_postgres(server, within, case, accounts, seconds):
+    """The same, but for the last."""
+    clients, tenants, size = case
+    server.fill(tenants, accounts)
+
+    def play(many, long, first):
+        words = [os.path.join(within, "clients"), "postgres", server.folder, many,
+                 min(many, tenants), accounts, size, long, first]
+        return told_by(subprocess.Popen([str(word) for word in words], stdout=subprocess.PIPE,
+                                        text=True))
+    before = play(min(clients, FEW), FIRST, 0)[0]
+    server.settle()
+    used = server.processor()
+    many, took, half, most = play(clients, seconds, 10**9)
+    used = server.processor() - used
+    if server.stored() != before + many:
+        raise SystemExit("PostgreSQL has not kept them all")
+    return many / took, (half, most), many / used
+
+
+def of_sqlite(within, case, accounts, seconds):
+    """Transfers a second, and in a second of the processor."""
+    clients, tenants, size = case
+    shared = max(1, min(clients, BATCHES, EVENTS // size))
+    with tempfile.TemporaryDirectory(dir=within) as folder:
+        words = [os.path.join(within, "peer"), os.path.join(folder, "peer.db"), "shared", accounts,
+                 size, shared, tenants, seconds]
+        told = subprocess.run([str(word) for word in words], check=True, text=True,
+                              stdout=subprocess.PIPE).stdout
+    many, took, used = map(float, told.split())
+    return many / took, many / used
+
+
+def line(case, ours, theirs, best):
+    """A case as a line of the table."""
+    waits = ["{:.1f}, {:.1f}".format(*each[1]) if each else "" for each in (ours, theirs)]
+    rates = [f"{each[0]:,.0f}" if each else "" for each in (ours, theirs, best)]
+    used = [f"{each:,.0f}" if each else "" for each in
+            (ours[2], theirs and theirs[2], best[1])]
+    shared = f"{ours[3]:.1f}", f"{ours[4]:.2f}" if ours[4] else ""
+    return f"| {' | '.join([*map(str, case), *rates, *waits, *used, *shared])} |"
+
+
+def measure(program, within, accounts, seconds, cases):
+    server = postgres.Server(within) if postgres.is_there() else None
+    try:
+        print(HEAD, flush=True)
+        for case in cases:
+            ours = of_ledgerd(program, within, case, accounts, seconds)
+            theirs = server and of_postgres(server, within, case, accounts, seconds)
+            best = of_sqlite(within, case, accounts, seconds / 2)
+            print(line(case, ours, theirs, best), flush=True)
+    finally:
+        if server:
+            server.end()
+
+
 def main():
     program, data = os.path.abspath(sys.argv[1]), sys.argv[2]
-    accounts, seconds = (int(word) for word in (*sys.argv[3:], "100", "10")[:2])
-    for clients, tenants in CASES:
-        with tempfile.TemporaryDirectory(dir=data) as folder:
-            case = Case(program, folder, clients, tenants, accounts)
-            case.play(1)
-            before = case.processor()
-            many = case.play(seconds)
-            used = case.processor() - before
-            waits = sorted(wait for client in case.clients for wait in client.waits)
-            syncs = f", {case.syncs(2):.3f} syncs" if shutil.which("strace") else ""
-            print(f"{clients} clients of {tenants} tenants, {accounts} accounts each: "
-                  f"{many / seconds:,.0f} a second, waits {1e3 * waits[len(waits) // 2]:.1f} and "
-                  f"{1e3 * waits[len(waits) * 99 // 100]:.1f} ms, {1e6 * used / many:.0f} us of "
-                  f"processor time a transfer{syncs}", flush=True)
-            case.end()
+    accounts, seconds = (int(word) for word in (*sys.argv[3:5], *("100", "3")[len(sys.argv[3:5]):]))
+    cases = [tuple(map(int, word.split("/"))) for word in sys.argv[5:]] or CASES
+    with tempfile.TemporaryDirectory(dir=data) as within:
+        build(within)
+        measure(program, within, accounts, seconds, cases)
     print("load", os.getloadavg()[0])
 
 

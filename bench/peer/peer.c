@@ -6,9 +6,12 @@
  *     peer FILE write ACCOUNTS STORED      transfers in batches of 1,000, 100 and 1
  *     peer FILE due ACCOUNTS OPEN          the same beside open pending transfers, 100 of them due
  *     peer FILE read ACCOUNTS LENGTH       lookups, pages and a statement of account 1's history
+ *     peer FILE shared ACCOUNTS SIZE MANY TENANTS SECONDS    batches of SIZE of so many tenants in
+ *                                          turn, of which MANY share a commit
  *
  * FILE is made, and must not be there. Prints lines of a case, its microseconds, and how often it
- * was done in them.
+ * was done in them; of the last, how many transfers were kept, in how many seconds and in how many
+ * of the processor's.
  */
 #include <sqlite3.h>
 #include <stdint.h>
@@ -19,7 +22,6 @@
 
 #include "schema.h"
 
-#define TENANT 1
 #define START 1000000000000000000
 #define SECOND 1000000000
 #define FIRST_ID 1000000
@@ -39,6 +41,7 @@ typedef struct {
 } deadline;
 
 static sqlite3 *db;
+static int64_t tenant = 1;
 static int64_t now = START, clock_now;
 static uint64_t next_place;
 static deadline *deadlines;
@@ -162,7 +165,7 @@ static int row(sqlite3_stmt *s) {
 }
 
 static int has(sqlite3_stmt *s, uint64_t id) {
-    put(s, 1, TENANT);
+    put(s, 1, tenant);
     put_wide(s, 2, id);
     int found = row(s);
     sqlite3_reset(s);
@@ -176,7 +179,7 @@ typedef struct {
 
 static sums balance_of(uint64_t account) {
     sqlite3_stmt *s = find_balance();
-    put(s, 1, TENANT);
+    put(s, 1, tenant);
     put_wide(s, 2, account);
     if (!row(s)) fail("no balance");
     sums found = {read_wide(s, 1), read_wide(s, 2), read_wide(s, 3), read_wide(s, 4)};
@@ -192,7 +195,7 @@ static void put_sums(sqlite3_stmt *s, int place, sums b) {
 }
 
 static void store_balance(sqlite3_stmt *s, uint64_t account, sums b) {
-    put(s, 1, TENANT);
+    put(s, 1, tenant);
     put_wide(s, 2, account);
     put_sums(s, 3, b);
     done(s);
@@ -200,7 +203,7 @@ static void store_balance(sqlite3_stmt *s, uint64_t account, sums b) {
 
 static void store_transfer(transfer t, int64_t timestamp) {
     sqlite3_stmt *s = add_transfer();
-    put(s, 1, TENANT);
+    put(s, 1, tenant);
     put_wide(s, 2, t.id);
     put_wide(s, 3, t.debit);
     put_wide(s, 4, t.credit);
@@ -220,7 +223,7 @@ static void store_transfer(transfer t, int64_t timestamp) {
 
 static void store_history(transfer t, int64_t timestamp, sums debit, sums credit) {
     sqlite3_stmt *s = add_history();
-    put(s, 1, TENANT);
+    put(s, 1, tenant);
     put_wide(s, 2, t.debit);
     put(s, 3, timestamp);
     put_sums(s, 4, debit);
@@ -231,7 +234,7 @@ static void store_history(transfer t, int64_t timestamp, sums debit, sums credit
 }
 
 static void store_status(sqlite3_stmt *s, uint64_t id, int state, int64_t due) {
-    put(s, 1, TENANT);
+    put(s, 1, tenant);
     put_wide(s, 2, id);
     put(s, 3, state);
     put(s, 4, due);
@@ -258,7 +261,7 @@ static void judge_and_keep(transfer t, int64_t timestamp) {
 static void expire(deadline d) {
     sqlite3_stmt *s = find_transfer();
     if (!has(find_status(), d.id)) fail("no status");
-    put(s, 1, TENANT);
+    put(s, 1, tenant);
     put_wide(s, 2, d.id);
     if (!row(s)) fail("no transfer");
     uint64_t debit = read_wide(s, 1), credit = read_wide(s, 2);
@@ -272,32 +275,37 @@ static void expire(deadline d) {
 }
 
 static void look_up_tenant(void) {
-    static const uint8_t digest[32] = {1};
+    uint8_t digest[32] = {(uint8_t)tenant};
     sqlite3_bind_blob(find_tenant(), 1, digest, 32, SQLITE_STATIC);
     if (!row(find_tenant())) fail("no tenant");
     sqlite3_reset(find_tenant());
 }
 
 static int64_t read_clock(void) {
-    put(find_clock(), 1, TENANT);
+    put(find_clock(), 1, tenant);
     if (!row(find_clock())) fail("no clock");
     int64_t found = sqlite3_column_int64(find_clock(), 0);
     sqlite3_reset(find_clock());
     return found;
 }
 
-static void run_batch(const transfer *batch, int count) {
-    look_up_tenant();
-    done(begin());
+/* What a batch does inside its transaction. */
+static void keep_batch(const transfer *batch, int count) {
     int64_t before = read_clock();
     clock_now = (before > now ? before : now) + count;
     while (deadline_next < deadline_count && deadlines[deadline_next].due <= clock_now)
         expire(deadlines[deadline_next++]);
-    put(set_clock(), 1, TENANT);
+    put(set_clock(), 1, tenant);
     put(set_clock(), 2, clock_now);
     done(set_clock());
     for (int i = 0; i < count; i++) judge_and_keep(batch[i], clock_now - count + i + 1);
     read_clock();
+}
+
+static void run_batch(const transfer *batch, int count) {
+    look_up_tenant();
+    done(begin());
+    keep_batch(batch, count);
     done(commit());
 }
 
@@ -311,17 +319,16 @@ static void open_file(const char *path) {
     run("PRAGMA wal_autocheckpoint = 1000");
 }
 
-static void make_file(const char *path, uint64_t accounts) {
-    open_file(path);
-    run("BEGIN");
-    for (size_t i = 0; i < sizeof TABLES / sizeof *TABLES; i++) run(TABLES[i]);
-    run("INSERT INTO schema (version) VALUES (3)");
-    run("INSERT INTO tenant VALUES (1, 'North', x'01"
-        "00000000000000000000000000000000000000000000000000000000000000')");
-    run("INSERT INTO clock VALUES (1, 0)");
+static void open_accounts(uint64_t accounts) {
+    char sql[200];
+    snprintf(sql, sizeof sql, "INSERT INTO tenant VALUES (%d, 'North %d', x'%02x%062d')",
+        (int)tenant, (int)tenant, (unsigned)tenant, 0);
+    run(sql);
+    snprintf(sql, sizeof sql, "INSERT INTO clock VALUES (%d, 0)", (int)tenant);
+    run(sql);
     for (uint64_t id = 1; id <= accounts; id++) {
         sqlite3_stmt *s = add_account();
-        put(s, 1, TENANT);
+        put(s, 1, tenant);
         put_wide(s, 2, id);
         put_wide(s, 3, 0);
         put_narrow(s, 4, 0);
@@ -333,6 +340,15 @@ static void make_file(const char *path, uint64_t accounts) {
         done(s);
         store_balance(add_balance(), id, (sums){0});
     }
+}
+
+static void make_file(const char *path, uint64_t accounts, int tenants) {
+    open_file(path);
+    run("BEGIN");
+    for (size_t i = 0; i < sizeof TABLES / sizeof *TABLES; i++) run(TABLES[i]);
+    run("INSERT INTO schema (version) VALUES (3)");
+    for (tenant = 1; tenant <= tenants; tenant++) open_accounts(accounts);
+    tenant = 1;
     run("COMMIT");
 }
 
@@ -344,18 +360,22 @@ static transfer transfer_at(uint64_t place, uint64_t accounts) {
     return (transfer){.id = FIRST_ID + place, .debit = 1 + debit, .credit = 1 + credit};
 }
 
+static void draw(transfer *batch, uint64_t accounts, int size) {
+    for (int i = 0; i < size; i++) batch[i] = transfer_at(next_place + i, accounts);
+    next_place += size;
+}
+
 /* Sends so many transfers in batches of a size; answers the microseconds that it took. */
 static double send(uint64_t accounts, int count, int size, int64_t timeout) {
     static transfer batch[1000];
     double start = micros();
     for (int sent = 0; sent < count; sent += size) {
+        draw(batch, accounts, size);
         for (int i = 0; i < size; i++) {
-            batch[i] = transfer_at(next_place + i, accounts);
             batch[i].is_pending = timeout > 0;
             batch[i].timeout = timeout;
         }
         run_batch(batch, size);
-        next_place += size;
     }
     return micros() - start;
 }
@@ -394,7 +414,7 @@ static void page(sqlite3_stmt *s, uint64_t account, int64_t bound, int limit) {
     look_up_tenant();
     read_clock();
     if (!has(find_account(), account)) fail("no account");
-    put(s, 1, TENANT);
+    put(s, 1, tenant);
     put_wide(s, 2, account);
     put(s, 3, bound);
     for (int i = 0; i < limit && row(s); i++) continue;
@@ -458,12 +478,33 @@ static void reads(const char *path, int length) {
     opening(path, length);
 }
 
+/* Batches of tenants in turn, of which some share a commit, for so many seconds. */
+static void shared(uint64_t accounts, int size, int many, int tenants, double seconds) {
+    static transfer batch[1000];
+    double start = micros(), end = start + 1e6 * seconds;
+    clock_t used = clock();
+    uint64_t first = next_place;
+    while (micros() < end) {
+        done(begin());
+        for (int i = 0; i < many; i++) {
+            draw(batch, accounts, size);
+            look_up_tenant();
+            keep_batch(batch, size);
+            tenant = tenant % tenants + 1;
+        }
+        done(commit());
+    }
+    printf("%llu %.3f %.3f\n", (unsigned long long)(next_place - first), (micros() - start) / 1e6,
+        (double)(clock() - used) / CLOCKS_PER_SEC);
+}
+
 int main(int count, char **words) {
-    if (count < 5) fail("peer FILE write|due|read ACCOUNTS STORED");
+    if (count < 5) fail("peer FILE write|due|read|shared ACCOUNTS STORED");
     uint64_t accounts = strtoull(words[3], 0, 10);
-    int stored = atoi(words[4]);
-    make_file(words[1], accounts);
-    if (!strcmp(words[2], "read")) reads(words[1], stored);
+    int stored = atoi(words[4]), tenants = count == 8 ? atoi(words[6]) : 1;
+    make_file(words[1], accounts, tenants);
+    if (count == 8) shared(accounts, stored, atoi(words[5]), tenants, atof(words[7]));
+    else if (!strcmp(words[2], "read")) reads(words[1], stored);
     else if (!strcmp(words[2], "due")) dues(accounts, stored);
     else writes(accounts, stored);
     return 0;
