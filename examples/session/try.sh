@@ -59,6 +59,8 @@ until listens; do
 done
 printf '\nBuilt in %s s, and served on 127.0.0.1:%s\n' "$(($(date +%s) - begun))" "$port"
 
+# `tail` may come first, so that the file is made here.
+: >"$folder/session.txt"
 send_requests >"$folder/session.txt" 2>&1 &
 sender=$!
 tail -n +1 -f --pid="$sender" "$folder/session.txt"
