@@ -15,8 +15,9 @@ from service import (Connection, Desk, Lost, add_tenant, body_of, check, lookup,
 MOST_LENGTH = 2_097_152
 # So many bytes of a hostile message are sent ahead, behind a good one.
 MOST_AHEAD = 30_000
-# A system's allocator keeps some memory back; what grows with messages would be far beyond it.
-MOST_GROWN = 4 << 20
+# Behind a huge message the system's allocator keeps its buffers for a while, three of them as was
+# seen. What grows with messages would be beyond that: 3 kB of each here, a hundred bytes in `--long`.
+MOST_GROWN = 5 * MOST_LENGTH
 GOOD_MARK, HOSTILE_MARK = b"7770777077707", b"6660666066606"
 GOOD_ID = int(GOOD_MARK) * 10**6
 
