@@ -1,5 +1,5 @@
 -- What the program tells of a tenant, from what the store answers.
-use Rattle.std.proofs.Common.{◌≡◌, ℕ, List, Result, Ok, Err, refl, sym, subst}
+use Rattle.std.proofs.Common.{◌≡◌, ℕ, List, Err, refl, sym, subst}
 use Rattle.sqlite_disk.specs.declared.Disk as disk
 use Rattle.sqlite.specs.Effect.{Database}
 use Rattle.service.specs.Courses.{Ending}
@@ -12,7 +12,7 @@ use Rattle.stored_ledgers.specs.Joining.{HasJoined}
 use Rattle.store.specs.Stores.{OfDatabaseAt}
 use Rattle.command_texts.specs.declared.fault.Fault.{Fault}
 use Rattle.commands.specs.Adding.{IsAdded, add_fault}
-use Rattle.commands.specs.Orders.{ending_told}
+use Rattle.commands.specs.Endings.{ending_told}
 
 -- what follows of the databases, where something holds of them
 pub of_both :

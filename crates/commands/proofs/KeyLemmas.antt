@@ -1,5 +1,5 @@
 -- What the program tells of a tenant's key, from what the store answers.
-use Rattle.std.proofs.Common.{◌≡◌, ℕ, List, Result, Ok, Err, refl, sym, subst}
+use Rattle.std.proofs.Common.{◌≡◌, ℕ, List, Err, refl, sym, subst}
 use Rattle.sqlite.specs.Effect.{Database}
 use Rattle.service.specs.Courses.{Ending}
 use Rattle.stored_ledgers.specs.declared.keying.ChangeKey.{ChangeKey}
@@ -8,7 +8,7 @@ use Rattle.stored_ledgers.specs.Keying.{HasKeyed}
 use Rattle.store.specs.Deeds.{key_ending}
 use Rattle.command_texts.specs.declared.fault.Fault.{Fault}
 use Rattle.commands.specs.Keying.{IsChanged, key_fault}
-use Rattle.commands.specs.Orders.{ending_told}
+use Rattle.commands.specs.Endings.{ending_told}
 
 refused :
     (name digest : List ℕ) (old new : Database) (why : ChangeKey) →

@@ -1,6 +1,7 @@
 mod ServingLemmas
 mod AddLemmas
 mod KeyLemmas
+pub mod PieceLemmas
 mod OrderLemmas
 pub mod ExtractLemmas
 mod AskLemmas

@@ -1,5 +1,5 @@
 -- An operator's order on a store, as what happens between turns.
-use Rattle.std.proofs.Common.{◌≡◌, ◌⊎◌, inl, inr, ℕ, List, Result, Ok, Err, refl, ap, subst}
+use Rattle.std.proofs.Common.{◌⊎◌, inl, inr, Result}
 use Rattle.sqlite_disk.specs.declared.Disk as disk
 use Rattle.records.specs.declared.unavailable.Unavailable.{Unavailable}
 use Rattle.chain.specs.Ledgers.{Tenants}
@@ -12,7 +12,9 @@ use Rattle.store.specs.Stores.{FindsTenants, IsHonest, Reads, may_find}
 use Rattle.store.specs.declared.store.Store.{Store}
 use Rattle.command_texts.specs.declared.fault.Fault.{Fault}
 use Rattle.commands.specs.Kept.{kept_store, Renews, Tries, Looks}
-use Rattle.commands.specs.Orders.{CarriesOut, ending_told}
+use Rattle.commands.specs.Endings.{ending_told}
+use Rattle.commands.specs.Orders.{CarriesOut}
+use Rattle.commands.specs.Pieces.{asked_for}
 use Rattle.commands.specs.declared.kept.Kept.TheVariants.{Open}
 use Rattle.commands.specs.declared.orders.Done.{Done}
 use Rattle.commands.specs.declared.orders.Order.{Order}
@@ -74,3 +76,10 @@ module _ {D : Type 0} {g : disk.Ghosts D} where
   order_renews (order.ChangeKey name digest) old new done carried =
       Tries (Keyed carried.1.0 digest) (ending_told done)
       (moves_kept old (Tried (Keyed carried.1.0 digest) (ending_told done)) new carried.1.1)
+  order_renews (order.Statement tenant account span) old new done carried =
+      elim carried.1 [
+        | inl rest ↦ Looks (rest_kept old new rest)
+        | inr read ↦
+            Tries (asked_for read.0 account) (ending_told done)
+            (moves_kept old (Tried (asked_for read.0 account) (ending_told done)) new read.1)
+      ]

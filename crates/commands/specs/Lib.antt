@@ -11,7 +11,11 @@ pub mod Program
 pub mod Asking
 pub mod Extracts
 pub mod GivenKeys
+pub mod Endings
+pub mod Pieces
 pub mod Orders
+pub mod Desk
+pub mod Served
 pub mod Listing
 pub mod Copying
 pub mod Tally

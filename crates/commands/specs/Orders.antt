@@ -1,7 +1,6 @@
 -- What carrying out an operator's order makes of a store.
 use Rattle.std.specs.Prelude.{◌≡◌, ℕ, List, Result, Ok, Err}
 use Rattle.sqlite_disk.specs.declared.Disk as disk
-use Rattle.service.specs.Courses.{Ending, Done as IsDone, Declined, Unavailable as WasUnavailable}
 use Rattle.service.specs.Courses.{Tried}
 use Rattle.service.specs.Deeds.{Joined, Keyed}
 use Rattle.service.specs.Openings.{run_meaning, Moves}
@@ -13,17 +12,13 @@ use Rattle.store.specs.declared.store.Store.{Store}
 use Rattle.command_texts.specs.declared.fault.Fault.{Fault}
 use Rattle.command_texts.specs.declared.fault.Fault.TheVariants.{Unavailable}
 use Rattle.commands.specs.Adding.{IsAdded}
+use Rattle.commands.specs.Endings.{ending_told}
 use Rattle.commands.specs.Keying.{IsChanged}
+use Rattle.commands.specs.Pieces.{IsPieceTold, IsRead, machine_named}
 use Rattle.commands.specs.declared.orders.Order.{Order}
-use Rattle.commands.specs.declared.orders.Order.TheVariants.{Tenants, AddTenant, ChangeKey}
+use Rattle.commands.specs.declared.orders.Order.TheVariants.{Tenants, AddTenant, ChangeKey, Statement}
 use Rattle.commands.specs.declared.orders.Done.{Done}
-use Rattle.commands.specs.declared.orders.Done.TheVariants.{Listed, Changed}
-
--- how a deed ended, by what is told of it
-abbrev pub ending_told : {T : Type 0} → Result T Fault → Ending
-ending_told (Ok done) = IsDone
-ending_told (Err Unavailable) = WasUnavailable
-ending_told (Err fault) = Declined
+use Rattle.commands.specs.declared.orders.Done.TheVariants.{Listed, Changed, Read}
 
 -- what is told without what was done
 abbrev pub told_only : {T : Type 0} → Result T Fault → Result (Unit {0}) Fault
@@ -42,10 +37,11 @@ module _ {D : Type 0} {g : disk.Ghosts D} where
   IsListingTold store (Ok (Listed tenants)) =
       OfDatabase (λ db. AreListed db.trees tenants.items) store
   IsListingTold store (Ok Changed) = ⊥
+  IsListingTold store (Ok (Read piece)) = ⊥
   IsListingTold store (Err fault) = fault ≡ Unavailable
 
-  -- what an order comes to: the tenants are listed, and nothing has changed for any; or a deed was
-  -- tried, and what is told of it is how it ended
+  -- what an order comes to: the tenants are listed, or a piece of a statement is read, and nothing has
+  -- changed for any; or a deed was tried, and what is told of it is how it ended
   abbrev pub CarriesOut : Order → Store D g → Result Done Fault → Store D g → Type 0
   CarriesOut Tenants old result new =
       (IsLive new → IsListingTold old result) × IsAtRest (run_meaning store_meaning) old new
@@ -57,3 +53,7 @@ module _ {D : Type 0} {g : disk.Ghosts D} where
       (IsLive new
       → OfDatabases (λ before after. IsChanged name digest before after (told_only result)) old new)
       × IsKeyingTold digest old result new
+  CarriesOut (Statement tenant account span) old result new =
+      (IsLive new
+      → OfDatabase (λ db. IsPieceTold account span (machine_named tenant db.trees) result) old)
+      × IsRead account old result new

@@ -1,12 +1,15 @@
 -- What a service counts of what it has done.
-use Rattle.std.specs.Prelude.{◌+◌, ◌-◌, ◌^◌, ℕ, Bool, true, false, min}
+use Rattle.std.specs.Prelude.{◌+◌, ◌-◌, ◌^◌, ℕ, Option, Some, None, min}
+use Rattle.command_texts.specs.Faults.{status_of}
+use Rattle.command_texts.specs.declared.fault.Fault.{Fault}
 use Rattle.commands.specs.declared.tally.Tally.{Tally}
 
 -- a count, which stays at the greatest number that it can be
 abbrev pub up_to_most : ℕ → ℕ
 up_to_most count = min count (2 ^ 64 - 1)
 
--- one opening more, which has succeeded or not
-abbrev pub tried : Bool → Tally → Tally
-tried true tally = record tally { reopened = up_to_most (tally.reopened + 1) }
-tried false tally = record tally { closed = up_to_most (tally.closed + 1) }
+-- one opening more, which has succeeded, or was refused, as the last one so far
+abbrev pub tried : Option Fault → Tally → Tally
+tried None tally = record tally { reopened = up_to_most (tally.reopened + 1) }
+tried (Some fault) tally =
+    record tally { closed = up_to_most (tally.closed + 1); last_refusal = status_of fault }

@@ -6,7 +6,7 @@ ghost use Rattle.service.specs.Openings.{run_meaning, Moves};
 ghost use Rattle.store.specs.StoreLaws.{store_meaning};
 ghost use Rattle.store.specs.Stores.{Follows, IsLive, IsUsable, OfDatabases};
 ghost use Rattle.commands.specs.Adding.{IsAdded, add_fault};
-ghost use Rattle.commands.specs.Orders.{ending_told};
+ghost use Rattle.commands.specs.Endings.{ending_told};
 
 use command_texts::Fault;
 use sqlite_disk::Disk;

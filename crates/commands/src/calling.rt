@@ -3,23 +3,33 @@
 use command_texts::Fault;
 use control::{Call, call};
 use std::fs;
+use std::io::ErrorKind;
 
-/// The path of a file itself, wherever links lead. None where it is not found, or memory is wanting.
-pub(crate) fn real_path(rt: &HostRuntime, db: &str) -> Option<String> {
-    let real = fs::canonicalize(rt, db).ok()?;
-    String::from_str(rt.alloc(), real.as_str()).ok()
+/// The path of a file itself, wherever links lead. None where it is not found.
+pub(crate) fn real_path(rt: &HostRuntime, db: &str) -> Result<Option<String>, Fault> {
+    match fs::canonicalize(rt, db) {
+        Ok(real) => Ok(Some(String::from_str(rt.alloc(), real.as_str())?)),
+        Err(error) => match error.kind() {
+            ErrorKind::PermissionDenied => Err(Fault::Unreadable),
+            ErrorKind::OutOfMemory => Err(Fault::Unavailable),
+            _ => Ok(None),
+        },
+    }
 }
 
 /// Where a service that has a file listens for its operator: beside the file itself.
-pub(crate) fn desk_path(rt: &HostRuntime, db: &str) -> Option<String> {
-    let real = real_path(rt, db)?;
+pub(crate) fn desk_path(rt: &HostRuntime, db: &str) -> Result<Option<String>, Fault> {
+    let Some(real) = real_path(rt, db)? else {
+        return Ok(None);
+    };
     let path = real.as_str();
-    format!(in rt.alloc(); "{path}.control").ok()
+    Ok(Some(format!(in rt.alloc(); "{path}.control")?))
 }
 
-/// What the service that has a file answers, if one has it and listens for its operator.
+/// What the service that has a file answers, if one has it and listens for its operator. It is
+/// `Unreadable` where a folder on the way to the file is another user's.
 pub(crate) fn ask(rt: &HostRuntime, db: &str, what: &Call<'_>) -> Result<Option<Vec<u8>>, Fault> {
-    match desk_path(rt, db) {
+    match desk_path(rt, db)? {
         Some(path) => call(rt, rt.alloc(), path.as_str(), what),
         None => Ok(None),
     }

@@ -24,7 +24,7 @@ pub(crate) fn absolute(rt: &HostRuntime, path: &str) -> Result<String, Fault> {
 /// Copies a file that nobody serves, behind an audit, and says how many bytes the copy has.
 pub(crate) fn copy_file(rt: &HostRuntime, db: &str, to: &str) -> Result<u64, Fault> {
     let store = open_file(rt, db)?;
-    let real = real_path(rt, db).ok_or(Fault::Unreadable)?;
+    let real = real_path(rt, db)?.ok_or(Fault::Unreadable)?;
     let copied = copy_whole(rt, real.as_str(), to);
     drop(store);
     copied.map_err(copy_fault)
@@ -41,7 +41,7 @@ pub(crate) fn copy_on(rt: &HostRuntime, copying: Copying) -> Result<Progress, Fa
 
 /// Begins a copy of a file that is served.
 pub(crate) fn begin_copy(rt: &HostRuntime, db: &str, to: &str) -> Result<Copying, Fault> {
-    let real = real_path(rt, db).ok_or(Fault::Unreadable)?;
+    let real = real_path(rt, db)?.ok_or(Fault::Unreadable)?;
     match Copying::begin(rt, real.as_str(), to) {
         Ok(copying) => Ok(copying),
         Err(fault) => Err(copy_fault(fault)),

@@ -1,5 +1,6 @@
 //! The desk at which the operator of a service on this machine asks.
 ghost use Rattle.std.specs.Prelude.{◌≡◌};
+ghost use Rattle.commands.specs.Desk.{order_of};
 
 use crate::bell::Bell;
 use crate::calling::desk_path;
@@ -8,8 +9,12 @@ use crate::listing::listed;
 use crate::orders::{Done, Order, Orders};
 use crate::status::status_body;
 use command_texts::Fault;
-use control::{Desk, Order as Asked, added_body, changed_body, copied_body};
+use control::{
+    Desk, Order as Asked, PieceAsked, added_body, changed_body, copied_body, entries_body,
+};
 use copies::Copying;
+use metered_disk::Meter;
+use records::{Order as InTime, Span};
 use sockets::Watcher;
 use std::alloc::Global;
 use std::os::unix::fs::MetadataExt;
@@ -19,11 +24,15 @@ use std::{fs, io};
 /// How many calls that ask nothing of the store are answered in a row.
 const MOST_IN_A_ROW: u32 = 8;
 
+/// The most entries of one piece of a statement, which is read in one turn.
+const MOST_ENTRIES: u32 = 1_000;
+
 /// The desk of a service, if it has one.
 #[derive(Drop)]
 pub(crate) struct HostDesk<'a> {
     rt: &'a HostRuntime,
     bell: &'a Bell,
+    meter: &'a Meter,
     /// The path of the ledger's file.
     db: &'a str,
     watcher: Option<Watcher>,
@@ -59,7 +68,28 @@ fn body_of(alloc: Global, order: &Order, done: Result<Done, Fault>) -> Result<Ve
         (_, Done::Listed(tenants)) => listed(alloc, tenants.as_slice()),
         (Order::ChangeKey { name, .. }, Done::Changed) => Ok(changed_body(alloc, name)?),
         (Order::AddTenant { name, .. }, Done::Changed) => Ok(added_body(alloc, name)?),
-        (Order::Tenants, Done::Changed) => Err(Fault::Unavailable),
+        (_, Done::Read(piece)) => Ok(entries_body(alloc, piece.clock, piece.entries.as_slice())?),
+        (Order::Tenants | Order::Statement { .. }, Done::Changed) => Err(Fault::Unavailable),
+    }
+}
+
+// What is asked of the store for a piece of a statement.
+fn order_of(piece: &PieceAsked) -> Order
+    ensures { result ≡ order_of piece.now }
+{
+    Order::Statement {
+        tenant: piece.tenant,
+        account: piece.account,
+        span: Span {
+            first: piece.from,
+            last: piece.to,
+            order: if piece.is_reversed {
+                InTime::Newest
+            } else {
+                InTime::Oldest
+            },
+            most: MOST_ENTRIES,
+        },
     }
 }
 
@@ -76,11 +106,13 @@ impl<'a> HostDesk<'a> {
         rt: &'a HostRuntime,
         db: &'a str,
         bell: &'a Bell,
+        meter: &'a Meter,
         watcher: Option<Watcher>,
     ) -> Self {
         HostDesk {
             rt,
             bell,
+            meter,
             db,
             watcher,
             desk: None,
@@ -98,6 +130,7 @@ impl<'a> HostDesk<'a> {
         let HostDesk {
             rt,
             bell: _,
+            meter: _,
             db: _,
             watcher: _,
             desk,
@@ -124,7 +157,7 @@ impl<'a> HostDesk<'a> {
     /// had the file meanwhile has taken it away. Where it cannot be it is told, and all else goes on.
     pub(crate) fn open(&mut self) {
         self.was_answering = true;
-        let Some(path) = desk_path(self.rt, self.db) else {
+        let Ok(Some(path)) = desk_path(self.rt, self.db) else {
             return;
         };
         let path = path.as_str();
@@ -249,9 +282,11 @@ impl<'a> HostDesk<'a> {
                 name: *name,
                 digest: *digest,
             }),
+            Asked::Statement(piece) => Found::Asked(order_of(piece)),
             Asked::Status => {
                 let age = self.now().saturating_sub(self.began);
-                self.answer(status_body(self.rt, self.db, self.bell, age));
+                let disk = self.meter.reading();
+                self.answer(status_body(self.rt, self.db, self.bell, &disk, age));
                 Found::Answered
             }
             Asked::Copy { to } => {

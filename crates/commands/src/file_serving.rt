@@ -14,18 +14,18 @@ use crate::counting::CountingAudit;
 use crate::desk::HostDesk;
 use crate::given_limits::limits_of;
 use crate::kept::Kept;
-use crate::opening::open_served;
+use crate::opening::{ServedFile, open_served};
 use crate::orders::Orders;
 use crate::renewing::{Home, Renewing};
 use crate::serving::{Served, serve_clients};
 use command_line::LimitWords;
 use command_texts::{Fault, address, tell_fault};
+use metered_disk::Meter;
 use polling::Peers;
 use records::Streamed;
 use service::Moments;
 use sockets::{Counts, Operator, Sockets};
 use sqlite_disk::Disk;
-use sqlite_std_file::File;
 use std::alloc::Global;
 use std::cell::Cell;
 use std::net::{IpAddr, Ipv4Addr, SocketAddr};
@@ -91,6 +91,7 @@ impl Operator for Console<'_> {
 struct HostFile<'a> {
     rt: &'a HostRuntime,
     bell: &'a Bell,
+    meter: &'a Meter,
     path: &'a str,
     address: SocketAddr,
     audit: CountingAudit,
@@ -100,10 +101,10 @@ struct HostFile<'a> {
     is_told: Cell<bool>,
 }
 
-impl Home<File> for HostFile<'_> {
-    fn open_store(&self) -> Result<Store<File>, Fault> {
+impl<'a> Home<ServedFile<'a>> for HostFile<'a> {
+    fn open_store(&self) -> Result<Store<ServedFile<'a>>, Fault> {
         self.began.set(self.now());
-        open_served(self.rt, self.path, &self.audit)
+        open_served(self.rt, self.path, &self.audit, self.meter)
     }
 
     fn tell(&self, fault: Fault) {
@@ -115,13 +116,13 @@ impl Home<File> for HostFile<'_> {
         }
     }
 
-    fn tried(&self, is_open: bool) {
+    fn tried(&self, refused: Option<Fault>) {
         let mut tally = self.bell.tally();
-        tally.tried(is_open);
+        tally.tried(refused);
         self.bell.set_tally(tally);
     }
 
-    fn tell_answers(&self, _store: &Store<File>) {
+    fn tell_answers(&self, _store: &Store<ServedFile<'a>>) {
         if self.is_told.get() {
             let path = self.path;
             let _ = self.rt.eprintln(format_args!("serving {path} again"));
@@ -135,12 +136,14 @@ impl<'a> HostFile<'a> {
     fn new(
         rt: &'a HostRuntime,
         bell: &'a Bell,
+        meter: &'a Meter,
         path: &'a str,
         address: SocketAddr,
     ) -> HostFile<'a> {
         HostFile {
             rt,
             bell,
+            meter,
             path,
             address,
             audit: CountingAudit::new(),
@@ -151,7 +154,7 @@ impl<'a> HostFile<'a> {
 
     // The store, if it can be opened now; none where another process has the file and it is waited
     // for.
-    fn first_store(&self, standby: bool) -> Result<Option<Store<File>>, Fault>
+    fn first_store(&self, standby: bool) -> Result<Option<Store<ServedFile<'a>>>, Fault>
         ensures usable { IfOk result (λ store. IfSome store IsUsable) }
         ensures fault { IfErr result IsOpeningFault }
     {
@@ -217,9 +220,11 @@ pub fn serve_file(
     let Ok(mut peers) = Sockets::listen(rt, rt, &console, asked, limits_of(limits)) else {
         return Err(Fault::Socket);
     };
-    let home = HostFile::new(rt, &bell, db, peers.local_addr().unwrap_or(asked));
+    let meter = Meter::new();
+    let address = peers.local_addr().unwrap_or(asked);
+    let home = HostFile::new(rt, &bell, &meter, db, address);
     let store = home.first_store(standby)?;
-    let mut desk = HostDesk::new(rt, db, &bell, peers.watcher().ok());
+    let mut desk = HostDesk::new(rt, db, &bell, &meter, peers.watcher().ok());
     if store.is_some() {
         desk.open();
         home.tell_serving();
@@ -267,7 +272,7 @@ pub fn serve_store<D: Disk + Drop, P: Peers, H: Home<D>, C: Moments, K: Clock, O
     ensures fault { IfErr result.0 (λ fault. fault ≡ Fault.Socket) }
 {
     let mut kept = Kept::of(store);
-    let mut renewing = Renewing::new(home, clock, orders);
+    let mut renewing = Renewing::new(alloc, home, clock, orders);
     let served = serve_clients(alloc, peers, &mut kept, &mut renewing, moments, most);
     (served, renewing.into_orders())
 }

@@ -6,7 +6,9 @@ ghost use Rattle.commands.specs.Openings.{IsOpeningFault, open_fault};
 
 use audit::Damage;
 use command_texts::Fault;
+use metered_disk::{Meter, Metered, measured};
 use migrate::LedgerOfVersion;
+use openings::opening::files_at;
 use records::Unavailable;
 use sqlite::Options;
 use sqlite_disk::Unknown;
@@ -40,35 +42,46 @@ pub(crate) fn open_file(rt: &HostRuntime, path: &str) -> Result<Store<File>, Fau
     ensures usable { IfOk result IsUsable }
     ensures fault { IfErr result IsOpeningFault }
 {
-    open_with(rt, path, PAGES, &FullAudit)
-}
-
-/// The same, to be served, behind an audit.
-pub(crate) fn open_served<A: Audit>(
-    rt: &HostRuntime,
-    path: &str,
-    audit: &A,
-) -> Result<Store<File>, Fault>
-    ensures usable { IfOk result IsUsable }
-    ensures ready { IfOk result IsReady }
-    ensures fault { IfErr result IsOpeningFault }
-{
-    open_with(rt, path, SERVED_PAGES, audit)
-}
-
-fn open_with<A: Audit>(
-    rt: &HostRuntime,
-    path: &str,
-    pages: usize,
-    audit: &A,
-) -> Result<Store<File>, Fault>
-    ensures usable { IfOk result IsUsable }
-    ensures ready { IfOk result IsReady }
-    ensures fault { IfErr result IsOpeningFault }
-{
-    match open_at(rt, path, pages, audit) {
+    match open_at(rt, path, &FullAudit) {
         Ok(store) => Ok(store),
         Err(fault) => Err(open_fault(fault)),
+    }
+}
+
+/// A file that is served, whose calls a meter counts.
+pub(crate) type ServedFile<'a> = Metered<'a, File, HostRuntime>;
+
+/// The ledger in a file that is there, to be served, behind an audit.
+pub(crate) fn open_served<'a, A: Audit>(
+    rt: &'a HostRuntime,
+    path: &str,
+    audit: &A,
+    meter: &'a Meter,
+) -> Result<Store<ServedFile<'a>>, Fault>
+    ensures usable { IfOk result IsUsable }
+    ensures ready { IfOk result IsReady }
+    ensures fault { IfErr result IsOpeningFault }
+{
+    match open_measured(rt, path, audit, meter) {
+        Ok(store) => Ok(store),
+        Err(fault) => Err(open_fault(fault)),
+    }
+}
+
+fn open_measured<'a, A: Audit>(
+    rt: &'a HostRuntime,
+    path: &str,
+    audit: &A,
+    meter: &'a Meter,
+) -> Result<Store<ServedFile<'a>>, OpenFault>
+    ensures usable { IfOk result IsUsable }
+    ensures ready { IfOk result IsReady }
+{
+    find(rt, path)?;
+    let files = measured(files_at(rt, path, Unknown)?, rt, meter);
+    match Store::open(rt.alloc(), files, options(rt, SERVED_PAGES)?, audit) {
+        Ok(store) => Ok(store),
+        Err((fault, _files)) => Err(fault),
     }
 }
 
@@ -121,24 +134,19 @@ fn migratable_at(rt: &HostRuntime, path: &str) -> Result<LedgerOfVersion<File>, 
 
 /// Where the ledger in a file that is there is damaged.
 pub(crate) fn examine(rt: &HostRuntime, path: &str) -> Result<Option<Damage>, Fault> {
-    match open_at(rt, path, PAGES, &FullAudit) {
+    match open_at(rt, path, &FullAudit) {
         Ok(_store) => Ok(None),
         Err(OpenFault::Damaged(damage)) => Ok(Some(damage)),
         Err(fault) => Err(open_fault(fault)),
     }
 }
 
-fn open_at<A: Audit>(
-    rt: &HostRuntime,
-    path: &str,
-    pages: usize,
-    audit: &A,
-) -> Result<Store<File>, OpenFault>
+fn open_at<A: Audit>(rt: &HostRuntime, path: &str, audit: &A) -> Result<Store<File>, OpenFault>
     ensures usable { IfOk result IsUsable }
     ensures ready { IfOk result IsReady }
 {
     find(rt, path)?;
-    Store::open_at(rt, path, Unknown, options(rt, pages)?, audit)
+    Store::open_at(rt, path, Unknown, options(rt, PAGES)?, audit)
 }
 
 // Opening would make a database of a file that is absent or empty, so it is looked for first.

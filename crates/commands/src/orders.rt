@@ -8,8 +8,12 @@ ghost use Rattle.commands.specs.Orders.{CarriesOut};
 use crate::adding::add_tenant;
 use crate::kept::Kept;
 use crate::keying::change_key;
+use crate::pieces::read_piece;
+use chain::{AccountEntry, Listed};
 use command_texts::Fault;
+use records::Span;
 use sqlite_disk::Disk;
+use std::alloc::Global;
 use store::{ListedTenant, Store};
 use tenants::TenantName;
 
@@ -19,9 +23,21 @@ pub enum Order {
     /// Which tenants there are.
     Tenants,
     /// A new tenant, known by a key with this digest.
-    AddTenant { name: TenantName, digest: [u8; 32] },
+    AddTenant {
+        name: TenantName,
+        digest: [u8; 32],
+    },
     /// Another key for a tenant.
-    ChangeKey { name: TenantName, digest: [u8; 32] },
+    ChangeKey {
+        name: TenantName,
+        digest: [u8; 32],
+    },
+    /// The entries of a tenant's account within a span of time.
+    Statement {
+        tenant: TenantName,
+        account: u128,
+        span: Span,
+    },
 }
 
 /// What an order came to, where it was carried out.
@@ -31,6 +47,8 @@ pub enum Done {
     Listed(Vec<ListedTenant>),
     /// The tenant was added, or has another key.
     Changed,
+    /// These are the account's entries, by the tenant's clock.
+    Read(Listed<AccountEntry>),
 }
 
 /// Where an operator asks for something, and is told what became of it.
@@ -51,7 +69,11 @@ pub trait Orders {
 }
 
 // Carries out an order on a store.
-fn carry_out_on<D: Disk + Drop>(store: &mut Store<D>, order: &Order) -> Result<Done, Fault>
+fn carry_out_on<D: Disk + Drop>(
+    alloc: Global,
+    store: &mut Store<D>,
+    order: &Order,
+) -> Result<Done, Fault>
     requires { IsUsable store.old }
     ensures done { CarriesOut order.now store.old result store.new }
     ensures usable { IsUsable store.new }
@@ -69,11 +91,17 @@ fn carry_out_on<D: Disk + Drop>(store: &mut Store<D>, order: &Order) -> Result<D
             change_key(store, name, digest)?;
             Ok(Done::Changed)
         }
+        Order::Statement {
+            tenant,
+            account,
+            span,
+        } => read_piece(alloc, store, tenant, *account, span),
     }
 }
 
 /// Carries out an order, and tells what it came to. Where no store is there, that is `Unavailable`.
 pub(crate) fn carry_out<D: Disk + Drop, O: Orders>(
+    alloc: Global,
     kept: &mut Kept<Store<D>>,
     orders: &mut O,
     order: &Order,
@@ -84,7 +112,7 @@ pub(crate) fn carry_out<D: Disk + Drop, O: Orders>(
 {
     match kept {
         Kept::Open(store) => {
-            let done = carry_out_on(store, order);
+            let done = carry_out_on(alloc, store, order);
             orders.tell(order, done);
         }
         Kept::Closed => orders.tell(order, Err(Fault::Unavailable)),

@@ -15,6 +15,7 @@ use crate::given_key::GivenKey;
 use crate::keying::change_key;
 use crate::listing::listed;
 use crate::opening::{Opened, examine, open_file, open_or_make, open_to_migrate};
+use crate::served_statements::{ask_first, write_served};
 use crate::statements::write_asked;
 use command_line::StatementWords;
 use command_texts::{
@@ -220,16 +221,34 @@ pub(crate) fn run_statement<O: Drain + Drop>(
     let tenant = name(tenant)?;
     let account = account_id(account)?;
     let asked = Asked::read(words)?;
-    let mut store = open_file(rt, db)?;
-    let Ok(found) = store.digest_of(&tenant) else {
-        return Err(Fault::Unavailable);
+    let out = match ask_first(rt, db, &tenant, account, &asked)? {
+        Some(first) => write_served(rt, db, first, &asked, out)?,
+        None => write_unserved(rt, db, &tenant, account, &asked, out)?,
     };
-    let digest = found.ok_or(Fault::NoTenant)?;
     Ok(Ended {
-        out: write_asked(rt.alloc(), &mut store, &digest, account, &asked, out)?,
+        out,
         is_damaged: false,
         made: None,
     })
+}
+
+// Writes it from a file that nobody serves.
+fn write_unserved<O: Drain + Drop>(
+    rt: &HostRuntime,
+    db: &str,
+    tenant: &TenantName,
+    account: u128,
+    asked: &Asked,
+    out: O,
+) -> Result<O, Fault>
+    requires { O.failed out ≡ false }
+{
+    let mut store = open_file(rt, db)?;
+    let Ok(found) = store.digest_of(tenant) else {
+        return Err(Fault::Unavailable);
+    };
+    let digest = found.ok_or(Fault::NoTenant)?;
+    write_asked(rt.alloc(), &mut store, &digest, account, asked, out)
 }
 
 /// Audits a file, and tells its first damage, or that there is none.

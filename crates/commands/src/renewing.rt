@@ -15,6 +15,7 @@ use command_texts::Fault;
 use polling::Steward;
 use records::Unavailable;
 use sqlite_disk::Disk;
+use std::alloc::Global;
 use std::time::{Clock, Duration};
 use store::{FullAudit, OpenFault, Store};
 
@@ -36,8 +37,9 @@ pub trait Home<D: Disk + Drop> {
     fn tell(&self, fault: Fault)
         requires { IsOpeningFault fault };
 
-    /// Is told of each time that it was tried to open a store again, and whether one is open now.
-    fn tried(&self, _is_open: bool) {}
+    /// Is told of each time that it was tried to open a store again: one is open now, or this is why
+    /// none is.
+    fn tried(&self, _refused: Option<Fault>) {}
 
     /// Is told that a store answers calls again.
     fn tell_answers(&self, store: &Store<D>)
@@ -57,6 +59,7 @@ struct Pause {
 /// then, while that is refused, after a second, and after twice the time that was waited for, up to a
 /// minute.
 pub(crate) struct Renewing<'a, H, K: Clock, O> {
+    alloc: Global,
     home: &'a H,
     clock: &'a K,
     orders: O,
@@ -65,8 +68,9 @@ pub(crate) struct Renewing<'a, H, K: Clock, O> {
 }
 
 impl<'a, H, K: Clock, O> Renewing<'a, H, K, O> {
-    pub(crate) fn new(home: &'a H, clock: &'a K, orders: O) -> Self {
+    pub(crate) fn new(alloc: Global, home: &'a H, clock: &'a K, orders: O) -> Self {
         Renewing {
+            alloc,
             home,
             clock,
             orders,
@@ -79,6 +83,7 @@ impl<'a, H, K: Clock, O> Renewing<'a, H, K, O> {
         ensures { result ≡ self.entry.orders }
     {
         let Renewing {
+            alloc: _,
             home: _,
             clock: _,
             orders,
@@ -116,7 +121,7 @@ impl<D: Disk + Drop, H: Home<D>, K: Clock, O: Orders> Steward<Kept<Store<D>>>
 
     fn attend(&mut self, kept: &mut Kept<Store<D>>) {
         match self.orders.next(is_answering(kept)) {
-            Some(order) => carry_out(kept, &mut self.orders, &order),
+            Some(order) => carry_out(self.alloc, kept, &mut self.orders, &order),
             None => renew(self.home, self.clock, &mut self.pause, kept),
         }
     }
@@ -137,7 +142,7 @@ fn renew<D: Disk + Drop, H: Home<D>, K: Clock>(
         return;
     }
     let opened = opened_again(home, kept);
-    home.tried(opened.is_ok());
+    home.tried(opened.err());
     match opened {
         Ok(()) => {
             if pause.is_some() {

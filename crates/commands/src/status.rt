@@ -5,6 +5,7 @@ ghost use Rattle.std.specs.Duration.{as_nanos};
 use crate::bell::Bell;
 use command_texts::Fault;
 use control::{Count, counts_body};
+use metered_disk::Reading;
 use std::fs;
 use std::time::Duration;
 
@@ -24,16 +25,20 @@ fn microseconds(time: Duration) -> u64
 }
 
 /// The body that tells for how long a service has run, how many clients it has had, what it has done
-/// for them, and how long the files are of the ledger at a path.
+/// for them, what its disk has done, and how long the files are of the ledger at a path.
 pub(crate) fn status_body(
     rt: &HostRuntime,
     db: &str,
     bell: &Bell,
+    disk: &Reading,
     age: Duration,
 ) -> Result<Vec<u8>, Fault> {
     let log = format!(in rt.alloc(); "{db}-wal")?;
     let (counts, tally) = (bell.counts(), bell.tally());
-    let count = |name, value| Count { name, value };
+    let count = |name, value: u64| Count {
+        name,
+        value: u128::from(value),
+    };
     let all = [
         count("seconds", age.as_secs()),
         count("clients", counts.connected),
@@ -49,6 +54,11 @@ pub(crate) fn status_body(
         count("longest_turn_microseconds", microseconds(tally.longest)),
         count("reopenings", tally.reopened),
         count("refused_reopenings", tally.closed),
+        count("last_refused_opening", u64::from(tally.last_refusal)),
+        count("syncs", disk.syncs),
+        count("sync_microseconds", microseconds(disk.busy)),
+        count("longest_sync_microseconds", microseconds(disk.longest)),
+        count("disk_faults", disk.faults),
         count("file_bytes", length(rt, db)),
         count("log_bytes", length(rt, log.as_str())),
     ];

@@ -3,6 +3,7 @@ ghost use Rattle.std.specs.Prelude.{◌≡◌, ◌≢◌, ◌+◌, max, Some, sl
 ghost use Rattle.std.specs.Duration.{as_nanos};
 ghost use Rattle.commands.specs.Tally.{tried, up_to_most};
 
+use command_texts::Fault;
 use std::time::Duration;
 
 /// Where the status stands in a reply, behind "HTTP/1.1 ".
@@ -25,6 +26,8 @@ pub(crate) struct Tally {
     pub(crate) reopened: u64,
     /// How often that was refused.
     pub(crate) closed: u64,
+    /// The status with which a command ends that tells the last refusal, 0 where there was none.
+    pub(crate) last_refusal: u8,
     /// The time of all turns.
     pub(crate) busy: Duration,
     /// That of the longest one.
@@ -42,6 +45,7 @@ impl Tally {
             shared: 0,
             reopened: 0,
             closed: 0,
+            last_refusal: 0,
             busy: Duration::ZERO,
             longest: Duration::ZERO,
         }
@@ -74,14 +78,16 @@ impl Tally {
         self.shared = self.shared.saturating_add(messages);
     }
 
-    /// It was tried to open the file again, and it is open now or not.
-    pub(crate) fn tried(&mut self, is_open: bool)
-        ensures { self.new ≡ tried is_open self.old }
+    /// It was tried to open the file again: it is open now, or this is why it is not.
+    pub(crate) fn tried(&mut self, refused: Option<Fault>)
+        ensures { self.new ≡ tried refused self.old }
     {
-        if is_open {
-            self.reopened = self.reopened.saturating_add(1);
-        } else {
-            self.closed = self.closed.saturating_add(1);
+        match refused {
+            None => self.reopened = self.reopened.saturating_add(1),
+            Some(fault) => {
+                self.closed = self.closed.saturating_add(1);
+                self.last_refusal = fault.status();
+            }
         }
     }
 

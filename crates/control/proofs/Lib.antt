@@ -1,3 +1,4 @@
 mod Lines
-mod Members
+mod MemberLemmas
+mod NumberLemmas
 mod Texts

@@ -2,7 +2,7 @@
 use Rattle.std.specs.Prelude.{ℕ, List, [], ◌∷◌, ◌&&◌, bytes_eq, codes, option_map, ok_or, Result, Ok, Err, if◌then◌else◌}
 use Rattle.std.specs.List.{find, list_any}
 use Rattle.control.specs.declared.asked.Asked.{Asked}
-use Rattle.control.specs.declared.asked.Asked.TheVariants.{Tenants, AddTenant, ChangeKey, Status, Copy, Stop}
+use Rattle.control.specs.declared.asked.Asked.TheVariants.{Tenants, AddTenant, ChangeKey, Status, Copy, Statement, Stop}
 use Rattle.control.specs.declared.refusal.Refusal.{Refusal}
 use Rattle.control.specs.declared.refusal.Refusal.TheVariants.{NoRoute, BadMethod}
 
@@ -18,6 +18,7 @@ calls =
     ∷ (codes "POST", codes "/control/keys", ChangeKey)
     ∷ (codes "GET", codes "/control/status", Status)
     ∷ (codes "POST", codes "/control/copy", Copy)
+    ∷ (codes "POST", codes "/control/statement", Statement)
     ∷ (codes "POST", codes "/control/stop", Stop)
     ∷ []
 

@@ -1,7 +1,7 @@
 -- What a body tells of a copy.
 use Rattle.std.specs.Prelude.{ℕ, List, codes, Option, option_and_then}
 use Rattle.wire.specs.Body.{json_of}
-use Rattle.control.specs.Orders.{text_at}
+use Rattle.control.specs.Members.{text_at}
 
 -- how many bytes it has, as a text
 abbrev pub copied_text : List ℕ → Option (List ℕ)

@@ -2,11 +2,15 @@ pub mod Bodies
 pub mod Calls
 pub mod Copying
 pub mod Counting
+pub mod Entries
 pub mod Listing
+pub mod Members
 pub mod Messages
 pub mod Moves
+pub mod Numbers
 pub mod Orders
 pub mod Parts
+pub mod PieceAsked
 pub mod Refusals
 pub mod Replies
 pub mod Stages

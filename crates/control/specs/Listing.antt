@@ -6,7 +6,7 @@ use Rattle.serde_json.specs.Find.{as_array, get}
 use Rattle.wire.specs.Body.{json_of}
 use Rattle.wire.specs.Reply.{list_data, object_with}
 use Rattle.command_texts.specs.Lines.{tenant_line}
-use Rattle.control.specs.Orders.{text_at}
+use Rattle.control.specs.Members.{text_at}
 use Rattle.control.specs.declared.listing.TenantRow.{TenantRow}
 
 -- a tenant

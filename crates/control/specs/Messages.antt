@@ -5,8 +5,9 @@ use Rattle.serde_json.specs.Data.{Data, string}
 use Rattle.serde_json.specs.Written.{compact_text}
 use Rattle.wire.specs.Reply.{object_with}
 use Rattle.control.specs.Bodies.{named_data}
+use Rattle.control.specs.PieceAsked.{piece_data}
 use Rattle.control.specs.declared.messages.Call.{Call}
-use Rattle.control.specs.declared.messages.Call.TheVariants.{Tenants, AddTenant, ChangeKey, Status, Copy, Stop}
+use Rattle.control.specs.declared.messages.Call.TheVariants.{Tenants, AddTenant, ChangeKey, Status, Copy, Statement, Stop}
 
 -- the method and the path of each call
 abbrev pub method_of : Call → List ℕ
@@ -15,6 +16,7 @@ method_of (AddTenant name key) = codes "POST"
 method_of (ChangeKey name key) = codes "POST"
 method_of Status = codes "GET"
 method_of (Copy to) = codes "POST"
+method_of (Statement piece) = codes "POST"
 method_of Stop = codes "POST"
 
 abbrev pub path_of : Call → List ℕ
@@ -23,6 +25,7 @@ path_of (AddTenant name key) = codes "/control/tenants"
 path_of (ChangeKey name key) = codes "/control/keys"
 path_of Status = codes "/control/status"
 path_of (Copy to) = codes "/control/copy"
+path_of (Statement piece) = codes "/control/statement"
 path_of Stop = codes "/control/stop"
 
 -- a tenant's name and key
@@ -37,6 +40,7 @@ body_text (AddTenant name key) = compact_text (tenant_data name.now key.now)
 body_text (ChangeKey name key) = compact_text (tenant_data name.now key.now)
 body_text Status = []
 body_text (Copy to) = compact_text (named_data (codes "to") to.now)
+body_text (Statement piece) = compact_text (piece_data piece)
 body_text Stop = []
 
 -- the line of the call and the headers, and the empty line behind them

@@ -1,35 +1,24 @@
 -- What a message orders, or why it is refused.
-use Rattle.std.specs.Prelude.{◌≡◌, ◌⊎◌, ◌==◌, ℕ, suc, Bool, false, List, [], ◌∷◌, codes, String, string_bytes, Option, Some, None, option_map, option_and_then, Ok, Err, if◌then◌else◌}
+use Rattle.std.specs.Prelude.{◌≡◌, ◌⊎◌, ◌==◌, ℕ, Bool, false, List, [], ◌∷◌, codes, String, string_bytes, Option, Some, None, option_map, option_and_then, Ok, Err, if◌then◌else◌}
 use Rattle.std.specs.declared.alloc.Global.{Global}
-use Rattle.serde_json.specs.Data.{Data, Members, no_members, member}
-use Rattle.serde_json.specs.Find.{as_object, as_str, get}
+use Rattle.serde_json.specs.Data.{Data}
 use Rattle.sha2.specs.Sha256.{sha256}
 use Rattle.tenants.specs.KeyText.{key_of}
 use Rattle.tenants.specs.NameText.{IsTenantName}
 use Rattle.wire.specs.Body.{json_of}
 use Rattle.command_texts.specs.declared.fault.Fault.TheVariants.{BadName, BadKey, Unavailable}
 use Rattle.control.specs.Calls.{asked_at}
+use Rattle.control.specs.Members.{members_in, text_at}
 use Rattle.control.specs.Parts.{HasNoParts, HasParts}
+use Rattle.control.specs.PieceAsked.{IsNoPieceIn, IsPieceIn}
 use Rattle.control.specs.declared.asked.Asked.{Asked}
 use Rattle.control.specs.declared.asked.Asked.TheVariants as asks
 use Rattle.control.specs.declared.orders.NamedKey.{NamedKey}
 use Rattle.control.specs.declared.orders.Order.{Order}
 use Rattle.control.specs.declared.orders.Order.TheVariants as orders
+use Rattle.control.specs.declared.piece_asked.PieceAsked.{PieceAsked}
 use Rattle.control.specs.declared.refusal.Refusal.{Refusal}
 use Rattle.control.specs.declared.refusal.Refusal.TheVariants.{BadRequest, Judged}
-
--- how many members there are
-abbrev pub count : Members → ℕ
-count no_members = 0
-count (member name d ms) = suc (count ms)
-
--- how many members an object has
-abbrev pub members_in : Data → Option ℕ
-members_in d = option_map count (as_object d)
-
--- the text of a member
-abbrev pub text_at : List ℕ → Data → Option (List ℕ)
-text_at name d = option_and_then as_str (get name d)
 
 -- the name and the key of an object
 abbrev pub both_texts : Data → Option (List ℕ × List ℕ)
@@ -103,15 +92,19 @@ IsOrderBy asks.ChangeKey body order =
 IsOrderBy asks.Status body order = order ≡ orders.Status
 IsOrderBy asks.Copy body order =
     (path : String Global) × (path_of body ≡ Some (string_bytes path)) × (order ≡ orders.Copy path)
+IsOrderBy asks.Statement body order =
+    (piece : PieceAsked) × IsPieceIn body piece × (order ≡ orders.Statement piece)
 IsOrderBy asks.Stop body order = order ≡ orders.Stop
 
--- why it is refused; only bodies that tell of a tenant or a path are looked at
+-- why it is refused; only bodies that tell of a tenant, a path or a piece are
+-- looked at
 abbrev pub IsRefusedBy : Asked → List ℕ → Refusal → Type 0
 IsRefusedBy asks.Tenants body refusal = ⊥
 IsRefusedBy asks.AddTenant body refusal = IsRefusedIn body refusal
 IsRefusedBy asks.ChangeKey body refusal = IsRefusedIn body refusal
 IsRefusedBy asks.Status body refusal = ⊥
 IsRefusedBy asks.Copy body refusal = IsNoPathIn body refusal
+IsRefusedBy asks.Statement body refusal = IsNoPieceIn body refusal
 IsRefusedBy asks.Stop body refusal = ⊥
 
 -- what a message orders

@@ -3,7 +3,7 @@ use Rattle.std.specs.Prelude.{◌≡◌, ◌+◌, ℕ, Bool, true, false, min, n
 use Rattle.std.specs.Duration.{as_nanos, max_nanos}
 use Rattle.std.specs.declared.time.Duration.{Duration}
 use Rattle.control.specs.declared.orders.Order.{Order}
-use Rattle.control.specs.declared.orders.Order.TheVariants.{Tenants, AddTenant, ChangeKey, Status, Copy, Stop}
+use Rattle.control.specs.declared.orders.Order.TheVariants.{Tenants, AddTenant, ChangeKey, Status, Copy, Statement, Stop}
 use Rattle.control.specs.declared.stage.Stage.{Stage}
 use Rattle.control.specs.declared.stage.Stage.TheVariants.{Reads, Waits, Copies, Stops, Writes, Over}
 
@@ -37,6 +37,7 @@ IsBehindOrder (AddTenant name digest) stage = stage ≡ Waits
 IsBehindOrder (ChangeKey name digest) stage = stage ≡ Waits
 IsBehindOrder Status stage = stage ≡ Waits
 IsBehindOrder (Copy to) stage = stage ≡ Copies
+IsBehindOrder (Statement piece) stage = stage ≡ Waits
 IsBehindOrder Stop stage = stage ≡ Stops
 
 -- something is to be read or written

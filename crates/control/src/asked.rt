@@ -12,6 +12,7 @@ pub(crate) enum Asked {
     ChangeKey,
     Status,
     Copy,
+    Statement,
     Stop,
 }
 
@@ -36,6 +37,7 @@ pub(crate) fn asked_at(method: &[u8], path: &str) -> Result<Asked, Refusal>
         "/control/keys" => asked_by(method, b"POST", Asked::ChangeKey),
         "/control/status" => asked_by(method, b"GET", Asked::Status),
         "/control/copy" => asked_by(method, b"POST", Asked::Copy),
+        "/control/statement" => asked_by(method, b"POST", Asked::Statement),
         "/control/stop" => asked_by(method, b"POST", Asked::Stop),
         _ => Err(Refusal::NoRoute),
     }

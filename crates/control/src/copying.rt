@@ -6,7 +6,7 @@ ghost use Rattle.control.specs.Bodies.{copied_data};
 ghost use Rattle.control.specs.Copying.{copied_text};
 
 use crate::body::named_body;
-use crate::orders::text;
+use crate::members::text;
 use crate::reading::value_in;
 use command_texts::Fault;
 use std::alloc::{AllocError, Global};

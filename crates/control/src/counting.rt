@@ -8,6 +8,7 @@ ghost use Rattle.serde_json.specs.Written.{compact_text, outline};
 ghost use Rattle.wire.specs.Reply.{object_with};
 ghost use Rattle.control.specs.Counting.{IsCounted, count_member, counts_data, line_in, lines_in, line_of};
 
+use crate::numbers::write_number;
 use crate::reading::value_in;
 use command_texts::{Fault, put_text};
 use json::Writer;
@@ -19,7 +20,7 @@ use std::alloc::{AllocError, Global};
 #[derive(Clone, Copy, Debug, PartialEq, Eq)]
 pub struct Count<'a> {
     pub name: &'a str,
-    pub value: u64,
+    pub value: u128,
 }
 
 /// How counts are told.
@@ -31,15 +32,15 @@ pub enum CountForm {
     Metric,
 }
 
-fn write_counts(writer: &mut Writer, counts: &[Count<'_>]) -> Result<(), AllocError>
+/// Writes an object that has counts as its members.
+pub(crate) fn write_counts(writer: &mut Writer, counts: &[Count<'_>]) -> Result<(), AllocError>
     ensures ok { OnOk result (writer.new.tokens
         ≡ writer.old.tokens ++ json_tokens (outline (object_with (map count_member counts.now)))) }
     ensures before { writer.new.before ≡ writer.old.before }
 {
     writer.begin_object()?;
     for count in counts {
-        writer.key(count.name)?;
-        writer.quoted_u64(count.value)?;
+        write_number(writer, count.name, count.value)?;
     }
     writer.end_object()
 }

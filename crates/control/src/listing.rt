@@ -9,7 +9,7 @@ ghost use Rattle.wire.specs.Reply.{list_data};
 ghost use Rattle.command_texts.specs.Lines.{tenants_line};
 ghost use Rattle.control.specs.Listing.{IsListed, row_data, row_line, row_lines, rows_data};
 
-use crate::orders::text;
+use crate::members::text;
 use crate::reading::value_in;
 use command_texts::{Fault, put_tenants, put_text};
 use json::Writer;

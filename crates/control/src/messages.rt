@@ -6,6 +6,7 @@ ghost use Rattle.control.specs.Messages.{body_text, head_text, message_text, met
 ghost use Rattle.control.specs.Messages.{tenant_data};
 
 use crate::body::named_body;
+use crate::piece_asked::{PieceAsked, piece_text};
 use json::Writer;
 use std::alloc::{AllocError, Global};
 
@@ -23,6 +24,8 @@ pub enum Call<'a> {
     Status,
     /// To copy the file to a path, which begins with `/`.
     Copy { to: &'a str },
+    /// To read a piece of a statement.
+    Statement { piece: PieceAsked },
     /// To end.
     Stop,
 }
@@ -33,8 +36,11 @@ impl Call<'_> {
     {
         match self {
             Call::Tenants | Call::Status => "GET",
-            Call::AddTenant { .. } | Call::ChangeKey { .. } | Call::Copy { .. } | Call::Stop =>
-                "POST",
+            Call::AddTenant { .. }
+            | Call::ChangeKey { .. }
+            | Call::Copy { .. }
+            | Call::Statement { .. }
+            | Call::Stop => "POST",
         }
     }
 
@@ -46,6 +52,7 @@ impl Call<'_> {
             Call::ChangeKey { .. } => "/control/keys",
             Call::Status => "/control/status",
             Call::Copy { .. } => "/control/copy",
+            Call::Statement { .. } => "/control/statement",
             Call::Stop => "/control/stop",
         }
     }
@@ -58,6 +65,7 @@ impl Call<'_> {
                 tenant_text(alloc, name, key)
             }
             Call::Copy { to } => named_body(alloc, "to", to),
+            Call::Statement { piece } => piece_text(alloc, piece),
             Call::Tenants | Call::Status | Call::Stop => Ok(Vec::new(alloc)),
         }
     }

@@ -4,11 +4,12 @@ ghost use Rattle.std.specs.String.{string_bytes};
 ghost use Rattle.serde_json.specs.View.{view};
 ghost use Rattle.control.specs.Orders.{IsNamedIn, IsNamedKey, IsNoPathIn, IsOrderBy, IsOrderOf};
 ghost use Rattle.control.specs.Orders.{IsRefusedBy, IsRefusedIn, IsRefusedKey, IsRefusedOf};
-ghost use Rattle.control.specs.Orders.{is_from_root, members_in, path_at, path_in, path_of, text_at};
-ghost use Rattle.control.specs.Orders.{texts_in};
+ghost use Rattle.control.specs.Orders.{is_from_root, path_at, path_in, path_of, texts_in};
 
 use crate::asked::{Asked, asked_at};
+use crate::members::{members, text};
 use crate::parts::parts_in;
+use crate::piece_asked::{PieceAsked, piece_of};
 use crate::reading::value_in;
 use crate::refusal::Refusal;
 use command_texts::{key_digest, name};
@@ -29,6 +30,8 @@ pub enum Order {
     Status,
     /// To copy the file to a path, which begins with `/`.
     Copy { to: String },
+    /// To read a piece of a statement.
+    Statement(PieceAsked),
     /// To end.
     Stop,
 }
@@ -38,20 +41,6 @@ pub enum Order {
 struct NamedKey {
     name: TenantName,
     digest: [u8; 32],
-}
-
-// How many members a value has, if it is an object.
-fn members(value: &Value) -> Option<usize>
-    ensures { result ≡ members_in (view value.now) }
-{
-    Some(value.as_object()?.len())
-}
-
-/// The text of a member.
-pub(crate) fn text<'a>(value: &'a Value, member: &str) -> Option<&'a str>
-    ensures { option_map (λ text. text.now) result ≡ text_at member.now (view value.now) }
-{
-    value.get(member)?.as_str()
 }
 
 // The texts of the two members, where there are no others.
@@ -146,6 +135,7 @@ fn order_by(alloc: Global, asked: Asked, body: &[u8]) -> Result<Order, Refusal>
         Asked::Copy => Ok(Order::Copy {
             to: path_of(alloc, body)?,
         }),
+        Asked::Statement => Ok(Order::Statement(piece_of(alloc, body)?)),
         Asked::Stop => Ok(Order::Stop),
     }
 }

@@ -4,5 +4,6 @@ mod answers;
 mod copies;
 mod ends;
 mod lists;
+mod pieces;
 mod refusals;
 mod scene;

@@ -67,6 +67,7 @@ impl Messages {
     /// Sends them.
     pub fn send<L: Ledgers>(self, alloc: Global, ledgers: &mut L)
         requires { L.means.is_usable ledgers.old }
+        ensures { L.means.is_usable ledgers.new }
     {
         match self {
             Messages::PostedInPart => {

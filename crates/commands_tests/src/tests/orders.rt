@@ -1,12 +1,13 @@
 //! What an operator asks of a store while it is served.
 ghost use Rattle.std.specs.Prelude.{false};
 
-use super::firms::{KEY, NO_TRANSFERS};
+use super::firms::{KEY, Messages, NO_TRANSFERS};
 use super::homes::{Fails, Firms, InMemory, Notes, Nowhere, TestDisk};
 use super::scripted::{Hand, Scripted};
 use super::serving::{AT_FIRST, Thousands};
 use command_texts::Fault;
 use commands::{Done, Order, Orders, Served, serve_store};
+use records::{Order as InTime, Span};
 use sqlite_disk::Disk;
 use std::alloc::{AllocError, Global};
 use std::test::Fail;
@@ -61,6 +62,15 @@ impl<'a> Asking<'a> {
                 }
                 Ok(())
             }
+            Ok(Done::Read(listed)) => {
+                for entry in listed.entries.iter() {
+                    let (id, sums) = (entry.transfer.id, entry.balances.debits);
+                    let (pending, posted) = (sums.pending.value(), sums.posted.value());
+                    let line = format!(in self.alloc; "{id} {pending} {posted}\n")?;
+                    self.told.push_str(line.as_str())?;
+                }
+                Ok(())
+            }
             Err(fault) => self.told.push_str(fault.line()),
         }
     }
@@ -102,6 +112,22 @@ fn changing(name: &str, byte: u8) -> Option<Order> {
     Some(Order::ChangeKey { name, digest })
 }
 
+// At most so many entries of an account, whenever they were accepted.
+fn reading(name: &str, account: u128, order: InTime, most: u32) -> Option<Order> {
+    let tenant = TenantName::read(name)?;
+    let span = Span {
+        first: 0,
+        last: u64::MAX,
+        order,
+        most,
+    };
+    Some(Order::Statement {
+        tenant,
+        account,
+        span,
+    })
+}
+
 // What an operator is told of these orders, behind what a client is told who sends two batches.
 fn ordered_of<D: Disk + Drop, F: Firms<D>>(
     alloc: Global,
@@ -111,9 +137,10 @@ fn ordered_of<D: Disk + Drop, F: Firms<D>>(
 ) -> Result<String, Fail> {
     let clock = Hand::new();
     let home = Nowhere(Notes::new(alloc, &clock));
-    let Some(store) = firms.store(Fails::Never) else {
+    let Some(mut store) = firms.store(Fails::Never) else {
         return Err(Fail::new(format_args!("no store")));
     };
+    Messages::PostedInPart.send(alloc, &mut store);
     let mut peers = Scripted::new(alloc, &clock, 1);
     if messages > 0 {
         peers.add(NO_TRANSFERS, messages)?;
@@ -167,7 +194,22 @@ fn carries_out_orders_and_ends(rt: HostRuntime) -> Result<(), Fail> {
     ];
     let told = ordered(&rt, &orders, 0)?;
     let want = "|done\ndone\nledgerd: name_taken\nledgerd: digest_taken\nledgerd: no_tenant\n\
-        ledgerd: digest_taken\ndone\neast 5 0\nfirm 102 0\nnorth 9 0\n|stopped";
+        ledgerd: digest_taken\ndone\neast 5 0\nfirm 102 6\nnorth 9 0\n|stopped";
+    assert_eq!(rt; told.as_str(), want);
+    Ok(())
+}
+
+// Account 1 behind a hold of 100 and its post of 40: the hold is pending, then 40 are posted.
+#[test]
+fn reads_pieces_of_statements(rt: HostRuntime) -> Result<(), Fail> {
+    let orders = [
+        reading("firm", 1, InTime::Oldest, 9),
+        reading("firm", 1, InTime::Newest, 1),
+        reading("firm", 5, InTime::Oldest, 9),
+        reading("nobody", 1, InTime::Oldest, 9),
+    ];
+    let told = ordered(&rt, &orders, 0)?;
+    let want = "|100 100 0\n101 0 40\n101 0 40\nledgerd: no_account\nledgerd: no_tenant\n|stopped";
     assert_eq!(rt; told.as_str(), want);
     Ok(())
 }

@@ -47,7 +47,7 @@ const COUNTS: [Count<'static>; 2] = [
     },
     Count {
         name: "late",
-        value: u64::MAX,
+        value: u64::MAX as u128,
     },
 ];
 

@@ -32,3 +32,10 @@ returns-in_ok-change_key-in-ChangeKey-clause-done g c =
     (λ (asked : Order). CarriesOut {D = _} {g = g.D.Disk} asked c.args.store.now (Ok Changed)
     c.change_key.new.store)
     (sym c.in-ChangeKey.is) (changed.told, changed.moves)
+
+pub returns-in-Statement-clause-done : goal.returns-in-Statement-clause-done
+returns-in-Statement-clause-done g c =
+    subst
+    (λ (asked : Order). CarriesOut {D = _} {g = g.D.Disk} asked c.args.store.now
+    c.read_piece.result c.read_piece.new.store)
+    (sym c.in-Statement.is) (c.read_piece.ensures.told, c.read_piece.ensures.read)

@@ -1,7 +1,7 @@
 use Rattle.std.proofs.Common.{◌≡◌, Some, ap, append_assoc, codes, rules, string_bytes, sym}
 use Rattle.serde_json.specs.View.{view}
 use Rattle.command_texts.specs.Lines.{tenant_line}
-use Rattle.control.specs.Orders.{text_at}
+use Rattle.control.specs.Members.{text_at}
 use Rattle.control.proofs.listing.row_line.Goals as goal
 
 pub returns-clause-ok : goal.returns-clause-ok

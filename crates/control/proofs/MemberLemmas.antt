@@ -2,7 +2,7 @@
 use Rattle.std.proofs.Common.{◌≡◌, List, [], ◌∷◌, String, Global, ap, length, refl, suc}
 use Rattle.serde_json.specs.View.{members_view}
 use Rattle.serde_json.specs.declared.value.Value.{Value}
-use Rattle.control.specs.Orders.{count}
+use Rattle.control.specs.Members.{count}
 
 pub count_is : (es : List (String Global × Value)) → count (members_view es) ≡ length es
 count_is [] = refl

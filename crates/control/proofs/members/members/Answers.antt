@@ -2,9 +2,9 @@ use Rattle.std.proofs.Common.{◌≡◌, ◌∙◌, Some, ap, rules, sym}
 use Rattle.std.specs.Prelude.{option_map}
 use Rattle.serde_json.specs.Find.{as_object}
 use Rattle.serde_json.specs.View.{members_view, view}
-use Rattle.control.specs.Orders.{count}
-use Rattle.control.proofs.Members.{count_is}
-use Rattle.control.proofs.orders.members.Goals as goal
+use Rattle.control.specs.Members.{count}
+use Rattle.control.proofs.MemberLemmas.{count_is}
+use Rattle.control.proofs.members.members.Goals as goal
 
 pub returns : goal.returns
 returns c =

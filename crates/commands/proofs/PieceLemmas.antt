@@ -1,0 +1,225 @@
+-- Reading a piece of a statement for an operator, as what happens between turns.
+use Rattle.std.proofs.Common.{◌≡◌, inl, inr, ℕ, List, [], Option, Some, None, Result, Ok, Err, refl, sym, ap, ◌∙◌, subst}
+use Rattle.std.specs.Str.{bytes_eq}
+use Rattle.std.proofs.lemmas.Bool.{cases_Bool, both_ways}
+use Rattle.std.proofs.lemmas.Slice.Eq.{bytes_eq-Decides}
+use Rattle.sqlite_disk.specs.declared.Disk as disk
+use Rattle.records.specs.Machine.{Machine}
+use Rattle.records.specs.declared.query.Span.{Span}
+use Rattle.records.specs.declared.unavailable.Unavailable.{Unavailable}
+use Rattle.wire.specs.declared.request.Request.TheVariants as asks
+use Rattle.chain.specs.Ledgers.{Tenants, KeepsAll, KeepsOthers, IsDone, IsRun, Finds, IsAnswered, LeadsBy}
+use Rattle.chain.specs.declared.account_entry.AccountEntry.{AccountEntry}
+use Rattle.chain.specs.declared.ledgers.BatchFault.{BatchFault}
+use Rattle.chain.specs.declared.ledgers.BatchFault.TheVariants as batch_fault
+use Rattle.chain.specs.declared.reads.Listed.{Listed}
+use Rattle.service.specs.Courses.{Ending, Done as IsEnded, Declined, Unavailable as WasUnavailable}
+use Rattle.service.specs.Courses.{Happens, Tried}
+use Rattle.service.specs.Deeds.{Deed, AreDone, IsDeedDone}
+use Rattle.service.specs.Openings.{run_meaning, FoundAfter, As_now, As_before, As_done, IsSettled, Moves}
+use Rattle.service.specs.Served.{served_to}
+use Rattle.stored_ledgers.specs.Directory.{digest_in}
+use Rattle.store.specs.StoreLaws.{store_meaning}
+use Rattle.store.specs.Stores.{FindsTenants, Follows, IsLive, OfDatabase, OfDatabaseAt, Reads, tenants_at, tenants_of}
+use Rattle.store.specs.declared.place.Place.{Place}
+use Rattle.store.specs.declared.place.Place.TheVariants as at
+use Rattle.store.specs.declared.store.Store.{Store}
+use Rattle.command_texts.specs.declared.fault.Fault.{Fault}
+use Rattle.commands.specs.Endings.{ending_told}
+use Rattle.commands.specs.Pieces.{IsPieceTold, GivesPiece, asked_for, machine_named, piece_told}
+use Rattle.commands.specs.declared.orders.Done.{Done}
+
+-- a machine that is as before under its digest, among others that are as before
+one_kept :
+    (digest : List ℕ) (old new : Tenants) → new digest ≡ old digest → KeepsOthers digest old new →
+    KeepsAll old new
+one_kept digest old new own others other =
+    elim (cases_Bool (bytes_eq other digest)) [
+      | inl same ↦
+          let is : other ≡ digest = (bytes_eq-Decides other digest).0 same in
+          subst (λ d. new d ≡ old d) (sym is) own
+      | inr apart ↦
+          others other (λ is. absurd (both_ways _ apart ((bytes_eq-Decides other digest).1 is)))
+    ]
+
+module _ (account : ℕ) (span : Span) (digest : List ℕ) (old new : Tenants) where
+  abbrev Read : Option (Listed AccountEntry) → Type 0
+  Read answer = IsDone (GivesPiece account span) digest old new answer
+
+  keeps : (answer : Option (Listed AccountEntry)) → Read answer → KeepsAll old new
+  keeps answer done =
+      one_kept digest old new (done.holds ∙ ap Some done.given.0 ∙ sym done.held) done.others
+
+  -- it is done as the tenant's own question would be
+  read_is_done :
+      (answer : Option (Listed AccountEntry)) → Read answer →
+      IsDeedDone (asked_for digest account) old new
+  read_is_done answer done = record {
+    may = tt;
+    own =
+        subst
+        (λ (tenant : Option Machine).
+        new digest ≡ (served_to tenant (Ok (asks.Statement account)) 0).left) (sym done.held)
+        (done.holds ∙ ap Some done.given.0);
+    others = done.others;
+  }
+
+  -- what a batch that reads a piece makes of the machines
+  run_happens :
+      (read : Result (Option (Listed AccountEntry)) BatchFault) →
+      IsRun (GivesPiece account span) digest old new read →
+      Happens old (Tried (asked_for digest account) (ending_told (piece_told read))) new
+  run_happens (Ok (Some listed)) run = read_is_done (Some listed) run
+  run_happens (Ok None) run = keeps None run
+  run_happens (Err batch_fault.UnknownKey) run = run.1
+  run_happens (Err (batch_fault.Unavailable why)) run = run
+
+-- what a tenant's machine tells
+pub told_by :
+    (account : ℕ) (span : Span) (digest : List ℕ) (old new : Tenants)
+    (read : Result (Option (Listed AccountEntry)) BatchFault) →
+    IsRun (GivesPiece account span) digest old new read →
+    IsPieceTold account span (old digest) (piece_told read)
+told_by account span digest old new (Ok (Some listed)) run = (run.before, run.held, run.given.1)
+told_by account span digest old new (Ok None) run = (run.before, run.held, run.given.1)
+told_by account span digest old new (Err batch_fault.UnknownKey) run = run.0
+told_by account span digest old new (Err (batch_fault.Unavailable why)) run = tt
+
+module _ {D : Type 0} {g : disk.Ghosts D} where
+  module _ (account : ℕ) (span : Span) (digest : List ℕ) (old new : Store D g) where
+    -- what may be found behind it
+    run_finds :
+        (read : Result (Option (Listed AccountEntry)) BatchFault) →
+        Finds store_meaning (IsAnswered read) (LeadsBy (GivesPiece account span) digest) old new →
+        IsSettled (run_meaning store_meaning) new → (found : Tenants) → FindsTenants new found →
+        FoundAfter (run_meaning store_meaning) old
+        (Tried (asked_for digest account) (ending_told (piece_told read))) new found
+    run_finds (Ok answer) finds settled found may =
+        let live = finds.live tt found may in
+        As_now live (settled live found may)
+    run_finds (Err batch_fault.UnknownKey) finds settled found may =
+        let live = finds.live tt found may in
+        As_now live (settled live found may)
+    run_finds (Err (batch_fault.Unavailable why)) finds settled found may =
+        elim (finds.found found may) [
+          | inl before ↦ As_before tt before
+          | inr led ↦
+              As_done (asked_for digest account) [] refl led.0 (
+                found,
+                read_is_done account span digest (tenants_of old) found led.1.0 led.1.1,
+                λ other. refl,
+              )
+        ]
+
+    pub piece_moves :
+        (read : Result (Option (Listed AccountEntry)) BatchFault) →
+        (IsLive new
+        → IsRun (GivesPiece account span) digest (tenants_of old) (tenants_of new) read) →
+        Finds store_meaning (IsAnswered read) (LeadsBy (GivesPiece account span) digest) old new →
+        IsSettled (run_meaning store_meaning) new → Follows old new →
+        Moves (run_meaning store_meaning) old
+        (Tried (asked_for digest account) (ending_told (piece_told read))) new
+    piece_moves read run finds settled follows = record {
+      happens = λ live.
+          run_happens account span digest (tenants_of old) (tenants_of new) read (run live);
+      lived = follows.lived;
+      found = run_finds read finds settled;
+    }
+
+  -- a question of a tenant's own, behind a call that only reads
+  module _ {T : Type 0} (account : ℕ) (digest : List ℕ) (old mid new : Store D g)
+      (told : Result T Unavailable) (reads : Reads old mid told)
+    where
+      done_before :
+          (found : Tenants) → KeepsAll (tenants_of old) (tenants_of mid) →
+          IsDeedDone (asked_for digest account) (tenants_of mid) found →
+          IsDeedDone (asked_for digest account) (tenants_of old) found
+      done_before found keeps done = record {
+        may = tt;
+        own =
+            subst
+            (λ (tenant : Option Machine).
+            found digest ≡ (served_to tenant (Ok (asks.Statement account)) 0).left) (keeps digest)
+            done.own;
+        others = λ other apart. done.others other apart ∙ keeps other;
+      }
+
+      happens_before :
+          (ending : Ending) → KeepsAll (tenants_of old) (tenants_of mid) →
+          Happens (tenants_of mid) (Tried (asked_for digest account) ending) (tenants_of new) →
+          Happens (tenants_of old) (Tried (asked_for digest account) ending) (tenants_of new)
+      happens_before IsEnded keeps done = done_before (tenants_of new) keeps done
+      happens_before Declined keeps same = λ other. same other ∙ keeps other
+      happens_before WasUnavailable keeps same = λ other. same other ∙ keeps other
+
+      found_read : (found : Tenants) → FindsTenants mid found → FindsTenants old found
+      found_read found f =
+          elim (reads.finds f.honest f.db f.may) [
+            | inl before ↦ record {
+              honest = reads.answers.follows.honest f.honest;
+              db = f.db;
+              may = before;
+              agrees = f.agrees;
+            }
+            | inr none ↦ absurd none
+          ]
+
+      found_before :
+          (ending : Ending) (found : Tenants) →
+          FoundAfter (run_meaning store_meaning) mid (Tried (asked_for digest account) ending) new
+          found →
+          FoundAfter (run_meaning store_meaning) old (Tried (asked_for digest account) ending) new
+          found
+      found_before ending found (As_now live keeps) = As_now live keeps
+      found_before ending found (As_before still before) =
+          As_before still (found_read found before)
+      found_before IsEnded found (As_done deed more untold live done) =
+          absurd (let e = untold in cc)
+      found_before Declined found (As_done deed more untold live done) =
+          absurd (let e = untold in cc)
+      found_before WasUnavailable found (As_done deed more untold live done) =
+          let all =
+          subst (λ (deeds : List Deed). AreDone deeds (tenants_of mid) found) (sym untold) done in
+          As_done (asked_for digest account) [] refl (reads.answers.follows.lived live)
+          (all.0, done_before all.0 (reads.same live) all.1, all.2)
+
+      pub both_move :
+          (ending : Ending) →
+          Moves (run_meaning store_meaning) mid (Tried (asked_for digest account) ending) new →
+          Moves (run_meaning store_meaning) old (Tried (asked_for digest account) ending) new
+      both_move ending moves = record {
+        happens = λ live.
+            happens_before ending (reads.same (moves.lived live)) (moves.happens live);
+        lived = λ live. reads.answers.follows.lived (moves.lived live);
+        found = λ found may. found_before ending found (moves.found found may);
+      }
+
+  told_at :
+      (account : ℕ) (span : Span) (name digest : List ℕ) (place : Place D g) (result : Result Done Fault) →
+      OfDatabaseAt (λ db. Some digest ≡ digest_in name db.trees) place →
+      IsPieceTold account span (tenants_at place digest) result →
+      OfDatabaseAt (λ db. IsPieceTold account span (machine_named name db.trees) result) place
+  told_at account span name digest (at.Open conn) result is told =
+      subst
+      (λ (known : Option (List ℕ)).
+      IsPieceTold account span (tenant_of_digest known) result) is told
+    where
+      tenant_of_digest : Option (List ℕ) → Option Machine
+      tenant_of_digest None = None
+      tenant_of_digest (Some known) = tenants_at (at.Open conn) known
+  told_at account span name digest (at.Shut files) result is told = is
+
+  -- what the machine of a name tells, by that of its digest
+  pub told_by_name :
+      (account : ℕ) (span : Span) (name digest : List ℕ) (known : Option (List ℕ))
+      (old mid : Store D g) (result : Result Done Fault) → known ≡ Some digest →
+      KeepsAll (tenants_of old) (tenants_of mid) →
+      OfDatabase (λ db. known ≡ digest_in name db.trees) old →
+      IsPieceTold account span (tenants_of mid digest) result →
+      OfDatabase (λ db. IsPieceTold account span (machine_named name db.trees) result) old
+  told_by_name account span name digest known old mid result there keeps is told =
+      told_at account span name digest old.place result
+      (subst
+      (λ (found : Option (List ℕ)). OfDatabase (λ db. found ≡ digest_in name db.trees) old) there is)
+      (subst (λ (tenant : Option Machine). IsPieceTold account span tenant result) (keeps digest)
+      told)

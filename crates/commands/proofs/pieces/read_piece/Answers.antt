@@ -1,0 +1,25 @@
+use Rattle.std.proofs.Common.{inl, inr}
+use Rattle.commands.specs.Endings.{ending_told}
+use Rattle.commands.proofs.OrderLemmas.{rest_so}
+use Rattle.commands.proofs.PieceLemmas.{both_move, told_by_name}
+use Rattle.commands.proofs.pieces.read_piece.Goals as goal
+
+pub returns-in-Ok-Some-clause-told : goal.returns-in-Ok-Some-clause-told
+returns-in-Ok-Some-clause-told g c live =
+    let lived = c.entries_of.ensures.moves.lived live in
+    told_by_name c.args.account c.args.span.now c.args.tenant.now _ c.in-Ok-Some.field-0
+    c.args.store.now c.digest_of.new.self c.entries_of.result c.in-Ok-Some.field-0-is (c.digest_of.ensures.reads.same lived)
+    (c.in-Ok-Some.ensures.value lived) (c.entries_of.ensures.told live)
+
+pub returns-in-Ok-Some-clause-read : goal.returns-in-Ok-Some-clause-read
+returns-in-Ok-Some-clause-read g c =
+    inr (
+      _,
+      both_move c.args.account _ c.args.store.now c.digest_of.new.self c.entries_of.new.store
+          c.digest_of.result c.digest_of.ensures.reads (ending_told c.entries_of.result)
+          c.entries_of.ensures.moves,
+    )
+
+pub returns-in-Ok-None-clause-read : goal.returns-in-Ok-None-clause-read
+returns-in-Ok-None-clause-read g c =
+    inl (rest_so c.args.store.now c.digest_of.new.self c.digest_of.result c.digest_of.ensures.reads)

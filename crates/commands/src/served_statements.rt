@@ -1,0 +1,254 @@
+//! Statements of a ledger that is served: the service is asked for one piece behind the other, of the
+//! entries up to the clock at which the first was read.
+ghost use Rattle.std.specs.Prelude.{◌≡◌, ◌||◌, Bool, false, OnOk};
+ghost use Rattle.chain.specs.AccountEntries.{row_of};
+ghost use Rattle.statement.specs.Extract.{has_refused as has_refused_row};
+ghost use Rattle.statement.specs.Writer.{drain_of, has_refused};
+ghost use Rattle.commands.specs.Served.{first_asked, piece_behind};
+
+use crate::asked::Asked;
+use crate::calling::ask;
+use crate::statements::statement_fault;
+use chain::{AccountEntry, ReadFault};
+use command_texts::Fault;
+use control::{Call, Entries, PieceAsked, entries_in};
+use records::{Drain, Order, RowSink, StatementRow, Transfer, put_all};
+use statement::{Extract, Period, StatementWriter, extract_text};
+use std::alloc::Global;
+use tenants::TenantName;
+
+/// The first piece of a statement, and what was asked for.
+#[derive(Drop)]
+pub(crate) struct First {
+    asked: PieceAsked,
+    entries: Entries,
+}
+
+/// Takes an account's entries, one after the other.
+trait EntrySink {
+    // Whether it has refused one.
+    ghost refused: { Self → Bool };
+
+    /// Takes the next entry.
+    fn entry(&mut self, entry: &AccountEntry) -> Result<(), Fault>
+        requires { refused self.old ≡ false }
+        ensures { OnOk result (refused self.new ≡ false) };
+}
+
+/// A whole statement, which is written entry by entry.
+#[derive(Drop)]
+struct Whole<O: Drain> {
+    account: u128,
+    writer: StatementWriter<O>,
+}
+
+impl<O: Drain> EntrySink for Whole<O> {
+    ghost refused = { λ whole.
+        has_refused whole.writer || O.failed (drain_of whole.writer) };
+
+    fn entry(&mut self, entry: &AccountEntry) -> Result<(), Fault> {
+        match self.writer.row(&row_of(self.account, entry)) {
+            Ok(()) => Ok(()),
+            Err(why) => Err(statement_fault(ReadFault::Sink(why))),
+        }
+    }
+}
+
+/// What of a statement lies in a period, and the transfers of its entries where wide lines are asked
+/// for.
+#[derive(Drop)]
+struct Gathered {
+    account: u128,
+    period: Period,
+    is_wide: bool,
+    extract: Extract,
+    transfers: Vec<Transfer>,
+}
+
+impl EntrySink for Gathered {
+    ghost refused = { λ gathered. has_refused_row gathered.extract };
+
+    fn entry(&mut self, entry: &AccountEntry) -> Result<(), Fault> {
+        let row = row_of(self.account, entry);
+        if let Err(why) = self.extract.row(&row) {
+            return Err(statement_fault(ReadFault::Sink(why)));
+        }
+        if self.is_wide
+            && self.period.is_within(&row)
+            && self.transfers.push(entry.transfer).is_err()
+        {
+            return Err(Fault::Unavailable);
+        }
+        Ok(())
+    }
+}
+
+// The line of an entry in its account's statement.
+fn row_of(account: u128, entry: &AccountEntry) -> StatementRow
+    ensures { result ≡ row_of account entry.now }
+{
+    StatementRow {
+        timestamp: entry.transfer.timestamp,
+        transfer_id: entry.transfer.id,
+        side: entry.transfer.side_of(account),
+        kind: entry.transfer.flags.kind(),
+        amount: entry.transfer.amount,
+        balances: entry.balances,
+    }
+}
+
+// What is asked for first: a whole statement in its order; else the oldest entries first, from the
+// beginning on, since the sums before a period are those of its last entry before.
+fn first_asked(tenant: &TenantName, account: u128, asked: &Asked) -> PieceAsked
+    ensures { result ≡ first_asked tenant.now account asked.now }
+{
+    let is_whole = asked.is_whole();
+    PieceAsked {
+        tenant: *tenant,
+        account,
+        from: 0,
+        to: if is_whole { u64::MAX } else { asked.period.to },
+        is_reversed: is_whole && asked.order == Order::Newest,
+    }
+}
+
+// What is asked for behind a piece whose last entry has this time. Behind a piece of no entries there
+// are no more.
+fn piece_behind(asked: PieceAsked, last: Option<u64>) -> Option<PieceAsked>
+    ensures { result ≡ piece_behind asked last }
+{
+    let last = last?;
+    if asked.is_reversed {
+        if last == 0 {
+            return None;
+        }
+        let to = last - 1;
+        Some(PieceAsked { to, ..asked })
+    } else {
+        if last == u64::MAX {
+            return None;
+        }
+        let from = last + 1;
+        Some(PieceAsked { from, ..asked })
+    }
+}
+
+fn ask_piece(rt: &HostRuntime, db: &str, piece: &PieceAsked) -> Result<Option<Entries>, Fault> {
+    match ask(rt, db, &Call::Statement { piece: *piece })? {
+        Some(body) => Ok(Some(entries_in(rt.alloc(), body.as_slice())?)),
+        None => Ok(None),
+    }
+}
+
+/// Asks whoever serves a file for the first piece of a statement. `None` where nobody does.
+pub(crate) fn ask_first(
+    rt: &HostRuntime,
+    db: &str,
+    tenant: &TenantName,
+    account: u128,
+    asked: &Asked,
+) -> Result<Option<First>, Fault> {
+    let asked = first_asked(tenant, account, asked);
+    let entries = ask_piece(rt, db, &asked)?;
+    Ok(entries.map(|entries| First { asked, entries }))
+}
+
+// Hands the entries of a piece to a sink, and tells the time of the last one.
+fn hand_entries<S: EntrySink>(entries: &[AccountEntry], sink: &mut S) -> Result<Option<u64>, Fault>
+    requires { S.refused sink.old ≡ false }
+    ensures { OnOk result (S.refused sink.new ≡ false) }
+{
+    let mut last = None;
+    for entry in entries {
+        sink.entry(entry)?;
+        last = Some(entry.transfer.timestamp);
+    }
+    Ok(last)
+}
+
+// Hands a statement's entries to a sink, from its first piece on.
+fn hand_over<S: EntrySink>(
+    rt: &HostRuntime,
+    db: &str,
+    first: First,
+    sink: &mut S,
+) -> Result<(), Fault>
+    requires { S.refused sink.old ≡ false }
+    ensures { OnOk result (S.refused sink.new ≡ false) }
+{
+    let First { asked, entries } = first;
+    let mut asked = PieceAsked {
+        to: asked.to.min(entries.clock),
+        ..asked
+    };
+    let mut entries = entries;
+    'pieces: for _ in 0..u64::MAX {
+        let last = hand_entries(entries.entries.as_slice(), sink)?;
+        let Some(next) = piece_behind(asked, last) else {
+            return Ok(());
+        };
+        asked = next;
+        entries = ask_piece(rt, db, &asked)?.ok_or(Fault::Unavailable)?;
+    }
+    Err(Fault::Unavailable)
+}
+
+fn write_whole<O: Drain + Drop>(
+    rt: &HostRuntime,
+    db: &str,
+    first: First,
+    out: O,
+) -> Result<O, Fault>
+    requires { O.failed out ≡ false }
+{
+    let mut whole = Whole {
+        account: first.asked.account,
+        writer: StatementWriter::new(rt.alloc(), out),
+    };
+    hand_over(rt, db, first, &mut whole)?;
+    let Whole { account: _, writer } = whole;
+    let (out, ended) = writer.finish();
+    match ended {
+        Ok(()) => Ok(out),
+        Err(_) => Err(Fault::Output),
+    }
+}
+
+fn gather(rt: &HostRuntime, db: &str, first: First, asked: &Asked) -> Result<Gathered, Fault> {
+    let mut gathered = Gathered {
+        account: first.asked.account,
+        period: asked.period,
+        is_wide: asked.layout.is_wide,
+        extract: Extract::new(rt.alloc(), asked.period),
+        transfers: Vec::new(rt.alloc()),
+    };
+    hand_over(rt, db, first, &mut gathered)?;
+    if asked.order == Order::Newest {
+        gathered.extract.turn();
+        gathered.transfers.reverse();
+    }
+    Ok(gathered)
+}
+
+/// Writes what is asked for of a statement of a ledger that is served, whose first piece is there, and
+/// gives the writer back. Where the service has ended in the middle it is `Unavailable`.
+pub(crate) fn write_served<O: Drain + Drop>(
+    rt: &HostRuntime,
+    db: &str,
+    first: First,
+    asked: &Asked,
+    mut out: O,
+) -> Result<O, Fault>
+    requires { O.failed out ≡ false }
+{
+    if asked.is_whole() {
+        return write_whole(rt, db, first, out);
+    }
+    let gathered = gather(rt, db, first, asked)?;
+    let transfers = gathered.transfers.as_slice();
+    let text = extract_text(rt.alloc(), asked.layout, &gathered.extract, transfers)?;
+    match put_all(&mut out, text.as_slice()) {
+        Ok(()) => Ok(out),
+        Err(_) => Err(Fault::Output),
+    }
+}

@@ -1,0 +1,172 @@
+//! Pieces of an account's statement.
+use super::scene::{at, calls, hears, is_told, sends};
+use amount::Amount;
+use chain::AccountEntry;
+use command_texts::{Fault, name};
+use control::{Call, Desk, Order, PieceAsked, entries_body, entries_in, message};
+use records::{Balances, Sums, Transfer, TransferFlags};
+use std::test::Fail;
+
+const MESSAGE: &str = "POST /control/statement HTTP/1.1\r\nhost: control\r\nconnection: close\r\n\
+    content-length: 130\r\n\r\n{\"tenant\":\"north-desk\",\
+    \"account\":\"340282366920938463463374607431768211455\",\"from\":\"0\",\
+    \"to\":\"18446744073709551615\",\"reversed\":true}";
+
+// What is asked for is what is ordered.
+#[test]
+fn asks_for_a_piece(rt: HostRuntime) -> Result<(), Fail> {
+    let path = "piece.control";
+    let mut desk = Desk::open(&rt, path)?;
+    let piece = PieceAsked {
+        tenant: name("north-desk")?,
+        account: u128::MAX,
+        from: 0,
+        to: u64::MAX,
+        is_reversed: true,
+    };
+    let call = Call::Statement { piece };
+    assert_eq!(rt; message(rt.alloc(), &call)?.as_slice(), MESSAGE.as_bytes());
+    let mut caller = calls(&rt, path, &call)?;
+    assert_eq!(rt; desk.next(at(1)), Some(Order::Statement(piece)));
+    desk.answer(at(1), Err(Fault::NoAccount));
+    assert!(rt; is_told(&rt, &mut caller, Err(Fault::NoAccount))?);
+    desk.close(&rt);
+    Ok(())
+}
+
+// Bodies that ask for none, and the word of the refusal.
+const REFUSED: [(&str, &str); 8] = [
+    (
+        "{\"tenant\":\"n\",\"account\":\"1\",\"from\":\"2\",\"to\":\"3\",\"reversed\":false,\"more\":0}",
+        "bad_request",
+    ),
+    (
+        "{\"tenant\":\"n\",\"account\":\"1\",\"from\":\"2\",\"to\":\"3\"}",
+        "bad_request",
+    ),
+    (
+        "{\"tenant\":\"\",\"account\":\"1\",\"from\":\"2\",\"to\":\"3\",\"reversed\":false}",
+        "bad_name",
+    ),
+    (
+        "{\"tenant\":\"n\",\"account\":\"01\",\"from\":\"2\",\"to\":\"3\",\"reversed\":false}",
+        "bad_request",
+    ),
+    (
+        "{\"tenant\":\"n\",\"account\":1,\"from\":\"2\",\"to\":\"3\",\"reversed\":false}",
+        "bad_request",
+    ),
+    (
+        "{\"tenant\":\"n\",\"account\":\"1\",\"from\":\"18446744073709551616\",\"to\":\"3\",\
+        \"reversed\":false}",
+        "bad_request",
+    ),
+    (
+        "{\"tenant\":\"n\",\"account\":\"1\",\"from\":\"2\",\"to\":\"+3\",\"reversed\":false}",
+        "bad_request",
+    ),
+    (
+        "{\"tenant\":\"n\",\"account\":\"1\",\"from\":\"2\",\"to\":\"3\",\"reversed\":\"false\"}",
+        "bad_request",
+    ),
+];
+
+#[test]
+fn refuses_what_is_no_piece(rt: HostRuntime) -> Result<(), Fail> {
+    let path = "no-piece.control";
+    let mut desk = Desk::open(&rt, path)?;
+    for (body, word) in REFUSED {
+        let size = body.len();
+        let message = format!(in rt.alloc();
+            "POST /control/statement HTTP/1.1\r\ncontent-length: {size}\r\n\r\n{body}"
+        )?;
+        let mut caller = sends(&rt, path, message.as_bytes())?;
+        assert_eq!(rt; desk.next(at(1)), None, "of {body}");
+        let size = word.len().saturating_add(12);
+        let want = format!(in rt.alloc();
+            "HTTP/1.1 400 Bad Request\r\ncontent-length: {size}\r\ncontent-type: application/json\r\nconnection: close\r\n\r\n{{\"error\":\"{word}\"}}"
+        )?;
+        assert_eq!(rt;
+            hears(&rt, &mut caller)?.as_slice(),
+            want.as_bytes(),
+            "of {body}"
+        );
+    }
+    desk.close(&rt);
+    Ok(())
+}
+
+// An entry whose numbers all differ.
+fn entry() -> AccountEntry {
+    AccountEntry {
+        transfer: Transfer {
+            id: 1,
+            debit_account_id: 2,
+            credit_account_id: 3,
+            amount: Amount::new(u128::MAX),
+            pending_id: 4,
+            user_data_128: 5,
+            user_data_64: 6,
+            user_data_32: 7,
+            timeout: 8,
+            ledger: 9,
+            code: 10,
+            flags: TransferFlags(2),
+            timestamp: 11,
+            at: u64::MAX,
+        },
+        balances: Balances {
+            debits: Sums {
+                pending: Amount::new(12),
+                posted: Amount::new(13),
+            },
+            credits: Sums {
+                pending: Amount::new(14),
+                posted: Amount::new(15),
+            },
+        },
+    }
+}
+
+const TOLD: &str = "{\"clock\":\"16\",\"entries\":[{\"id\":\"1\",\"debit_account_id\":\"2\",\
+    \"credit_account_id\":\"3\",\"amount\":\"340282366920938463463374607431768211455\",\
+    \"pending_id\":\"4\",\"user_data_128\":\"5\",\"user_data_64\":\"6\",\"user_data_32\":\"7\",\
+    \"timeout\":\"8\",\"ledger\":\"9\",\"code\":\"10\",\"flags\":\"2\",\"timestamp\":\"11\",\
+    \"at\":\"18446744073709551615\",\"debits_pending\":\"12\",\"debits_posted\":\"13\",\
+    \"credits_pending\":\"14\",\"credits_posted\":\"15\"}]}";
+
+#[test]
+fn tells_entries(rt: HostRuntime) -> Result<(), Fail> {
+    let body = entries_body(rt.alloc(), 16, &[entry()])?;
+    assert_eq!(rt; body.as_slice(), TOLD.as_bytes());
+    let told = entries_in(rt.alloc(), body.as_slice())?;
+    assert_eq!(rt; told.clock, 16);
+    assert_eq!(rt; told.entries.as_slice(), [entry()].as_slice());
+    let body = entries_body(rt.alloc(), u64::MAX, &[entry(), entry()])?;
+    let told = entries_in(rt.alloc(), body.as_slice())?;
+    assert_eq!(rt; told.clock, u64::MAX);
+    assert_eq!(rt; told.entries.as_slice(), [entry(), entry()].as_slice());
+    Ok(())
+}
+
+// Bodies that tell none.
+#[test]
+fn takes_no_other_entries(rt: HostRuntime) -> Result<(), Fail> {
+    let bodies = [
+        "",
+        "{}",
+        "{\"clock\":\"1\"}",
+        "{\"entries\":[]}",
+        "{\"clock\":1,\"entries\":[]}",
+        "{\"clock\":\"1\",\"entries\":{}}",
+        "{\"clock\":\"1\",\"entries\":[{\"id\":\"1\"}]}",
+    ];
+    for body in bodies {
+        let told = entries_in(rt.alloc(), body.as_bytes());
+        assert!(rt; matches!(told, Err(Fault::Unavailable)), "of {body}");
+    }
+    let none = entries_in(rt.alloc(), b"{\"clock\":\"1\",\"entries\":[]}")?;
+    assert_eq!(rt; none.clock, 1);
+    assert!(rt; none.entries.is_empty());
+    Ok(())
+}
