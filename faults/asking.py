@@ -16,11 +16,12 @@ from service import PATIENCE, Connection, message, want
 
 
 class Writer(threading.Thread):
-    """A tenant that sends batch upon batch until it is to end, each beside its plain ledger."""
+    """A tenant that sends batch upon batch until it is to end, each beside its plain ledger and so
+    many seconds behind the one before."""
 
-    def __init__(self, house, place, seed, most=12):
+    def __init__(self, house, place, seed, most=12, pause=0.005):
         super().__init__(daemon=True)
-        self.house, self.desk, self.most = house, house.desks[place], most
+        self.house, self.desk, self.most, self.pause = house, house.desks[place], most, pause
         self.requests = Requests(random.Random(seed), 10**9 * (place + 1))
         self.is_over, self.answered, self.surprise = threading.Event(), 0, None
 
@@ -31,7 +32,7 @@ class Writer(threading.Thread):
                 want(self.desk.batch(self.requests.batch(self.most)),
                      "unavailable, with all at hand")
                 self.answered += 1
-                time.sleep(0.005)
+                time.sleep(self.pause)
         except Exception as surprise:
             self.surprise = surprise
 

@@ -4,6 +4,7 @@ import os
 import sqlite3
 
 from copies import copy, files
+from counted import counts, refused_told
 from drawn import moves
 from runs import House
 from service import check, run, want
@@ -41,7 +42,7 @@ def break_once(house, turn, kept, damaged):
     """A batch that cannot be written, so that the file is opened again, damaged and then whole. It
     is damaged before the batch is refused, since the file is opened again at once."""
     batch = moves(10**9 + turn)
-    desk, begun = house.take_turn(0), len(house.service.told())
+    desk, begun, before = house.take_turn(0), len(house.service.told()), counts(house)
     house.service.limit_files(0)
     put(damaged, house.db)
     want(not desk.batch(batch), "answered, with nothing written")
@@ -54,6 +55,7 @@ def break_once(house, turn, kept, damaged):
     house.desks[0].until_well()
     lines = house.service.told()[begun + 1:]
     want(lines == [house.well()], f"standard error tells {lines} behind it")
+    refused_told(house, before)
     want(not house.take_turn(0).settle(batch), "kept by a file that was put back")
     house.compare()
     want(house.take_turn(0).batch(batch), "unavailable, and the file is put back")

@@ -33,6 +33,7 @@ import rounds
 import runs
 import soak
 import standby
+import statements
 import stops
 import stream
 import use
@@ -59,6 +60,7 @@ TRIALS = {
     "desk": desk.desk,
     "stopped": stops.stopped,
     "copied": copied.copied,
+    "statements": statements.statements,
     "standby": standby.standby,
     "reader": use.gone_reader,
     "refused": refused.refused_bytes,

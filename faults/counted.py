@@ -15,12 +15,15 @@ from rounds import Crowd
 from runs import House
 from service import Connection, body_of, check, message, want
 
-COUNTS = ["clients", "clients_accepted", "clients_late", "file_bytes", "log_bytes",
+COUNTS = ["clients", "clients_accepted", "clients_late", "disk_faults", "file_bytes",
+          "last_refused_opening", "log_bytes", "longest_sync_microseconds",
           "longest_turn_microseconds", "most_clients", "refused_reopenings", "reopenings",
           "replies_2xx", "replies_4xx", "replies_5xx", "round_messages", "rounds", "seconds",
-          "turn_microseconds"]
+          "sync_microseconds", "syncs", "turn_microseconds"]
 # What grows by itself.
 TIMES = ("seconds", "longest_turn_microseconds", "turn_microseconds")
+# What a sync of the disk moves.
+SYNCS = ("syncs", "sync_microseconds", "longest_sync_microseconds")
 # Who asks at the socket has so many seconds for a message, and to take the reply; what a busy
 # machine adds is not the service's. So many may be there at once.
 CALL, ADDED, CALLERS = 10, 20, 8
@@ -131,25 +134,57 @@ def late_told(house):
 
 def work_told(trial):
     """What was done for clients: replies by their status, two batches in one round, the time of turns,
-    and a file that is opened again."""
+    syncs, and a file that is opened again behind a fault of its disk."""
     house = Crowd(trial.fresh(), 2)
     house.begin()
     house.gather()
     first = counts(house)
     told = answered_together(house, first)
-    want(told["replies_4xx"] == first["replies_4xx"], f"two batches: {first}, then {told}")
+    want(told["replies_4xx"] == first["replies_4xx"] and told["syncs"] > first["syncs"],
+         f"two batches: {first}, then {told}")
     stranger = Connection(house.service.port)
     stranger.send(message("GET", "/x", house.desks[0].key))
     want(stranger.reply()[0] == "404 Not Found", "a route that is none")
     stranger.close()
+    want(counts(house)["replies_4xx"] == told["replies_4xx"] + 1, f"a route that is none: {told}")
+    synced_told(house)
+    told = counts(house)
     fail(house)
     last = until(house, lambda told: told["reopenings"] > first["reopenings"], "it is open again")
     more = {name: last[name] - told[name] for name in ("replies_2xx", "replies_4xx", "replies_5xx")}
-    want(more == {"replies_2xx": 0, "replies_4xx": 1, "replies_5xx": 1}, f"{told}, then {last}")
+    want(more == {"replies_2xx": 0, "replies_4xx": 0, "replies_5xx": 1}, f"{told}, then {last}")
+    want((told["disk_faults"], last["last_refused_opening"]) == (0, 0)
+         and last["disk_faults"] > 0, f"a fault of the disk: {told}, then {last}")
     longest, turns = last["longest_turn_microseconds"], last["turn_microseconds"]
     want(first["turn_microseconds"] < turns and 0 < longest <= turns, f"times of turns: {last}")
     house.stop()
     check(house.program, house.db)
+
+
+def synced_told(house):
+    """Each batch syncs, an empty one too, and who only reads does not."""
+    first, begun = counts(house), time.monotonic()
+    for _ in range(10):
+        write(house, 0, [])
+    passed, last = (time.monotonic() - begun) * 1e6, counts(house)
+    more = {name: last[name] - first[name] for name in ("syncs", "sync_microseconds")}
+    want(more["syncs"] >= 10 and 0 < more["sync_microseconds"] <= passed,
+         f"ten batches in {passed:.0f} microseconds: {first}, then {last}")
+    longest, every = last["longest_sync_microseconds"], last["sync_microseconds"]
+    want(longest <= every <= (longest + 1) * last["syncs"], f"the times of syncs: {last}")
+    for _ in range(10):
+        house.desks[0].until_well()
+    told = counts(house)
+    want(all(told[name] == last[name] for name in SYNCS), f"look-ups have synced: {last}, {told}")
+
+
+def refused_told(house, before):
+    """Behind an opening that was refused for a fault of the file, told with the numbers before."""
+    told = counts(house)
+    more = {name: told[name] - before[name] for name in ("disk_faults", "refused_reopenings",
+                                                         "reopenings")}
+    want(all(more.values()) and told["last_refused_opening"] > 0,
+         f"an opening that was refused: {before}, then {told}")
 
 
 def answered_together(house, before):

@@ -240,12 +240,13 @@ def ask_as_nobody(house):
         for path in (program, folder, *parents(house.db, 2)):
             os.chmod(path, 0o755)
         for words in (("tenants",), ("tenant-add", "--name", "more"), ("status",), ("stop",),
-                      ("tenant-key", "--name", house.names[0]), ("check",)):
+                      ("tenant-key", "--name", house.names[0]), ("check",),
+                      ("statement", "--tenant", house.names[0], "--account", "1")):
             done = subprocess.run([program, *words, "--db", house.db], capture_output=True,
                                   user=NOBODY, group=NOBODY, extra_groups=(), timeout=PATIENCE)
             told = done.returncode, done.stdout.decode(), done.stderr.decode()
             want(told == DENIED, f"{words[0]} as another user: {told}")
-    return "6 commands refused to another user"
+    return "7 commands refused to another user"
 
 
 def parents(path, many):

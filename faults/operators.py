@@ -1,5 +1,5 @@
-"""An operator of a ledger that is served, while its clients go on: he asks for the status and the
-list of tenants, takes copies, gives tenants other keys and adds tenants."""
+"""An operator of a ledger that is served, while its clients go on: he asks for the status, the list
+of tenants and statements, takes copies, gives tenants other keys and adds tenants."""
 
 import random
 import re
@@ -14,7 +14,9 @@ from service import PATIENCE, UNAVAILABLE, UNREADABLE, Lost, Surprise, check, wa
 from stops import IN_USE, NOT_SERVED
 
 # How often of a hundred times he does each.
-ACTS = {"status": 40, "tenants": 25, "change": 20, "copy": 10, "add": 5}
+ACTS = {"status": 30, "tenants": 20, "statement": 15, "change": 20, "copy": 10, "add": 5}
+# Of an account with more entries he asks for the last ones: the plain ledger sums anew for each.
+LINES = 100
 # What a command may tell where something befalls the service: memory or the disk has failed, in the
 # service or for the copy; it is not there, or the file is another's.
 FAULTS = (UNAVAILABLE, UNREADABLE, NOT_SERVED, IN_USE, OUTPUT)
@@ -32,12 +34,13 @@ class Operator:
         self.alone, self.counts = threading.Lock(), dict.fromkeys((*ACTS, "refused"), 0)
 
     def act(self, clients):
-        """Something that is drawn; a key is changed of one of these clients, whose lock is held."""
+        """Something that is drawn; a key or a statement is one of these clients', whose lock is held
+        meanwhile."""
         name = self.random.choices(list(ACTS), list(ACTS.values()))[0]
-        if name == "change":
+        if name in ("change", "statement"):
             client = self.random.choice(clients)
             with client.lock:
-                self.change(self.house.desks.index(client.desk))
+                getattr(self, name)(self.house.desks.index(client.desk))
         elif name != "add" or self.left:
             getattr(self, name)()
         self.counts[name] += name != "add"
@@ -49,7 +52,8 @@ class Operator:
             told = told_by(self.house, *words)
         if told[0] == 0 and not told[2]:
             return told
-        want(self.was_ill(before) and told in FAULTS, f"{words[0]}, {self.weather()}: {told}")
+        fault = (told[0], "" if words[0] == "statement" else told[1], told[2])
+        want(self.was_ill(before) and fault in FAULTS, f"{words[0]}, {self.weather()}: {told}")
         self.counts["refused"] += 1
         return None
 
@@ -74,6 +78,16 @@ class Operator:
         expected = dict(zip(self.house.names, [digest_of(desk.key) for desk in self.house.desks]))
         listed = self.listed()
         want(not listed or expected.keys() <= listed.keys(), f"tenants: {listed}")
+
+    def statement(self, place):
+        """An account's entries, or the last of them, are the plain ledger's."""
+        ledger, name = self.house.desks[place].ledger, self.house.names[place]
+        number = self.random.choice(list(ledger.accounts))
+        entries = ledger.entries(number)
+        form = ("--from", str(entries[-LINES]["timestamp"])) if len(entries) > LINES else ()
+        lines = [ledger.line(number, each) for each in entries[-LINES:]]
+        told = self.told("statement", "--tenant", name, "--account", str(number), *form)
+        want(not told or told[1].splitlines()[1:] == lines, f"{name} {number} {form}: {told}")
 
     def sure(self, name):
         """The digest of a tenant, once it is told; None where there is none."""

@@ -19,7 +19,7 @@ def in_use(trial):
     house = House(trial.fresh())
     house.begin()
     commands = (("serve", "--port", str(free_port()), "--requests", "1"), ("check",),
-                ("statement", "--tenant", "north-desk", "--account", "1"), ("migrate", "--to", "3"))
+                ("migrate", "--to", "3"))
     for words in commands:
         told = run(house.program, *words, "--db", house.db)
         want(told == IN_USE, f"{words[0]} on a file that is served: {told}")
