@@ -25,7 +25,8 @@ MOST_EVENTS = 1000
 BEHIND = {1: "1", 10**9: "1s"}
 # The numbers of `status` that are the machine's, and their marks.
 COUNTS = {"clients": "N", "most_clients": "N", "seconds": "N", "turn_microseconds": "N",
-          "longest_turn_microseconds": "N", "file_bytes": "F", "log_bytes": "L"}
+          "longest_turn_microseconds": "N", "syncs": "N", "sync_microseconds": "N",
+          "longest_sync_microseconds": "N", "file_bytes": "F", "log_bytes": "L"}
 
 
 def session_of(path):
