@@ -130,6 +130,8 @@ def look_at_forms(trial, house, copy):
     want(stamps and len(stamps) % PIECE == 0, f"{len(stamps)} entries")
     forms = [*WAYS, *trial.random.sample(FORMS, len(FORMS) if trial.is_long else 6)]
     forms += [(*period, *trial.random.choice(FORMS)) for period in periods(stamps)]
+    # A period that ends before it begins: its sums are those before it, of entries behind its end.
+    forms.append(("--from", str(stamps[-1]), "--to", str(stamps[0]), "--balances"))
     for count, form in enumerate(forms):
         told = look_at(house, copy, *words(house, STILL, *form))
         want(told[0] == 0, f"{form}: {shortened(told)}")

@@ -1,5 +1,5 @@
 -- What a command asks a service for, piece by piece.
-use Rattle.std.specs.Prelude.{◌==◌, ◌+◌, ◌-◌, ◌^◌, ℕ, Bool, true, false, List, Option, Some, None, if◌then◌else◌}
+use Rattle.std.specs.Prelude.{◌==◌, ◌+◌, ◌-◌, ◌^◌, ℕ, Bool, true, false, List, Option, Some, None, if◌then◌else◌, max}
 use Rattle.records.specs.declared.filter.Order.{Order}
 use Rattle.records.specs.declared.filter.Order.TheVariants.{Oldest, Newest}
 use Rattle.control.specs.declared.piece_asked.PieceAsked.{PieceAsked}
@@ -10,13 +10,14 @@ abbrev pub is_newest : Order → Bool
 is_newest Oldest = false
 is_newest Newest = true
 
--- what is asked for first: a whole statement in its order, or all up to the period's end, oldest first
+-- what is asked for first: a whole statement in its order, or all up to the period's bounds, oldest
+-- first
 abbrev pub first_asked : List ℕ → ℕ → Asked → PieceAsked
 first_asked tenant account asked = record {
   tenant = tenant;
   account = account;
   from = 0;
-  to = if is_whole asked then 2 ^ 64 - 1 else asked.period.to;
+  to = if is_whole asked then 2 ^ 64 - 1 else max asked.period.to asked.period.from;
   is_reversed = if is_whole asked then is_newest asked.order else false;
 }
 

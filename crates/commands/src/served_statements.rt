@@ -98,7 +98,8 @@ fn row_of(account: u128, entry: &AccountEntry) -> StatementRow
 }
 
 // What is asked for first: a whole statement in its order; else the oldest entries first, from the
-// beginning on, since the sums before a period are those of its last entry before.
+// beginning on, since the sums before a period are those of its last entry before. That may be one
+// behind the period's end, where it ends before it begins.
 fn first_asked(tenant: &TenantName, account: u128, asked: &Asked) -> PieceAsked
     ensures { result ≡ first_asked tenant.now account asked.now }
 {
@@ -107,7 +108,11 @@ fn first_asked(tenant: &TenantName, account: u128, asked: &Asked) -> PieceAsked
         tenant: *tenant,
         account,
         from: 0,
-        to: if is_whole { u64::MAX } else { asked.period.to },
+        to: if is_whole {
+            u64::MAX
+        } else {
+            asked.period.to.max(asked.period.from)
+        },
         is_reversed: is_whole && asked.order == Order::Newest,
     }
 }
