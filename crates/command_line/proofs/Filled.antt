@@ -16,7 +16,7 @@ use Rattle.clap.proofs.ValueTestLemmas.{accepts-Accepts}
 use Rattle.command_line.proofs.Uses.{Each, IsOwn, both_none, each_found, flag_sets, help_sets, option_sets, version_sets}
 use Rattle.command_line.proofs.Walks.{walk_stops}
 use Rattle.command_line.proofs.Levels.{HasValue, Holds, level_holds}
-use Rattle.command_line.specs.Ledgerd.{check_shape, copy_shape, flag_rule, ledgerd_app, limit_rule, lint_shape, migrate_shape, number_rule, option_rule, ports, program, serve_shape, statement_shape, status_shape, stop_shape, tenant_add_shape, tenant_key_shape, tenants_shape, text_rule}
+use Rattle.command_line.specs.Ledgerd.{check_shape, copy_shape, flag_rule, ledgerd_app, limit_rule, lint_shape, migrate_shape, number_rule, option_rule, ports, program, serve_shape, statement_shape, status_shape, stop_shape, tenant_add_shape, tenant_key_shape, tenants_shape, text_rule, version_shape}
 use Rattle.command_line.specs.Values.{HasSomeText, IsFilled, IsFlag, IsFreeNumber, HasNumberBelow}
 use Rattle.command_line.proofs.NumberValues.{signed_number}
 
@@ -283,7 +283,11 @@ copy_met words e =
 
 lint_met : (words : List Text) → level_fault (ready lint_shape) [] nothing_held words false [] ≡ []
     → IsFilled (codes "lint") (rows_after (ready lint_shape).rules [] words)
-lint_met words e = inr (inr (inr (inr (inr (inr (inr (inr (inr (inr refl)))))))))
+lint_met words e = inr (inr (inr (inr (inr (inr (inr (inr (inr (inr (inl refl))))))))))
+
+version_met : (words : List Text) → level_fault (ready version_shape) [] nothing_held words false [] ≡ []
+    → IsFilled (codes "version") (rows_after (ready version_shape).rules [] words)
+version_met words e = inr (inr (inr (inr (inr (inr (inr (inr (inr (inr (inr refl))))))))))
 
 -- the subcommand that a walk stopped at is filled
 StopsAt : Text → List Text → Shape → Type 0
@@ -328,7 +332,10 @@ stops_at_one name words other = (
                 λ a e. check_met words e,
                 (
                   λ a e. migrate_met words e,
-                  (λ a e. copy_met words e, (λ a e. lint_met words e, (λ a e. absurd (help_is name other a), tt))),
+                  (
+                    λ a e. copy_met words e,
+                    (λ a e. lint_met words e, (λ a e. version_met words e, (λ a e. absurd (help_is name other a), tt))),
+                  ),
                 ),
               ),
             ),

@@ -16,4 +16,5 @@ fills_serve name rows (inr (inr (inr (inr (inr (inr (inl met))))))) is = absurd 
 fills_serve name rows (inr (inr (inr (inr (inr (inr (inr (inl met)))))))) is = absurd (true≢false (ap (λ n. bytes_eq n (codes "serve")) (sym is ∙ met.0)))
 fills_serve name rows (inr (inr (inr (inr (inr (inr (inr (inr (inl met))))))))) is = absurd (true≢false (ap (λ n. bytes_eq n (codes "serve")) (sym is ∙ met.0)))
 fills_serve name rows (inr (inr (inr (inr (inr (inr (inr (inr (inr (inl met)))))))))) is = absurd (true≢false (ap (λ n. bytes_eq n (codes "serve")) (sym is ∙ met.0)))
-fills_serve name rows (inr (inr (inr (inr (inr (inr (inr (inr (inr (inr met)))))))))) is = absurd (true≢false (ap (λ n. bytes_eq n (codes "serve")) (sym is ∙ met)))
+fills_serve name rows (inr (inr (inr (inr (inr (inr (inr (inr (inr (inr (inl met))))))))))) is = absurd (true≢false (ap (λ n. bytes_eq n (codes "serve")) (sym is ∙ met)))
+fills_serve name rows (inr (inr (inr (inr (inr (inr (inr (inr (inr (inr (inr met))))))))))) is = absurd (true≢false (ap (λ n. bytes_eq n (codes "serve")) (sym is ∙ met)))

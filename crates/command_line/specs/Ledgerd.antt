@@ -114,6 +114,10 @@ copy_shape = over_store (codes "copy") (text_rule (codes "to") ∷ [])
 abbrev pub lint_shape : Shape
 lint_shape = record (new_app (codes "lint")).top { rules = option_rule (codes "route") ∷ [] }
 
+-- version: nothing
+abbrev pub version_shape : Shape
+version_shape = (new_app (codes "version")).top
+
 -- the program without its subcommands, with `--version`; the words are those after its name
 abbrev pub program : App
 program = record (new_app (codes "ledgerd")) {
@@ -133,5 +137,7 @@ ledgerd_app =
     (with_subcommand
     (with_subcommand
     (with_subcommand
+    (with_subcommand
     (with_subcommand program serve_shape) tenant_add_shape) tenant_key_shape) tenants_shape)
-    status_shape) stop_shape) statement_shape) check_shape) migrate_shape) copy_shape) lint_shape
+    status_shape) stop_shape) statement_shape) check_shape) migrate_shape) copy_shape) lint_shape)
+    version_shape

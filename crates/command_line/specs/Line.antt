@@ -69,6 +69,7 @@ Spells name rows (command.Copy db to) = (name ≡ codes "copy")
     × HasText rows (codes "to") to.now
 Spells name rows (command.Lint route) = (name ≡ codes "lint")
     × HasFreeText rows (codes "route") (text_in route)
+Spells name rows command.Version = name ≡ codes "version"
 
 -- the command of the subcommand that `clap` met, with its values, or the run over lists
 abbrev pub IsOf : Option (Text × List Row) → Command → Type 0

@@ -1,4 +1,4 @@
--- What `--version` prints.
+-- What `--version` and `version` print.
 use Rattle.std.specs.Prelude.{ℕ, List, [], ◌∷◌, ◌++◌, codes}
 
 -- the versions of the program and of the schema, and the toolchain's program logic

@@ -5,7 +5,7 @@ ghost use Rattle.command_line.specs.Ledgerd.{ledgerd_app, limit_rule, lint_shape
 ghost use Rattle.command_line.specs.Ledgerd.{number_rule, option_rule, program, serve_shape};
 ghost use Rattle.command_line.specs.Ledgerd.{statement_shape, status_shape, stop_shape, store_app};
 ghost use Rattle.command_line.specs.Ledgerd.{tenant_add_shape, tenant_key_shape, tenants_shape};
-ghost use Rattle.command_line.specs.Ledgerd.{text_rule, whole_statement_app};
+ghost use Rattle.command_line.specs.Ledgerd.{text_rule, version_shape, whole_statement_app};
 ghost use Rattle.command_line.specs.Built.{IsLeaf, IsLocalArg, IsProgram};
 
 use crate::{LEAST_ROOM, version_text};
@@ -35,6 +35,8 @@ static REPLY_HELP: &str =
 
 static STANDBY_HELP: &str =
     "Wait while another process has the store, and serve once it lets go of it";
+
+static SERVED_HELP: &str = "A store that is being served is in use: take a copy, and check that.";
 
 static COPY_HELP: &str = "Where the copy is to stand; nothing may be there, nor at PATH-wal";
 
@@ -270,7 +272,7 @@ fn check_command<'a>(alloc: Global) -> Result<clap::Command<'a>, AllocError>
     ensures { IfOk result (IsLeaf check_shape) }
 {
     let about = "Audit a store: print ok, or the kind, tenant and place of the first damage";
-    store_command(alloc, "check", about)
+    Ok(store_command(alloc, "check", about)?.after_help(SERVED_HELP))
 }
 
 fn migrate_command<'a>(alloc: Global) -> Result<clap::Command<'a>, AllocError>
@@ -300,6 +302,14 @@ fn lint_command<'a>(alloc: Global) -> Result<clap::Command<'a>, AllocError>
         .arg(free_option(alloc, "route", "PATH", ROUTE_HELP))
 }
 
+fn version_command<'a>(alloc: Global) -> clap::Command<'a>
+    ensures { IsLeaf version_shape result }
+{
+    let about = "Print the version of the program, of the schema and of the toolchain's logic, as \
+        --version does";
+    clap::Command::new(alloc, "version").about(about)
+}
+
 /// The whole command line, which reads the words after the program's name.
 pub fn ledgerd_command<'a>(alloc: Global) -> Result<clap::Command<'a>, AllocError>
     ensures { IfOk result (IsProgram ledgerd_app) }
@@ -315,5 +325,6 @@ pub fn ledgerd_command<'a>(alloc: Global) -> Result<clap::Command<'a>, AllocErro
         .subcommand(check_command(alloc)?)?
         .subcommand(migrate_command(alloc)?)?
         .subcommand(copy_command(alloc)?)?
-        .subcommand(lint_command(alloc)?)
+        .subcommand(lint_command(alloc)?)?
+        .subcommand(version_command(alloc))
 }

@@ -102,4 +102,6 @@ pub enum Command<'a> {
     Lint {
         route: Option<&'a str>,
     },
+    /// Tell the version, as `--version` does.
+    Version,
 }

@@ -216,6 +216,7 @@ fn named<'a>(name: &str, values: &ArgMatches<'a>) -> Command<'a>
         "migrate" => migrate(values),
         "copy" => copy(values),
         "lint" => lint(values),
+        "version" => Command::Version,
         _ => unreachable!(),
     }
 }

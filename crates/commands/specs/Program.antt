@@ -150,6 +150,7 @@ Does written (command.Tenants db) out result = IfOk result IsCalm
 Does written (command.Status db prometheus) out result = IfOk result IsCalm
 Does written (command.Copy db to) out result = Copies written out result
 Does written (command.Stop db) out result = Stops written out result
+Does written command.Version out result = TellsVersion written out result
 
 -- standard error, before and behind the program
 pub record Told : Type 0 where

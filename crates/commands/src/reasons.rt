@@ -23,7 +23,7 @@ impl<'a> Place<'a> {
     /// That of a command, if it has one.
     pub(crate) fn of(asked: Command<'a>) -> Option<Place<'a>> {
         match asked {
-            Command::Lists | Command::Lint { .. } => None,
+            Command::Lists | Command::Lint { .. } | Command::Version => None,
             Command::AddTenant { db, .. } => Some(Place {
                 path: db,
                 is_made: true,

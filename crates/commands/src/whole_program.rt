@@ -42,7 +42,7 @@ pub fn program<S: AsStr, O: Drain + Drop, E: Drain>(
     }
 }
 
-// What `--version` asks for.
+// What `version` and `--version` ask for.
 fn write_version<O: Drain + Drop>(mut out: O) -> Result<Ended<'static, O>, Fault>
     requires { O.failed out ≡ false }
     ensures { TellsVersion O.written out result }
@@ -134,5 +134,6 @@ fn run<'a, O: Drain + Drop>(
         Command::Tenants { db } => run_tenants(rt, db, out),
         Command::Status { db, prometheus } => run_status(rt, db, prometheus, out),
         Command::Stop { db } => run_stop(rt, db, out),
+        Command::Version => write_version(out),
     }
 }

@@ -24,7 +24,7 @@ const USUAL: LimitWords = LimitWords {
 };
 
 // Lines, and the commands that they are.
-const READ: [(&str, Command<'static>); 24] = [
+const READ: [(&str, Command<'static>); 25] = [
     ("", Command::Lists),
     (
         "serve --db l.db --port 8080 --requests 1000",
@@ -218,6 +218,7 @@ const READ: [(&str, Command<'static>); 24] = [
             route: Some("/accounts"),
         },
     ),
+    ("version", Command::Version),
 ];
 
 #[test]
@@ -308,6 +309,8 @@ const REFUSED: [(ErrorKind, &[&str]); 7] = [
             "tenants --db d --name n",
             "stop --db d --now",
             "lint --db d",
+            "version --db x",
+            "version x",
         ],
     ),
     (
@@ -337,6 +340,7 @@ const REFUSED: [(ErrorKind, &[&str]); 7] = [
             "help migrate",
             "help copy",
             "help lint",
+            "help version",
             "--help",
             "serve --help",
             "tenant-add --help",
@@ -349,6 +353,7 @@ const REFUSED: [(ErrorKind, &[&str]); 7] = [
             "migrate --help",
             "copy --help",
             "lint --help",
+            "version --help",
         ],
     ),
 ];

@@ -21,6 +21,8 @@ Commands:
   migrate     Bring a store to a newer schema version
   copy        Copy a store as it is at one moment, also while it is served
   lint        Tell what the service would refuse of a body on standard input, and where
+  version     Print the version of the program, of the schema and of the toolchain's logic, as \
+--version does
   help        Print this message or the help of the given subcommand(s)
 
 Options:
@@ -94,6 +96,18 @@ Options:
   -h, --help           Print help
 ";
 
+static CHECK_HELP: &str = "\
+Audit a store: print ok, or the kind, tenant and place of the first damage
+
+Usage: ledgerd check --db <FILE>
+
+Options:
+      --db <FILE>  The store's file, e.g. ledger.db
+  -h, --help       Print help
+
+A store that is being served is in use: take a copy, and check that.
+";
+
 #[test]
 fn prints_faults(rt: HostRuntime) -> Result<(), Fail> {
     let helps = [
@@ -102,6 +116,7 @@ fn prints_faults(rt: HostRuntime) -> Result<(), Fail> {
         ("tenant-add --help", TENANT_ADD_HELP),
         ("status --help", STATUS_HELP),
         ("statement --help", STATEMENT_HELP),
+        ("check --help", CHECK_HELP),
     ];
     for (line, help) in helps {
         let fault = LineFault::Refused(refused(&rt, line)?);

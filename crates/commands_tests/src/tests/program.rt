@@ -101,6 +101,7 @@ static VERSION: &str = "ledgerd 0.1.0\nschema 3\nrattle logic dac8208d650f15bf\n
 #[test]
 fn tells_its_version(rt: HostRuntime) -> Result<(), Fail> {
     tells(&rt, "--version", 0, VERSION, "")?;
+    tells(&rt, "version", 0, VERSION, "")?;
     tells(&rt, "-V", 0, VERSION, "")
 }
 

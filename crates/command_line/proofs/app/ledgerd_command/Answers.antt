@@ -1,5 +1,5 @@
 use Rattle.std.proofs.lemmas.Result.{IfOk-weaker}
-use Rattle.command_line.specs.Ledgerd.{check_shape, copy_shape, ledgerd_app, lint_shape, migrate_shape, program, serve_shape, statement_shape, status_shape, stop_shape, tenant_add_shape, tenant_key_shape, tenants_shape}
+use Rattle.command_line.specs.Ledgerd.{check_shape, copy_shape, ledgerd_app, lint_shape, migrate_shape, program, serve_shape, statement_shape, status_shape, stop_shape, tenant_add_shape, tenant_key_shape, tenants_shape, version_shape}
 use Rattle.command_line.proofs.Builders.{with_command}
 use Rattle.command_line.proofs.app.ledgerd_command.Goals as goal
 
@@ -16,4 +16,5 @@ returns c =
     let eight = with_command _ check_shape _ _ _ seven c.in_ok-check_command.ensures c.in_ok-subcommand-8.ensures in
     let nine = with_command _ migrate_shape _ _ _ eight c.in_ok-migrate_command.ensures c.in_ok-subcommand-9.ensures in
     let ten = with_command _ copy_shape _ _ _ nine c.in_ok-copy_command.ensures c.in_ok-subcommand-10.ensures in
-    IfOk-weaker c.subcommand-11.result _ _ (λ r h. with_command _ lint_shape _ r _ ten c.in_ok-lint_command.ensures h) c.subcommand-11.ensures
+    let eleven = with_command _ lint_shape _ _ _ ten c.in_ok-lint_command.ensures c.in_ok-subcommand-11.ensures in
+    IfOk-weaker c.subcommand-12.result _ _ (λ r h. with_command _ version_shape _ r _ eleven c.version_command.ensures h) c.subcommand-12.ensures
