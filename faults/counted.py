@@ -9,17 +9,20 @@ import socket
 import time
 
 from asking import asked, be_there, call, named, told_by, write
-from drawn import moves
+from drawn import account, moves
 from reopened import fail
 from rounds import Crowd
 from runs import House
 from service import Connection, body_of, check, message, want
 
-COUNTS = ["clients", "clients_accepted", "clients_late", "disk_faults", "file_bytes",
+COUNTS = ["accounts_accepted", "accounts_refused", "clients", "clients_accepted", "clients_late", "disk_faults", "file_bytes",
           "last_refused_opening", "log_bytes", "longest_sync_microseconds",
           "longest_turn_microseconds", "most_clients", "refused_reopenings", "reopenings",
           "replies_2xx", "replies_4xx", "replies_5xx", "round_messages", "rounds", "seconds",
-          "sync_microseconds", "syncs", "turn_microseconds"]
+          "sync_microseconds", "syncs", "transfers_accepted", "transfers_refused",
+          "turn_microseconds"]
+# Events of batches, by what becomes of them.
+EVENTS = ("accounts_accepted", "accounts_refused", "transfers_accepted", "transfers_refused")
 # What grows by itself.
 TIMES = ("seconds", "longest_turn_microseconds", "turn_microseconds")
 # What a sync of the disk moves.
@@ -148,6 +151,7 @@ def work_told(trial):
     stranger.close()
     want(counts(house)["replies_4xx"] == told["replies_4xx"] + 1, f"a route that is none: {told}")
     synced_told(house)
+    events_told(house)
     told = counts(house)
     fail(house)
     last = until(house, lambda told: told["reopenings"] > first["reopenings"], "it is open again")
@@ -176,6 +180,29 @@ def synced_told(house):
         house.desks[0].until_well()
     told = counts(house)
     want(all(told[name] == last[name] for name in SYNCS), f"look-ups have synced: {last}, {told}")
+
+
+def events_told(house):
+    """Events that are accepted and that are refused, of both kinds of batch. A batch that is refused
+    as a whole has none."""
+    again = [*moves(10**9, 3), *moves(10**9 + 1, 2), *moves(10**9 + 3, 1, amount=0, flags=1)]
+    for events, transfers, more in (
+            (house.requests[0].accounts()[:2], False, (0, 2, 0, 0)),
+            ([account(10**9)], False, (1, 0, 0, 0)),
+            (again, True, (0, 0, 3, 3)),
+            (moves(10**9 + 10, 1000), True, (0, 0, 1000, 0))):
+        first = counts(house)
+        write(house, 0, events, transfers)
+        told = counts(house)
+        want(tuple(told[name] - first[name] for name in EVENTS) == more,
+             f"{len(events)} events: {first}, then {told}, and not {more} more")
+    first = counts(house)
+    stranger = Connection(house.service.port)
+    stranger.send(message("POST", "/transfers", house.desks[0].key, b'[{"result":"ok"}]'))
+    want(stranger.reply()[0] == "400 Bad Request", "a field that is none")
+    stranger.close()
+    told = counts(house)
+    want(all(told[name] == first[name] for name in EVENTS), f"a refused batch: {first}, {told}")
 
 
 def refused_told(house, before):

@@ -12,6 +12,7 @@ use crate::SystemMoments;
 use crate::bell::Bell;
 use crate::counting::CountingAudit;
 use crate::desk::HostDesk;
+use crate::events::Events;
 use crate::given_limits::limits_of;
 use crate::kept::Kept;
 use crate::opening::{ServedFile, open_served};
@@ -21,7 +22,7 @@ use crate::serving::{Served, serve_clients};
 use command_line::LimitWords;
 use command_texts::{Fault, address, tell_fault};
 use metered_disk::Meter;
-use polling::Peers;
+use polling::{Batch, Peers};
 use records::Streamed;
 use service::Moments;
 use sockets::{Counts, Operator, Sockets};
@@ -69,6 +70,12 @@ impl Operator for Console<'_> {
     fn replies(&self, reply: &[u8]) {
         let mut tally = self.bell.tally();
         tally.replied(reply);
+        self.bell.set_tally(tally);
+    }
+
+    fn answered(&self, batch: Batch, reply: &[u8]) {
+        let mut tally = self.bell.tally();
+        tally.answered(batch, Events::told_in(reply));
         self.bell.set_tally(tally);
     }
 

@@ -10,6 +10,7 @@ mod copied;
 mod counting;
 mod desk;
 mod ended;
+mod events;
 mod extracts;
 mod file_serving;
 mod given_key;

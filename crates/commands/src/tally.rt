@@ -1,9 +1,11 @@
 //! What a service has done.
 ghost use Rattle.std.specs.Prelude.{◌≡◌, ◌≢◌, ◌+◌, max, Some, slice_get};
 ghost use Rattle.std.specs.Duration.{as_nanos};
-ghost use Rattle.commands.specs.Tally.{tried, up_to_most};
+ghost use Rattle.commands.specs.Tally.{tried, up_to_most, with_events};
 
+use crate::events::Events;
 use command_texts::Fault;
+use polling::Batch;
 use std::time::Duration;
 
 /// Where the status stands in a reply, behind "HTTP/1.1 ".
@@ -18,6 +20,10 @@ pub(crate) struct Tally {
     pub(crate) refused: u64,
     /// Replies that tell a failure of the service: their status begins with 5.
     pub(crate) failed: u64,
+    /// Of batches of accounts.
+    pub(crate) accounts: Events,
+    /// Of batches of transfers.
+    pub(crate) transfers: Events,
     /// How often several messages were answered together.
     pub(crate) rounds: u64,
     /// How many messages were.
@@ -41,6 +47,8 @@ impl Tally {
             told: 0,
             refused: 0,
             failed: 0,
+            accounts: Events::none(),
+            transfers: Events::none(),
             rounds: 0,
             shared: 0,
             reopened: 0,
@@ -64,6 +72,16 @@ impl Tally {
             Some(b'2') => self.told = self.told.saturating_add(1),
             Some(b'5') => self.failed = self.failed.saturating_add(1),
             _ => self.refused = self.refused.saturating_add(1),
+        }
+    }
+
+    /// A batch was answered, in which there were these events.
+    pub(crate) fn answered(&mut self, batch: Batch, events: Events)
+        ensures { self.new ≡ with_events batch events self.old }
+    {
+        match batch {
+            Batch::Accounts => self.accounts = self.accounts.with(events),
+            Batch::Transfers => self.transfers = self.transfers.with(events),
         }
     }
 

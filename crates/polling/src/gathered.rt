@@ -122,6 +122,7 @@ fn finish_each<L: Rounds, H: Steward<L>, C: Moments, P: Peers>(
 /// the next clients are served alone.
 fn share<L: Rounds, H: Steward<L>, C: Moments, P: Peers>(
     alloc: Global,
+    peers: &P,
     clients: &mut BTreeMap<u64, Client>,
     numbers: &[u64],
     ledgers: &mut L,
@@ -140,7 +141,7 @@ fn share<L: Rounds, H: Steward<L>, C: Moments, P: Peers>(
     if numbers.len() < 2 {
         return 0;
     }
-    let replies = share_round::<L, H, C, P>(alloc, clients, numbers, ledgers, moments, most);
+    let replies = share_round::<L, H, C, P>(alloc, peers, clients, numbers, ledgers, moments, most);
     if replies == 0 {
         gathered.serve_alone();
     }
@@ -175,7 +176,9 @@ pub(crate) fn serve_due<L: Rounds, H: Steward<L>, C: Moments, P: Peers>(
     }
     let numbers = gathered.take(alloc);
     let clients = &mut seats.clients;
-    let shared = share::<L, H, C, P>(alloc, clients, &numbers, ledgers, moments, gathered, most);
+    let shared = share::<L, H, C, P>(
+        alloc, peers, clients, &numbers, ledgers, moments, gathered, most,
+    );
     if shared > 0 {
         peers.shared(shared);
     }

@@ -2,6 +2,7 @@
 ghost use Rattle.std.specs.Prelude.{◌≡◌};
 ghost use Rattle.polling.specs.Seating.{AreSame, seats_in};
 
+use crate::Batch;
 use clients::Client;
 use std::alloc::Global;
 use std::collections::BTreeMap;
@@ -57,7 +58,7 @@ enum Kind {
 
 /// What a message is, by its beginning.
 fn kind_of(front: &[u8]) -> Kind {
-    if front.starts_with(b"POST /transfers ") || front.starts_with(b"POST /accounts ") {
+    if Batch::of(front).is_some() {
         Kind::Batch(front.len())
     } else if front.starts_with(b"POST /query/") || front.starts_with(b"POST /pending/open ") {
         Kind::Query

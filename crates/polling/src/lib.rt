@@ -1,6 +1,7 @@
 //! Many clients served at once, by what peers tell: who is connected, what came, what was taken.
 #![tactic(auto)]
 
+mod batch;
 mod finishing;
 mod gathered;
 mod gathering;
@@ -15,6 +16,7 @@ mod step;
 mod steward;
 mod turn;
 
+pub use batch::Batch;
 pub use finishing::write_rest;
 pub use laws::{
     each_is_served, serving_begins_empty, serving_goes_on, serving_is_a_course, serving_is_a_run,

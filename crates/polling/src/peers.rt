@@ -3,6 +3,8 @@ ghost use Rattle.std.specs.Prelude.{◌≡◌, ◌≤◌, length};
 ghost use Rattle.ledger_http.specs.Limits.{longest_message};
 ghost use Rattle.polling.specs.Peers.{Doing, Said, Stirred, HasRead, HasWritten};
 
+use crate::Batch;
+
 /// What waiting told.
 #[derive(Clone, Copy, Debug, PartialEq, Eq)]
 pub enum Told {
@@ -54,6 +56,9 @@ pub trait Peers {
 
     /// So many messages were answered in one round.
     fn shared(&self, _messages: u64) {}
+
+    /// A message that is such a batch was answered by this reply.
+    fn answered(&self, _batch: Batch, _reply: &[u8]) {}
 
     /// A client wants to be read, whose next message has so many bytes, head and body together; 0
     /// where its head has not come. Told before each reading, and what is told later holds.

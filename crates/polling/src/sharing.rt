@@ -5,8 +5,9 @@ ghost use Rattle.polling.specs.Serving.{rules};
 ghost use Rattle.polling.specs.Seating.{ServesAll, held, seats_in};
 
 use crate::putting::{put_all, tell_all};
-use crate::round::copy_all;
-use crate::{Peers, Steward};
+use crate::round::{Round, copy_all};
+use crate::turn::tell_answered;
+use crate::{Batch, Peers, Steward};
 use chain::Rounds;
 use clients::Client;
 use records::Unavailable;
@@ -14,11 +15,21 @@ use service::{Moments, Turns};
 use std::alloc::Global;
 use std::collections::BTreeMap;
 
+/// Tells those who are connected by which replies the batches of a round were answered.
+fn tell_all_answered<P: Peers>(peers: &P, clients: &BTreeMap<u64, Client>, round: &Round) {
+    for (member, message) in round.members.iter().zip(round.messages.iter()) {
+        if let Some(client) = clients.get(&member.number) {
+            tell_answered(peers, Batch::of(message.bytes.as_slice()), client.unsent());
+        }
+    }
+}
+
 /// Answers the next messages of clients in one round, of so many at most, and says how many are
 /// answered. There are none where the round is refused for want of memory or size, or would be of one
 /// message alone. Where the disk fails with it, each is told that the ledgers are unavailable.
 pub(crate) fn share_round<L: Rounds, H: Steward<L>, C: Moments, P: Peers>(
     alloc: Global,
+    peers: &P,
     clients: &mut BTreeMap<u64, Client>,
     numbers: &[u64],
     ledgers: &mut L,
@@ -41,7 +52,11 @@ pub(crate) fn share_round<L: Rounds, H: Steward<L>, C: Moments, P: Peers>(
     let replies = ledgers.in_round(Turns { alloc, messages });
     H::is_settled(ledgers);
     match replies {
-        Ok(replies) => put_all::<L, H, C, P>(clients, &round, replies),
+        Ok(replies) => {
+            let count = put_all::<L, H, C, P>(clients, &round, replies);
+            tell_all_answered(peers, clients, &round);
+            count
+        }
         Err(why) => match why {
             Unavailable::Disk => tell_all::<L, H, C, P>(clients, &round),
             Unavailable::Memory => 0,

@@ -6,7 +6,7 @@ ghost use Rattle.polling.specs.Serving.{rules};
 ghost use Rattle.polling.specs.Seating.{ServesOne, count_of};
 
 use crate::step::{Step, read_some, write_some};
-use crate::{Peers, Steward};
+use crate::{Batch, Peers, Steward};
 use chain::Ledgers;
 use clients::{Answered, Client, giving_up_replies, whole_ledgers_are_seen};
 use service::Moments;
@@ -80,7 +80,15 @@ fn read_or_give_up<L: Ledgers, H: Steward<L>, C: Moments, P: Peers>(
     }
 }
 
-/// Answers the next message of a client, or reads more of it where that has not come.
+/// Tells those who are connected by which reply a message was answered, if it was a batch.
+pub(crate) fn tell_answered<P: Peers>(peers: &P, batch: Option<Batch>, reply: &[u8]) {
+    if let Some(batch) = batch {
+        peers.answered(batch, reply);
+    }
+}
+
+/// Answers the next message of a client, or reads more of it where that has not come. Which batch it
+/// is, if it is one, is told with the reply.
 pub(crate) fn answer_or_read<L: Ledgers, H: Steward<L>, C: Moments, P: Peers>(
     alloc: Global,
     peers: &mut P,
@@ -89,6 +97,7 @@ pub(crate) fn answer_or_read<L: Ledgers, H: Steward<L>, C: Moments, P: Peers>(
     ledgers: &mut L,
     moments: &mut C,
     piece: &mut [u8],
+    batch: Option<Batch>,
 ) -> Turned
     requires usable { L.means.is_usable ledgers.old }
     requires open { may_answer client.old ≡ true }
@@ -101,6 +110,7 @@ pub(crate) fn answer_or_read<L: Ledgers, H: Steward<L>, C: Moments, P: Peers>(
         Answered::Replied => {
             whole_ledgers_are_seen::<L, C>();
             H::is_settled(ledgers);
+            tell_answered(peers, batch, client.unsent());
             Turned {
                 step: write_all::<L, H, C, P>(peers, number, client),
                 replied: true,
@@ -177,7 +187,10 @@ pub(crate) fn turn<L: Ledgers, H: Steward<L>, C: Moments, P: Peers>(
         }
     }
     if client.may_answer() {
-        return answer_or_read::<L, H, C, P>(alloc, peers, number, client, ledgers, moments, piece);
+        let batch = Batch::next_of(client);
+        return answer_or_read::<L, H, C, P>(
+            alloc, peers, number, client, ledgers, moments, piece, batch,
+        );
     }
     if client.goes_on() || !client.unsent().is_empty() {
         return Turned {

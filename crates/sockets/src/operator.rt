@@ -1,5 +1,6 @@
 //! Who runs the service.
 use crate::counts::Counts;
+use polling::Batch;
 use std::time::Duration;
 
 /// Who runs the service: is told what becomes of it, and may call while it is served.
@@ -29,6 +30,9 @@ pub trait Operator {
 
     /// A reply is to be written to a client, whose first bytes are these.
     fn replies(&self, _reply: &[u8]) {}
+
+    /// A batch was answered by this reply.
+    fn answered(&self, _batch: Batch, _reply: &[u8]) {}
 
     /// So many messages were answered in one round.
     fn shared(&self, _messages: u64) {}

@@ -8,7 +8,7 @@ use crate::sockets::{EVENTS, Sockets};
 use crate::tokens::{Owner, owner_of, token_of};
 use mio::Interest;
 use mio::net::TcpStream;
-use polling::{Peers, Read, Told, Written};
+use polling::{Batch, Peers, Read, Told, Written};
 use std::io;
 use std::time::{Clock, Duration};
 
@@ -242,6 +242,10 @@ impl<K: Clock, O: Operator> Peers for Sockets<'_, K, O> {
 
     fn shared(&self, messages: u64) {
         self.operator.shared(messages);
+    }
+
+    fn answered(&self, batch: Batch, reply: &[u8]) {
+        self.operator.answered(batch, reply);
     }
 
     fn wants(&mut self, client: u64, bytes: u64) {

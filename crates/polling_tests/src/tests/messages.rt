@@ -42,6 +42,12 @@ pub(crate) const TO_SECOND: &str = concat!(
     "{\"error\":\"truncated\"}"
 );
 
+/// What is told of a message that is cut short.
+pub(crate) const TO_CUT: &str = concat!(
+    "HTTP/1.1 400 Bad Request\r\ncontent-length: 21\r\ncontent-type: application/json\r\n\r\n",
+    "{\"error\":\"truncated\"}"
+);
+
 /// Accounts of the first firm, and the same again.
 pub(crate) const TWICE_OF_FIRST: &str = concat!(
     "POST /accounts HTTP/1.1\r\nx-ledger-key: ",

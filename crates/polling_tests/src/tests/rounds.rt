@@ -1,5 +1,5 @@
 use super::firms::Firms;
-use super::messages::{FIRST, OF_FIRST, OF_SECOND, SECOND, TO_SECOND};
+use super::messages::{FIRST, OF_FIRST, OF_SECOND, SECOND, TO_CUT, TO_SECOND};
 use super::scripted::{Peer, Scripted};
 use std::test::Fail;
 
@@ -7,9 +7,15 @@ const KEYS: [&str; 2] = [FIRST, SECOND];
 
 // A statement of the second firm, which is no batch.
 const READ: &str = concat!(
-    "GET /accounts/1/statement HTTP/1.1\r\nx-ledger-key: ",
+    "GET /statement/1 HTTP/1.1\r\nx-ledger-key: ",
     "abababababababababababababababababababababababababababababababab",
     "\r\n\r\n"
+);
+
+// It has no such account.
+const NO_ACCOUNT: &str = concat!(
+    "HTTP/1.1 404 Not Found\r\ncontent-length: 22\r\ncontent-type: application/json\r\n\r\n",
+    "{\"error\":\"no_account\"}"
 );
 
 /// Clients that send these, read and written at once.
@@ -83,6 +89,27 @@ fn who_is_alone_shares_no_round(rt: HostRuntime) -> Result<(), Fail> {
     Ok(())
 }
 
+// Its two batches, the second of which is refused, but not what is cut short.
+#[test]
+fn batches_are_told_with_their_replies(rt: HostRuntime) -> Result<(), Fail> {
+    let mut firms = Firms::with(rt.alloc(), &KEYS)?;
+    let mut peers = clients(&rt, &[OF_SECOND])?;
+    assert!(rt; firms.serve_ready(&mut peers, 99) == 3);
+    assert!(rt; peers.batches() == (0, 2, TO_SECOND.len() - TO_CUT.len()));
+    Ok(())
+}
+
+#[test]
+fn batches_of_a_round_are_told_too(rt: HostRuntime) -> Result<(), Fail> {
+    let mut firms = Firms::with(rt.alloc(), &KEYS)?;
+    let mut peers = clients(&rt, &[OF_FIRST, READ, OF_SECOND])?;
+    assert!(rt; firms.serve_ready(&mut peers, 99) == 7);
+    assert!(rt; peers.shared_so_far() > 0);
+    let (accounts, transfers, _) = peers.batches();
+    assert!(rt; (accounts, transfers) == (1, 3));
+    Ok(())
+}
+
 #[test]
 fn what_is_no_batch_waits_for_no_round(rt: HostRuntime) -> Result<(), Fail> {
     let mut firms = Firms::with(rt.alloc(), &KEYS)?;
@@ -90,6 +117,7 @@ fn what_is_no_batch_waits_for_no_round(rt: HostRuntime) -> Result<(), Fail> {
     assert!(rt; firms.serve_ready(&mut peers, 99) == 7);
     assert!(rt; written_at(&peers, 1) < written_at(&peers, 0));
     assert!(rt; written_at(&peers, 0) == written_at(&peers, 2));
+    assert!(rt; has_heard(&peers, 1, NO_ACCOUNT.as_bytes()));
     assert!(rt; has_heard(&peers, 2, TO_SECOND.as_bytes()));
     Ok(())
 }

@@ -2,7 +2,7 @@
 
 ghost use Rattle.std.specs.Prelude.{⊤};
 
-use polling::{Peers, Read, Told, Written};
+use polling::{Batch, Peers, Read, Told, Written};
 use std::alloc::Global;
 use std::cell::Cell;
 use std::test::Fail;
@@ -89,6 +89,8 @@ pub(crate) struct Scripted<'a> {
     told: u64,
     /// How many messages were answered in rounds.
     shared: Cell<u64>,
+    /// How many batches of accounts and of transfers were answered, and how long the replies are.
+    batches: Cell<(u64, u64, usize)>,
 }
 
 impl<'a> Scripted<'a> {
@@ -101,7 +103,13 @@ impl<'a> Scripted<'a> {
             late_at: 0,
             told: 0,
             shared: Cell::new(0),
+            batches: Cell::new((0, 0, 0)),
         }
+    }
+
+    /// How many batches of accounts and of transfers were answered, and how long the replies are.
+    pub(crate) fn batches(&self) -> (u64, u64, usize) {
+        self.batches.get()
     }
 
     /// How many messages were answered in rounds.
@@ -185,6 +193,15 @@ impl Peers for Scripted<'_> {
 
     fn shared(&self, messages: u64) {
         self.shared.set(self.shared.get().saturating_add(messages));
+    }
+
+    fn answered(&self, batch: Batch, reply: &[u8]) {
+        let (accounts, transfers, bytes) = self.batches.get();
+        let bytes = bytes.saturating_add(reply.len());
+        self.batches.set(match batch {
+            Batch::Accounts => (accounts.saturating_add(1), transfers, bytes),
+            Batch::Transfers => (accounts, transfers.saturating_add(1), bytes),
+        });
     }
 
     fn wants(&mut self, client: u64, bytes: u64) {

@@ -3,7 +3,7 @@ use super::scene::{Allowed, Notes, Scene, Ticking};
 use super::steps::Step::{Closes, Connects, Counts, Reads, Tells, Writes};
 use super::steps::{Step, take_steps};
 use mio::net::TcpListener;
-use polling::{Peers, Read, Told, Written};
+use polling::{Batch, Peers, Read, Told, Written};
 use std::net::{Ipv4Addr, SocketAddr, TcpStream};
 use std::test::Fail;
 use std::time::{Clock, Duration};
@@ -113,8 +113,10 @@ fn notes_turns_and_replies(rt: HostRuntime) -> Result<(), Fail> {
     assert_eq!(rt; scene.sockets.write(0, b"first"), Written::Took(5));
     assert_eq!(rt; scene.sockets.write(0, b"second"), Written::Took(6));
     scene.sockets.shared(2);
+    scene.sockets.answered(Batch::Transfers, b"reply");
     scene.sockets.close(0);
     assert_eq!(rt; scene.sockets.write(0, b"third"), Written::Broken);
     assert_eq!(rt; notes.answered(), (2, 2));
+    assert_eq!(rt; notes.batches(), (0, 1));
     Ok(())
 }

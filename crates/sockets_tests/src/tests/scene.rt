@@ -1,5 +1,5 @@
 //! A service of this machine, and its clients, in one thread.
-use polling::{Peers, Read, Told};
+use polling::{Batch, Peers, Read, Told};
 use sockets::{Counts, Limits, Operator, Sockets};
 use std::cell::Cell;
 use std::io;
@@ -55,6 +55,8 @@ pub struct Notes {
     replies: Cell<u64>,
     /// How many messages were answered in rounds.
     shared: Cell<u64>,
+    /// How many batches of accounts and of transfers were answered.
+    batches: Cell<(u64, u64)>,
     longest_turn: Cell<Duration>,
     is_busy: Cell<bool>,
     is_stopping: Cell<bool>,
@@ -74,6 +76,7 @@ impl Notes {
             }),
             replies: Cell::new(0),
             shared: Cell::new(0),
+            batches: Cell::new((0, 0)),
             longest_turn: Cell::new(Duration::ZERO),
             is_busy: Cell::new(false),
             is_stopping: Cell::new(false),
@@ -104,6 +107,11 @@ impl Notes {
     /// How many replies were begun, and how many messages answered in rounds.
     pub fn answered(&self) -> (u64, u64) {
         (self.replies.get(), self.shared.get())
+    }
+
+    /// How many batches of accounts and of transfers were answered.
+    pub fn batches(&self) -> (u64, u64) {
+        self.batches.get()
     }
 
     pub fn longest_turn(&self) -> Duration {
@@ -152,6 +160,14 @@ impl Operator for Notes {
 
     fn shared(&self, messages: u64) {
         self.shared.set(self.shared.get().saturating_add(messages));
+    }
+
+    fn answered(&self, batch: Batch, _reply: &[u8]) {
+        let (accounts, transfers) = self.batches.get();
+        self.batches.set(match batch {
+            Batch::Accounts => (accounts.saturating_add(1), transfers),
+            Batch::Transfers => (accounts, transfers.saturating_add(1)),
+        });
     }
 
     fn turned(&self, took: Duration) {

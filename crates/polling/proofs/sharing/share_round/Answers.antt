@@ -14,8 +14,8 @@ returns-then-len-lt2-clause-serves g c peers next =
     c.copy_all-round.result.messages.items c.copy_all-round.ensures.same
     c.copy_all-round.ensures.gathered.given
 
-pub put_all-requires : goal.put_all-requires
-put_all-requires g c =
+pub put_all-count-requires : goal.put_all-count-requires
+put_all-count-requires g c =
     copied_as_before (seats_in c.args.clients.now) (seats_in c.copy_all-round.new.clients) _ _
     c.copy_all-round.ensures.same c.copy_all-round.ensures.gathered.copied
 
@@ -24,8 +24,8 @@ returns-in-Ok-clause-serves g c peers next =
     kept_and_put g.L.Ledgers.means g.C.Moments.gives g.H.Steward.renews g.P.Peers.does
     c.args.ledgers.now c.in_round-replies.new.self c.args.moments.now c.copy_all-round.new.moments
     peers (seats_in c.args.clients.now) (seats_in c.copy_all-round.new.clients)
-    (seats_in c.put_all.new.clients) next c.copy_all-round.result.messages.items
-    c.in-Ok.replies.items c.put_all.result c.copy_all-round.ensures.same
+    (seats_in c.put_all-count.new.clients) next c.copy_all-round.result.messages.items
+    c.in-Ok.replies.items c.put_all-count.result c.copy_all-round.ensures.same
     c.copy_all-round.ensures.gathered.given
     (g.met.L.Ledgers.lived _ _ c.in_round-replies.ensures.follows)
     (g.met.L.Ledgers.stays c.in_round-replies.new.self)
@@ -38,7 +38,7 @@ returns-in-Ok-clause-serves g c peers next =
     (λ found may.
     let live = c.in-Ok.ensures.finds.live (λ same. cc) found may in
     (live, c.is_settled.ensures live found may))
-    c.put_all.ensures.put
+    c.put_all-count.ensures.put
 
 pub tell_all-requires : goal.tell_all-requires
 tell_all-requires g c =

@@ -1,7 +1,8 @@
-use Rattle.std.proofs.Common.{refl, arith}
+use Rattle.std.proofs.Common.{refl, subst, arith}
+use Rattle.clients.specs.Talk.{Talk}
 use Rattle.service.specs.Seen.{Whole}
 use Rattle.polling.specs.Serving.{rules}
-use Rattle.polling.specs.Seating.{count_of}
+use Rattle.polling.specs.Seating.{ServesOne, count_of}
 use Rattle.polling.specs.declared.step.Step.TheVariants as step
 use Rattle.polling.proofs.OneLemmas.{goes, then_one}
 use Rattle.polling.proofs.turn.turn.Goals as goal
@@ -21,7 +22,14 @@ returns-then-may_answer-clause-serves g c =
     c.answer_or_read.new.client c.answer_or_read.result.step 0
     (count_of c.answer_or_read.result.replied) (count_of c.answer_or_read.result.replied)
     (omega arith)
-    (c.in-More.ensures (Whole c.args.ledgers.now) c.args.moments.now) c.answer_or_read.ensures.serves
+    (c.in-More.ensures (Whole c.args.ledgers.now) c.args.moments.now)
+    (subst
+    (λ (talk : Talk).
+    ServesOne (rules g.L.Ledgers.means g.C.Moments.gives g.H.Steward.renews g.P.Peers.does) c.args.number
+    (Whole c.args.ledgers.now) c.args.moments.now c.write_all.new.peers talk
+    (Whole c.answer_or_read.new.ledgers) c.answer_or_read.new.moments c.answer_or_read.new.peers
+    c.answer_or_read.new.client c.answer_or_read.result.step (count_of c.answer_or_read.result.replied))
+    c.next_of-batch.ensures c.answer_or_read.ensures.serves)
 
 pub returns-then-goes_on-clause-serves : goal.returns-then-goes_on-clause-serves
 returns-then-goes_on-clause-serves g c = c.in-More.ensures (Whole c.args.ledgers.now) c.args.moments.now
