@@ -1,5 +1,5 @@
 -- What an opening may find after a call, as the machines of tenants.
-use Rattle.std.proofs.Common.{◌≡◌, ◌≢◌, ◌⊎◌, inl, inr, ℕ, Bool, true, false, List, Result, Ok, Err, IsOk, sym, subst, ◌∙◌}
+use Rattle.std.proofs.Common.{◌≡◌, ◌≢◌, ◌⊎◌, inl, inr, ℕ, Bool, true, false, List, Result, Ok, Err, IsOk, ap, sym, subst, ◌∙◌}
 use Rattle.std.proofs.lemmas.Bool.{cases_Bool, both_ways}
 use Rattle.records.specs.declared.unavailable.Unavailable.{Unavailable}
 use Rattle.records.specs.declared.unavailable.Unavailable.TheVariants.{Disk as DiskFailed}
@@ -11,7 +11,8 @@ use Rattle.sqlite_trees.specs.Tree.{Trees}
 use Rattle.chain.specs.declared.ledgers.BatchFault.{BatchFault}
 use Rattle.chain.specs.declared.ledgers.BatchFault.TheVariants as batch_fault
 use Rattle.chain.specs.Ledgers.{Tenants, Finds, IsAnswered, LeadsBy, LeadsByRound}
-use Rattle.stored_ledgers.specs.Directory.{tenants_in}
+use Rattle.ledger_sql.specs.TableRows.{directory_rows}
+use Rattle.stored_ledgers.specs.Directory.{tenants_in, KeepsDirectory}
 use Rattle.stored_ledgers.specs.DueSets.{DueSets}
 use Rattle.stored_ledgers.specs.Outcomes.{IsAfterBatch}
 use Rattle.stored_ledgers.specs.Rounds.{IsAfterRound}
@@ -70,6 +71,15 @@ module _ {D : Type 0} {g : disk.Ghosts D} where
         subst (gives (tenants_in (file_state conn).now.trees) after.output) same after.done,
       )
   round_at gives (at.Shut files) db found agrees after = absurd after
+
+  -- where the database is as before, so is the directory
+  pub still_keeps : (old new : Place D g)
+      → OfDatabaseAt (λ before. OfDatabaseAt (λ after. after ≡ before) new) old
+      → OfDatabaseAt (λ before. OfDatabaseAt (λ after. KeepsDirectory before.trees after.trees) new) old
+  still_keeps (at.Open conn) (at.Open conn') same =
+      ap (λ (db : Database). directory_rows db.trees) same
+  still_keeps (at.Open conn) (at.Shut files) same = absurd same
+  still_keeps (at.Shut files) new same = absurd same
 
   -- what a call may leave in the files leads to the machines of its work
   module _ (old new : Store D g) (usable : IsUsable old) (follows : Follows old new)

@@ -6,12 +6,12 @@ use Rattle.chain.specs.Ledgers.{LedgersMeaning, Tenants, KeepsAll, AreValid}
 use Rattle.sqlite_trees.specs.Tree.{Trees}
 use Rattle.sqlite.specs.Effect.{Database}
 use Rattle.sqlite.specs.Files.{file_state}
-use Rattle.stored_ledgers.specs.Directory.{tenants_in}
+use Rattle.stored_ledgers.specs.Directory.{tenants_in, KeepsDirectory}
 use Rattle.stored_ledgers.specs.DueSets.{DueSets}
 use Rattle.stored_ledgers.specs.RoundLaws.{valid_in}
 use Rattle.store.specs.Stores.{IsUsable, IsUsableAt, IsLive, IsLiveAt, IsHonest, IsHonestAt, Follows}
 use Rattle.store.specs.Stores.{tenants_of, tenants_at, may_find, may_find_at, FindsTenants, Finds}
-use Rattle.store.specs.Stores.{FindsAt, IsSettledStore, IsSettledAt}
+use Rattle.store.specs.Stores.{FindsAt, IsSettledStore, IsSettledAt, Continues, OfDatabaseAt}
 use Rattle.store.specs.declared.place.Place.{Place}
 use Rattle.store.specs.declared.place.Place.TheVariants as at
 use Rattle.store.specs.declared.store.Store.{Store}
@@ -30,12 +30,12 @@ module _ {D : Type 0} {g : disk.Ghosts D} where
     is_usable = λ store. IsUsable store;
     is_live = λ store. IsLive store;
     has_failed = λ store. not store.ready;
-    follows = λ old new. Follows old new;
+    follows = λ old new. Continues old new;
     may_find = λ store found. FindsTenants store found;
   }
 
   -- no call at all is a run of calls
-  pub follows_itself : (a : Store D g) → Follows a a
+  follows_itself : (a : Store D g) → Follows a a
   follows_itself a = record {
     lived = λ live. live;
     honest = λ honest. honest;
@@ -43,17 +43,47 @@ module _ {D : Type 0} {g : disk.Ghosts D} where
   }
 
   -- a run of calls behind another is one
-  pub follows_then : (a b c : Store D g) → Follows a b → Follows b c → Follows a c
+  follows_then : (a b c : Store D g) → Follows a b → Follows b c → Follows a c
   follows_then a b c first second = record {
     lived = λ live. first.lived (second.lived live);
     honest = λ honest. first.honest (second.honest honest);
     unready = λ ready. first.unready (second.unready ready);
   }
 
+  -- two open places have one directory
+  abbrev AreAlike : Place D g → Place D g → Type 0
+  AreAlike old new =
+      OfDatabaseAt (λ before. OfDatabaseAt (λ after. KeepsDirectory before.trees after.trees) new) old
+
+  alike_itself : (place : Place D g) → IsLiveAt place → AreAlike place place
+  alike_itself (at.Open conn) live = refl
+  alike_itself (at.Shut files) live = absurd live
+
+  alike_then : (a b c : Place D g) → AreAlike a b → AreAlike b c → AreAlike a c
+  alike_then (at.Open a) (at.Open b) (at.Open c) first second = second ∙ first
+  alike_then (at.Open a) (at.Open b) (at.Shut files) first second = absurd second
+  alike_then (at.Open a) (at.Shut files) c first second = absurd first
+  alike_then (at.Shut files) b c first second = absurd first
+
+  -- no message at all is a run of messages
+  pub continues_itself : (a : Store D g) → Continues a a
+  continues_itself a = record {
+    follows = follows_itself a;
+    directory = λ live. alike_itself a.place live;
+  }
+
+  -- a run of messages behind another is one
+  pub continues_then : (a b c : Store D g) → Continues a b → Continues b c → Continues a c
+  continues_then a b c first second = record {
+    follows = follows_then a b c first.follows second.follows;
+    directory = λ live. alike_then a.place b.place c.place
+        (first.directory (second.follows.lived live)) (second.directory live);
+  }
+
   -- a store that answers no calls stays so
   pub stays_failed :
-      (a b : Store D g) → Follows a b → not a.ready ≡ true → not b.ready ≡ true
-  stays_failed a b follows failed = silent_at a.ready b.ready follows.unready failed
+      (a b : Store D g) → Continues a b → not a.ready ≡ true → not b.ready ≡ true
+  stays_failed a b continues failed = silent_at a.ready b.ready continues.follows.unready failed
 
   valid_at : (ready : _) (sets : DueSets) (place : Place D g) → IsLiveAt place
       → IsUsableAt ready sets place → AreValid (tenants_at place)

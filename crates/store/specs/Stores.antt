@@ -15,7 +15,7 @@ use Rattle.records.specs.declared.unavailable.Unavailable.{Unavailable}
 use Rattle.records.specs.declared.unavailable.Unavailable.TheVariants.{Disk as DiskFailed}
 use Rattle.chain.specs.Ledgers.{Tenants, KeepsAll}
 use Rattle.ledger_sql.specs.Frames.{Live}
-use Rattle.stored_ledgers.specs.Directory.{tenants_in}
+use Rattle.stored_ledgers.specs.Directory.{tenants_in, KeepsDirectory}
 use Rattle.stored_ledgers.specs.DueSets.{DueSets}
 use Rattle.openings.specs.Found.{IsSettled, LeavesUnopened, Yields}
 use Rattle.openings.specs.Opened.{IsOpened}
@@ -115,6 +115,12 @@ module _ {D : Type 0} {g : disk.Ghosts D} where
   -- something holds of the open databases of two moments
   abbrev pub OfDatabases : (Database → Database → Type 0) → Store D g → Store D g → Type 0
   OfDatabases P old new = OfDatabase (λ before. OfDatabase (P before) new) old
+
+  -- what every run of batches and reads keeps: that, and the number, name and digest of each tenant
+  pub record Continues (old new : Store D g) : Type 0 where
+    pub follows : Follows old new
+    pub directory : IsLive new
+        → OfDatabases (λ before after. KeepsDirectory before.trees after.trees) old new
 
   -- a crash leaves what is there, and nothing else
   abbrev pub IsSettledAt : Place D g → Type 0

@@ -6,7 +6,7 @@ use records::Unavailable;
 use sqlite_disk::Disk;
 
 impl<D: Disk + Drop> Ledgers for Store<D> {
-    ghost use Rattle.store.specs.StoreLaws.{store_meaning, follows_itself, follows_then};
+    ghost use Rattle.store.specs.StoreLaws.{store_meaning, continues_itself, continues_then};
     ghost use Rattle.store.specs.StoreLaws.{stays_failed, valid_tenants};
 
     ghost means = { store_meaning };
@@ -27,11 +27,11 @@ impl<D: Disk + Drop> Ledgers for Store<D> {
         self.knows(digest)
     }
 
-    ghost stays = { λ a. follows_itself a };
+    ghost stays = { λ a. continues_itself a };
 
-    ghost then = { λ a b c f g. follows_then a b c f g };
+    ghost then = { λ a b c f g. continues_then a b c f g };
 
-    ghost lived = { λ a b f live. f.lived live };
+    ghost lived = { λ a b f live. f.follows.lived live };
 
     ghost fails = { λ a b f failed. stays_failed a b f failed };
 

@@ -32,4 +32,4 @@ returns-clause-moves g c =
     c.in_batch-read.new.self c.in_batch-read.result c.in_batch-read.ensures.run
     c.in_batch-read.ensures.finds
     (finds_itself c.in_batch-read.new.self c.is_settled.ensures c.in_batch-read.ensures.usable)
-    c.in_batch-read.ensures.follows)
+    c.in_batch-read.ensures.follows.follows)

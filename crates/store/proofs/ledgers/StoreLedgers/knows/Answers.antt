@@ -1,6 +1,6 @@
 use Rattle.chain.specs.Ledgers.{LeadsNowhere}
 use Rattle.std.proofs.lemmas.Bool.{not-true}
-use Rattle.store.proofs.FindsLemmas.{finds_known}
+use Rattle.store.proofs.FindsLemmas.{finds_known, still_keeps}
 use Rattle.store.proofs.ledgers.StoreLedgers.knows.Goals as goal
 
 pub returns-clause-finds : goal.returns-clause-finds
@@ -9,3 +9,10 @@ returns-clause-finds g c =
 
 pub returns-clause-failed : goal.returns-clause-failed
 returns-clause-failed g c failed = (c.knows.ensures.reads.answers.refuses (not-true _ failed)).0
+
+pub returns-clause-follows : goal.returns-clause-follows
+returns-clause-follows g c = record {
+  follows = c.knows.ensures.reads.answers.follows;
+  directory = λ live. still_keeps c.args.self.now.place c.knows.new.self.place
+      (c.knows.ensures.reads.unchanged live);
+}

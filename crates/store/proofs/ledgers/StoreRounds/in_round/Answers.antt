@@ -9,3 +9,9 @@ returns-clause-finds g c =
 
 pub returns-clause-failed : goal.returns-clause-failed
 returns-clause-failed g c failed = (c.in_round.ensures.answers.refuses (not-true _ failed)).0
+
+pub returns-clause-follows : goal.returns-clause-follows
+returns-clause-follows g c = record {
+  follows = c.in_round.ensures.answers.follows;
+  directory = c.in_round.ensures.directory;
+}
