@@ -60,7 +60,8 @@ one_more t gives unique first events old new reply (inl answered) live course =
     let event = Replied (asked_of answered.message head) answered.moment reply in
     Then events (t.tenants old.ledgers) event (t.tenants new.ledgers) course tt
     (responses_happen unique (t.tenants old.ledgers) (t.tenants new.ledgers) answered.message
-    answered.moment reply event (record { head = head; has = answered.early.has; is = refl })
+    answered.moment reply event
+    (record { head = head; has = answered.early.has; is = refl; whole = answered.early.whole })
     (answered.responds live))
 one_more t gives unique first events old new reply (inr (inl away)) live course =
     cut_off t first events old new course away.cut

@@ -123,7 +123,7 @@ module _ {S : Type 0} (t : LedgersMeaning S) (unique : HeadsAreUnique) (old new 
       moves_so responds lived = record {
         happens = λ live.
             responses_happen unique (t.tenants old) (t.tenants new) bytes moment reply event
-            (record { head = early.head; has = early.has; is = refl }) (responds live);
+            (record { head = early.head; has = early.has; is = refl; whole = early.whole }) (responds live);
         lived = lived;
         found = λ found may. found_by (is_unavailable reply) found refl may;
       }

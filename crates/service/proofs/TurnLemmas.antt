@@ -109,7 +109,7 @@ each_on t old mid new messages replies more i message reply below is grown early
       events = each.events ++ event ∷ [];
       are =
           are_more (take i messages) replies each.events message reply event each.are
-          (record { head = early.head; has = early.has; is = refl });
+          (record { head = early.head; has = early.has; is = refl; whole = early.whole });
       moves =
           moves_then t old mid new each.events (event ∷ []) each.moves
           (moves_one t mid new event moves);

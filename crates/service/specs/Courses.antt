@@ -1,7 +1,7 @@
 -- What happens to the ledgers of many tenants, event by event, stops and reopenings included. A
 -- connection, and a whole run, is such a course.
 use Rattle.std.specs.Prelude.{◌≡◌, ◌≢◌, ℕ, Bool, true, false, List, [], ◌∷◌, ◌++◌}
-use Rattle.std.specs.Prelude.{Option, Result, if◌then◌else◌}
+use Rattle.std.specs.Prelude.{Option, Result, IsOk, if◌then◌else◌}
 use Rattle.std.specs.List.{AllByRecursion, flat_map}
 use Rattle.httparse.specs.Grammar.{RequestHead}
 use Rattle.chain.specs.Ledgers.{Tenants, KeepsAll}
@@ -10,7 +10,7 @@ use Rattle.ledger_http.specs.declared.refusal.Refusal.TheVariants as refusal
 use Rattle.ledger_http.specs.declared.reply.Reply.{Reply}
 use Rattle.ledger_http.specs.declared.reply.Reply.TheVariants.{Whole, Fixed, Page, Health}
 use Rattle.ledger_http.specs.ReplyText.{reply_text}
-use Rattle.ledger_http.specs.Message.{HasHead}
+use Rattle.ledger_http.specs.Message.{HasHead, first_message}
 use Rattle.ledger_http.specs.Question.{Question, asked_of}
 use Rattle.service.specs.Replies.{unavailable}
 use Rattle.service.specs.Responds.{Answers, Responds}
@@ -107,11 +107,13 @@ HappenInTurn old [] new = new ≡ old
 HappenInTurn old (event ∷ events) new =
     (mid : Tenants) × Happens old event mid × HappenInTurn mid events new
 
--- the event of the first message of some bytes, at a moment, and its reply
+-- the event of the first message of some bytes, at a moment, and its reply; of bytes that begin with
+-- no whole message it is never told that the ledgers are unavailable
 pub record IsReplyTo (bytes : List ℕ) (moment : ℕ) (reply : Reply) (event : Event) : Type 0 where
   pub head : Option RequestHead
   pub has : HasHead bytes head
   pub is : event ≡ Replied (asked_of bytes head) moment reply
+  pub whole : reply ≡ unavailable → IsOk (first_message bytes head)
 
 -- a response is what happens
 abbrev pub ResponsesHappen : Type 0

@@ -28,7 +28,10 @@ replies_happen (message ∷ messages) (reply ∷ replies) old new responds =
     let head = responds.1.head in
     record {
       events = Replied (asked_of message.bytes.items head) message.moment reply ∷ rest.events;
-      are = (record { head = head; has = responds.1.has; is = refl }, rest.are);
+      are = (
+        record { head = head; has = responds.1.has; is = refl; whole = responds.1.whole },
+        rest.are,
+      );
       happen = (
         responds.0,
         record { answered = responds.1.answered; same = responds.1.same },

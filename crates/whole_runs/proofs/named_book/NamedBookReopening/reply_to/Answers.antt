@@ -10,11 +10,11 @@ returns-clause-replies c =
     let event = Replied (asked_of c.args.bytes.now early.head) c.args.moment c.respond.result in
     record {
       event = event;
-      is = record { head = early.head; has = early.has; is = refl };
+      is = record { head = early.head; has = early.has; is = refl; whole = early.whole };
       moves = record {
         happens = λ live.
             c.responses_happen.ensures _ _ c.args.bytes.now c.args.moment c.respond.result event
-            (record { head = early.head; has = early.has; is = refl })
+            (record { head = early.head; has = early.has; is = refl; whole = early.whole })
             (c.respond.ensures.responds tt);
         lived = λ live. tt;
         found = λ found keeps. As_now tt keeps;

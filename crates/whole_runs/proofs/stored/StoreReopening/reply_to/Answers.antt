@@ -9,7 +9,7 @@ returns-clause-replies g c =
     let early = c.respond-reply.ensures.early in
     record {
       event = Replied (asked_of c.args.bytes.now early.head) c.args.moment c.respond-reply.result;
-      is = record { head = early.head; has = early.has; is = refl };
+      is = record { head = early.head; has = early.has; is = refl; whole = early.whole };
       moves =
           c.responses_move.ensures c.args.self.now c.respond-reply.new.ledgers c.args.bytes.now
           c.args.moment c.respond-reply.result early c.respond-reply.ensures.responds
