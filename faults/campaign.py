@@ -21,6 +21,7 @@ import commands
 import copied
 import damaged
 import desk
+import given
 import limits
 import little
 import many
@@ -57,6 +58,8 @@ TRIALS = {
     "full": runs.full,
     "broken": broken.broken,
     "in_use": use.in_use,
+    "no_text": given.no_text,
+    "addresses": given.addresses,
     "desk": desk.desk,
     "stopped": stops.stopped,
     "copied": copied.copied,
