@@ -3,7 +3,7 @@ ghost use Rattle.std.specs.Prelude.{◌≡◌};
 
 use super::asserting::same;
 use super::firms::Firms;
-use super::messages::{BATCH, CUT_SHORT, FIRST, good, post};
+use super::messages::{BATCH, CUT_SHORT, FIRST, good, post, reply};
 use super::played::base;
 use records::Streamed;
 use service::{Moments, ServeFault};
@@ -154,6 +154,72 @@ fn tells_that_the_reader_failed(rt: HostRuntime) -> Result<(), Fail> {
     same(&rt, "the connection", ended, Err(ServeFault::Read(1)));
     let want = FIRST_REPLY.as_bytes();
     same(&rt, "what is written", written.as_slice(), want);
+    Ok(())
+}
+
+/// Heads that are refused by themselves, whatever would come behind them.
+const REFUSED_HEADS: [(&str, &str, &str); 5] = [
+    ("\r\n\r\n", "400 Bad Request", "bad_head"),
+    (
+        "POST /transfers HTTP/1.1\r\ncontent-length: 05\r\n\r\n",
+        "400 Bad Request",
+        "bad_head",
+    ),
+    (
+        "POST /nowhere HTTP/1.1\r\n\r\n",
+        "411 Length Required",
+        "length_required",
+    ),
+    (
+        "POST /transfers HTTP/1.1\r\ncontent-length: 2097153\r\n\r\n",
+        "413 Payload Too Large",
+        "body_too_large",
+    ),
+    (
+        "POST /x HTTP/1.1\r\ncontent-length: 18446744073709551618\r\n\r\n",
+        "413 Payload Too Large",
+        "body_too_large",
+    ),
+];
+
+// The reader would fail behind the head.
+#[test]
+fn awaits_no_body_of_a_head_that_is_refused(rt: HostRuntime) -> Result<(), Fail> {
+    let alloc = rt.alloc();
+    for (head, status, name) in REFUSED_HEADS {
+        let (written, ended) = served(alloc, Breaks(head.as_bytes()), 9)?;
+        same(&rt, head, ended, Ok(1));
+        let body = format!(in alloc; "{{\"error\":\"{name}\"}}")?;
+        let want = reply(alloc, status, "application/json", &body)?;
+        same(&rt, head, written.as_slice(), want.as_slice());
+    }
+    Ok(())
+}
+
+/// What is sent, how many replies are asked for, and what is left of it.
+type Remainder = (&'static [&'static str], u64, &'static [&'static str]);
+
+const REMAINDERS: [Remainder; 4] = [
+    (&[BATCH, ASTRAY], 0, &[BATCH, ASTRAY]),
+    (&[BATCH, ASTRAY], 1, &[ASTRAY]),
+    (&[BATCH, ASTRAY, BATCH], 2, &[BATCH]),
+    (&[BATCH, ASTRAY], 2, &[]),
+];
+
+// The reader would fail behind its last byte.
+#[test]
+fn reads_no_byte_behind_the_last_message(rt: HostRuntime) -> Result<(), Fail> {
+    for (sent, most, left) in &REMAINDERS {
+        let input = together(rt.alloc(), sent)?;
+        let mut reader = Streamed::new(Breaks(input.as_bytes()));
+        let mut writer = Streamed::new(Vec::new(rt.alloc()));
+        let mut firms = Firms::with(rt.alloc(), FIRST)?;
+        let ended = firms.serve(&mut reader, &mut writer, &mut Thousands(1000), *most);
+        same(&rt, "the connection", ended, Ok(*most));
+        let want = together(rt.alloc(), left)?;
+        let Breaks(rest) = reader.into_inner();
+        same(&rt, "what is left", rest, want.as_bytes());
+    }
     Ok(())
 }
 

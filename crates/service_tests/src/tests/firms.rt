@@ -1,6 +1,7 @@
 //! Firms whose ledgers are kept in memory.
 ghost use Rattle.std.specs.Prelude.{◌≡◌, false};
 
+use super::failing::FrailFirms;
 use ledger_http::Reply;
 use plain::{Book, PlainTables};
 use records::{Drain, Source};
@@ -73,6 +74,11 @@ impl Firms {
         }
         self.book.rekey(&was, &digest);
         Ok(())
+    }
+
+    /// The same firms, of whose batches one may be refused.
+    pub(crate) fn frail(self) -> FrailFirms {
+        FrailFirms::new(self.alloc, self.book)
     }
 
     /// The reply to some bytes.

@@ -113,19 +113,35 @@ const REFUSED: [(Asked, Want); 4] = [
     (Get("/health?x"), Refused("404 Not Found", "no_route")),
 ];
 
-// What asks something of a tenant, a body that is refused among it.
-const OF_A_TENANT: [Asked; 11] = [
-    Post("/accounts", "[]"),
-    Post("/transfers", "[]"),
-    Post("/accounts/lookup", "[]"),
-    Post("/transfers/lookup", "[]"),
-    Post("/history/transfers", "{\"account_id\":\"1\",\"limit\":1}"),
-    Post("/history/balances", "{\"account_id\":\"1\",\"limit\":1}"),
-    Post("/query/accounts", "{\"limit\":1}"),
-    Post("/pending/lookup", "[]"),
-    Post("/pending/open", "{\"limit\":1}"),
-    Post("/transfers", "no list"),
-    Get("/statement/1"),
+// What asks something of a tenant, by each route, and a body that is refused.
+const OF_A_TENANT: [(&str, Asked); 12] = [
+    ("accounts", Post("/accounts", "[]")),
+    ("transfers", Post("/transfers", "[]")),
+    ("accounts by ids", Post("/accounts/lookup", "[]")),
+    ("transfers by ids", Post("/transfers/lookup", "[]")),
+    (
+        "a history",
+        Post("/history/transfers", "{\"account_id\":\"1\",\"limit\":1}"),
+    ),
+    (
+        "balances",
+        Post("/history/balances", "{\"account_id\":\"1\",\"limit\":1}"),
+    ),
+    (
+        "a page of accounts",
+        Post("/query/accounts", "{\"limit\":1}"),
+    ),
+    (
+        "a page of transfers",
+        Post("/query/transfers", "{\"limit\":1}"),
+    ),
+    ("holds by ids", Post("/pending/lookup", "[]")),
+    (
+        "a page of open holds",
+        Post("/pending/open", "{\"limit\":1}"),
+    ),
+    ("a statement", Get("/statement/1")),
+    ("a bad body", Post("/transfers", "no list")),
 ];
 
 /// All of these are told that the ledgers serve.
@@ -160,10 +176,10 @@ fn tells_that_ledgers_have_failed(rt: HostRuntime) -> Result<(), Fail> {
         let reply = respond(rt.alloc(), &mut Failed, asked.as_bytes(), 0);
         same(&rt, asked, reply.bytes(), UNAVAILABLE.as_bytes());
     }
-    for asked in &OF_A_TENANT {
+    for (name, asked) in &OF_A_TENANT {
         let message = message(rt.alloc(), FIRST, asked)?;
         let reply = respond(rt.alloc(), &mut Failed, &message, 0);
-        same(&rt, "of a tenant", reply.bytes(), UNAVAILABLE.as_bytes());
+        same(&rt, name, reply.bytes(), UNAVAILABLE.as_bytes());
     }
     Ok(())
 }

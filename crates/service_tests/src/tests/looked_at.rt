@@ -68,8 +68,13 @@ const PAGES: &[(&str, bool, u64)] = &[
     ),
 ];
 
-/// Adds the transfers from one id up to before another one.
-fn add(alloc: Global, firms: &mut Firms, first: u64, end: u64) -> Result<(), AllocError> {
+/// Adds the transfers from one id up to before another one, each of 1 from account 1 to account 2.
+pub(crate) fn add(
+    alloc: Global,
+    firms: &mut Firms,
+    first: u64,
+    end: u64,
+) -> Result<(), AllocError> {
     let mut body = String::new(alloc);
     let mut before = "[";
     for id in first..end {

@@ -136,7 +136,8 @@ pub(crate) fn wanted(alloc: Global, want: &Want) -> Result<Vec<u8>, AllocError> 
     }
 }
 
-const HEADER: &str = concat!(
+/// The first line of a statement.
+pub(crate) const HEADER: &str = concat!(
     "timestamp,transfer_id,side,kind,amount,",
     "debits_pending,debits_posted,credits_pending,credits_posted\n"
 );

@@ -1,0 +1,114 @@
+//! Statements of which a piece is refused: a reply is whole or `unavailable`, and a sink has a
+//! beginning.
+use super::asserting::same;
+use super::failing::FrailFirms;
+use super::looked_at::add;
+use super::memory::UNAVAILABLE;
+use super::messages::{FIRST, get, reply};
+use super::played::{HEADER, base};
+use chain::ReadFault;
+use records::{Order, Unavailable};
+use std::alloc::{AllocError, Global};
+use std::process::Abort;
+use std::test::Fail;
+use tenants::{Key, digest};
+
+/// So many transfers have the ids and sums from 1 on, and timestamps from 5 on. They are read in
+/// three pieces.
+const ENTRIES: u64 = 1001;
+
+/// How many pieces are read before one is refused, and why it is.
+const REFUSALS: [(u64, Unavailable); 9] = [
+    (0, Unavailable::Memory),
+    (1, Unavailable::Memory),
+    (2, Unavailable::Memory),
+    (0, Unavailable::Size),
+    (1, Unavailable::Size),
+    (2, Unavailable::Size),
+    (0, Unavailable::Disk),
+    (1, Unavailable::Disk),
+    (2, Unavailable::Disk),
+];
+
+/// A firm with these transfers.
+fn filled(rt: &impl Abort, alloc: Global) -> Result<FrailFirms, Fail> {
+    let mut firms = base(rt, alloc, FIRST)?;
+    add(alloc, &mut firms, 1, 701)?;
+    add(alloc, &mut firms, 701, ENTRIES + 1)?;
+    Ok(firms.frail())
+}
+
+/// The reply that has the whole statement of account 1.
+fn whole(alloc: Global) -> Result<Vec<u8>, AllocError> {
+    let mut body = HEADER.to_string(alloc)?;
+    for id in 1..=ENTRIES {
+        let timestamp = id.saturating_add(4);
+        let line = format!(in alloc; "{timestamp},{id},debit,single,1,0,{id},0,0\n")?;
+        body.push_str(&line)?;
+    }
+    reply(alloc, "200 OK", "text/csv", &body)
+}
+
+// Behind the refusal the same message is told the whole, or where the disk failed once it is opened
+// again.
+#[test]
+fn tells_no_beginning_of_a_statement(rt: HostRuntime) -> Result<(), Fail> {
+    let mut firms = filled(&rt, rt.alloc())?;
+    let message = get(rt.alloc(), "/statement/1", FIRST)?;
+    let whole = whole(rt.alloc())?;
+    for (before, why) in REFUSALS {
+        firms.refuse(before, why);
+        let first = firms.answer(&message);
+        same(&rt, "refused", first.bytes(), UNAVAILABLE.as_bytes());
+        if why == Unavailable::Disk {
+            let second = firms.answer(&message);
+            same(&rt, "failed", second.bytes(), UNAVAILABLE.as_bytes());
+            firms.open_again();
+        }
+        same(&rt, "again", firms.answer(&message).bytes(), &whole);
+    }
+    firms.refuse(3, Unavailable::Memory);
+    same(&rt, "three pieces", firms.answer(&message).bytes(), &whole);
+    Ok(())
+}
+
+/// The timestamp and the id of an entry, by its place from one end.
+fn entry(order: Order, place: u64) -> (u64, u128) {
+    let id = match order {
+        Order::Oldest => place.saturating_add(1),
+        Order::Newest => ENTRIES.saturating_sub(place),
+    };
+    (id.saturating_add(4), u128::from(id))
+}
+
+/// Whether these are the first entries from one end, and how many.
+fn beginning(order: Order, rows: &[(u64, u128)]) -> Option<u64> {
+    let mut many = 0;
+    for row in rows {
+        if *row != entry(order, many) {
+            return None;
+        }
+        many = many.saturating_add(1);
+    }
+    Some(many)
+}
+
+#[test]
+fn hands_out_a_beginning_of_a_statement(rt: HostRuntime) -> Result<(), Fail> {
+    let mut firms = filled(&rt, rt.alloc())?;
+    let first = digest(&Key::read(FIRST.as_bytes()).ok_or("no key")?);
+    for order in [Order::Oldest, Order::Newest] {
+        for before in [1, 2] {
+            firms.refuse(before, Unavailable::Memory);
+            let (rows, ended) = firms.rows(&first, 1, order);
+            let want = Err(ReadFault::Unavailable(Unavailable::Memory));
+            same(&rt, "refused", ended, want);
+            let many = beginning(order, &rows).ok_or("no beginning")?;
+            same(&rt, "a part", 0 < many && many < ENTRIES, true);
+            let (rows, ended) = firms.rows(&first, 1, order);
+            same(&rt, "again", ended, Ok(()));
+            same(&rt, "all", beginning(order, &rows), Some(ENTRIES));
+        }
+    }
+    Ok(())
+}
