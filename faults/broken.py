@@ -6,6 +6,7 @@ import sqlite3
 from copies import copy, files
 from counted import counts, refused_told
 from drawn import moves
+from routes import look_at_routes
 from runs import House
 from service import check, run, want
 
@@ -47,8 +48,7 @@ def break_once(house, turn, kept, damaged):
     put(damaged, house.db)
     want(not desk.batch(batch), "answered, with nothing written")
     house.service.limit_files(2**62)
-    told = house.take_turn(1).ask("POST", "/accounts/lookup", b"[]")
-    want(told is None, f"served, and damaged: {told}")
+    look_at_routes(house.take_turn(1).connection, house.desks[1].key)
     lines = house.service.told()[begun:]
     want(lines == ["ledgerd: damaged"], f"standard error tells {lines}")
     put(kept, house.db)

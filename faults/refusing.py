@@ -3,6 +3,7 @@
 import pages
 from control import ALL, DISK, MEMORY, Control, places
 from drawn import LEDGER, account, moves, transfer
+from routes import look_at_routes
 from runs import House
 from service import Lost, body_of, message, want
 
@@ -166,12 +167,10 @@ def failing_disk(trial):
 
 def refuse_openings(house, desk, begun):
     """While the disk fails each call of each tenant is refused, and leaves nothing: two more on the
-    same connection, one on another that was there before, and one on a new one. Standard error
-    tells once why the file could not be opened again."""
+    same connection, one of each kind on another that was there before, and one on a new one.
+    Standard error tells once why the file could not be opened again."""
     late = moves(5)
-    told = house.desks[1].ask("POST", "/accounts/lookup", b"[]")
-    want(told is None, "served by a kept connection")
-    want(house.desks[1].ask("GET", "/health") is None, "well, with a disk that fails")
+    look_at_routes(house.desks[1].connection, house.desks[1].key)
     for other in (house.desks[1], desk):
         desk.connection.send(message("POST", "/transfers", other.key, body_of(late)))
         told = desk.connection.reply()[2]

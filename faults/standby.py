@@ -9,12 +9,12 @@ from asking import told_by
 from control import ALL, DISK, Control
 from drawn import Requests
 from indexed import Indexed
+from routes import look_at_routes
 from runs import House
 from service import PATIENCE, Connection, Lost, Service, check, message, want
 from stops import STOPPED
 
 CLIENTS = 6
-UNAVAILABLE = ("503 Service Unavailable", "application/json", b'{"error":"unavailable"}')
 SERVING = ("200 OK", "application/json", b'{"serving":true}')
 
 
@@ -121,14 +121,8 @@ class Pair:
         """Until it has the file it tells nothing else, and lets its clients stay."""
         key = self.house.desks[-1].key
         want(self.services[1].served.poll() is None, "who stands by has ended")
-        self.look_at_health(connection, UNAVAILABLE)
-        for method, path, told_key, body in (
-                ("POST", "/transfers", key, b"[]"), ("POST", "/accounts", key, b"[]"),
-                ("POST", "/accounts/lookup", key, b"[]"), ("GET", "/statement/1", key, b""),
-                ("POST", "/transfers", "5" * 64, b"[]")):
-            connection.send(message(method, path, told_key, body))
-            told = connection.reply()
-            want(told == UNAVAILABLE, f"{method} {path} of who stands by: {told}")
+        for told_key in (key, "5" * 64):
+            look_at_routes(connection, told_key)
         want(not self.services[1].lines()[1:], f"who stands by tells {self.services[1].lines()}")
 
     @staticmethod
