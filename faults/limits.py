@@ -32,7 +32,7 @@ def limits(trial):
     house = House(trial.fresh(), 3)
     house.begin()
     fill(house)
-    waits = [slow_message, unread_replies, *([idle] if trial.is_long else [])]
+    waits = [slow_message, unread_pages, unread_statements, *([idle] if trial.is_long else [])]
     told = [Limit(wait, house) for wait in waits]
     beside = Beside(house)
     for each in (*told, beside):
@@ -129,12 +129,21 @@ def drip(connection, sent):
             return
 
 
-def unread_replies(house):
-    """A client that reads none of its replies is let go. On a busy machine that takes longer, since
-    what the service takes itself counts for nobody."""
-    asked = page_asked(house.desks[1].key) * 40
-    want(any(is_let_go(Connection(house.service.port, room=1 << 16), asked, MESSAGE + pause,
-                       40 * 200_000) for pause in PAUSES), "a client that reads nothing is kept")
+def unread_pages(house):
+    """Forty of the longest pages."""
+    unread(house, page_asked(house.desks[1].key), 40, 200_000)
+
+
+def unread_statements(house):
+    """Two hundred statements of the account with the longest one."""
+    unread(house, message("GET", "/statement/1", house.desks[1].key), 200, 40_000)
+
+
+def unread(house, asked, many, least):
+    """A client that reads none of its replies, each of so many bytes at least, is let go. On a busy
+    machine that takes longer, since what the service takes itself counts for nobody."""
+    want(any(is_let_go(Connection(house.service.port, room=1 << 16), asked * many, MESSAGE + pause,
+                       many * least) for pause in PAUSES), "a client that reads nothing is kept")
 
 
 def page_asked(key):

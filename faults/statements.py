@@ -30,6 +30,8 @@ WAYS = ((), ("--reversed",), ("--wide", "--balances", "--format", "json"))
 CHOICES = (((), ("--reversed",)), ((), ("--balances",)), ((), ("--wide",)),
            ((), *(("--format", form) for form in ("csv", "sheet", "json"))))
 FORMS = [sum(choice, ()) for choice in itertools.product(*CHOICES)]
+# Four of each, which nobody reads, are more than may be connected to the socket at once.
+UNREAD = WAYS * 4
 # The statements of who writes.
 WRITTEN = ((), ("--reversed",), ("--balances",))
 OPENING = "0,0,,opening,0,0,0,0,0"
@@ -44,6 +46,7 @@ def statements(trial):
         trial.progress(f"{batch + 1} of {many} batches stored")
     writers = begin_calm(trial, house)
     copy = copied(house)
+    unread, whole = begin_unread(house), ways(house, copy)
     forms, refusals = look_at_forms(trial, house, copy), refuse(house, copy)
     ask_by_hand(house)
     ask_twice(house, copy)
@@ -53,6 +56,7 @@ def statements(trial):
         change_meanwhile(house, copy, turn, form)
         remove(copy)
         copy = copied(house)
+    end_unread(unread, whole)
     writes = end_writers(writers)
     for place in WRITERS:
         judge(house.desks[place].ledger, told[place])
@@ -61,8 +65,8 @@ def statements(trial):
     house.stop()
     check(house.program, house.db)
     return (f"{forms} forms of a statement of {PIECE * many} entries, {refusals} refused, and "
-            f"{sum(map(len, told.values()))} of who writes, beside {writes} batches, of which none "
-            f"took more than {house.longest():.2f} s; {ended}")
+            f"{sum(map(len, told.values()))} of who writes, beside {len(unread)} that nobody reads and "
+            f"{writes} batches, of which none took more than {house.longest():.2f} s; {ended}")
 
 
 def bulk(first):
@@ -246,6 +250,24 @@ def wait_until_full(command):
     """Until a command's output has begun, and its pipe takes no more."""
     want(select.select([command.stdout], [], [], PATIENCE)[0], "a statement does not begin")
     time.sleep(FULL)
+
+
+def begin_unread(house):
+    """Statements that have begun, and that nobody reads."""
+    unread = [(form, begun(house, *words(house, STILL, *form))) for form in UNREAD]
+    for _, command in unread:
+        wait_until_full(command)
+    return unread
+
+
+def end_unread(unread, whole):
+    """Every other one is read in the end, and has what the ledger had when it was begun, whatever
+    came since. The others are killed."""
+    for place, (form, command) in enumerate(unread):
+        if place % 2:
+            command.kill()
+        told = heard(command)
+        want(place % 2 or told == whole[form], f"{form}, read in the end: {shortened(told)}")
 
 
 def change_meanwhile(house, copy, turn, form):
