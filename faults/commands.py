@@ -2,6 +2,7 @@
 
 import os
 
+from beginnings import refused_rows
 from control import DISK, MEMORY, Control, places
 from copies import copy, remove
 from migrations import refused_migrations
@@ -32,7 +33,7 @@ def refused_commands(trial):
              (add, made, lambda: remove(scratch)))
     refused = [refuse_in_turn(trial, control, kind, cases) for kind in (MEMORY, DISK)]
     return (f"{refused[MEMORY]} allocations and {refused[DISK]} calls of the disk refused: "
-            f"answered as ever, or a fault and nothing half done; "
+            f"answered as ever, or a fault and nothing half done; {refused_rows(trial)}; "
             f"{refused_migrations(trial, control)}")
 
 

@@ -83,10 +83,10 @@ def stop_under_load(house):
     house.compare()
 
 
-def begun(house, *words):
+def begun(house, *words, env=None):
     """A command that runs."""
     return subprocess.Popen([house.program, *words, "--db", house.db], stdout=subprocess.PIPE,
-                            stderr=subprocess.PIPE)
+                            stderr=subprocess.PIPE, env=env)
 
 
 def heard(command):
