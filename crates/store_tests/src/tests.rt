@@ -16,6 +16,7 @@ mod playing;
 mod read_answers;
 mod reads;
 mod rounds;
+mod scarce_reads;
 mod stops;
 mod tables;
 mod taken_rows;

@@ -6,11 +6,10 @@ use super::commands::Numbered;
 use super::disks::{Calls, Faulty, InMemory, WIDE};
 use super::driven::Driven;
 use super::events::{accounts, ones, transfer};
+use super::scarce_reads::{ENTRIES, reads};
 use super::works::{Looking, Opening, Sending};
-use chain::{BatchFault, BatchReply, Listed, ReadFault, Tables, Work};
-use records::{
-    AccountEvent, AccountFilter, FilterFlags, Order, SinkFault, TransferEvent, Unavailable,
-};
+use chain::{BatchFault, BatchReply, Tables, Work};
+use records::{AccountEvent, TransferEvent, Unavailable};
 use sqlite::Files;
 use sqlite_disk::{Crash, Disk};
 use std::alloc::Global;
@@ -18,13 +17,11 @@ use std::process::Abort;
 use store::{AddTenant, FullAudit, OpenFault};
 use tenants::TenantName;
 
-const NORTH: [u8; 32] = [1; 32];
-
-/// How many entries an account has that is read.
-const ENTRIES: usize = 40;
+/// The digest of the tenant.
+pub const NORTH: [u8; 32] = [1; 32];
 
 /// The store as it is, or where its disk failed, on what its files hold after a crash.
-fn mended<D: Crash + Drop>(
+pub fn mended<D: Crash + Drop>(
     rt: &impl Abort,
     alloc: Global,
     mut store: Driven<D>,
@@ -254,62 +251,6 @@ fn opens<D: Faulty, R: Abort>(rt: &R, alloc: Global) -> Option<(Driven<D>, u64)>
         again: &[13; 4],
     };
     Some(sends(rt, alloc, (store, 0), opening))
-}
-
-/// How many entries were listed.
-fn count<T: Drop>(told: Result<Listed<T>, ReadFault>) -> Result<usize, ReadFault> {
-    match told {
-        Ok(listed) => Ok(listed.entries.len()),
-        Err(fault) => Err(fault),
-    }
-}
-
-/// How many entries a read of some kind lists; of a statement the rows that came, if it is whole.
-fn listed<D: Disk + Drop>(
-    alloc: Global,
-    store: &mut Driven<D>,
-    kind: u8,
-) -> Result<usize, ReadFault> {
-    let asked = AccountFilter {
-        account_id: 3,
-        timestamp_min: 0,
-        timestamp_max: 0,
-        limit: 1000,
-        flags: FilterFlags(3),
-    };
-    match kind {
-        0 => count(store.lookup_accounts(alloc, &NORTH, &[1, 9, 3])),
-        1 => count(store.lookup_transfers(alloc, &NORTH, &[1000, 9, 1001])),
-        2 => count(store.history_transfers(alloc, &NORTH, &asked)),
-        3 => count(store.history_balances(alloc, &NORTH, &asked)),
-        _ => {
-            let (rows, ended) = store.statement(alloc, &NORTH, (3, Order::Oldest, ENTRIES));
-            ended?;
-            Ok(rows.len())
-        }
-    }
-}
-
-/// Why a read has no answer, which is there.
-fn want(rt: &impl Abort, fault: ReadFault) -> Unavailable {
-    match fault {
-        ReadFault::Unavailable(why) => why,
-        ReadFault::Sink(SinkFault::Memory) => Unavailable::Memory,
-        _ => panic!(rt; "{fault:?}"),
-    }
-}
-
-/// Each kind of read, which lists what is there once there is memory.
-fn reads<D: Crash + Drop>(rt: &impl Abort, alloc: Global, mut store: Driven<D>) {
-    for (kind, entries) in [(0, 2), (1, 2), (2, ENTRIES), (3, ENTRIES), (4, ENTRIES)] {
-        let mut told = listed(alloc, &mut store, kind);
-        if let Err(fault) = told {
-            store = mended(rt, alloc, store, want(rt, fault));
-            told = listed(alloc, &mut store, kind);
-        }
-        assert_eq!(rt; told, Ok(entries));
-    }
-    store.end();
 }
 
 /// What follows a batch.
