@@ -253,10 +253,12 @@ def wait_until_full(command):
 
 
 def begin_unread(house):
-    """Statements that have begun, and that nobody reads."""
-    unread = [(form, begun(house, *words(house, STILL, *form))) for form in UNREAD]
-    for _, command in unread:
+    """Statements that have begun, one after the other, and that nobody reads."""
+    unread = []
+    for form in UNREAD:
+        command = begun(house, *words(house, STILL, *form))
         wait_until_full(command)
+        unread.append((form, command))
     return unread
 
 
