@@ -228,8 +228,24 @@ fn least<D: Faulty, R: Abort>(rt: &R, alloc: Global, stopping: Stopping, command
 #[derive(Clone, Copy, Debug)]
 enum Place {
     AtFirst,
+    Between,
     AtLast,
     BehindAll,
+}
+
+impl Place {
+    /// That of a stop after so many calls, where the request has those from a first one on.
+    fn of(calls: u64, first: u64, kept: u64) -> Place {
+        if calls == kept {
+            Place::BehindAll
+        } else if calls.saturating_add(1) == kept {
+            Place::AtLast
+        } else if calls == first {
+            Place::AtFirst
+        } else {
+            Place::Between
+        }
+    }
 }
 
 /// Whether such a stop may fall there. The last call of the log is in the commit, that of the
@@ -238,50 +254,49 @@ fn may_fall(stopping: Stopping, place: Place, stop: Stop) -> bool {
     match (place, stopping) {
         (Place::AtFirst, _) => stop == Stop::Before,
         (Place::AtLast, Stopping::Log) => stop == Stop::Inside,
-        (Place::AtLast, Stopping::Database) => stop != Stop::After,
+        (Place::Between, _) | (Place::AtLast, Stopping::Database) => stop != Stop::After,
         (Place::BehindAll, _) => stop == Stop::After,
     }
 }
 
-/// Stops a disk at the request's first call, at its last one, and behind it.
+/// Stops a disk at each call of a request, and behind it. Once a stop falls in the commit, no later
+/// one falls before it.
 fn stop_a_disk<D: Faulty, R: Abort>(rt: &R, alloc: Global, stopping: Stopping, request: &Request) {
     let first = least::<D, _>(rt, alloc, stopping, "North ready");
     let kept = least::<D, _>(rt, alloc, stopping, request.command);
-    let last = kept.saturating_sub(1);
-    for (calls, place) in [
-        (first, Place::AtFirst),
-        (last, Place::AtLast),
-        (kept, Place::BehindAll),
-    ] {
+    let mut is_inside = false;
+    for calls in first..=kept {
+        let place = Place::of(calls, first, kept);
         let found = stopped::<D, _>(rt, alloc, (stopping, calls), request);
         assert!(rt;
-            may_fall(stopping, place, found),
+            may_fall(stopping, place, found) && !(is_inside && found == Stop::Before),
             "{stopping:?} after {calls}, {place:?}: {found:?}"
         );
+        is_inside = found == Stop::Inside;
     }
 }
 
 /// The same, of disks in memory.
-fn stop_thrice(rt: &impl Abort, alloc: Global, stopping: Stopping, request: &Request) {
+fn stop_in_memory(rt: &impl Abort, alloc: Global, stopping: Stopping, request: &Request) {
     stop_a_disk::<InMemory, _>(rt, alloc, stopping, request);
 }
 
 #[test]
 fn a_log_that_stops_in_a_batch(rt: HostRuntime) {
-    stop_thrice(&rt, rt.alloc(), Stopping::Log, &POSTS);
+    stop_in_memory(&rt, rt.alloc(), Stopping::Log, &POSTS);
 }
 
 #[test]
 fn a_database_that_stops_in_a_batch(rt: HostRuntime) {
-    stop_thrice(&rt, rt.alloc(), Stopping::Database, &POSTS);
+    stop_in_memory(&rt, rt.alloc(), Stopping::Database, &POSTS);
 }
 
 #[test]
 fn a_log_that_stops_where_a_chain_falls(rt: HostRuntime) {
-    stop_thrice(&rt, rt.alloc(), Stopping::Log, &FALLS);
+    stop_in_memory(&rt, rt.alloc(), Stopping::Log, &FALLS);
 }
 
 #[test]
 fn a_database_that_stops_where_a_chain_falls(rt: HostRuntime) {
-    stop_thrice(&rt, rt.alloc(), Stopping::Database, &FALLS);
+    stop_in_memory(&rt, rt.alloc(), Stopping::Database, &FALLS);
 }
