@@ -21,7 +21,8 @@ REFUSED = (3, "ledgerd: unavailable\n")
 
 
 def refused_rows(trial):
-    """Allocations refused behind the first rows, of a file that is served and of one that is not."""
+    """Allocations refused behind the first rows, of a file that is served and of one that is
+    not."""
     house, control = House(trial.fresh(), 1), Control(trial.folder)
     house.begin(control.env)
     for first in range(10**9, 10**9 + BATCH * BATCHES, BATCH):
@@ -33,7 +34,8 @@ def refused_rows(trial):
     house.stop()
     alone = refuse_each(trial, house, control, control.env)
     check(house.program, house.db)
-    return f"{served} of them to the service and {alone} to the command behind a statement's first rows"
+    return (f"{served} of them to the service and {alone} to the command behind the first rows of "
+            "a statement")
 
 
 def refuse_each(trial, house, control, env=None):

@@ -14,8 +14,8 @@ NO_TEXT = (b"\xff", b"\xc3", b"\xed\xa0\x80", b"\xf4\x90\x80\x80")
 # Commands with each of their options; DB stands for the file, NEW for one beside it, and PORT for a
 # free port.
 COMMANDS = (
-    ("serve", "--db", "DB", "--port", "PORT", "--address", "127.0.0.1", "--requests", "0", "--standby",
-     "--clients", "9", "--room", "9", "--idle", "9", "--message", "9", "--reply", "9"),
+    ("serve", "--db", "DB", "--port", "PORT", "--address", "127.0.0.1", "--requests", "0",
+     "--standby", "--clients", "9", "--room", "9", "--idle", "9", "--message", "9", "--reply", "9"),
     ("tenant-add", "--db", "DB", "--name", "more", "--key", KEY),
     ("tenant-key", "--db", "DB", "--name", "north-desk", "--key", KEY),
     ("tenants", "--db", "DB"),

@@ -374,4 +374,4 @@ def healthy(house):
     connection.close()
 
 
-OTHERS = (limits.slow_message, limits.slow_message, limits.unread_pages, silent, halves, healthy)
+OTHERS = (limits.slow_message, limits.slow_message, limits.unread_replies, silent, halves, healthy)

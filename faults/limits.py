@@ -32,7 +32,7 @@ def limits(trial):
     house = House(trial.fresh(), 3)
     house.begin()
     fill(house)
-    waits = [slow_message, unread_pages, unread_statements, *([idle] if trial.is_long else [])]
+    waits = [slow_message, unread_replies, unread_statements, *([idle] if trial.is_long else [])]
     told = [Limit(wait, house) for wait in waits]
     beside = Beside(house)
     for each in (*told, beside):
@@ -129,13 +129,13 @@ def drip(connection, sent):
             return
 
 
-def unread_pages(house):
-    """Forty of the longest pages."""
+def unread_replies(house):
+    """Who reads none of forty of the longest pages."""
     unread(house, page_asked(house.desks[1].key), 40, 200_000)
 
 
 def unread_statements(house):
-    """Two hundred statements of the account with the longest one."""
+    """Who reads none of two hundred statements, each of a thousand entries."""
     unread(house, message("GET", "/statement/1", house.desks[1].key), 200, 40_000)
 
 

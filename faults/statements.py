@@ -65,8 +65,8 @@ def statements(trial):
     house.stop()
     check(house.program, house.db)
     return (f"{forms} forms of a statement of {PIECE * many} entries, {refusals} refused, and "
-            f"{sum(map(len, told.values()))} of who writes, beside {len(unread)} that nobody reads and "
-            f"{writes} batches, of which none took more than {house.longest():.2f} s; {ended}")
+            f"{sum(map(len, told.values()))} of who writes, beside {len(unread)} that nobody reads "
+            f"and {writes} batches, of which none took more than {house.longest():.2f} s; {ended}")
 
 
 def bulk(first):
