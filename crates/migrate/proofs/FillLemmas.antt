@@ -12,8 +12,7 @@ use Rattle.ledger_sql.specs.Rowids.{IsNumbered}
 use Rattle.ledger_sql.specs.Schema.{list_schema, balance_schema, ledger_schema, failed_table, current_version}
 use Rattle.ledger_sql.specs.TableRows.{cells_from}
 use Rattle.migrate.specs.FillingLaws.{entries_then}
-use Rattle.openings.specs.Found.{HasOrderedTables}
-use Rattle.migrate.specs.Filling.{IsAltering, HasOneVersion, KeepsEntries, Fills, MakesDerived, MakesBalanced, MakesCurrent}
+use Rattle.migrate.specs.Filling.{IsAltering, CanSetVersion, KeepsEntries, Fills, MakesDerived, MakesBalanced, MakesCurrent}
 
 inside_then : (a b c : State) → WritesInside a b → WritesInside b c → WritesInside a c
 inside_then a b c f g = record {
@@ -153,16 +152,16 @@ derived_made a b c made fills = record {
 }
 
 -- the last table is made, and then the version set
-pub current_made : (a b c : State) → IsAltering balance_schema a → HasOneVersion a.now.trees → HasOrderedTables a.now → Makes balance_schema failed_table a b
-    → SetsVersion current_version b c → MakesCurrent a c
-current_made a b c altering one ordered made sets =
+pub current_made : (a b c : State) → CanSetVersion a → Makes balance_schema failed_table a b → SetsVersion current_version b c
+    → MakesCurrent a c
+current_made a b c has made sets =
     let same : b.now.trees 0 ≡ a.now.trees 0 = made.others.0 in
-    let set = sets.one one.row (ap (map (cells_from 2 1)) same ∙ one.only) (subst IsNumbered (sym same) one.numbered) in
+    let set = sets.one has.version.row (ap (map (cells_from 2 1)) same ∙ has.version.only) (subst IsNumbered (sym same) has.version.numbered) in
     let stay : AllByRecursion (λ t. t.tree ≢ 0 → c.now.trees t.tree ≡ b.now.trees t.tree) ledger_schema.tables =
     subst (λ (s : Schema). AllByRecursion (λ (t : Table). t.tree ≢ 0 → c.now.trees t.tree ≡ b.now.trees t.tree) s.tables)
     made.schema set.tables in
     let was : AllByRecursion (λ t. IsNumbered (a.now.trees t.tree)) balance_schema.tables =
-    subst (λ (s : Schema). AllByRecursion (λ (t : Table). IsNumbered (a.now.trees t.tree)) s.tables) altering.making.schema_is ordered in
+    subst (λ (s : Schema). AllByRecursion (λ (t : Table). IsNumbered (a.now.trees t.tree)) s.tables) has.altering.making.schema_is has.numbered in
     let directory = stay.1.0 (λ e. omega (arith, e)) ∙ made.others.1.0 in
     let clocks = stay.1.1.0 (λ e. omega (arith, e)) ∙ made.others.1.1.0 in
     let accounts = stay.1.1.1.0 (λ e. omega (arith, e)) ∙ made.others.1.1.1.0 in
@@ -207,15 +206,14 @@ current_made a b c altering one ordered made sets =
     }
 
 -- the version of the balance schema is set
-pub balanced_made : (a b : State) → IsAltering balance_schema a → HasOneVersion a.now.trees → HasOrderedTables a.now
-    → SetsVersion (pos 2) a b → MakesBalanced a b
-balanced_made a b altering one ordered sets =
-    let set = sets.one one.row one.only one.numbered in
+pub balanced_made : (a b : State) → CanSetVersion a → SetsVersion (pos 2) a b → MakesBalanced a b
+balanced_made a b has sets =
+    let set = sets.one has.version.row has.version.only has.version.numbered in
     let stay : AllByRecursion (λ t. t.tree ≢ 0 → b.now.trees t.tree ≡ a.now.trees t.tree) balance_schema.tables =
     subst (λ (s : Schema). AllByRecursion (λ (t : Table). t.tree ≢ 0 → b.now.trees t.tree ≡ a.now.trees t.tree) s.tables)
-    altering.making.schema_is set.tables in
+    has.altering.making.schema_is set.tables in
     let was : AllByRecursion (λ t. IsNumbered (a.now.trees t.tree)) balance_schema.tables =
-    subst (λ (s : Schema). AllByRecursion (λ (t : Table). IsNumbered (a.now.trees t.tree)) s.tables) altering.making.schema_is ordered in
+    subst (λ (s : Schema). AllByRecursion (λ (t : Table). IsNumbered (a.now.trees t.tree)) s.tables) has.altering.making.schema_is has.numbered in
     let directory = stay.1.0 (λ e. omega (arith, e)) in
     let clocks = stay.1.1.0 (λ e. omega (arith, e)) in
     let accounts = stay.1.1.1.0 (λ e. omega (arith, e)) in
@@ -224,7 +222,7 @@ balanced_made a b altering one ordered sets =
     let statuses = stay.1.1.1.1.1.1.0 (λ e. omega (arith, e)) in
     let history = stay.1.1.1.1.1.1.1.0 (λ e. omega (arith, e)) in
     record {
-      schema = sets.inside.schema ∙ altering.making.schema_is;
+      schema = sets.inside.schema ∙ has.altering.making.schema_is;
       version = set.version_is;
       numbered = (
         set.numbered,

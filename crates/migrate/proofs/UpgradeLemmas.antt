@@ -112,19 +112,23 @@ derived_ordered a b c older begun made =
 -- the tables of balances are there
 pub made_balances : (s0 s1 s2 : State) → IsOlder list_schema s0 → s1.now ≡ s0.now → MakesDerived s1 s2 → HasBalanceTables s0 s2
 made_balances s0 s1 s2 older begun made = record {
-  altering = derived_altering s1 s2 made;
-  one = still_one s1.now.trees s2.now.trees made.version
-      (subst (λ (d : Database). HasOneVersion d.trees) (sym begun) (lists_one s0 older));
-  ordered = derived_ordered s0 s1 s2 older begun made;
+  can_set = record {
+    altering = derived_altering s1 s2 made;
+    version = still_one s1.now.trees s2.now.trees made.version
+        (subst (λ (d : Database). HasOneVersion d.trees) (sym begun) (lists_one s0 older));
+    numbered = derived_ordered s0 s1 s2 older begun made;
+  };
   entries = entries_then s0.now.trees s1.now.trees s2.now.trees (entries_same s0.now s1.now begun) made.entries;
 }
 
 -- or were
 pub had_balances : (s0 s1 : State) → IsOlder balance_schema s0 → HasBegun s0 s1 → HasBalanceTables s0 s1
 had_balances s0 s1 older begun = record {
-  altering = begun_altering balance_schema s0 s1 begun older.rests.schema_is;
-  one = subst (λ (d : Database). HasOneVersion d.trees) (sym begun.now) (balances_one s0 older);
-  ordered = subst HasOrderedTables (sym begun.now) older.ordered;
+  can_set = record {
+    altering = begun_altering balance_schema s0 s1 begun older.rests.schema_is;
+    version = subst (λ (d : Database). HasOneVersion d.trees) (sym begun.now) (balances_one s0 older);
+    numbered = subst HasOrderedTables (sym begun.now) older.ordered;
+  };
   entries = entries_same s0.now s1.now begun.now;
 }
 

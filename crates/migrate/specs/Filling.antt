@@ -15,6 +15,7 @@ use Rattle.ledger_sql.specs.Schema.{transfer_tree, balance_tree, status_tree, hi
 use Rattle.ledger_sql.specs.Schema.{failed_tree}
 use Rattle.ledger_sql.specs.TableRows.{version_rows}
 use Rattle.openings.specs.Damage.{NamesVersion}
+use Rattle.openings.specs.Found.{HasOrderedTables}
 
 -- the file names one version
 pub record HasOneVersion (trees : Trees) : Type 0 where
@@ -32,6 +33,13 @@ pub record AreDerivedNumbered (trees : Trees) : Type 0 where
 pub record IsAltering (schema : Schema) (s : State) : Type 0 where
   pub making : IsMaking schema s
   pub is_open : IsTrue s.is_open
+
+-- the version can be set: the tables of balances are there in a transaction, one version is named,
+-- and in each table the rowids rise
+pub record CanSetVersion (s : State) : Type 0 where
+  pub altering : IsAltering balance_schema s
+  pub version : HasOneVersion s.now.trees
+  pub numbered : HasOrderedTables s.now
 
 -- the directory and the tables that every version has are as before, but for the version
 pub record KeepsEntries (old new : Trees) : Type 0 where

@@ -1,11 +1,17 @@
 -- What a ledger that was opened to be migrated means.
 use Rattle.std.specs.Prelude.{◌<◌, ◌≤◌, IsTrue}
 use Rattle.sqlite_disk.specs.declared.Disk as disk
+use Rattle.sqlite_disk.specs.declared.Files.{Files}
+use Rattle.sqlite_wal.specs.Reads.{AreClean}
+use Rattle.sqlite_wal.specs.Recovery.{Image}
 use Rattle.sqlite.specs.Files.{file_state}
 use Rattle.sqlite.specs.State.{State, HasCleanDisk}
 use Rattle.ledger_sql.specs.Frames.{Live}
 use Rattle.stored_ledgers.specs.Resting.{IsResting}
-use Rattle.migrate.specs.Upgrading.{IsKnown, IsOlder, older_schema}
+use Rattle.openings.specs.Damage.{Hold, IfDamaged}
+use Rattle.openings.specs.Opened.{IsOpened, LeavesRefused}
+use Rattle.openings.specs.declared.opening.OpenFault.{OpenFault}
+use Rattle.migrate.specs.Upgrading.{IsDamaged, IsKnown, IsOlder, IsOlderLedger, older_schema}
 use Rattle.migrate.specs.declared.ledger.LedgerOfVersion.{LedgerOfVersion}
 
 module _ {D : Type 0} {g : disk.Ghosts D} where
@@ -23,3 +29,21 @@ module _ {D : Type 0} {g : disk.Ghosts D} where
         → IsResting ledger.due (state_of ledger)
     pub is_open : IsTrue ledger.ready → HasCleanDisk (state_of ledger)
         → IsTrue (state_of ledger).is_open
+
+  -- it was opened on what the files held, and answers calls; one of an older version has the tables
+  -- of that version, and sound rows
+  pub record IsOpenedToMigrate (image : Image) (ledger : LedgerOfVersion D g) : Type 0 where
+    pub ready : IsTrue ledger.ready
+    pub known : IsKnown ledger.version
+    pub older : ledger.version < 3 → HasCleanDisk (state_of ledger)
+        → IsOlderLedger ledger.version (state_of ledger).now
+    pub opened : HasCleanDisk (state_of ledger) → IsOpened image (state_of ledger)
+
+-- an opening refuses the files: the damage that it tells, if it tells any, is the first in what they
+-- held, and it leaves them as each opening does that is refused
+pub record RefusesFiles {D : Type 0} (g : disk.Ghosts D) (files : Files D)
+    (told : OpenFault × Files D) : Type 0 where
+  pub damaged :
+      AreClean g told.1.log told.1.db
+      → IfDamaged told.0 (λ damage. Hold g files (IsDamaged damage))
+  pub left : LeavesRefused g files told.1

@@ -1,19 +1,18 @@
 -- What the steps of a migration leave, one after the other.
-use Rattle.std.specs.Prelude.{◌≡◌, ℕ, ◌<◌, ◌≤◌}
+use Rattle.std.specs.Prelude.{◌≡◌, ◌≢◌, ℕ, ◌<◌, ◌≤◌, Result, Err, IfOk, OnOk, OnErr, IsTrue}
 use Rattle.sqlite.specs.Effect.{Database}
-use Rattle.sqlite.specs.State.{State}
-use Rattle.ledger_sql.specs.Schema.{balance_schema, ledger_schema}
+use Rattle.sqlite.specs.State.{State, HasCleanDisk, Survives}
+use Rattle.ledger_sql.specs.Frames.{Live, IsUnmarked, Follows}
+use Rattle.ledger_sql.specs.Schema.{ledger_schema}
 use Rattle.stored_ledgers.specs.DueSets.{DueSets}
-use Rattle.openings.specs.Found.{HasOrderedTables}
+use Rattle.stored_ledgers.specs.Resting.{IsQuiet, IsSame}
 use Rattle.openings.specs.Opened.{CanServe}
-use Rattle.migrate.specs.Filling.{HasOneVersion, IsAltering, KeepsEntries}
-use Rattle.migrate.specs.Upgrading.{IsRaised, IsSoundIn}
+use Rattle.migrate.specs.Filling.{CanSetVersion, KeepsEntries}
+use Rattle.migrate.specs.Upgrading.{IsRaised, IsSoundIn, Raised}
 
 -- in a transaction the tables of balances are there, beside what was there
 pub record HasBalanceTables (old new : State) : Type 0 where
-  pub altering : IsAltering balance_schema new
-  pub one : HasOneVersion new.now.trees
-  pub ordered : HasOrderedTables new.now
+  pub can_set : CanSetVersion new
   pub entries : KeepsEntries old.now.trees new.now.trees
 
 -- what was written can be served, or is a sound ledger of the balance schema
@@ -25,3 +24,47 @@ pub record IsSeen (to : ℕ) (sets : DueSets) (db : Database) : Type 0 where
 pub record IsPrepared (to : ℕ) (sets : DueSets) (old new : State) : Type 0 where
   pub schema : 3 ≤ to → new.now.schema ≡ ledger_schema
   pub raised : IsRaised to sets old.now new.now
+
+-- a call that reads between two batches: the database is as it was, and unless this fault is told
+-- it is open
+pub record ReadsAtRest {A E : Type 0} (disk : E) (old new : State) (result : Result A E) :
+    Type 0 where
+  pub same : Live new → IsSame old new
+  pub is_open : HasCleanDisk new → result ≢ Err disk → IsTrue new.is_open
+  pub follows : Follows old new
+
+-- all of an upgrade but the commit: answered, the newer ledger is prepared
+pub record Prepares {E : Type 0} (to : ℕ) (old new : State) (result : Result DueSets E) :
+    Type 0 where
+  pub prepared : HasCleanDisk new → IfOk result (λ sets. IsPrepared to sets old new)
+  pub follows : Follows old new
+
+-- an upgrade: answered, the newer ledger has come of the older one, and no transaction is open; a
+-- crash leaves what was there, or the newer ledger
+pub record Raises {E : Type 0} (to : ℕ) (old new : State) (result : Result DueSets E) :
+    Type 0 where
+  pub raised : HasCleanDisk new → IfOk result (λ sets. IsRaised to sets old.now new.now)
+  pub quiet : HasCleanDisk new → OnOk result (IsQuiet new)
+  pub survives : Survives old new (Raised to old.now)
+
+-- so it is; answered, the database is open, and failed, nothing of it is committed
+pub record RaisesOrBegins {E : Type 0} (to : ℕ) (old new : State) (result : Result DueSets E) :
+    Type 0 where
+  pub raises : Raises to old new result
+  pub is_open : HasCleanDisk new → OnOk result (IsTrue new.is_open)
+  pub committed : Live new → OnErr result (new.committed ≡ old.committed)
+  pub unmarked : Live new → OnErr result (IsUnmarked new)
+
+-- so it is; answered, the database is open, and failed, it is as before
+pub record RaisesWhole {E : Type 0} (to : ℕ) (old new : State) (result : Result DueSets E) :
+    Type 0 where
+  pub raises : Raises to old new result
+  pub is_open : HasCleanDisk new → OnOk result (IsTrue new.is_open)
+  pub same : Live new → OnErr result (IsSame old new)
+
+-- so it is; failed, the database is as before, and unless this fault is told it is open
+pub record RaisesOrTells {E : Type 0} (disk : E) (to : ℕ) (old new : State)
+    (result : Result DueSets E) : Type 0 where
+  pub raises : Raises to old new result
+  pub same : Live new → OnErr result (IsSame old new)
+  pub is_open : HasCleanDisk new → result ≢ Err disk → IsTrue new.is_open

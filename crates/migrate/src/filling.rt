@@ -1,12 +1,8 @@
 //! The tables that newer versions of the schema have more, made and filled inside a transaction.
 
-ghost use Rattle.std.specs.Prelude.{OnOk};
-ghost use Rattle.sqlite.specs.State.{HasCleanDisk};
-ghost use Rattle.sqlite.specs.Held.{state};
-ghost use Rattle.ledger_sql.specs.Frames.{Follows};
+ghost use Rattle.ledger_sql.specs.Calls.{Changes, IfClean};
 ghost use Rattle.ledger_sql.specs.Schema.{list_schema, balance_schema};
-ghost use Rattle.openings.specs.Found.{HasOrderedTables};
-ghost use Rattle.migrate.specs.Filling.{IsAltering, HasOneVersion, Fills, MakesDerived, MakesBalanced, MakesCurrent, MakesVersion};
+ghost use Rattle.migrate.specs.Filling.{IsAltering, CanSetVersion, Fills, MakesDerived, MakesBalanced, MakesCurrent, MakesVersion};
 
 use ledger_sql::creating::{make_balance_tables, make_failed};
 use ledger_sql::setting::set_version;
@@ -21,11 +17,8 @@ pub(crate) fn make_derived<S: Alter>(
     conn: &mut Connection<S>,
     rows: &AllRows,
 ) -> Result<(), Unavailable>
-    requires { HasCleanDisk (state S.Store conn.old)
-        → IsAltering list_schema (state S.Store conn.old) }
-    ensures ok { HasCleanDisk (state S.Store conn.new) → OnOk result
-        (MakesDerived (state S.Store conn.old) (state S.Store conn.new)) }
-    ensures follows { Follows (state S.Store conn.old) (state S.Store conn.new) }
+    requires { IfClean (IsAltering list_schema) S.Store conn.old }
+    ensures { Changes MakesDerived S.Store conn.old conn.new result }
 {
     make_balance_tables(conn)?;
     fill_all(conn, &rows.directory, &rows.tenants)
@@ -37,11 +30,8 @@ fn fill_all<S: Alter>(
     directory: &[DirectoryRow],
     tenants: &[TenantOfDigest],
 ) -> Result<(), Unavailable>
-    requires { HasCleanDisk (state S.Store conn.old)
-        → IsAltering balance_schema (state S.Store conn.old) }
-    ensures ok { HasCleanDisk (state S.Store conn.new) → OnOk result
-        (Fills (state S.Store conn.old) (state S.Store conn.new)) }
-    ensures follows { Follows (state S.Store conn.old) (state S.Store conn.new) }
+    requires { IfClean (IsAltering balance_schema) S.Store conn.old }
+    ensures { Changes Fills S.Store conn.old conn.new result }
 {
     for (place, row) in directory.iter().enumerate() {
         fill_tenant(conn, row.number, tenants.get(place))?;
@@ -54,11 +44,8 @@ fn fill_tenant<S: Alter>(
     number: i64,
     tenant: Option<&TenantOfDigest>,
 ) -> Result<(), Unavailable>
-    requires { HasCleanDisk (state S.Store conn.old)
-        → IsAltering balance_schema (state S.Store conn.old) }
-    ensures ok { HasCleanDisk (state S.Store conn.new) → OnOk result
-        (Fills (state S.Store conn.old) (state S.Store conn.new)) }
-    ensures follows { Follows (state S.Store conn.old) (state S.Store conn.new) }
+    requires { IfClean (IsAltering balance_schema) S.Store conn.old }
+    ensures { Changes Fills S.Store conn.old conn.new result }
 {
     let Some(tenant) = tenant else {
         return Ok(());
@@ -73,11 +60,8 @@ fn fill_balances<S: Alter>(
     number: i64,
     rows: &[BalanceCells],
 ) -> Result<(), Unavailable>
-    requires { HasCleanDisk (state S.Store conn.old)
-        → IsAltering balance_schema (state S.Store conn.old) }
-    ensures ok { HasCleanDisk (state S.Store conn.new) → OnOk result
-        (Fills (state S.Store conn.old) (state S.Store conn.new)) }
-    ensures follows { Follows (state S.Store conn.old) (state S.Store conn.new) }
+    requires { IfClean (IsAltering balance_schema) S.Store conn.old }
+    ensures { Changes Fills S.Store conn.old conn.new result }
 {
     for cells in rows {
         fill_balance(conn, number, cells)?;
@@ -90,11 +74,8 @@ fn fill_statuses<S: Alter>(
     number: i64,
     rows: &[StatusCells],
 ) -> Result<(), Unavailable>
-    requires { HasCleanDisk (state S.Store conn.old)
-        → IsAltering balance_schema (state S.Store conn.old) }
-    ensures ok { HasCleanDisk (state S.Store conn.new) → OnOk result
-        (Fills (state S.Store conn.old) (state S.Store conn.new)) }
-    ensures follows { Follows (state S.Store conn.old) (state S.Store conn.new) }
+    requires { IfClean (IsAltering balance_schema) S.Store conn.old }
+    ensures { Changes Fills S.Store conn.old conn.new result }
 {
     for cells in rows {
         fill_status(conn, number, cells)?;
@@ -107,11 +88,8 @@ fn fill_histories<S: Alter>(
     number: i64,
     rows: &[HistoryCells],
 ) -> Result<(), Unavailable>
-    requires { HasCleanDisk (state S.Store conn.old)
-        → IsAltering balance_schema (state S.Store conn.old) }
-    ensures ok { HasCleanDisk (state S.Store conn.new) → OnOk result
-        (Fills (state S.Store conn.old) (state S.Store conn.new)) }
-    ensures follows { Follows (state S.Store conn.old) (state S.Store conn.new) }
+    requires { IfClean (IsAltering balance_schema) S.Store conn.old }
+    ensures { Changes Fills S.Store conn.old conn.new result }
 {
     for cells in rows {
         fill_history(conn, number, cells)?;
@@ -121,15 +99,8 @@ fn fill_histories<S: Alter>(
 
 /// Sets the version, and makes the table of failed ids where that version has it.
 pub(crate) fn make_version<S: Alter>(conn: &mut Connection<S>, to: u32) -> Result<(), Unavailable>
-    requires altering { HasCleanDisk (state S.Store conn.old)
-        → IsAltering balance_schema (state S.Store conn.old) }
-    requires version { HasCleanDisk (state S.Store conn.old)
-        → HasOneVersion (state S.Store conn.old).now.trees }
-    requires numbered { HasCleanDisk (state S.Store conn.old)
-        → HasOrderedTables (state S.Store conn.old).now }
-    ensures ok { HasCleanDisk (state S.Store conn.new) → OnOk result
-        (MakesVersion to (state S.Store conn.old) (state S.Store conn.new)) }
-    ensures follows { Follows (state S.Store conn.old) (state S.Store conn.new) }
+    requires { IfClean CanSetVersion S.Store conn.old }
+    ensures { Changes (MakesVersion to) S.Store conn.old conn.new result }
 {
     if to < CURRENT_VERSION {
         return make_balanced(conn);
@@ -139,15 +110,8 @@ pub(crate) fn make_version<S: Alter>(conn: &mut Connection<S>, to: u32) -> Resul
 
 /// Makes the table of failed ids, and sets the current version.
 fn make_current<S: Alter>(conn: &mut Connection<S>) -> Result<(), Unavailable>
-    requires altering { HasCleanDisk (state S.Store conn.old)
-        → IsAltering balance_schema (state S.Store conn.old) }
-    requires version { HasCleanDisk (state S.Store conn.old)
-        → HasOneVersion (state S.Store conn.old).now.trees }
-    requires numbered { HasCleanDisk (state S.Store conn.old)
-        → HasOrderedTables (state S.Store conn.old).now }
-    ensures ok { HasCleanDisk (state S.Store conn.new) → OnOk result
-        (MakesCurrent (state S.Store conn.old) (state S.Store conn.new)) }
-    ensures follows { Follows (state S.Store conn.old) (state S.Store conn.new) }
+    requires { IfClean CanSetVersion S.Store conn.old }
+    ensures { Changes MakesCurrent S.Store conn.old conn.new result }
 {
     make_failed(conn)?;
     set_version(conn)
@@ -155,15 +119,8 @@ fn make_current<S: Alter>(conn: &mut Connection<S>) -> Result<(), Unavailable>
 
 /// Sets the version of the balance schema.
 fn make_balanced<S: Alter>(conn: &mut Connection<S>) -> Result<(), Unavailable>
-    requires altering { HasCleanDisk (state S.Store conn.old)
-        → IsAltering balance_schema (state S.Store conn.old) }
-    requires version { HasCleanDisk (state S.Store conn.old)
-        → HasOneVersion (state S.Store conn.old).now.trees }
-    requires numbered { HasCleanDisk (state S.Store conn.old)
-        → HasOrderedTables (state S.Store conn.old).now }
-    ensures ok { HasCleanDisk (state S.Store conn.new) → OnOk result
-        (MakesBalanced (state S.Store conn.old) (state S.Store conn.new)) }
-    ensures follows { Follows (state S.Store conn.old) (state S.Store conn.new) }
+    requires { IfClean CanSetVersion S.Store conn.old }
+    ensures { Changes MakesBalanced S.Store conn.old conn.new result }
 {
     set_balance_version(conn)
 }

@@ -1,16 +1,13 @@
 //! A ledger of any version, opened to be migrated.
 
-ghost use Rattle.std.specs.Prelude.{◌≡◌, ◌<◌, ◌≤◌, ◌↔◌, IsOk, IfOk, IfErr, IsTrue};
+ghost use Rattle.std.specs.Prelude.{◌≡◌, ◌≤◌, ◌↔◌, IsOk, IfOk, IfErr, IsTrue};
 ghost use Rattle.sqlite.specs.Files.{file_state, image_of};
 ghost use Rattle.sqlite.specs.State.{HasCleanDisk};
 ghost use Rattle.sqlite_wal.specs.Files.{image_at};
 ghost use Rattle.sqlite_wal.specs.Reads.{AreClean};
-ghost use Rattle.openings.specs.Damage.{Hold, IfDamaged};
 ghost use Rattle.openings.specs.Found.{IsSettled, Yields};
-ghost use Rattle.openings.specs.Opened.{IsOpened, LeavesRefused};
 ghost use Rattle.stored_ledgers.specs.Resting.{Serves};
-ghost use Rattle.migrate.specs.Ledgers.{IsMigratable, state_of};
-ghost use Rattle.migrate.specs.Upgrading.{IsDamaged, IsKnown, IsOlderLedger};
+ghost use Rattle.migrate.specs.Ledgers.{IsMigratable, IsOpenedToMigrate, RefusesFiles, state_of};
 
 use crate::any_version::AnyVersion;
 use openings::auditing::Audit;
@@ -50,17 +47,10 @@ impl<D: Disk + Drop> LedgerOfVersion<D> {
         requires log { IsTrue (D.Disk.is_usable files.log) }
         requires db { IsTrue (D.Disk.is_usable files.db) }
         ensures migratable { IfOk result IsMigratable }
-        ensures ready { IfOk result (λ ledger. IsTrue ledger.ready) }
-        ensures known { IfOk result (λ ledger. IsKnown ledger.version) }
-        ensures older { IfOk result (λ ledger. ledger.version < CURRENT_VERSION
-            → HasCleanDisk (state_of ledger) → IsOlderLedger ledger.version (state_of ledger).now) }
-        ensures opened { IfOk result (λ ledger. HasCleanDisk (state_of ledger)
-            → IsOpened (image_of D.Disk files) (state_of ledger)) }
+        ensures opened { IfOk result (IsOpenedToMigrate (image_of D.Disk files)) }
         ensures honest { IfOk result (λ ledger. HasCleanDisk (state_of ledger)
             → AreClean D.Disk files.log files.db) }
-        ensures damaged { IfErr result (λ e. AreClean D.Disk e.1.log e.1.db
-            → IfDamaged e.0 (λ damage. Hold D.Disk files (IsDamaged damage))) }
-        ensures left { IfErr result (λ e. LeavesRefused D.Disk files e.1) }
+        ensures refused { IfErr result (RefusesFiles D.Disk files) }
     {
         let (conn, found) = open_inspected(alloc, files, options, &AnyVersion { audit })?;
         Ok(LedgerOfVersion {
@@ -143,12 +133,7 @@ impl<St: Start> LedgerOfVersion<FileFrom<St>> {
         audit: &A,
     ) -> Result<LedgerOfVersion<FileFrom<St>>, OpenFault>
         ensures migratable { IfOk result IsMigratable }
-        ensures ready { IfOk result (λ ledger. IsTrue ledger.ready) }
-        ensures known { IfOk result (λ ledger. IsKnown ledger.version) }
-        ensures older { IfOk result (λ ledger. ledger.version < CURRENT_VERSION
-            → HasCleanDisk (state_of ledger) → IsOlderLedger ledger.version (state_of ledger).now) }
-        ensures opened { IfOk result (λ ledger. HasCleanDisk (state_of ledger)
-            → IsOpened (image_at St.Start) (state_of ledger)) }
+        ensures opened { IfOk result (IsOpenedToMigrate (image_at St.Start)) }
     {
         let files = files_at(rt, path, start)?;
         match LedgerOfVersion::open_for_migration(rt.alloc(), files, options, audit) {

@@ -1,15 +1,11 @@
-ghost use Rattle.std.specs.Prelude.{◌≡◌, ◌≢◌, ◌<◌, ◌≤◌, ◌↔◌, false, Err, IsOk, IfOk, IfErr};
-ghost use Rattle.std.specs.Prelude.{OnOk, OnErr, IsTrue};
+ghost use Rattle.std.specs.Prelude.{◌≡◌, ◌≢◌, ◌<◌, ◌≤◌, ◌↔◌, Err, IfOk, IsTrue};
 ghost use Rattle.records.specs.declared.unavailable.Unavailable.TheVariants.{Disk as DiskFailed};
 ghost use Rattle.sqlite.specs.Held.{state};
-ghost use Rattle.sqlite.specs.State.{HasCleanDisk, Survives};
-ghost use Rattle.ledger_sql.specs.Frames.{Live, Follows};
-ghost use Rattle.stored_ledgers.specs.Resting.{IsQuiet, IsSame};
-ghost use Rattle.openings.specs.Damage.{HasFirstDamage};
-ghost use Rattle.migrate.specs.Faults.{IfDamaged};
-ghost use Rattle.migrate.specs.Ledgers.{IsMigratable, state_of};
-ghost use Rattle.migrate.specs.Upgrading.{HasRisen, IsOlder, IsRaised, IsSoundIn, KeepsMachines};
-ghost use Rattle.migrate.specs.Upgrading.{Raised, older_schema};
+ghost use Rattle.ledger_sql.specs.Calls.{IfClean};
+ghost use Rattle.migrate.specs.Ledgers.{IsMigratable};
+ghost use Rattle.migrate.specs.Migrating.{LeavesAudited, MigratesLedger, RaisesLedger, RefusesNewer};
+ghost use Rattle.migrate.specs.Raising.{ReadsAtRest, RaisesOrTells};
+ghost use Rattle.migrate.specs.Upgrading.{IsOlder, older_schema};
 
 use crate::raising::raise;
 use crate::{LedgerOfVersion, MigrateFault, rows_in_version};
@@ -34,36 +30,10 @@ pub fn migrate<D: Disk + Drop>(
 ) -> Result<(), MigrateFault>
     requires migratable { IsMigratable ledger.old }
     requires known { to ≤ 3 }
-    ensures newer { to < ledger.old.version → result ≡ Err MigrateFault.NewerSchema }
-    ensures no_newer { ledger.old.version ≤ to → result ≢ Err MigrateFault.NewerSchema }
-    ensures equal { ledger.old.version ≡ to → IsOk result }
-    ensures unmoved { to ≤ ledger.old.version → ledger.new ≡ ledger.old }
-    ensures damaged { HasCleanDisk (state_of ledger.new) → IfErr result (λ fault. IfDamaged fault
-        (λ damage. HasFirstDamage ledger.old.version damage (state_of ledger.old).now.trees)) }
-    ensures version { OnOk result (ledger.new.version ≡ to) }
+    ensures tells { RefusesNewer to ledger.old ledger.new result }
     ensures migratable { IsMigratable ledger.new }
-    ensures sound { HasCleanDisk (state_of ledger.new) → ledger.old.version < to → OnOk result
-        (IsSoundIn ledger.old.version (state_of ledger.old).now.trees) }
-    ensures raised { HasCleanDisk (state_of ledger.new) → ledger.old.version < to → OnOk result
-        (HasRisen to (state_of ledger.old).now (state_of ledger.new).now) }
-    ensures kept { HasCleanDisk (state_of ledger.new) → OnOk result
-        (KeepsMachines (state_of ledger.old).now.trees (state_of ledger.new).now.trees) }
-    ensures same { Live (state_of ledger.new) → OnErr result
-        ((state_of ledger.new).now ≡ (state_of ledger.old).now) }
-    ensures stays { OnErr result (ledger.new.version ≡ ledger.old.version) }
-    ensures honest { HasCleanDisk (state_of ledger.new) → HasCleanDisk (state_of ledger.old) }
-    ensures lived { Live (state_of ledger.new) → Live (state_of ledger.old) }
-    ensures open { HasCleanDisk (state_of ledger.new) → IsTrue ledger.old.ready
-        → result ≢ Err (MigrateFault.Unavailable DiskFailed)
-        → IsTrue (state_of ledger.new).is_open }
-    ensures ready { result ≢ Err (MigrateFault.Unavailable DiskFailed)
-        → ledger.new.ready ≡ ledger.old.ready }
-    ensures disk { result ≡ Err (MigrateFault.Unavailable DiskFailed)
-        → ledger.new.ready ≡ false }
-    ensures refuses { ledger.old.version < to → ledger.old.ready ≡ false
-        → (result ≡ Err (MigrateFault.Unavailable DiskFailed)) × (ledger.new ≡ ledger.old) }
-    ensures finds { Survives (state_of ledger.old) (state_of ledger.new)
-        (Raised to (state_of ledger.old).now) }
+    ensures raises { ledger.old.version < to → RaisesLedger to ledger.old ledger.new result }
+    ensures migrates { MigratesLedger to ledger.old ledger.new result }
 {
     if to < ledger.version {
         return Err(MigrateFault::NewerSchema);
@@ -84,32 +54,9 @@ fn migrate_older<D: Disk + Drop>(
     requires older { ledger.old.version < to }
     requires known { to ≤ 3 }
     ensures no_newer { result ≢ Err MigrateFault.NewerSchema }
-    ensures damaged { HasCleanDisk (state_of ledger.new) → IfErr result (λ fault. IfDamaged fault
-        (λ damage. HasFirstDamage ledger.old.version damage (state_of ledger.old).now.trees)) }
-    ensures version { OnOk result (ledger.new.version ≡ to) }
     ensures migratable { IsMigratable ledger.new }
-    ensures sound { HasCleanDisk (state_of ledger.new) → OnOk result
-        (IsSoundIn ledger.old.version (state_of ledger.old).now.trees) }
-    ensures raised { HasCleanDisk (state_of ledger.new) → OnOk result
-        (HasRisen to (state_of ledger.old).now (state_of ledger.new).now) }
-    ensures kept { HasCleanDisk (state_of ledger.new) → OnOk result
-        (KeepsMachines (state_of ledger.old).now.trees (state_of ledger.new).now.trees) }
-    ensures same { Live (state_of ledger.new) → OnErr result
-        ((state_of ledger.new).now ≡ (state_of ledger.old).now) }
-    ensures stays { OnErr result (ledger.new.version ≡ ledger.old.version) }
-    ensures honest { HasCleanDisk (state_of ledger.new) → HasCleanDisk (state_of ledger.old) }
-    ensures lived { Live (state_of ledger.new) → Live (state_of ledger.old) }
-    ensures open { HasCleanDisk (state_of ledger.new)
-        → result ≢ Err (MigrateFault.Unavailable DiskFailed)
-        → IsTrue (state_of ledger.new).is_open }
-    ensures ready { result ≢ Err (MigrateFault.Unavailable DiskFailed)
-        → ledger.new.ready ≡ ledger.old.ready }
-    ensures disk { result ≡ Err (MigrateFault.Unavailable DiskFailed)
-        → ledger.new.ready ≡ false }
-    ensures refuses { ledger.old.ready ≡ false
-        → (result ≡ Err (MigrateFault.Unavailable DiskFailed)) × (ledger.new ≡ ledger.old) }
-    ensures finds { Survives (state_of ledger.old) (state_of ledger.new)
-        (Raised to (state_of ledger.old).now) }
+    ensures raises { RaisesLedger to ledger.old ledger.new result }
+    ensures migrates { MigratesLedger to ledger.old ledger.new result }
 {
     if !ledger.ready {
         return Err(MigrateFault::Unavailable(Unavailable::Disk));
@@ -134,24 +81,11 @@ fn raise_rows<S: Alter>(
     to: u32,
 ) -> Result<DueSets, MigrateFault>
     requires less { version < 3 }
-    requires older { HasCleanDisk (state S.Store conn.old)
-        → IsOlder (older_schema version) (state S.Store conn.old) }
-    ensures no_newer { result ≢ Err MigrateFault.NewerSchema }
-    ensures damaged { HasCleanDisk (state S.Store conn.new) → IfErr result (λ fault. IfDamaged fault
-        (λ damage. HasFirstDamage version damage (state S.Store conn.old).now.trees)) }
-    ensures sound { HasCleanDisk (state S.Store conn.new) → OnOk result
-        (IsSoundIn version (state S.Store conn.old).now.trees) }
-    ensures raised { HasCleanDisk (state S.Store conn.new) → IfOk result
-        (λ sets. IsRaised to sets (state S.Store conn.old).now (state S.Store conn.new).now) }
-    ensures quiet { HasCleanDisk (state S.Store conn.new) → OnOk result
-        (IsQuiet (state S.Store conn.new)) }
-    ensures same { Live (state S.Store conn.new) → OnErr result
-        (IsSame (state S.Store conn.old) (state S.Store conn.new)) }
-    ensures open { HasCleanDisk (state S.Store conn.new)
-        → result ≢ Err (MigrateFault.Unavailable DiskFailed)
-        → IsTrue (state S.Store conn.new).is_open }
-    ensures survives { Survives (state S.Store conn.old) (state S.Store conn.new)
-        (Raised to (state S.Store conn.old).now) }
+    requires older { IfClean (IsOlder (older_schema version)) S.Store conn.old }
+    ensures audited { LeavesAudited version
+        (state S.Store conn.old) (state S.Store conn.new) result }
+    ensures whole { RaisesOrTells (MigrateFault.Unavailable DiskFailed) to
+        (state S.Store conn.old) (state S.Store conn.new) result }
 {
     let newer = newer_rows(alloc, conn, version, to)?;
     let due = raise(alloc, conn, version, &newer, &FullAudit)?;
@@ -166,20 +100,12 @@ fn newer_rows<S: Alter>(
     to: u32,
 ) -> Result<AllRows, MigrateFault>
     requires less { version < 3 }
-    requires older { HasCleanDisk (state S.Store conn.old)
-        → IsOlder (older_schema version) (state S.Store conn.old) }
-    ensures no_newer { result ≢ Err MigrateFault.NewerSchema }
-    ensures damaged { HasCleanDisk (state S.Store conn.new) → IfErr result (λ fault. IfDamaged fault
-        (λ damage. HasFirstDamage version damage (state S.Store conn.old).now.trees)) }
+    requires older { IfClean (IsOlder (older_schema version)) S.Store conn.old }
+    ensures audited { LeavesAudited version
+        (state S.Store conn.old) (state S.Store conn.new) result }
     ensures version { IfOk result (λ newer. newer.version ≡ to) }
-    ensures sound { HasCleanDisk (state S.Store conn.new) → OnOk result
-        (IsSoundIn version (state S.Store conn.old).now.trees) }
-    ensures same { Live (state S.Store conn.new)
-        → IsSame (state S.Store conn.old) (state S.Store conn.new) }
-    ensures open { HasCleanDisk (state S.Store conn.new)
-        → result ≢ Err (MigrateFault.Unavailable DiskFailed)
-        → IsTrue (state S.Store conn.new).is_open }
-    ensures follows { Follows (state S.Store conn.old) (state S.Store conn.new) }
+    ensures reads { ReadsAtRest (MigrateFault.Unavailable DiskFailed)
+        (state S.Store conn.old) (state S.Store conn.new) result }
 {
     let older = rows_in(alloc, conn, version)?;
     check(alloc, &older)?;

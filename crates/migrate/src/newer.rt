@@ -1,10 +1,10 @@
 //! All rows of a ledger in a newer version of the schema.
 
-ghost use Rattle.std.specs.Prelude.{◌≡◌, ◌<◌, All, IfOk};
+ghost use Rattle.std.specs.Prelude.{◌<◌, All, IfOk};
 ghost use Rattle.std.specs.List.{AllZip};
 ghost use Rattle.rows.specs.TypedRows.{lists_of};
 ghost use Rattle.audit.specs.Sound.{AreSound};
-ghost use Rattle.migrate.specs.Migrated.{IsMigrated};
+ghost use Rattle.migrate.specs.Migrated.{AreMigrated, IsMigrated};
 
 use audit::rows_in_version as tenant_rows_in_version;
 use rows::{AllRows, TenantOfDigest};
@@ -17,10 +17,7 @@ pub fn rows_in_version(alloc: Global, rows: AllRows, to: u32) -> Result<AllRows,
     requires older { rows.version < 3 }
     requires sound { All (λ tenant. AreSound rows.version (lists_of tenant.rows))
         rows.tenants.items }
-    ensures version { IfOk result (λ newer. newer.version ≡ to) }
-    ensures directory { IfOk result (λ newer. newer.directory ≡ rows.directory) }
-    ensures tenants { IfOk result (λ newer.
-        AllZip (IsMigrated rows.version to) rows.tenants.items newer.tenants.items) }
+    ensures { IfOk result (AreMigrated to rows) }
 {
     let AllRows {
         version,

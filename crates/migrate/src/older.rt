@@ -1,17 +1,14 @@
 //! What an opening looks at in a ledger of an older version.
 
-ghost use Rattle.std.specs.Prelude.{◌≡◌, ◌<◌, ◌↔◌, All, None, Some, IfErr, IfSome, OnOk, IsTrue};
+ghost use Rattle.std.specs.Prelude.{◌≡◌, ◌<◌, All, IfErr, OnOk, IsTrue};
 ghost use Rattle.audit.specs.Damage.{IsFirstDamage};
 ghost use Rattle.audit.specs.Sound.{AreSound};
 ghost use Rattle.rows.specs.TypedRows.{lists_of};
-ghost use Rattle.sqlite.specs.State.{HasCleanDisk, IsUnchanged};
 ghost use Rattle.sqlite.specs.Held.{state};
-ghost use Rattle.ledger_sql.specs.Frames.{Live, Follows};
-ghost use Rattle.openings.specs.Damage.{HasFirstDamage, IfDamaged, IsNoDamage};
-ghost use Rattle.openings.specs.declared.opening.OpenFault.TheVariants.{NotALedger};
-ghost use Rattle.stored_ledgers.specs.Resting.{IsQuiet, IsSame};
+ghost use Rattle.openings.specs.Damage.{IfDamaged};
 ghost use Rattle.migrate.specs.Naming.{names_other};
-ghost use Rattle.migrate.specs.Upgrading.{older_schema, IsSoundIn};
+ghost use Rattle.migrate.specs.Older.{ExaminesOlder, LeavesExamined, RefusesUnless};
+ghost use Rattle.migrate.specs.Upgrading.{older_schema};
 
 use crate::naming::{names_no_balances, names_no_lists};
 use ledger_shape::{is_balances, is_lists};
@@ -32,19 +29,9 @@ pub(crate) fn examine_older<S: Alter, A: Audit>(
     audit: &A,
 ) -> Result<(), OpenFault>
     requires { version < 3 }
-    ensures schema { HasCleanDisk (state S.Store conn.new) → OnOk result
-        ((state S.Store conn.old).now.schema ≡ older_schema version) }
-    ensures sound { HasCleanDisk (state S.Store conn.new) → OnOk result
-        (IsSoundIn version (state S.Store conn.old).now.trees) }
-    ensures damaged { HasCleanDisk (state S.Store conn.new)
-        → IfErr result (λ fault. IfDamaged fault
-        (λ damage. ((state S.Store conn.old).now.schema ≡ older_schema version)
-        × HasFirstDamage version damage (state S.Store conn.old).now.trees)) }
-    ensures kept { HasCleanDisk (state S.Store conn.new) → OnOk result
-        (IsUnchanged (state S.Store conn.old) (state S.Store conn.new)) }
-    ensures same { Live (state S.Store conn.new) → IsQuiet (state S.Store conn.old)
-        → IsSame (state S.Store conn.old) (state S.Store conn.new) }
-    ensures follows { Follows (state S.Store conn.old) (state S.Store conn.new) }
+    ensures examined { ExaminesOlder version
+        (state S.Store conn.old) (state S.Store conn.new) result }
+    ensures looks { LeavesExamined (state S.Store conn.old) (state S.Store conn.new) result }
 {
     if let Some(fault) = older_refusal(version, conn.schema()) {
         return Err(fault);
@@ -72,10 +59,8 @@ fn audit_older<A: Audit>(alloc: Global, rows: &AllRows, audit: &A) -> Result<(),
 /// than those, behind which no more of a ledger's can be made.
 fn older_refusal(version: u32, schema: &Schema) -> Option<OpenFault>
     requires { version < 3 }
-    ensures schema { result ≡ None → schema.now ≡ older_schema version }
-    ensures named { (result ≡ Some NotALedger)
-        ↔ IsTrue (names_other (older_schema version) schema.now) }
-    ensures undamaged { IfSome result IsNoDamage }
+    ensures { RefusesUnless (schema.now ≡ older_schema version)
+        (names_other (older_schema version) schema.now) result }
 {
     if version == 1 {
         return refusal_unless(is_lists(schema), names_no_lists(schema));
@@ -84,9 +69,7 @@ fn older_refusal(version: u32, schema: &Schema) -> Option<OpenFault>
 }
 
 fn refusal_unless(is_it: bool, names_other: bool) -> Option<OpenFault>
-    ensures is { result ≡ None → IsTrue is_it }
-    ensures named { (result ≡ Some NotALedger) ↔ IsTrue names_other }
-    ensures undamaged { IfSome result IsNoDamage }
+    ensures { RefusesUnless (IsTrue is_it) names_other result }
 {
     match (names_other, is_it) {
         (true, _) => Some(OpenFault::NotALedger),

@@ -1,14 +1,17 @@
 //! A ledger of an older version becomes one of a newer version, in one transaction: whole or not at
 //! all. What was written is looked at as at an opening before it is committed.
 
-ghost use Rattle.std.specs.Prelude.{◌≡◌, ◌≢◌, ◌<◌, Err, IfOk, OnOk, OnErr, IsTrue};
+ghost use Rattle.std.specs.Prelude.{◌≢◌, IfOk, IsTrue};
 ghost use Rattle.records.specs.declared.unavailable.Unavailable.TheVariants.{Disk as DiskFailed};
-ghost use Rattle.sqlite.specs.State.{HasCleanDisk, IsUnchanged, Survives};
+ghost use Rattle.sqlite.specs.State.{HasCleanDisk};
 ghost use Rattle.sqlite.specs.Held.{state};
-ghost use Rattle.ledger_sql.specs.Frames.{Live, IsUnmarked, Follows};
+ghost use Rattle.ledger_sql.specs.Calls.{Changes, IfClean};
+ghost use Rattle.ledger_sql.specs.Frames.{Live, Follows};
 ghost use Rattle.stored_ledgers.specs.Resting.{IsQuiet, IsSame};
-ghost use Rattle.migrate.specs.Raising.{HasBalanceTables, IsPrepared, IsSeen};
-ghost use Rattle.migrate.specs.Upgrading.{IsOlder, IsRaised, Raised, older_schema};
+ghost use Rattle.migrate.specs.Older.{LeavesExamined};
+ghost use Rattle.migrate.specs.Raising.{HasBalanceTables, IsSeen, Prepares};
+ghost use Rattle.migrate.specs.Raising.{RaisesOrBegins, RaisesOrTells, RaisesWhole};
+ghost use Rattle.migrate.specs.Upgrading.{IsOlder, older_schema};
 
 use crate::filling::{make_derived, make_version};
 use crate::older::examine_older;
@@ -37,20 +40,9 @@ pub(crate) fn raise<S: Alter, A: Audit>(
     rows: &AllRows,
     audit: &A,
 ) -> Result<DueSets, OpenFault>
-    requires { HasCleanDisk (state S.Store conn.old)
-        → IsOlder (older_schema version) (state S.Store conn.old) }
-    ensures raised { HasCleanDisk (state S.Store conn.new) → IfOk result
-        (λ sets. IsRaised rows.now.version sets (state S.Store conn.old).now
-        (state S.Store conn.new).now) }
-    ensures quiet { HasCleanDisk (state S.Store conn.new) → OnOk result
-        (IsQuiet (state S.Store conn.new)) }
-    ensures same { Live (state S.Store conn.new) → OnErr result
-        (IsSame (state S.Store conn.old) (state S.Store conn.new)) }
-    ensures open { HasCleanDisk (state S.Store conn.new)
-        → result ≢ Err (OpenFault.Unavailable DiskFailed)
-        → IsTrue (state S.Store conn.new).is_open }
-    ensures survives { Survives (state S.Store conn.old) (state S.Store conn.new)
-        (Raised rows.now.version (state S.Store conn.old).now) }
+    requires { IfClean (IsOlder (older_schema version)) S.Store conn.old }
+    ensures { RaisesOrTells (OpenFault.Unavailable DiskFailed) rows.now.version
+        (state S.Store conn.old) (state S.Store conn.new) result }
 {
     match raise_whole(alloc, conn, version, rows, audit) {
         Ok(due) => Ok(due),
@@ -66,19 +58,9 @@ fn raise_whole<S: Alter, A: Audit>(
     rows: &AllRows,
     audit: &A,
 ) -> Result<DueSets, OpenFault>
-    requires { HasCleanDisk (state S.Store conn.old)
-        → IsOlder (older_schema version) (state S.Store conn.old) }
-    ensures raised { HasCleanDisk (state S.Store conn.new) → IfOk result
-        (λ sets. IsRaised rows.now.version sets (state S.Store conn.old).now
-        (state S.Store conn.new).now) }
-    ensures quiet { HasCleanDisk (state S.Store conn.new) → OnOk result
-        (IsQuiet (state S.Store conn.new)) }
-    ensures open { HasCleanDisk (state S.Store conn.new)
-        → OnOk result (IsTrue (state S.Store conn.new).is_open) }
-    ensures same { Live (state S.Store conn.new) → OnErr result
-        (IsSame (state S.Store conn.old) (state S.Store conn.new)) }
-    ensures survives { Survives (state S.Store conn.old) (state S.Store conn.new)
-        (Raised rows.now.version (state S.Store conn.old).now) }
+    requires { IfClean (IsOlder (older_schema version)) S.Store conn.old }
+    ensures { RaisesWhole rows.now.version
+        (state S.Store conn.old) (state S.Store conn.new) result }
 {
     let raised = write(alloc, conn, version, rows, audit);
     if raised.is_err() {
@@ -95,21 +77,9 @@ fn write<S: Alter, A: Audit>(
     rows: &AllRows,
     audit: &A,
 ) -> Result<DueSets, OpenFault>
-    requires { HasCleanDisk (state S.Store conn.old)
-        → IsOlder (older_schema version) (state S.Store conn.old) }
-    ensures raised { HasCleanDisk (state S.Store conn.new) → IfOk result
-        (λ sets. IsRaised rows.now.version sets (state S.Store conn.old).now
-        (state S.Store conn.new).now) }
-    ensures quiet { HasCleanDisk (state S.Store conn.new) → OnOk result
-        (IsQuiet (state S.Store conn.new)) }
-    ensures open { HasCleanDisk (state S.Store conn.new)
-        → OnOk result (IsTrue (state S.Store conn.new).is_open) }
-    ensures committed { Live (state S.Store conn.new) → OnErr result
-        ((state S.Store conn.new).committed ≡ (state S.Store conn.old).committed) }
-    ensures unmarked { Live (state S.Store conn.new) → OnErr result
-        (IsUnmarked (state S.Store conn.new)) }
-    ensures survives { Survives (state S.Store conn.old) (state S.Store conn.new)
-        (Raised rows.now.version (state S.Store conn.old).now) }
+    requires { IfClean (IsOlder (older_schema version)) S.Store conn.old }
+    ensures { RaisesOrBegins rows.now.version
+        (state S.Store conn.old) (state S.Store conn.new) result }
 {
     let due = prepare(alloc, conn, version, rows, audit)?;
     commit(conn)?;
@@ -124,12 +94,9 @@ fn prepare<S: Alter, A: Audit>(
     rows: &AllRows,
     audit: &A,
 ) -> Result<DueSets, OpenFault>
-    requires { HasCleanDisk (state S.Store conn.old)
-        → IsOlder (older_schema version) (state S.Store conn.old) }
-    ensures prepared { HasCleanDisk (state S.Store conn.new) → IfOk result
-        (λ sets. IsPrepared rows.now.version sets (state S.Store conn.old)
-        (state S.Store conn.new)) }
-    ensures follows { Follows (state S.Store conn.old) (state S.Store conn.new) }
+    requires { IfClean (IsOlder (older_schema version)) S.Store conn.old }
+    ensures { Prepares rows.now.version
+        (state S.Store conn.old) (state S.Store conn.new) result }
 {
     begin_balanced(conn, version, rows)?;
     make_version(conn, rows.version)?;
@@ -143,11 +110,8 @@ fn begin_balanced<S: Alter>(
     version: u32,
     rows: &AllRows,
 ) -> Result<(), Unavailable>
-    requires { HasCleanDisk (state S.Store conn.old)
-        → IsOlder (older_schema version) (state S.Store conn.old) }
-    ensures ok { HasCleanDisk (state S.Store conn.new) → OnOk result
-        (HasBalanceTables (state S.Store conn.old) (state S.Store conn.new)) }
-    ensures follows { Follows (state S.Store conn.old) (state S.Store conn.new) }
+    requires { IfClean (IsOlder (older_schema version)) S.Store conn.old }
+    ensures { Changes HasBalanceTables S.Store conn.old conn.new result }
 {
     begin(conn)?;
     if version == 1 {
@@ -166,9 +130,7 @@ fn look_at<S: Alter, A: Audit>(
 ) -> Result<DueSets, OpenFault>
     ensures seen { HasCleanDisk (state S.Store conn.new) → IfOk result
         (λ sets. IsSeen version sets (state S.Store conn.old).now) }
-    ensures kept { HasCleanDisk (state S.Store conn.new) → OnOk result
-        (IsUnchanged (state S.Store conn.old) (state S.Store conn.new)) }
-    ensures follows { Follows (state S.Store conn.old) (state S.Store conn.new) }
+    ensures looks { LeavesExamined (state S.Store conn.old) (state S.Store conn.new) result }
 {
     if version < CURRENT_VERSION {
         examine_older(alloc, conn, BALANCE_VERSION, audit)?;

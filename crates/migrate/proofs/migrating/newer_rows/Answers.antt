@@ -1,4 +1,4 @@
-use Rattle.std.proofs.Common.{ℕ, All, Err, ap, subst, ◌∙◌}
+use Rattle.std.proofs.Common.{ℕ, All, Err, ap, subst, ◌∙◌, rules}
 use Rattle.std.proofs.lemmas.Result.{err_from_is_err_and}
 use Rattle.rows.specs.declared.all_rows.TenantOfDigest.{TenantOfDigest}
 use Rattle.rows.specs.TypedRows.{lists_of}
@@ -19,28 +19,36 @@ rows_in-requires g c clean =
       older_tables c.args.version _ c.requires.less older.rests.schema_is,
     )
 
-pub returns-in_err-check-clause-no_newer : goal.returns-in_err-check-clause-no_newer
-returns-in_err-check-clause-no_newer g c =
-    let p = err_from_is_err_and c.from_residual-in_err-check.result c.from_residual-in_err-check.ensures.1 in
-    no_newer_by_audit c.from_residual-in_err-check.result _ (p.1 ∙ ap Err p.2)
-
-pub returns-in_err-check-clause-damaged : goal.returns-in_err-check-clause-damaged
-returns-in_err-check-clause-damaged g c clean =
-    let p = err_from_is_err_and c.from_residual-in_err-check.result c.from_residual-in_err-check.ensures.1 in
-    damage_by_audit c.from_residual-in_err-check.result c.args.version _ _ c.in_ok-older.older
-    (state g.S.Store c.args.conn.now).now.trees (p.1 ∙ ap Err p.2)
-    c.in_ok-older.ensures.version c.in_err-check.ensures.damaged (c.in_ok-older.ensures.value clean)
-
-pub returns-in_err-check-clause-open : goal.returns-in_err-check-clause-open
-returns-in_err-check-clause-open g c clean told = c.in_ok-older.ensures.open clean (λ failed. no_fault failed)
-
-pub returns-clause-sound : goal.returns-clause-sound
-returns-clause-sound g c clean =
-    let rows = c.in_ok-older.older in
-    let read = c.in_ok-older.ensures.value clean in
+pub returns-in_err-check-clause-audited : goal.returns-in_err-check-clause-audited
+returns-in_err-check-clause-audited g c =
+    let told = c.from_residual-in_err-check.result in
+    let p = err_from_is_err_and told c.from_residual-in_err-check.ensures.1 in
     record {
-      all = rows;
-      read = read;
-      sound = subst (λ (v : ℕ). All (λ (tenant : TenantOfDigest). AreSound v (lists_of tenant.rows)) rows.tenants.items)
-          read.version_is c.in_ok-check.ensures.sound;
+      no_newer = no_newer_by_audit told _ (p.1 ∙ ap Err p.2);
+      damaged = λ clean.
+          damage_by_audit told c.args.version _ _ c.in_ok-older.older (state g.S.Store c.args.conn.now).now.trees (p.1 ∙ ap Err p.2)
+          c.in_ok-older.ensures.version c.in_err-check.ensures.damaged (c.in_ok-older.ensures.value clean);
+      sound = search rules;
     }
+
+pub returns-in_err-check-clause-reads : goal.returns-in_err-check-clause-reads
+returns-in_err-check-clause-reads g c = record {
+  same = c.in_ok-older.ensures.same;
+  is_open = λ clean told. c.in_ok-older.ensures.open clean (λ failed. no_fault failed);
+  follows = c.in_ok-older.ensures.follows;
+}
+
+pub returns-clause-audited : goal.returns-clause-audited
+returns-clause-audited g c = record {
+  no_newer = λ newer. no_fault newer;
+  damaged = search rules;
+  sound = λ clean.
+      let rows = c.in_ok-older.older in
+      let read = c.in_ok-older.ensures.value clean in
+      record {
+        all = rows;
+        read = read;
+        sound = subst (λ (v : ℕ). All (λ (tenant : TenantOfDigest). AreSound v (lists_of tenant.rows)) rows.tenants.items)
+            read.version_is c.in_ok-check.ensures.sound;
+      };
+}

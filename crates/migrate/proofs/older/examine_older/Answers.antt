@@ -13,30 +13,28 @@ use Rattle.openings.specs.DamageLaws.{first_of_read, if_damaged_more}
 use Rattle.migrate.proofs.OlderLemmas.{older_tables}
 use Rattle.migrate.proofs.older.examine_older.Goals as goal
 
-pub returns-clause-schema : goal.returns-clause-schema
-returns-clause-schema g c clean =
-    on_ok_weaker c.audit_older.result (λ _. sym c.schema.ensures.value ∙ c.older_refusal.ensures.schema c.in_default.is) c.audit_older.ensures.sound
-
-pub returns-clause-sound : goal.returns-clause-sound
-returns-clause-sound g c clean =
-    let rows = c.in_ok-rows.rows in
-    let schema = sym c.schema.ensures.value ∙ c.older_refusal.ensures.schema c.in_default.is in
-    let read = c.in_ok-rows.ensures.whole clean (older_tables c.args.version _ c.requires schema) in
-    on_ok_weaker c.audit_older.result (λ sound. record {
-      all = rows;
-      read = read;
-      sound = subst (λ (v : ℕ). All (λ (tenant : TenantOfDigest). AreSound v (lists_of tenant.rows)) rows.tenants.items) read.version_is sound;
-    }) c.audit_older.ensures.sound
-
-pub returns-clause-damaged : goal.returns-clause-damaged
-returns-clause-damaged g c clean =
+pub returns-clause-examined : goal.returns-clause-examined
+returns-clause-examined g c =
+    let version = c.args.version in
     let rows = c.in_ok-rows.rows in
     let db = (state g.S.Store c.args.conn.now).now in
-    let schema = sym c.schema.ensures.value ∙ c.older_refusal.ensures.schema c.in_default.is in
-    let read = c.in_ok-rows.ensures.whole clean (older_tables c.args.version _ c.requires schema) in
-    let P = λ (damage : Damage). IsFirstDamage rows.version rows.tenants.items damage in
-    let Q = λ (damage : Damage). (db.schema ≡ older_schema c.args.version) × HasFirstDamage c.args.version damage db.trees in
-    IfErr-weaker c.audit_older.result (λ (told : OpenFault). IfDamaged told P) (λ (told : OpenFault). IfDamaged told Q)
-    (λ told. if_damaged_more told P Q (λ damage first.
-    (schema, first_of_read c.args.version rows.version db.trees rows damage read read.version_is first)))
-    c.audit_older.ensures.damaged
+    let schema = sym c.schema.ensures.value ∙ c.older_refusal.ensures.is c.in_default.is in
+    let tables = older_tables version _ c.requires schema in
+    record {
+      schema = λ clean. on_ok_weaker c.audit_older.result (λ _. schema) c.audit_older.ensures.sound;
+      sound = λ clean.
+          let read = c.in_ok-rows.ensures.whole clean tables in
+          on_ok_weaker c.audit_older.result (λ sound. record {
+            all = rows;
+            read = read;
+            sound = subst (λ (v : ℕ). All (λ (tenant : TenantOfDigest). AreSound v (lists_of tenant.rows)) rows.tenants.items) read.version_is sound;
+          }) c.audit_older.ensures.sound;
+      damaged = λ clean.
+          let read = c.in_ok-rows.ensures.whole clean tables in
+          let P = λ (damage : Damage). IsFirstDamage rows.version rows.tenants.items damage in
+          let Q = λ (damage : Damage). (db.schema ≡ older_schema version) × HasFirstDamage version damage db.trees in
+          IfErr-weaker c.audit_older.result (λ (told : OpenFault). IfDamaged told P) (λ (told : OpenFault). IfDamaged told Q)
+          (λ told. if_damaged_more told P Q (λ damage first.
+          (schema, first_of_read version rows.version db.trees rows damage read read.version_is first)))
+          c.audit_older.ensures.damaged;
+    }

@@ -1,4 +1,4 @@
-use Rattle.std.proofs.Common.{subst, ◌∙◌, arith}
+use Rattle.std.proofs.Common.{subst, ◌∙◌, arith, rules}
 use Rattle.sqlite_schema.specs.declared.schema.Schema.{Schema}
 use Rattle.sqlite.specs.Held.{state}
 use Rattle.sqlite.specs.State.{HasCleanDisk}
@@ -15,21 +15,27 @@ make_derived-requires g c clean1 =
     let is = older_lists c.args.version c.if-version-eq1.true in
     begun_altering list_schema s0 (state g.S.Store c.begin.new.conn) (c.in_ok-begin.ensures.ok clean1) ((c.requires clean0).rests.schema_is ∙ is)
 
-pub returns-then-version-eq1-clause-ok : goal.returns-then-version-eq1-clause-ok
-returns-then-version-eq1-clause-ok g c clean2 =
-    let s0 = state g.S.Store c.args.conn.now in
-    let s1 = state g.S.Store c.begin.new.conn in
-    let s2 = state g.S.Store c.make_derived.new.conn in
-    let clean1 : HasCleanDisk s1 = omega (arith, c.in_ok-make_derived.ensures.follows.survives.clean, clean2) in
-    let clean0 : HasCleanDisk s0 = omega (arith, c.in_ok-begin.ensures.follows.survives.clean, clean1) in
-    let is = older_lists c.args.version c.if-version-eq1.true in
-    made_balances s0 s1 s2 (subst (λ (schema : Schema). IsOlder schema s0) is (c.requires clean0))
-    (c.in_ok-begin.ensures.ok clean1).now (c.in_ok-make_derived.ensures.ok clean2)
+pub returns-then-version-eq1 : goal.returns-then-version-eq1
+returns-then-version-eq1 g c = record {
+  ok = λ clean2.
+      let s0 = state g.S.Store c.args.conn.now in
+      let s1 = state g.S.Store c.begin.new.conn in
+      let s2 = state g.S.Store c.make_derived.new.conn in
+      let clean1 : HasCleanDisk s1 = omega (arith, c.in_ok-make_derived.ensures.follows.survives.clean, clean2) in
+      let clean0 : HasCleanDisk s0 = omega (arith, c.in_ok-begin.ensures.follows.survives.clean, clean1) in
+      let is = older_lists c.args.version c.if-version-eq1.true in
+      made_balances s0 s1 s2 (subst (λ (schema : Schema). IsOlder schema s0) is (c.requires clean0))
+      (c.in_ok-begin.ensures.ok clean1).now (c.in_ok-make_derived.ensures.ok clean2);
+  follows = search rules;
+}
 
-pub returns-clause-ok : goal.returns-clause-ok
-returns-clause-ok g c clean1 =
-    let s0 = state g.S.Store c.args.conn.now in
-    let s1 = state g.S.Store c.begin.new.conn in
-    let clean0 : HasCleanDisk s0 = omega (arith, c.in_ok-begin.ensures.follows.survives.clean, clean1) in
-    let is = older_balances c.args.version c.if-version-eq1.false in
-    had_balances s0 s1 (subst (λ (schema : Schema). IsOlder schema s0) is (c.requires clean0)) (c.in_ok-begin.ensures.ok clean1)
+pub returns : goal.returns
+returns g c = record {
+  ok = λ clean1.
+      let s0 = state g.S.Store c.args.conn.now in
+      let s1 = state g.S.Store c.begin.new.conn in
+      let clean0 : HasCleanDisk s0 = omega (arith, c.in_ok-begin.ensures.follows.survives.clean, clean1) in
+      let is = older_balances c.args.version c.if-version-eq1.false in
+      had_balances s0 s1 (subst (λ (schema : Schema). IsOlder schema s0) is (c.requires clean0)) (c.in_ok-begin.ensures.ok clean1);
+  follows = search rules;
+}

@@ -16,15 +16,15 @@ returns-then-version-lt-CURRENT_VERSION-clause-finds g c clean =
     let version = c.in_ok-version.version in
     let s0 = state g.S.Store c.args.conn.now in
     let s1 = state g.S.Store c.find_version.new.conn in
-    let clean1 : HasCleanDisk s1 = omega (arith, c.in_ok-examine_older.ensures.follows.survives.clean, clean) in
+    let clean1 : HasCleanDisk s1 = omega (arith, c.in_ok-examine_older.ensures.looks.follows.survives.clean, clean) in
     let same : s1.now ≡ s0.now = (c.in_ok-version.ensures.kept clean1).0.now_is in
-    let schema : s0.now.schema ≡ older_schema version = ap (λ (d : Database). d.schema) (sym same) ∙ c.in_ok-examine_older.ensures.schema clean in
+    let schema : s0.now.schema ≡ older_schema version = ap (λ (d : Database). d.schema) (sym same) ∙ c.in_ok-examine_older.ensures.examined.schema clean in
     record {
       current = λ three. absurd (let less = c.if-version-lt-CURRENT_VERSION.true in omega (arith, three, less));
       older = λ less. record {
         schema = schema;
         named = c.in_ok-version.ensures.named clean1 (older_starts version s0.now.schema schema);
-        sound = subst (λ (d : Database). IsSoundIn version d.trees) same (c.in_ok-examine_older.ensures.sound clean);
+        sound = subst (λ (d : Database). IsSoundIn version d.trees) same (c.in_ok-examine_older.ensures.examined.sound clean);
       };
     }
 

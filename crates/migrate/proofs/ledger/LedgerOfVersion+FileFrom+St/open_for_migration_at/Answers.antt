@@ -1,8 +1,7 @@
 use Rattle.std.proofs.Common.{ℕ, Bool, cond, List, ap₂, subst}
 use Rattle.sqlite_disk.specs.Events.{Event, replay}
 use Rattle.sqlite_wal.specs.Recovery.{Image}
-use Rattle.openings.specs.Opened.{IsOpened}
-use Rattle.migrate.specs.Ledgers.{state_of}
+use Rattle.migrate.specs.Ledgers.{IsOpenedToMigrate}
 use Rattle.migrate.proofs.ledger.LedgerOfVersion+FileFrom+St.open_for_migration_at.Goals as goal
 
 abbrev image : List ℕ → List ℕ → Image
@@ -12,8 +11,8 @@ abbrev seen : List ℕ → List ℕ → Bool → List Event → List ℕ
 seen log db is_log history = (replay (cond is_log log db) history).seen
 
 pub returns-in-Ok-clause-opened : goal.returns-in-Ok-clause-opened
-returns-in-Ok-clause-opened g c honest =
+returns-in-Ok-clause-opened g c =
     let fresh = c.in_ok-files.ensures.fresh in
     let same = ap₂ image (ap₂ (seen g.St.Start.log g.St.Start.db) fresh.0.0 fresh.0.1)
     (ap₂ (seen g.St.Start.log g.St.Start.db) fresh.1.0 fresh.1.1) in
-    subst (λ (i : Image). IsOpened i (state_of c.in-Ok.ledger)) same (c.in-Ok.ensures.opened honest)
+    subst (λ (i : Image). IsOpenedToMigrate i c.in-Ok.ledger) same c.in-Ok.ensures.opened

@@ -1,3 +1,4 @@
+use Rattle.std.proofs.Common.{rules}
 use Rattle.std.proofs.lemmas.Result.{err_from_is_err_and}
 use Rattle.migrate.specs.UpgradingLaws.{older_between}
 use Rattle.migrate.proofs.ledger.LedgerOfVersion.open_for_migration.Goals as goal
@@ -17,15 +18,17 @@ returns-clause-migratable g c =
       is_open = λ _ clean. (e.opened clean).is_open;
     }
 
-pub returns-clause-older : goal.returns-clause-older
-returns-clause-older g c less clean = (c.in_ok-conn.ensures.finds clean).older less
+pub returns-clause-opened : goal.returns-clause-opened
+returns-clause-opened g c =
+    let e = c.in_ok-conn.ensures in
+    record {
+      ready = search rules;
+      known = e.known;
+      older = λ less clean. (e.finds clean).older less;
+      opened = e.opened;
+    }
 
-pub returns-in_err-conn-clause-damaged : goal.returns-in_err-conn-clause-damaged
-returns-in_err-conn-clause-damaged g c =
+pub returns-in_err-conn-clause-refused : goal.returns-in_err-conn-clause-refused
+returns-in_err-conn-clause-refused g c =
     let p = err_from_is_err_and c.from_residual.result c.from_residual.ensures.1 in
-    rw (p.1, p.2) c.in_err-conn.ensures.damaged
-
-pub returns-in_err-conn-clause-left : goal.returns-in_err-conn-clause-left
-returns-in_err-conn-clause-left g c =
-    let p = err_from_is_err_and c.from_residual.result c.from_residual.ensures.1 in
-    rw (p.1, p.2) c.in_err-conn.ensures.left
+    rw (p.1, p.2) (record { damaged = c.in_err-conn.ensures.damaged; left = c.in_err-conn.ensures.left })

@@ -1,0 +1,34 @@
+-- What an opening tells of a file of an older version.
+use Rattle.std.specs.Prelude.{◌≡◌, ◌↔◌, ℕ, Bool, Option, None, Some, Result, IfSome, IfErr, OnOk, IsTrue}
+use Rattle.sqlite.specs.State.{State, HasCleanDisk, IsUnchanged}
+use Rattle.ledger_sql.specs.Frames.{Live, Follows}
+use Rattle.stored_ledgers.specs.Resting.{IsQuiet, IsSame}
+use Rattle.openings.specs.Damage.{HasFirstDamage, IfDamaged, IsNoDamage}
+use Rattle.openings.specs.declared.opening.OpenFault.{OpenFault}
+use Rattle.openings.specs.declared.opening.OpenFault.TheVariants.{NotALedger}
+use Rattle.migrate.specs.Upgrading.{older_schema, IsSoundIn}
+
+-- a file is refused unless it is so: as no ledger exactly where other tables are named, and never
+-- for damage
+pub record RefusesUnless (Is : Type 0) (names_other : Bool) (result : Option OpenFault) : Type 0 where
+  pub is : result ≡ None → Is
+  pub named : (result ≡ Some NotALedger) ↔ IsTrue names_other
+  pub undamaged : IfSome result IsNoDamage
+
+-- a call that examines a database: answered, it has changed nothing; between two batches it leaves
+-- what it found, whatever it answers
+pub record LeavesExamined {A E : Type 0} (old new : State) (result : Result A E) : Type 0 where
+  pub kept : HasCleanDisk new → OnOk result (IsUnchanged old new)
+  pub same : Live new → IsQuiet old → IsSame old new
+  pub follows : Follows old new
+
+-- an older ledger is examined: answered, it has the schema of its version and sound rows; of damage
+-- the first is told, and only of tables of that schema
+pub record ExaminesOlder {A : Type 0} (version : ℕ) (old new : State)
+    (result : Result A OpenFault) : Type 0 where
+  pub schema : HasCleanDisk new → OnOk result (old.now.schema ≡ older_schema version)
+  pub sound : HasCleanDisk new → OnOk result (IsSoundIn version old.now.trees)
+  pub damaged :
+      HasCleanDisk new → IfErr result (λ fault. IfDamaged fault
+      (λ damage. (old.now.schema ≡ older_schema version)
+      × HasFirstDamage version damage old.now.trees))
