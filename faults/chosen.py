@@ -25,50 +25,75 @@ class Answered(Connection):
 
 
 class Run:
-    """The steps of one run, and for each what looks at its answer."""
+    """The steps of one run, and for each answer what looks at it."""
 
     def __init__(self):
         self.lines, self.looks = [], []
 
-    def add(self, line, look):
+    def add(self, line, *looks):
         self.lines.append(line)
-        self.looks.append(look)
+        self.looks += looks
+
+    def named(self, step, name, key, told):
+        """A step of a name and a key, which is told one of some words."""
+        digest = hashlib.sha256(bytes.fromhex(key)).hexdigest()
+        self.add(f"{step} {name} {digest}",
+                 lambda answer: want(answer == told, f"{step} {name}: {answer}, not {told}"))
 
     def tenant(self, name, key, told):
-        """A new tenant, who is told one of some words."""
-        digest = hashlib.sha256(bytes.fromhex(key)).hexdigest()
-        self.add(f"tenant {name} {digest}",
-                 lambda answer: want(answer == told, f"{name}: {answer}, not {told}"))
+        """A new tenant."""
+        self.named("tenant", name, key, told)
+
+    def keyed(self, name, key, told):
+        """Another key for a tenant."""
+        self.named("key", name, key, told)
 
     def reopen(self):
         self.add("reopen", lambda answer: want(answer == "opened", f"reopened: {answer}"))
 
     def ask(self, desk, asked, moment, look):
         """A request, and what looks at its reply."""
-        method, path, body = asked
-        self.add(f"request {moment} {message(method, path, desk.key, body).hex()}",
-                 lambda answer: look(told_by(desk, asked, answer)))
+        text, heard = request(desk, asked, moment, look)
+        self.add(f"request {text}", heard)
 
     def batch(self, desk, events, moment, transfers=True):
-        desk.asked |= {event["id"] for event in events if transfers}
+        self.ask(desk, *batch_of(desk, events, moment, transfers))
 
-        def look(told):
-            want(told is not None, "unavailable, with all at hand")
-            clock = max(desk.ledger.clock, moment) + len(events)
-            want(told["clock"] == str(clock), f"{told['clock']}, not {clock}")
-            desk.judge(events, transfers, told)
-
-        path = "/transfers" if transfers else "/accounts"
-        self.ask(desk, ("POST", path, body_of(events)), moment, look)
+    def round(self, batches):
+        """Batches of transfers that are answered together: of each its desk, its events and its
+        moment."""
+        requests = [request(each[0], *batch_of(*each)) for each in batches]
+        texts = " ".join(text for text, _ in requests)
+        self.add(f"round {texts}", *[heard for _, heard in requests])
 
     def play(self, program, db, age):
         """Runs the steps, and looks at the answers in turn."""
         text = "".join(f"{line}\n" for line in self.lines).encode()
         done = subprocess.run([program, db, age], input=text, stdout=subprocess.PIPE, check=True)
         answers = done.stdout.decode().splitlines()
-        want(len(answers) == len(self.lines), f"{len(answers)} answers")
+        want(len(answers) == len(self.looks), f"{len(answers)} answers")
         for look, answer in zip(self.looks, answers):
             look(answer)
+
+
+def request(desk, asked, moment, look):
+    """A request as a step has it, and what looks at its answer."""
+    method, path, body = asked
+    return (f"{moment} {message(method, path, desk.key, body).hex()}",
+            lambda answer: look(told_by(desk, asked, answer)))
+
+
+def batch_of(desk, events, moment, transfers=True):
+    """What a batch asks, its moment, and what looks at its reply."""
+    desk.asked |= {event["id"] for event in events if transfers}
+
+    def look(told):
+        want(told is not None, "unavailable, with all at hand")
+        clock = max(desk.ledger.clock, moment) + len(events)
+        want(told["clock"] == str(clock), f"{told['clock']}, not {clock}")
+        desk.judge(events, transfers, told)
+
+    return ("POST", "/transfers" if transfers else "/accounts", body_of(events)), moment, look
 
 
 def told_by(desk, asked, answer):
@@ -88,7 +113,7 @@ class Firms:
 
     def __init__(self, random):
         self.random, self.moment = random, 10**18
-        self.desks = [Desk(f"{random.getrandbits(256):064x}") for _ in NAMES]
+        self.desks = [Desk(self.key()) for _ in NAMES]
         self.requests = [Requests(random, 10**6 * place) for place in range(1, len(NAMES) + 1)]
 
     def first(self):
@@ -104,19 +129,41 @@ class Firms:
         self.moment += self.random.choice((0, 1, 999_999_999, 10**9, self.random.randrange(10**9)))
         return self.random.choice((self.moment, self.moment, self.moment, 0))
 
-    def next(self, batches):
+    def key(self):
+        return f"{self.random.getrandbits(256):064x}"
+
+    def drawn_batch(self):
+        """A batch of a tenant, and its moment."""
+        place = self.random.randrange(len(self.desks))
+        return self.desks[place], self.requests[place].batch(), self.next_moment()
+
+    def turn(self, run):
+        """Now and then something that is no request."""
+        place, draw = self.random.randrange(len(self.desks)), self.random.random()
+        desk, other = self.desks[place], self.desks[place - 1]
+        if draw < 0.02:
+            run.reopen()
+        elif draw < 0.03:
+            run.tenant(NAMES[place], self.key(), "name_taken")
+        elif draw < 0.04:
+            run.tenant("another-name", desk.key, "digest_taken")
+        elif draw < 0.05:
+            desk.key = self.key()
+            run.keyed(NAMES[place], desk.key, "changed")
+        elif draw < 0.06:
+            run.keyed(NAMES[place], other.key, "digest_taken")
+        elif draw < 0.07:
+            run.keyed("another-name", self.key(), "no_tenant")
+
+    def next(self, turns):
         """A run of random steps."""
         run = Run()
-        for _ in range(batches):
-            place = self.random.randrange(len(self.desks))
-            draw = self.random.random()
-            if draw < 0.02:
-                run.reopen()
-            elif draw < 0.03:
-                run.tenant(NAMES[place], f"{self.random.getrandbits(256):064x}", "name_taken")
-            elif draw < 0.04:
-                run.tenant("another-name", self.desks[place].key, "digest_taken")
-            run.batch(self.desks[place], self.requests[place].batch(), self.next_moment())
+        for _ in range(turns):
+            self.turn(run)
+            if self.random.random() < 0.2:
+                run.round([self.drawn_batch() for _ in range(self.random.randint(1, 5))])
+            else:
+                run.batch(*self.drawn_batch())
         return run
 
     def seen(self):
