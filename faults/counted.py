@@ -15,12 +15,12 @@ from rounds import Crowd
 from runs import House
 from service import Connection, body_of, check, message, want
 
-COUNTS = ["accounts_accepted", "accounts_refused", "clients", "clients_accepted", "clients_late", "disk_faults", "file_bytes",
-          "last_refused_opening", "log_bytes", "longest_sync_microseconds",
-          "longest_turn_microseconds", "most_clients", "refused_reopenings", "reopenings",
-          "replies_2xx", "replies_4xx", "replies_5xx", "round_messages", "rounds", "seconds",
-          "sync_microseconds", "syncs", "transfers_accepted", "transfers_refused",
-          "turn_microseconds"]
+COUNTS = ["accounts_accepted", "accounts_refused", "clients", "clients_accepted",
+          "clients_late", "disk_faults", "file_bytes", "last_refused_opening", "log_bytes",
+          "longest_sync_microseconds", "longest_turn_microseconds", "most_clients",
+          "refused_reopenings", "reopenings", "replies_2xx", "replies_4xx", "replies_5xx",
+          "round_messages", "rounds", "schema", "seconds", "sync_microseconds", "syncs",
+          "transfers_accepted", "transfers_refused", "turn_microseconds"]
 # Events of batches, by what becomes of them.
 EVENTS = ("accounts_accepted", "accounts_refused", "transfers_accepted", "transfers_refused")
 # What grows by itself.
@@ -70,7 +70,7 @@ def status_told(trial):
     be_there(house)
     served = time.monotonic()
     told = until(house, lambda told: not told["clients"], "the only client has gone")
-    first = {"most_clients": 1, "clients_accepted": 1, "clients_late": 0}
+    first = {"most_clients": 1, "clients_accepted": 1, "clients_late": 0, "schema": 3}
     want(first.items() <= told.items(), f"a service that was asked once: {told}")
     sizes = files_told(house)
     clients_told(house)
@@ -136,8 +136,8 @@ def late_told(house):
 
 
 def work_told(trial):
-    """What was done for clients: replies by their status, two batches in one round, the time of turns,
-    syncs, and a file that is opened again behind a fault of its disk."""
+    """What was done for clients: replies by their status, two batches in one round, events, the
+    time of turns, syncs, and a file that is opened again behind a fault of its disk."""
     house = Crowd(trial.fresh(), 2)
     house.begin()
     house.gather()
@@ -183,8 +183,8 @@ def synced_told(house):
 
 
 def events_told(house):
-    """Events that are accepted and that are refused, of both kinds of batch. A batch that is refused
-    as a whole has none."""
+    """Events that are accepted and that are refused, of both kinds of batch. One that is refused as
+    a whole has none."""
     again = [*moves(10**9, 3), *moves(10**9 + 1, 2), *moves(10**9 + 3, 1, amount=0, flags=1)]
     for events, transfers, more in (
             (house.requests[0].accounts()[:2], False, (0, 2, 0, 0)),

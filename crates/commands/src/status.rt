@@ -6,6 +6,7 @@ use crate::bell::Bell;
 use command_texts::Fault;
 use control::{Count, counts_body};
 use metered_disk::Reading;
+use openings::versions::CURRENT_VERSION;
 use std::fs;
 use std::time::Duration;
 
@@ -24,8 +25,9 @@ fn microseconds(time: Duration) -> u64
     u64::try_from(time.as_micros()).unwrap_or(u64::MAX)
 }
 
-/// The body that tells for how long a service has run, how many clients it has had, what it has done
-/// for them, what its disk has done, and how long the files are of the ledger at a path.
+/// The body that tells which version of the schema a service has and for how long it has run, how
+/// many clients it has had, what it has done for them, what its disk has done, and how long the files
+/// are of the ledger at a path.
 pub(crate) fn status_body(
     rt: &HostRuntime,
     db: &str,
@@ -40,6 +42,7 @@ pub(crate) fn status_body(
         value: u128::from(value),
     };
     let all = [
+        count("schema", u64::from(CURRENT_VERSION)),
         count("seconds", age.as_secs()),
         count("clients", counts.connected),
         count("most_clients", counts.most_connected),
