@@ -113,7 +113,7 @@ def ask_at_once(house):
     other.connect(house.service)
     events = house.requests[1].batch()
     other.asked |= {event["id"] for event in events}
-    house.service.served.send_signal(signal.SIGSTOP)
+    house.service.stand_still()
     for each in held:
         each.send(message(*request[:2], desk.key, request[2]))
     other.connection.send(message("POST", "/transfers", other.key, body_of(events)))

@@ -12,11 +12,12 @@ TWENTY, HUNDREDS = 20, 200
 
 
 class Crowd(House):
-    """A house of twenty tenants or more, each with a kept connection."""
+    """A house of twenty tenants or more, each with a kept connection, and with at most so many
+    events in a batch."""
 
-    def __init__(self, trial, many=TWENTY):
+    def __init__(self, trial, many=TWENTY, most=12):
         super().__init__(trial, 0)
-        self.many = many
+        self.many, self.most = many, most
         for place in range(many):
             self.add(f"desk-{place}")
 
@@ -28,14 +29,14 @@ class Crowd(House):
 
     def send_at_once(self, batches):
         """Sends each tenant's batch while the service stands still: all are there at once."""
-        self.service.served.send_signal(signal.SIGSTOP)
+        self.service.stand_still()
         for desk, events in zip(self.desks, batches):
             desk.asked |= {event["id"] for event in events}
             desk.connection.send(message("POST", "/transfers", desk.key, body_of(events)))
         self.service.served.send_signal(signal.SIGCONT)
 
     def draw_all(self):
-        return [requests.batch() for requests in self.requests]
+        return [requests.batch(self.most) for requests in self.requests]
 
     def hear(self, batches):
         """The places of those that were answered, each as its plain ledger says."""
@@ -79,10 +80,9 @@ def rounds(trial):
         trial.progress(f"{turn + 1} times twenty")
     house.compare()
     failed, done = disks_fail(trial, house, control)
-    wanting = memory_fails(trial, house, control)
-    house.compare()
     house.stop()
     check(house.program, house.db)
+    wanting = memory_fails(trial, control)
     return (f"{many} times twenty batches at once; {failed} times with a failing call of the disk, "
             f"{done} times all found done, {wanting} times with an allocation refused")
 
@@ -106,18 +106,23 @@ def disks_fail(trial, house, control):
     return failed, done
 
 
-def memory_fails(trial, house, control):
-    """An allocation is refused: at most one tenant is told so, and nothing of its batch is done."""
-    refused = 0
+def memory_fails(trial, control):
+    """An allocation is refused: at most one tenant is told so, and nothing of its batch is done.
+    The batches are of one event, so that each allocation of a round can be tried."""
+    house, refused = Crowd(trial.fresh(), most=1), 0
+    house.begin(control.env)
     for place in places(trial):
         batches, answered = house.meet(control, MEMORY, place)
         if not control.end(MEMORY):
             want(len(answered) == TWENTY, "unavailable, and no allocation was refused")
-            return refused
+            break
         want(len(answered) >= TWENTY - 1, f"only {len(answered)} answered, at {place}")
         want(not house.found(batches, answered), f"not answered and yet done, at {place}")
         refused += 1
         trial.progress(f"memory: {place}")
+    house.compare()
+    house.stop()
+    check(house.program, house.db)
     return refused
 
 

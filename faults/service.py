@@ -116,6 +116,19 @@ class Service:
             want(time.monotonic() < end, f"serve tells no more than {self.lines()}")
             time.sleep(0.01)
 
+    def stand_still(self):
+        """Stops the process, which reads nothing from then on until it is continued."""
+        self.served.send_signal(signal.SIGSTOP)
+        end = time.monotonic() + PATIENCE
+        while self.state() != "T":
+            want(time.monotonic() < end, f"told to stop, its state is {self.state()}")
+            time.sleep(0.001)
+
+    def state(self):
+        """The letter of the process's state (proc(5))."""
+        told = pathlib.Path(f"/proc/{self.served.pid}/stat").read_text()
+        return told.rpartition(")")[2].split()[0]
+
     def limit_files(self, most):
         """No file grows beyond so many bytes from now on."""
         resource.prlimit(self.served.pid, resource.RLIMIT_FSIZE, (most, resource.RLIM_INFINITY))

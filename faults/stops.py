@@ -48,7 +48,7 @@ def stop_with_messages(house):
     """Whole messages that were sent before the stop are answered."""
     house.gather()
     batches, served = house.draw_all(), house.service.served
-    served.send_signal(signal.SIGSTOP)
+    house.service.stand_still()
     for desk, events in zip(house.desks, batches):
         desk.asked |= {event["id"] for event in events}
         desk.connection.send(message("POST", "/transfers", desk.key, body_of(events)))
