@@ -92,10 +92,12 @@ class Player:
             return clock
         return None
 
-    def unanswered(self, what):
-        """What goes on, where something was not answered: something has to."""
+    def unanswered(self, what, error="", begun=None):
+        """What goes on, where something was not answered: something has to. Else it is told why it
+        was not, and how long ago it was begun."""
         kind = self.weather.kind
-        want(kind, f"{what}: not answered, with all at hand")
+        ago = f" ({error!r}, {time.monotonic() - begun:.1f} s later)" if begun is not None else ""
+        want(kind, f"{what}: not answered, with all at hand{ago}")
         self.counts["unanswered"] += 1
         return kind
 
@@ -154,16 +156,17 @@ class Tenant(Player, Client):
     def once(self, name, events, transfers=True):
         """Whether it was answered, or there is nothing to ask again. Else the plain ledger learns
         what has become of it."""
-        self.begun = b""
+        self.begun, begun, lost = b"", time.monotonic(), None
         self.counts[name if transfers else "opened"] += 1
         self.counts["events"] += len(events)
         try:
             self.connect()
             if self.whole(events, transfers) if name == "whole" else getattr(self, name)(events):
                 return True
-        except (Lost, OSError):
+        except (Lost, OSError) as error:
+            lost = error
             self.desk.leave()
-        kind = self.unanswered(name)
+        kind = self.unanswered(name, lost, begun)
         if name == "read":
             return True
         done = self.settled(events, transfers)
