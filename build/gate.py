@@ -12,6 +12,10 @@ not only of one that it calls. What a function's proof needs of others are their
 wrong body changes, so that none is refused for another's sake. What was not refused so is tried by
 itself, as `rt ci` does, and so is what changes more than functions' bodies.
 
+Such a check is asked for these functions alone (`--only`), and proves them and what they call. All of
+the crate was proved from nothing before, in the same run. At the end the functions are proved as they
+stand, over what these checks kept: what was refused was refused for its body.
+
 All else is the toolchain's own, from the library beside `rt`; where that has not the parts that are
 called here, each wrong body is tried as `rt ci` does. There are as many lanes as `build/lanes.py`
 tells."""
@@ -29,6 +33,8 @@ import tempfile
 import lanes
 
 FN = re.compile(r"(\s*)(?:pub(?:\([^)]*\))? )?(?:const )?(?:unsafe )?fn (\w+)")
+# What macros of std and of the kit write functions of.
+DERIVED = {"clone", "cmp", "default", "drop", "eq", "fmt", "from", "hash", "partial_cmp"}
 SAYS = re.compile(r"fn (\S+): (.*)")
 
 
@@ -43,8 +49,9 @@ def toolchain():
     return rt
 
 
-def function_at(lines, at):
-    """The name of the function in whose body a line stands, and its first line; or None."""
+def function_at(lines, at, is_body=False):
+    """The name of the function in whose body a line stands, and its first line; or None. If the line
+    is given a body it may also stand before the function's own."""
     for begin in range(at, -1, -1):
         found = FN.match(lines[begin])
         if found:
@@ -59,8 +66,8 @@ def function_at(lines, at):
         opens = line == f"{indent}{{" or line.endswith("{") and (
             head == begin or line.startswith(f"{indent})"))
         if opens:
-            return (found[2], begin) if head < at else None
-    return None
+            return (found[2], begin) if head < at or is_body else None
+    return (found[2], begin) if is_body else None
 
 
 class WrongBody:
@@ -78,18 +85,23 @@ class WrongBody:
                 old = rest
             elif key == "new":
                 self.pairs.append((file, old, rest))
-        self.places = [self.place(crate, file, old) for file, old, _ in self.pairs]
+        texts = {}
+        self.places = [self.place(crate, texts, *pair) for pair in self.pairs]
 
     @staticmethod
-    def place(crate, file, old):
-        """The name, the file and the lines of the function whose body has a text, or None."""
+    def place(crate, texts, file, old, new):
+        """The name, the file and the lines of the function whose body has a text, or None. The texts
+        of files are as earlier pairs have left them, and this one changes its own."""
         path = pathlib.Path(crate.folder) / str(file)
-        text = path.read_text() if path.is_file() else ""
+        text = texts.get(file) or (path.read_text() if path.is_file() else "")
         if not str(file).startswith("src/") or text.count(old) != 1:
             return None
+        texts[file] = text.replace(old, new)
         lines = text.split("\n")
         at = text[: text.index(old)].count("\n")
-        found = function_at(lines, at)
+        # A body may be given behind a clause, or begin behind the brace that opens it.
+        is_body = new.startswith(f"{old} {{") or old.endswith("{") and new.startswith(old)
+        found = function_at(lines, at, is_body)
         if not found:
             return None
         name, begin = found
@@ -163,12 +175,25 @@ def groups(crate, edits):
     return found
 
 
+def only(crate, names):
+    """The flags by which a check is asked for some functions, given as names and files, alone. One
+    whose name others have is asked for with its module."""
+    sources = (it.read_text() for it in sorted(pathlib.Path(crate.folder, "src").rglob("*.rt")))
+    known = [found[2] for text in sources for found in map(FN.match, text.split("\n")) if found]
+    words = set()
+    for name, file in names:
+        is_one = known.count(name) == 1 and name not in DERIVED
+        words.add(name if is_one else file[len("src/") : -len(".rt")].replace("/", "::"))
+    return [it for word in sorted(words) for it in ("--only", word)]
+
+
 def try_group(rt, crate, group, texts, flags, kept):
     """What is to be said of each edit of a group that was refused in one check of all."""
-    ran = rt.checked(crate, texts, flags, kept)
+    asked = only(crate, {(name, file) for it in group for name, file, _ in it.places})
+    ran = rt.checked(crate, texts, [*flags, *asked], kept)
     lines = ran.stdout.rstrip("\n").split("\n")
     is_read = not any(rt.unread(it, texts) for it in lines) and not rt.rtlib.STALE.search(ran.stdout)
-    if not is_read or ran.returncode != 1 or not lines[-1].startswith("logic=not-proved"):
+    if not is_read or ran.returncode != 1 or not re.match(r"only=\d+ proved=\d+", lines[-1]):
         return {}
     refused = {it.path: it.is_refused(lines) for it in group}
     label = f"must-fail {crate.name}"
@@ -182,12 +207,14 @@ def try_together(rt):
     def all_of(crate, edits, flags, *_):
         if len(edits) < 2:
             return [rt.must_fail(crate, it, flags) for it in edits]
-        told = {}
+        told, names = {}, set()
         with tempfile.TemporaryDirectory(prefix="rt-edits-") as kept:
             for group, texts in groups(crate, edits):
                 told.update(try_group(rt, crate, group, texts, flags, kept))
+                names.update((name, file) for it in group for name, file, _ in it.places)
             alone = {it: rt.must_fail(crate, it, flags, kept) for it in edits if it not in told}
-            is_sound = not rt.checked(crate, {}, flags, kept).returncode
+            asked = [] if alone else only(crate, names)
+            is_sound = not rt.checked(crate, {}, [*flags, *asked], kept).returncode
         tried = {**{path: (True, text) for path, text in told.items()}, **alone}
         return [tried[it] if is_sound and tried[it][0] else rt.must_fail(crate, it, flags)
                 for it in edits]
