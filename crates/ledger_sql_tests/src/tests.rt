@@ -19,31 +19,22 @@ mod statements;
 mod unclaimed;
 
 use grown::GROWN;
-use places::run_both;
+use runs::run_all;
 use scenarios::SCENARIOS;
 use spanned::SPANNED;
 use std::test::Fail;
 
 #[test]
 fn texts_read_and_write_real_tables(rt: HostRuntime) -> Result<(), Fail> {
-    for scenario in SCENARIOS {
-        run_both(&rt, &rt, "scenarios", *scenario)?;
-    }
-    Ok(())
+    run_all(&rt, &rt, "scenarios", &SCENARIOS)
 }
 
 #[test]
 fn rows_of_a_span_of_time_come_from_either_end(rt: HostRuntime) -> Result<(), Fail> {
-    for scenario in SPANNED {
-        run_both(&rt, &rt, "spanned", *scenario)?;
-    }
-    Ok(())
+    run_all(&rt, &rt, "spanned", SPANNED)
 }
 
 #[test]
 fn a_text_by_key_takes_as_long_over_many_rows(rt: HostRuntime) -> Result<(), Fail> {
-    for scenario in GROWN {
-        run_both(&rt, &rt, "grown", *scenario)?;
-    }
-    Ok(())
+    run_all(&rt, &rt, "grown", GROWN)
 }

@@ -1,18 +1,17 @@
-//! Where the tables of a test are: in memory, and in a file.
+//! Where the tables of a test are: in memory, and in a file. Disks are named only where files are
+//! made, and what opens and closes a connection is generic over them, since each function that holds
+//! one of a named disk takes long to prove.
 
 ghost use Rattle.std.specs.Prelude.{IsTrue};
 
-use super::acts::Act;
 use super::any_file::{AnyFile, OneOf};
-use super::runs::run;
+use super::unclaimed::Unclaimed;
 use either::{Left, Right};
-use sqlite::{Connection, FileStore, Files, Options, Unknown};
+use sqlite::{Connection, Files, Options, Unknown};
 use sqlite_disk::{Disk, Memory};
-use std::fs;
+use std::alloc::Global;
 use std::process::Abort;
 use std::test::Fail;
-
-pub type Conn = Connection<FileStore<AnyFile>>;
 
 /// Few pages, since each opening makes room for all of them.
 const SMALL: Options = Options {
@@ -22,58 +21,64 @@ const SMALL: Options = Options {
     seed: 7,
 };
 
-fn over(rt: &HostRuntime, files: Files<AnyFile>) -> Result<Conn, sqlite::Error>
-    requires log { IsTrue (⟦<AnyFile as Disk>⟧.is_usable files.log) }
-    requires db { IsTrue (⟦<AnyFile as Disk>⟧.is_usable files.db) }
+/// What a test does on a connection, and is told there.
+pub trait Visit {
+    type Told: Drop;
+
+    fn visit<S: Unclaimed, R: Abort>(
+        &self,
+        rt: &R,
+        alloc: Global,
+        conn: &mut Connection<S>,
+    ) -> Result<Self::Told, Fail>;
+}
+
+/// What is told on files, which are opened, and then closed.
+fn visit_files<A: Disk + Drop, B: Disk + Drop, R: Abort, V: Visit>(
+    rt: &R,
+    alloc: Global,
+    files: Files<OneOf<A, B>>,
+    visit: &V,
+) -> Result<V::Told, Fail>
+    requires log { IsTrue (⟦<OneOf<A, B> as Disk>⟧.is_usable files.log) }
+    requires db { IsTrue (⟦<OneOf<A, B> as Disk>⟧.is_usable files.db) }
 {
-    match Connection::open_files(rt.alloc(), files, SMALL) {
-        Ok(conn) => Ok(conn),
-        Err((error, _)) => Err(error),
+    match Connection::open_files(alloc, files, SMALL) {
+        Ok(mut conn) => {
+            let told = visit.visit(rt, alloc, &mut conn);
+            let closed = conn.close();
+            let told = told?;
+            closed?;
+            Ok(told)
+        }
+        Err((error, _)) => Err(error.into()),
     }
 }
 
-pub fn in_memory(rt: &HostRuntime) -> Result<Conn, sqlite::Error> {
-    over(
-        rt,
-        Files {
-            log: OneOf::new(Left(Memory::new(rt.alloc()))),
-            db: OneOf::new(Left(Memory::new(rt.alloc()))),
-        },
-    )
-}
-
-fn at_path(rt: &HostRuntime, path: &str) -> Result<Conn, Fail> {
-    let files = sqlite_std_file::open(rt, path, Unknown)?;
-    Ok(over(
-        rt,
-        Files {
-            log: OneOf::new(Right(files.log)),
-            db: OneOf::new(Right(files.db)),
-        },
-    )?)
-}
-
-/// Runs the parts of a scenario in memory, and over a file in a new folder, which is opened again
-/// for each part.
-pub fn run_both(
+/// What is told on new tables in memory.
+pub fn in_memory<V: Visit>(
     rt: &HostRuntime,
     abort: &impl Abort,
-    folder: &str,
-    (what, parts): (&str, &[&[Act]]),
-) -> Result<(), Fail> {
-    let mut conn = in_memory(rt)?;
-    for acts in parts {
-        run(abort, rt.alloc(), &mut conn, what, acts)?;
-    }
-    drop(conn);
-    let _ = fs::remove_dir_all(rt, folder);
-    fs::create_dir(rt, folder)?;
-    let path = format!(in rt.alloc(); "{folder}/ledger.db")?;
-    for acts in parts {
-        let mut conn = at_path(rt, path.as_str())?;
-        run(abort, rt.alloc(), &mut conn, what, acts)?;
-        conn.close()?;
-    }
-    fs::remove_dir_all(rt, folder)?;
-    Ok(())
+    visit: &V,
+) -> Result<V::Told, Fail> {
+    let files: Files<AnyFile> = Files {
+        log: OneOf::new(Left(Memory::new(rt.alloc()))),
+        db: OneOf::new(Left(Memory::new(rt.alloc()))),
+    };
+    visit_files(abort, rt.alloc(), files, visit)
+}
+
+/// What is told on the tables in a file.
+pub fn at_path<V: Visit>(
+    rt: &HostRuntime,
+    abort: &impl Abort,
+    path: &str,
+    visit: &V,
+) -> Result<V::Told, Fail> {
+    let files = sqlite_std_file::open(rt, path, Unknown)?;
+    let files: Files<AnyFile> = Files {
+        log: OneOf::new(Right(files.log)),
+        db: OneOf::new(Right(files.db)),
+    };
+    visit_files(abort, rt.alloc(), files, visit)
 }

@@ -6,6 +6,8 @@ use super::entries::{tells, tells_page, tells_two};
 use super::finds::{Found, find, number_of};
 use super::lists::{lists, lists_cells};
 use super::many::add_many;
+use super::places::{Visit, at_path, in_memory};
+use super::scenarios::Scenario;
 use super::spans::tells_span;
 use super::unclaimed::Unclaimed;
 use ledger_sql::stages::is_open;
@@ -13,11 +15,68 @@ use records::Unavailable;
 use sqlite::Connection;
 use std::alloc::Global;
 use std::fmt::Debug;
+use std::fs;
 use std::process::Abort;
 use std::test::Fail;
 
+/// Parts of a scenario, which are done one behind the other.
+#[derive(Drop)]
+struct Parts<'a> {
+    what: &'a str,
+    parts: &'a [&'a [Act]],
+}
+
+impl Visit for Parts<'_> {
+    type Told = ();
+
+    fn visit<S: Unclaimed, R: Abort>(
+        &self,
+        rt: &R,
+        alloc: Global,
+        conn: &mut Connection<S>,
+    ) -> Result<(), Fail> {
+        for acts in self.parts {
+            run(rt, alloc, conn, self.what, acts)?;
+        }
+        Ok(())
+    }
+}
+
+/// Runs each scenario.
+pub fn run_all(
+    rt: &HostRuntime,
+    abort: &impl Abort,
+    folder: &str,
+    scenarios: &[Scenario],
+) -> Result<(), Fail> {
+    for scenario in scenarios {
+        run_both(rt, abort, folder, *scenario)?;
+    }
+    Ok(())
+}
+
+/// Runs the parts of a scenario in memory, and over a file in a new folder, which is opened again
+/// for each part.
+fn run_both(
+    rt: &HostRuntime,
+    abort: &impl Abort,
+    folder: &str,
+    (what, parts): Scenario,
+) -> Result<(), Fail> {
+    in_memory(rt, abort, &Parts { what, parts })?;
+    let _ = fs::remove_dir_all(rt, folder);
+    fs::create_dir(rt, folder)?;
+    let path = format!(in rt.alloc(); "{folder}/ledger.db")?;
+    for acts in parts {
+        let parts = &[*acts];
+        at_path(rt, abort, path.as_str(), &Parts { what, parts })?;
+    }
+    fs::remove_dir_all(rt, folder)?;
+    Ok(())
+}
+
 /// Does one thing after the other. `what` is told where one is not so.
-pub fn run<S: Unclaimed>(
+fn run<S: Unclaimed>(
     rt: &impl Abort,
     alloc: Global,
     conn: &mut Connection<S>,

@@ -44,7 +44,7 @@ const PENDING_100: &[Call] = &[
 /// What is done, in parts. Each begins with an empty database.
 pub type Scenario = (&'static str, &'static [&'static [Act]]);
 
-pub const SCENARIOS: &[Scenario] = &[
+pub static SCENARIOS: [Scenario; 11] = [
     ("the base", &[THE_BASE]),
     ("pending and post", &[PENDING_AND_POST]),
     ("two tenants", &[TWO_TENANTS]),

@@ -1,8 +1,11 @@
 //! Schemas as statements make them in a connection, and what `ledger_shape` answers of them.
 
-use super::places::{Conn, in_memory};
+use super::places::{Visit, in_memory};
 use super::statements::{CHANGES, OURS};
+use super::unclaimed::Unclaimed;
 use ledger_shape::{has_balances, has_lists, is_balances, is_ledger, is_lists};
+use sqlite::Connection;
+use std::alloc::Global;
 use std::process::Abort;
 use std::test::Fail;
 
@@ -59,7 +62,7 @@ const VIEW: &str = "CREATE VIEW code AS SELECT code FROM account";
 
 /// The statements before our tables, how many of ours are made, the statements behind them, and
 /// what is answered.
-const CASES: &[(&[&str], usize, &[&str], Answers)] = &[
+static CASES: [(&[&str], usize, &[&str], Answers); 15] = [
     (&[], 0, &[], NOTHING),
     (&[], 4, &[], NOTHING),
     (&[], 5, &[], LISTS),
@@ -92,7 +95,7 @@ const CASES: &[(&[&str], usize, &[&str], Answers)] = &[
     (&[NOTE], 9, &[], NOTHING),
 ];
 
-fn ask(conn: &Conn) -> Answers {
+fn ask<S: Unclaimed>(conn: &Connection<S>) -> Answers {
     let schema = conn.schema();
     Answers {
         ledger: is_ledger(schema),
@@ -103,7 +106,7 @@ fn ask(conn: &Conn) -> Answers {
     }
 }
 
-fn make(conn: &mut Conn, statements: &[&str]) -> Result<(), sqlite::Error> {
+fn make<S: Unclaimed>(conn: &mut Connection<S>, statements: &[&str]) -> Result<(), sqlite::Error> {
     for statement in statements {
         conn.execute_batch(statement)?;
     }
@@ -111,57 +114,86 @@ fn make(conn: &mut Conn, statements: &[&str]) -> Result<(), sqlite::Error> {
 }
 
 /// What is answered after some statements, so many of ours, and some more.
-fn made(
-    rt: &HostRuntime,
-    before: &[&str],
+#[derive(Drop)]
+struct Made<'a> {
+    before: &'a [&'a str],
     ours: usize,
-    behind: &[&str],
-) -> Result<Answers, sqlite::Error> {
-    let mut conn = in_memory(rt)?;
-    make(&mut conn, before)?;
-    for statement in OURS.iter().take(ours) {
-        conn.execute_batch(statement)?;
-    }
-    make(&mut conn, behind)?;
-    Ok(ask(&conn))
+    behind: &'a [&'a str],
 }
 
-/// What is answered where two of our tables have changed places.
-fn turned(rt: &HostRuntime) -> Result<Answers, sqlite::Error> {
-    let mut conn = in_memory(rt)?;
-    make(&mut conn, &[OURS[0], OURS[2], OURS[1]])?;
-    make(&mut conn, &OURS[3..])?;
-    Ok(ask(&conn))
+impl Visit for Made<'_> {
+    type Told = Answers;
+
+    fn visit<S: Unclaimed, R: Abort>(
+        &self,
+        _rt: &R,
+        _alloc: Global,
+        conn: &mut Connection<S>,
+    ) -> Result<Answers, Fail> {
+        make(conn, self.before)?;
+        for statement in OURS.iter().take(self.ours) {
+            conn.execute_batch(statement)?;
+        }
+        make(conn, self.behind)?;
+        Ok(ask(conn))
+    }
 }
 
 /// What is answered of our tables with one text for another in one of the statements.
-fn changed(rt: &HostRuntime, at: usize, old: &str, new: &str) -> Result<Answers, Fail> {
-    let mut conn = in_memory(rt)?;
-    for (place, ours) in OURS.iter().enumerate() {
-        if place == at {
-            let statement = ours.replace(rt.alloc(), old, new)?;
-            conn.execute_batch(statement.as_str())?;
-        } else {
-            conn.execute_batch(ours)?;
+#[derive(Drop)]
+struct Changed<'a> {
+    at: usize,
+    old: &'a str,
+    new: &'a str,
+}
+
+impl Visit for Changed<'_> {
+    type Told = Answers;
+
+    fn visit<S: Unclaimed, R: Abort>(
+        &self,
+        _rt: &R,
+        alloc: Global,
+        conn: &mut Connection<S>,
+    ) -> Result<Answers, Fail> {
+        for (place, ours) in OURS.iter().enumerate() {
+            if place == self.at {
+                let statement = ours.replace(alloc, self.old, self.new)?;
+                conn.execute_batch(statement.as_str())?;
+            } else {
+                conn.execute_batch(ours)?;
+            }
         }
+        Ok(ask(conn))
     }
-    Ok(ask(&conn))
 }
 
 #[test]
 fn each_version_is_told_with_strangers_behind(rt: HostRuntime) -> Result<(), Fail> {
     for (case, (before, ours, behind, want)) in CASES.iter().enumerate() {
-        let told = made(&rt, before, *ours, behind)?;
+        let made = Made {
+            before,
+            ours: *ours,
+            behind,
+        };
+        let told = in_memory(&rt, &rt, &made)?;
         assert_eq!(rt; told, *want, "case {case}");
     }
-    assert_eq!(rt; turned(&rt)?, NOTHING, "another order");
+    let turned = Made {
+        before: &[OURS[0], OURS[2], OURS[1]],
+        ours: 0,
+        behind: &OURS[3..],
+    };
+    let told = in_memory(&rt, &rt, &turned)?;
+    assert_eq!(rt; told, NOTHING, "another order");
     Ok(())
 }
 
 #[test]
 fn a_changed_table_is_not_ours(rt: HostRuntime) -> Result<(), Fail> {
     for (what, at, old, new) in &CHANGES {
-        let told = changed(&rt, *at, old, new)?;
+        let changed = Changed { at: *at, old, new };
+        let told = in_memory(&rt, &rt, &changed)?;
         let want = (false, 8 <= *at, 5 <= *at);
         assert_eq!(rt;
             (told.ledger, told.has_balances, told.has_lists),

@@ -19,10 +19,16 @@ impl Settles<Book> for Lists {
 }
 
 /// The ledgers of several firms.
-#[derive(Drop)]
 pub(crate) struct Firms {
     alloc: Global,
     book: Book,
+}
+
+// It is written out, so that who lets firms go does not prove again how each part is dropped.
+impl Drop for Firms {
+    fn drop(self) {
+        let Firms { alloc: _, book: _ } = self;
+    }
 }
 
 impl Model for Firms {
@@ -78,7 +84,8 @@ impl Firms {
 
     /// The same firms, of whose batches one may be refused.
     pub(crate) fn frail(self) -> FrailFirms {
-        FrailFirms::new(self.alloc, self.book)
+        let Firms { alloc, book } = self;
+        FrailFirms::new(alloc, book)
     }
 
     /// The reply to some bytes.

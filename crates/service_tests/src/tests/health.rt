@@ -10,6 +10,7 @@ use super::played::Asked::{self, Bytes, Get, Post};
 use super::played::Want::Refused;
 use super::played::{Want, base, message, wanted};
 use chain::{BatchFault, Ledgers, Listed, ReadFault, Work};
+use ledger_http::Reply;
 use records::{AccountFilter, BalanceAt, Order, RowSink, Transfer, Unavailable};
 use service::respond;
 use std::alloc::{AllocError, Global};
@@ -170,15 +171,20 @@ fn tells_health_to_everybody(rt: HostRuntime) -> Result<(), Fail> {
     Ok(())
 }
 
+/// What is told by ledgers that have failed.
+fn told(alloc: Global, bytes: &[u8]) -> Reply {
+    respond(alloc, &mut Failed, bytes, 0)
+}
+
 #[test]
 fn tells_that_ledgers_have_failed(rt: HostRuntime) -> Result<(), Fail> {
     for asked in ASKED {
-        let reply = respond(rt.alloc(), &mut Failed, asked.as_bytes(), 0);
+        let reply = told(rt.alloc(), asked.as_bytes());
         same(&rt, asked, reply.bytes(), UNAVAILABLE.as_bytes());
     }
     for (name, asked) in &OF_A_TENANT {
         let message = message(rt.alloc(), FIRST, asked)?;
-        let reply = respond(rt.alloc(), &mut Failed, &message, 0);
+        let reply = told(rt.alloc(), &message);
         same(&rt, name, reply.bytes(), UNAVAILABLE.as_bytes());
     }
     Ok(())
@@ -189,7 +195,7 @@ fn refuses_what_is_near_health(rt: HostRuntime) -> Result<(), Fail> {
     for (asked, want) in &REFUSED {
         let message = message(rt.alloc(), FIRST, asked)?;
         let want = wanted(rt.alloc(), want)?;
-        let reply = respond(rt.alloc(), &mut Failed, &message, 0);
+        let reply = told(rt.alloc(), &message);
         same(&rt, "near health", reply.bytes(), want.as_slice());
     }
     Ok(())

@@ -90,21 +90,30 @@ pub(crate) fn same_replies(
     Ok(())
 }
 
+/// The replies of two firms to the messages of one round.
+fn in_a_round(alloc: Global, messages: &[Message]) -> Result<Vec<Reply>, Fail> {
+    let mut firms = Firms::with(alloc, FIRST)?;
+    firms.add(SECOND)?;
+    Ok(firms.round(messages)?)
+}
+
+/// Their replies to the same messages, one by one.
+fn one_by_one(alloc: Global, messages: &[Message]) -> Result<Vec<Reply>, Fail> {
+    let mut firms = Firms::with(alloc, FIRST)?;
+    firms.add(SECOND)?;
+    let mut each = Vec::new(alloc);
+    for message in messages {
+        each.push(firms.answer(&message.bytes, message.moment))?;
+    }
+    Ok(each)
+}
+
 #[test]
 fn tells_a_round_what_each_is_told_alone(rt: HostRuntime) -> Result<(), Fail> {
     let alloc = rt.alloc();
-    let mut firms = Firms::with(alloc, FIRST)?;
-    firms.add(SECOND)?;
-    let replies = firms.round(&messages_of(alloc, ROUND)?)?;
-    same_replies(&rt, alloc, ROUND, &replies)?;
-
-    let mut alone = Firms::with(alloc, FIRST)?;
-    alone.add(SECOND)?;
-    let mut each = Vec::new(alloc);
-    for message in &messages_of(alloc, ROUND)? {
-        each.push(alone.answer(&message.bytes, message.moment))?;
-    }
-    same_replies(&rt, alloc, ROUND, &each)?;
+    let messages = messages_of(alloc, ROUND)?;
+    same_replies(&rt, alloc, ROUND, &in_a_round(alloc, &messages)?)?;
+    same_replies(&rt, alloc, ROUND, &one_by_one(alloc, &messages)?)?;
     Ok(())
 }
 
