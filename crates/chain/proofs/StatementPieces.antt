@@ -1,5 +1,5 @@
 -- A statement that is handed to a sink in pieces, one behind the other.
-use Rattle.std.proofs.Common.{◌≡◌, ◌⊎◌, ℕ, ◌<◌, ◌≤◌, min, ltb, Bool, true, false, cond, Option, Some, None, List, [], ◌++◌, Result, Ok, Err, length, map, filter, take, drop, refl, sym, ap, ◌∙◌, subst, arith, inl, inr, append_assoc}
+use Rattle.std.proofs.Common.{◌≡◌, ◌⊎◌, ℕ, ◌<◌, ◌≤◌, min, ltb, Bool, true, false, cond, Option, Some, None, List, [], ◌∷◌, ◌++◌, Result, Ok, Err, length, map, filter, take, drop, refl, sym, ap, ◌∙◌, subst, arith, inl, inr, append_assoc}
 use Rattle.std.specs.List.{All}
 use Rattle.std.proofs.lemmas.Bool.{ltb-true, ltb-false}
 use Rattle.std.proofs.lemmas.Bool.Decides.{nat_tests}
@@ -10,6 +10,7 @@ use Rattle.records.specs.declared.account.Account.{Account}
 use Rattle.records.specs.declared.filter.Order.{Order}
 use Rattle.records.specs.declared.filter.Order.TheVariants.{Oldest, Newest}
 use Rattle.records.specs.declared.query.Span.{Span}
+use Rattle.records.specs.declared.row_sink.SinkFault.{SinkFault}
 use Rattle.records.specs.declared.statement_row.StatementRow.{StatementRow}
 use Rattle.records.specs.Machine.{Machine, account_with}
 use Rattle.records.specs.Queries.{is_within}
@@ -26,7 +27,7 @@ use Rattle.chain.specs.declared.reads.Listed.{Listed}
 use Rattle.chain.specs.declared.reads.ReadFault.{ReadFault}
 use Rattle.chain.specs.declared.reads.ReadFault.TheVariants as fault
 use Rattle.chain.specs.AccountEntries.{account_entries, account_entries_within, account_entry, entry_time, first_piece, piece_behind, row_of}
-use Rattle.chain.specs.LedgerReads.{HandsOut, IsBegun, IsTold, Reads, Seen, is_refused, rows_of, seen_by, seen_in, seen_of_list}
+use Rattle.chain.specs.LedgerReads.{HandsOut, IsBegun, IsTold, Reads, RefusesNext, Seen, is_refused, rows_of, seen_by, seen_in, seen_of_list}
 use Rattle.chain.specs.Ledgers.{AreValid, Finds, IsAnswered, IsRun, KeepsAll, LeadsBy, LedgersMeaning, Tenants}
 use Rattle.chain.specs.Looks.{Answers, account_answer}
 use Rattle.chain.specs.Pages.{IsRecord, all_within, behind_last, span_behind}
@@ -301,11 +302,11 @@ module _ {S K : Type 0} (t : LedgersMeaning S) (takes : K → StatementRow → K
     pub read_finds : {Told : Type 0} → HasRead t a b → (Told → IsAnswered result) → Finds t Told KeepsAll a c
     read_finds read answered = record { found = (read_on read).found; live = λ told. finds.live (answered told) }
 
-    module _ (sink mid : K) (so_far : IsReading t takes digest account order a b span sink mid) where
+    module _ (refuses : K → StatementRow → SinkFault → K → Type 0) (sink mid : K) (so_far : IsReading t takes digest account order a b span sink mid) where
       -- the batch is told why not
       pub broken :
           (why : ReadFault) → account_answer result ≡ Err why → t.is_live c →
-          HandsOut takes (seen_of (t.tenants a digest)) sink mid (Err why)
+          HandsOut takes refuses (seen_of (t.tenants a digest)) sink mid (Err why)
       broken why told live =
           let before = lived b c follows live in at result told (run live) before
         where
@@ -315,22 +316,22 @@ module _ {S K : Type 0} (t : LedgersMeaning S) (takes : K → StatementRow → K
           at :
               (r : Result (Result (Listed AccountEntry) AccountFault) BatchFault) → account_answer r ≡ Err why →
               IsRun (gives span) digest (t.tenants b) (t.tenants c) r → t.is_live b →
-              HandsOut takes (seen_of (t.tenants a digest)) sink mid (Err why)
+              HandsOut takes refuses (seen_of (t.tenants a digest)) sink mid (Err why)
           at (Ok (Ok found)) is ran before = absurd (cc)
           at (Ok (Err account_fault.NoAccount)) is ran before =
               let m = ran.before in
               let none = none_by m.clock (account_with account m.accounts) (account_entries_within m account span) ran.given.is in
               let seen = ap seen_of (same_tenant before ∙ ran.held) ∙ ap (λ x. seen_by m.clock (answer_by x (in_order order (statement_of m account)))) none in
-              subst (λ w. HandsOut takes (seen_of (t.tenants a digest)) sink mid (Err w)) (ap fault_in is)
+              subst (λ w. HandsOut takes refuses (seen_of (t.tenants a digest)) sink mid (Err w)) (ap fault_in is)
               (seen, subst (λ s. HasHanded takes s (rest_in account span (t.tenants a digest)) sink mid) seen (so_far.handed before))
           at (Ok (Err account_fault.NoHistory)) is ran before =
               absurd (no_history ran.before.clock (account_with account ran.before.accounts) (account_entries_within ran.before account span) ran.given.is)
           at (Err batch_fault.UnknownKey) is ran before =
               let seen = ap seen_of (same_tenant before ∙ ran.0) in
-              subst (λ w. HandsOut takes (seen_of (t.tenants a digest)) sink mid (Err w)) (ap fault_in is)
+              subst (λ w. HandsOut takes refuses (seen_of (t.tenants a digest)) sink mid (Err w)) (ap fault_in is)
               (seen, subst (λ s. HasHanded takes s (rest_in account span (t.tenants a digest)) sink mid) seen (so_far.handed before))
           at (Err (batch_fault.Unavailable because)) is ran before =
-              subst (λ w. HandsOut takes (seen_of (t.tenants a digest)) sink mid (Err w)) (ap fault_in is)
+              subst (λ w. HandsOut takes refuses (seen_of (t.tenants a digest)) sink mid (Err w)) (ap fault_in is)
               (reading_begun a b span sink mid so_far before)
 
       module _ (piece : Listed AccountEntry) (told : account_answer result ≡ Ok piece) (valid : t.is_live b → AreValid (t.tenants b)) where
@@ -370,7 +371,7 @@ module _ {S K : Type 0} (t : LedgersMeaning S) (takes : K → StatementRow → K
             (found : Option Span) (new : K) →
             (All (λ entry. entry_time entry ≤ max_clock) piece.entries.items → found ≡ piece_behind span piece.entries.items) → found ≡ None →
             TakesRows takes mid (map (row_of account) piece.entries.items) new → t.is_live c →
-            HandsOut takes (seen_of (t.tenants a digest)) sink new (Ok tt)
+            HandsOut takes refuses (seen_of (t.tenants a digest)) sink new (Ok tt)
         all_handed found new next_is is taken live =
             let before = lived b c follows live in
             let p = this_piece before live in
@@ -387,22 +388,26 @@ module _ {S K : Type 0} (t : LedgersMeaning S) (takes : K → StatementRow → K
             }
 
         pub sink_refused :
-            (last : K) → IsBegun takes (map (row_of account) piece.entries.items) mid last → t.is_live c →
-            IsBegun takes (rows_of (seen_of (t.tenants a digest))) sink last
-        sink_refused last begun live =
+            (why : SinkFault) (new : K) → RefusesNext takes refuses (map (row_of account) piece.entries.items) why mid new → t.is_live c →
+            RefusesNext takes refuses (rows_of (seen_of (t.tenants a digest))) why sink new
+        sink_refused why new next live =
             let before = lived b c follows live in
             let p = this_piece before live in
             let tenant_is = sym (so_far.read.same before digest) ∙ p.is in
             let entries = piece.entries.items in
-            let rows = map (row_of account) entries in
             let more = map (row_of account) (drop span.most (all_within entry_time span (account_entries p.machine account))) in
             let so = handed_at (t.tenants a digest) span sink mid p.machine p.there tenant_is p.account_is (so_far.handed before) in
-            let first = take begun.count rows in
-            subst (λ s. IsBegun takes (rows_of s) sink last) (sym (seen_is (t.tenants a digest) p.machine p.there tenant_is p.account_is))
-            (begun_so takes sink last (so.0 ++ first) (drop begun.count rows ++ more) (in_order order (statement_of p.machine account))
-            (append_assoc so.0 first (drop begun.count rows ++ more)
-            ∙ ap (λ xs. so.0 ++ xs) (sym (append_assoc first (drop begun.count rows) more))
-            ∙ ap (λ xs. so.0 ++ (xs ++ more)) (take-append-drop begun.count rows)
-            ∙ ap (λ xs. so.0 ++ xs) (parts account span p.machine p.valid entries p.entries_are)
-            ∙ so.1)
-            (takes_both takes sink mid last so.0 first so.2 begun.taken))
+            subst (λ s. RefusesNext takes refuses (rows_of s) why sink new) (sym (seen_is (t.tenants a digest) p.machine p.there tenant_is p.account_is))
+            (record {
+              front = so.0 ++ next.front;
+              next = next.next;
+              rest = next.rest ++ more;
+              whole = append_assoc so.0 next.front (next.next ∷ next.rest ++ more)
+                  ∙ ap (λ xs. so.0 ++ xs) (sym (append_assoc next.front (next.next ∷ next.rest) more))
+                  ∙ ap (λ xs. so.0 ++ (xs ++ more)) next.whole
+                  ∙ ap (λ xs. so.0 ++ xs) (parts account span p.machine p.valid entries p.entries_are)
+                  ∙ so.1;
+              last = next.last;
+              taken = takes_both takes sink mid next.last so.0 next.front so.2 next.taken;
+              refused = next.refused;
+            })

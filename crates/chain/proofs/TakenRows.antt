@@ -1,10 +1,11 @@
 -- Rows that a sink takes, one after the other.
-use Rattle.std.proofs.Common.{◌≡◌, ℕ, ◌+◌, ◌<◌, List, [], ◌∷◌, ◌++◌, length, map, take, get_or, refl, ap, sym, ◌∙◌, subst, arith}
-use Rattle.std.proofs.lemmas.List.{map_more, take_more, take-append-le, take_all, take-map}
+use Rattle.std.proofs.Common.{◌≡◌, ℕ, suc, ◌+◌, ◌<◌, List, [], ◌∷◌, ◌++◌, length, map, take, drop, get_or, refl, ap, sym, ◌∙◌, subst, arith, drop-cons, take-append-drop}
+use Rattle.std.proofs.lemmas.List.{map-append, map_more, take_more, take-append-le, take_all}
+use Rattle.records.specs.declared.row_sink.SinkFault.{SinkFault}
 use Rattle.records.specs.declared.filter.Order.{Order}
 use Rattle.records.specs.Queries.{time_behind}
 use Rattle.records.specs.Streams.{TakesRows}
-use Rattle.chain.specs.LedgerReads.{IsBegun}
+use Rattle.chain.specs.LedgerReads.{IsBegun, RefusesNext}
 use Rattle.chain.specs.Pages.{behind_last}
 
 pub takes_both :
@@ -37,13 +38,32 @@ begun_so {S} {A} takes s t front rest rows is taken = record {
       (sym (ap (take (length front)) (sym is) ∙ take-append-le (length front) front rest (omega arith) ∙ take_all (length front) front (omega arith))) taken;
 }
 
--- the first of the rows that are made of some elements are a beginning of them
-pub begun_at :
-    {S E A : Type 0} (takes : S → A → S → Type 0) (s t : S) (row : E → A) (xs : List E) (place : ℕ) →
-    TakesRows takes s (map row (take place xs)) t → IsBegun takes (map row xs) s t
-begun_at {S} {E} {A} takes s t row xs place taken = record {
-  count = place;
-  taken = subst (λ (rows : List A). TakesRows takes s rows t) (sym (take-map row place xs)) taken;
+-- the rows that are made of some elements are those before one, its own, and those behind it
+rows_round :
+    {E A : Type 0} (row : E → A) (xs : List E) (place : ℕ) (x : E) → place < length xs → x ≡ get_or xs place x →
+    map row (take place xs) ++ row x ∷ map row (drop (suc place) xs) ≡ map row xs
+rows_round {E} {A} row xs place x within is =
+    sym (map-append row (take place xs) (x ∷ drop (suc place) xs))
+    ∙ ap (map row)
+    (ap (λ (y : E). take place xs ++ y ∷ drop (suc place) xs) is
+    ∙ ap (λ (ys : List E). take place xs ++ ys) (sym (drop-cons xs place x within))
+    ∙ take-append-drop place xs)
+
+-- the first of the rows that are made of some elements are taken, and the next one is refused
+pub refused_at :
+    {S E A : Type 0} (takes : S → A → S → Type 0) (refuses : S → A → SinkFault → S → Type 0) (s t u : S) (why : SinkFault)
+    (row : E → A) (made : A) (xs : List E) (place : ℕ) (x : E) →
+    place < length xs → x ≡ get_or xs place x → made ≡ row x →
+    TakesRows takes s (map row (take place xs)) t → refuses t made why u →
+    RefusesNext takes refuses (map row xs) why s u
+refused_at {S} {E} {A} takes refuses s t u why row made xs place x within is made_is before refused = record {
+  front = map row (take place xs);
+  next = row x;
+  rest = map row (drop (suc place) xs);
+  whole = rows_round row xs place x within is;
+  last = t;
+  taken = before;
+  refused = subst (λ (y : A). refuses t y why u) made_is refused;
 }
 
 -- the time behind the last of some records with one more at the end

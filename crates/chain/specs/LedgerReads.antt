@@ -1,10 +1,12 @@
 -- What a read of one tenant's machine is told.
-use Rattle.std.specs.Prelude.{◌≡◌, ℕ, Bool, true, false, List, [], take, Option, Some, None}
+use Rattle.std.specs.Prelude.{◌≡◌, ◌∷◌, ◌++◌, ℕ, Bool, true, false, List, [], take}
+use Rattle.std.specs.Prelude.{Option, Some, None}
 use Rattle.std.specs.Prelude.{Result, Ok, Err}
 use Rattle.records.specs.Machine.{Machine}
 use Rattle.records.specs.Reads.{AccountAnswer, NoAccount, NoHistory, Found}
 use Rattle.records.specs.Queries.{Page}
 use Rattle.records.specs.Streams.{TakesRows}
+use Rattle.records.specs.declared.row_sink.SinkFault.{SinkFault}
 use Rattle.chain.specs.declared.reads.Listed.{Listed}
 use Rattle.chain.specs.declared.reads.QueryPage.{QueryPage}
 use Rattle.chain.specs.declared.reads.ReadFault.{ReadFault}
@@ -78,18 +80,33 @@ pub record IsBegun {S A : Type 0} (takes : S → A → S → Type 0) (rows : Lis
   pub count : ℕ
   pub taken : TakesRows takes old (take count rows) new
 
+-- a sink took a beginning of them, and refused the next one with this fault
+pub record RefusesNext {S A : Type 0} (takes : S → A → S → Type 0)
+    (refuses : S → A → SinkFault → S → Type 0) (rows : List A) (why : SinkFault) (old new : S) :
+    Type 0 where
+  pub front : List A
+  pub next : A
+  pub rest : List A
+  pub whole : front ++ next ∷ rest ≡ rows
+  pub last : S
+  pub taken : TakesRows takes old front last
+  pub refused : refuses last next why new
+
 -- a read that hands rows out: all of them, or none where the tenant or the account is not there, or
--- a beginning before another fault
+-- a beginning before another fault; where that is the sink's, it refused the next row with it
 abbrev pub HandsOut :
-    {S A : Type 0} → (S → A → S → Type 0) → Result (Seen (List A)) ReadFault → S → S
-    → Result Unit ReadFault → Type 0
-HandsOut takes seen old new (Ok done) = IsHanded takes seen old new
-HandsOut takes seen old new (Err (fault.Unavailable why)) = IsBegun takes (rows_of seen) old new
-HandsOut {S} takes seen old new (Err (fault.Sink why)) =
-    (last : S) × IsBegun takes (rows_of seen) old last
-HandsOut takes seen old new (Err fault.UnknownKey) = (seen ≡ Err fault.UnknownKey) × (new ≡ old)
-HandsOut takes seen old new (Err fault.NoAccount) = (seen ≡ Err fault.NoAccount) × (new ≡ old)
-HandsOut takes seen old new (Err fault.NoHistory) = ⊥
+    {S A : Type 0} → (S → A → S → Type 0) → (S → A → SinkFault → S → Type 0)
+    → Result (Seen (List A)) ReadFault → S → S → Result Unit ReadFault → Type 0
+HandsOut takes refuses seen old new (Ok done) = IsHanded takes seen old new
+HandsOut takes refuses seen old new (Err (fault.Unavailable why)) =
+    IsBegun takes (rows_of seen) old new
+HandsOut takes refuses seen old new (Err (fault.Sink why)) =
+    RefusesNext takes refuses (rows_of seen) why old new
+HandsOut takes refuses seen old new (Err fault.UnknownKey) =
+    (seen ≡ Err fault.UnknownKey) × (new ≡ old)
+HandsOut takes refuses seen old new (Err fault.NoAccount) =
+    (seen ≡ Err fault.NoAccount) × (new ≡ old)
+HandsOut takes refuses seen old new (Err fault.NoHistory) = ⊥
 
 -- whether the sink refused a row
 abbrev pub is_refused : Result Unit ReadFault → Bool

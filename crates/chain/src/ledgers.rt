@@ -245,8 +245,8 @@ pub trait Ledgers {
     }
 
     /// Hands the account's statement to a sink, row by row, in this order, in pieces that are each a
-    /// batch. After `Unavailable` the sink has got a beginning of it; one that refuses a row may be
-    /// left in any state.
+    /// batch. After `Unavailable` the sink has got a beginning of it; after `Sink` too, and it refused
+    /// the next row with that fault.
     fn each_statement_row<S: RowSink>(
         &mut self,
         alloc: Global,
@@ -257,7 +257,7 @@ pub trait Ledgers {
     ) -> Result<(), ReadFault>
         requires usable { means.is_usable self.old }
         requires open { S.refused sink.old ≡ false }
-        ensures told { means.is_live self.new → HandsOut S.takes
+        ensures told { means.is_live self.new → HandsOut S.takes S.refuses
             (seen_in (λ m. statement_answer m account order) (means.tenants self.old digest.now))
             sink.old sink.new result }
         ensures refused { S.refused sink.new ≡ is_refused result }

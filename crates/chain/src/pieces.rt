@@ -1,13 +1,13 @@
 //! The statement of an account, as pieces of work on one tenant's tables, one behind the other.
 
-ghost use Rattle.std.specs.Prelude.{◌≡◌, ◌≤◌, false, All, is_err, map, IfOk, OnOk, OnErr};
+ghost use Rattle.std.specs.Prelude.{◌≡◌, ◌≤◌, false, All, is_err, map, IfErr, IfOk, OnOk};
 ghost use Rattle.records.specs.Reads.{answer_by};
 ghost use Rattle.records.specs.Machine.{account_with};
 ghost use Rattle.records.specs.Step.{max_clock};
 ghost use Rattle.records.specs.Streams.{TakesRows};
 ghost use Rattle.chain.specs.AccountEntries.{account_entries_within, entry_time, first_piece};
 ghost use Rattle.chain.specs.AccountEntries.{piece_behind, row_of};
-ghost use Rattle.chain.specs.LedgerReads.{seen_of_list, IsBegun};
+ghost use Rattle.chain.specs.LedgerReads.{seen_of_list, RefusesNext};
 ghost use Rattle.chain.specs.Looks.{Answers};
 
 use crate::pages::{span_behind, time_behind};
@@ -61,7 +61,7 @@ pub(crate) fn first_piece(order: Order) -> Span
 
 /// Hands the rows of a piece to a sink, and tells the span of the next one, if more may lie behind
 /// it.
-#[tactic(auto, using(crate::proofs::TakenRows::one_row, crate::proofs::TakenRows::begun_at))]
+#[tactic(auto, using(crate::proofs::TakenRows::one_row, crate::proofs::TakenRows::refused_at))]
 pub(crate) fn hand_piece<S: RowSink>(
     account: u128,
     span: &Span,
@@ -73,8 +73,8 @@ pub(crate) fn hand_piece<S: RowSink>(
         IfOk result (λ next. next ≡ piece_behind span.now entries.now) }
     ensures ok { OnOk result (TakesRows S.takes sink.old (map (row_of account) entries.now)
         sink.new) }
-    ensures err { OnErr result ((last : S)
-        × IsBegun S.takes (map (row_of account) entries.now) sink.old last) }
+    ensures err { IfErr result (λ why. RefusesNext S.takes S.refuses
+        (map (row_of account) entries.now) why sink.old sink.new) }
     ensures refused { S.refused sink.new ≡ is_err result }
 {
     let mut behind = 0;

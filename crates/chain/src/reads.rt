@@ -34,7 +34,7 @@ pub enum ReadFault {
     NoAccount,
     /// The account keeps no history of its balances.
     NoHistory,
-    /// The sink refused a row. It has got those before it.
+    /// The sink refused a row, with this fault. It has got those before it.
     Sink(SinkFault),
 }
 

@@ -4,5 +4,6 @@ mod KeyLemmas
 pub mod PieceLemmas
 mod OrderLemmas
 pub mod ExtractLemmas
+mod StatementLemmas
 mod AskLemmas
 pub mod RenewLemmas

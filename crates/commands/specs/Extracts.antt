@@ -7,6 +7,7 @@ use Rattle.chain.specs.declared.reads.ReadFault.{ReadFault}
 use Rattle.chain.specs.declared.reads.ReadFault.TheVariants as read
 use Rattle.records.specs.Machine.{Machine}
 use Rattle.records.specs.Reads.{Found, found_transfers, in_order}
+use Rattle.records.specs.Streams.{AppendsFront}
 use Rattle.records.specs.declared.filter.Order.TheVariants.{Oldest}
 use Rattle.records.specs.declared.statement_row.StatementRow.{StatementRow}
 use Rattle.records.specs.declared.transfer.Transfer.{Transfer}
@@ -21,13 +22,12 @@ use Rattle.commands.specs.Asking.{is_whole}
 use Rattle.commands.specs.Statements.{IsStatementTold, answer_in}
 use Rattle.commands.specs.declared.asked.Asked.{Asked}
 
--- the tenant or the account is not there; want of memory, a store that is unavailable and a failed
--- write say nothing of the tenant
+-- the tenant or the account is not there; want of memory and a store that is unavailable say
+-- nothing of the tenant
 abbrev pub IsAbsenceTold : Result (Seen (List StatementRow)) ReadFault → Fault → Type 0
 IsAbsenceTold seen NoTenant = seen ≡ Err read.UnknownKey
 IsAbsenceTold seen NoAccount = seen ≡ Err read.NoAccount
 IsAbsenceTold seen Unavailable = Unit {0}
-IsAbsenceTold seen Output = Unit {0}
 IsAbsenceTold seen fault = ⊥
 
 -- the entries that are asked for, in the order asked
@@ -66,28 +66,37 @@ pub record IsExtractText (tenant : Option Machine) (asked : Asked) (rows : List 
   pub is : text ≡ extract_text asked.layout (opening asked.period rows) (rows_asked asked rows)
       transfers (closing asked.period rows)
 
--- the statement of a period is written whole, or the tenant or the account is not there
-abbrev pub IsExtractTold :
-    {O : Type 0} → (O → Option (List ℕ)) → Option Machine → ℕ → Asked → O → Result O Fault
-    → Type 0
-IsExtractTold {O} written tenant account asked old (Ok new) =
+-- a text is the statement of the period that is asked for
+abbrev pub IsTextAsked : Option Machine → ℕ → Asked → List ℕ → Type 0
+IsTextAsked tenant account asked text =
     (answer : Seen (List StatementRow)) × (answer_in tenant account Oldest ≡ Ok answer)
-    × ((text : List ℕ) × IsExtractText tenant asked answer.shown text
-    × Appends (written old) (written new) text)
-IsExtractTold written tenant account asked old (Err fault) =
-    IsAbsenceTold (answer_in tenant account Oldest) fault
+    × IsExtractText tenant asked answer.shown text
+
+-- the statement of a period is written whole; or a beginning of it, before a failed write; or
+-- nothing, where it is not found
+abbrev pub IsExtractTold :
+    {O : Type 0} → (O → Option (List ℕ)) → Option Machine → ℕ → Asked → O → O
+    → Result Unit Fault → Type 0
+IsExtractTold written tenant account asked old new (Ok done) =
+    (text : List ℕ) × IsTextAsked tenant account asked text
+    × Appends (written old) (written new) text
+IsExtractTold written tenant account asked old new (Err Output) =
+    (text : List ℕ) × IsTextAsked tenant account asked text
+    × AppendsFront (written old) (written new) text
+IsExtractTold written tenant account asked old new (Err fault) =
+    IsAbsenceTold (answer_in tenant account Oldest) fault × (new ≡ old)
 
 -- what is asked for is written: the whole statement, or that of a period
 abbrev pub ToldBy :
-    {O : Type 0} → Bool → (O → Option (List ℕ)) → Option Machine → ℕ → Asked → O → Result O Fault
-    → Type 0
-ToldBy true written tenant account asked old result =
-    IsStatementTold written (answer_in tenant account asked.order) old result
-ToldBy false written tenant account asked old result =
-    IsExtractTold written tenant account asked old result
+    {O : Type 0} → Bool → (O → Option (List ℕ)) → Option Machine → ℕ → Asked → O → O
+    → Result Unit Fault → Type 0
+ToldBy true written tenant account asked old new result =
+    IsStatementTold written (answer_in tenant account asked.order) old new result
+ToldBy false written tenant account asked old new result =
+    IsExtractTold written tenant account asked old new result
 
 abbrev pub IsAskedTold :
-    {O : Type 0} → (O → Option (List ℕ)) → Option Machine → ℕ → Asked → O → Result O Fault
-    → Type 0
-IsAskedTold written tenant account asked old result =
-    ToldBy (is_whole asked) written tenant account asked old result
+    {O : Type 0} → (O → Option (List ℕ)) → Option Machine → ℕ → Asked → O → O
+    → Result Unit Fault → Type 0
+IsAskedTold written tenant account asked old new result =
+    ToldBy (is_whole asked) written tenant account asked old new result

@@ -2,8 +2,11 @@
 ghost use Rattle.std.specs.Prelude.{◌≡◌, false, IfErr, IfOk};
 ghost use Rattle.chain.specs.LedgerReads.{Reads};
 ghost use Rattle.records.specs.Reads.{in_order};
+ghost use Rattle.records.specs.declared.filter.Order.TheVariants.{Oldest};
 ghost use Rattle.statement.specs.Extract.{closing_of, kept_of, opening_of};
-ghost use Rattle.commands.specs.Extracts.{AreTransfersOf, IsExtractFound, IsExtractTold};
+ghost use Rattle.commands.specs.Extracts.{AreTransfersOf, IsAbsenceTold, IsExtractFound};
+ghost use Rattle.commands.specs.Extracts.{IsExtractTold, IsTextAsked};
+ghost use Rattle.commands.specs.Statements.{answer_in};
 
 use crate::asked::Asked;
 use crate::statements::statement_fault;
@@ -74,8 +77,30 @@ fn transfers_of<L: Ledgers>(
     }
 }
 
-/// Writes the statement of a period of a tenant's account, and gives the writer back. After a fault
-/// a beginning of it is written.
+// The statement of a period of a tenant's account, made whole in memory.
+fn text_asked<L: Ledgers>(
+    alloc: Global,
+    ledgers: &mut L,
+    digest: &[u8; 32],
+    account: u128,
+    asked: &Asked,
+) -> Result<Vec<u8>, Fault>
+    requires { L.means.is_usable ledgers.old }
+    ensures told { L.means.is_live ledgers.new → IfOk result (λ text. IsTextAsked
+        (L.means.tenants ledgers.old digest.now) account asked.now text.items) }
+    ensures fault { L.means.is_live ledgers.new → IfErr result (IsAbsenceTold
+        (answer_in (L.means.tenants ledgers.old digest.now) account Oldest)) }
+    ensures reads { Reads L.means ledgers.old ledgers.new }
+{
+    let extract = extract_of(alloc, ledgers, digest, account, asked)?;
+    let is_wide = asked.layout.is_wide;
+    let transfers = transfers_of(alloc, ledgers, digest, is_wide, &extract)?;
+    let text = extract_text(alloc, asked.layout, &extract, transfers.as_slice())?;
+    Ok(text)
+}
+
+/// Writes the statement of a period of a tenant's account, and gives the writer back. After a
+/// failed write a beginning of it is written, after any other fault nothing.
 pub(crate) fn write_extract<L: Ledgers, O: Drain + Drop>(
     alloc: Global,
     ledgers: &mut L,
@@ -83,19 +108,19 @@ pub(crate) fn write_extract<L: Ledgers, O: Drain + Drop>(
     account: u128,
     asked: &Asked,
     mut out: O,
-) -> Result<O, Fault>
+) -> (O, Result<(), Fault>)
     requires usable { L.means.is_usable ledgers.old }
     requires open { O.failed out ≡ false }
     ensures told { L.means.is_live ledgers.new → IsExtractTold O.written
-        (L.means.tenants ledgers.old digest.now) account asked.now out result }
+        (L.means.tenants ledgers.old digest.now) account asked.now out result.0 result.1 }
     ensures reads { Reads L.means ledgers.old ledgers.new }
 {
-    let extract = extract_of(alloc, ledgers, digest, account, asked)?;
-    let is_wide = asked.layout.is_wide;
-    let transfers = transfers_of(alloc, ledgers, digest, is_wide, &extract)?;
-    let text = extract_text(alloc, asked.layout, &extract, transfers.as_slice())?;
+    let text = match text_asked(alloc, ledgers, digest, account, asked) {
+        Ok(text) => text,
+        Err(fault) => return (out, Err(fault)),
+    };
     match put_all(&mut out, text.as_slice()) {
-        Ok(()) => Ok(out),
-        Err(_) => Err(Fault::Output),
+        Ok(()) => (out, Ok(())),
+        Err(_) => (out, Err(Fault::Output)),
     }
 }

@@ -2,14 +2,15 @@
 ghost use Rattle.std.specs.Prelude.{◌≡◌, false};
 ghost use Rattle.chain.specs.LedgerReads.{Reads};
 ghost use Rattle.commands.specs.Extracts.{IsAskedTold};
-ghost use Rattle.commands.specs.Statements.{IsStatementTold, statement_fault, answer_in};
+ghost use Rattle.commands.specs.Statements.{IsGivenBack, IsStatementTold, answer_in};
+ghost use Rattle.commands.specs.Statements.{statement_fault};
 
 use crate::asked::Asked;
 use crate::extracts::write_extract;
 use chain::{Ledgers, ReadFault};
 use command_texts::Fault;
 use records::{Drain, Order, SinkFault};
-use statement::{StatementWriter, rows_make_a_statement};
+use statement::{StatementWriter, rows_begin_a_statement, rows_make_a_statement};
 use std::alloc::Global;
 
 /// Writes the statement of a tenant's account, row by row, and gives the writer back. After a fault
@@ -21,26 +22,28 @@ pub(crate) fn write_statement<L: Ledgers, O: Drain + Drop>(
     account: u128,
     order: Order,
     out: O,
-) -> Result<O, Fault>
+) -> (O, Result<(), Fault>)
     requires usable { L.means.is_usable ledgers.old }
     requires open { O.failed out ≡ false }
     ensures told { L.means.is_live ledgers.new → IsStatementTold O.written
-        (answer_in (L.means.tenants ledgers.old digest.now) account order) out result }
+        (answer_in (L.means.tenants ledgers.old digest.now) account order) out result.0 result.1 }
     ensures reads { Reads L.means ledgers.old ledgers.new }
 {
     rows_make_a_statement::<O>();
+    rows_begin_a_statement::<O>();
     let mut writer = StatementWriter::new(alloc, out);
     if let Err(why) = ledgers.each_statement_row(alloc, digest, account, order, &mut writer) {
-        return Err(statement_fault(why));
+        return (writer.into_inner(), Err(statement_fault(why)));
     }
     let (out, ended) = writer.finish();
     match ended {
-        Ok(()) => Ok(out),
-        Err(_) => Err(Fault::Output),
+        Ok(()) => (out, Ok(())),
+        Err(_) => (out, Err(Fault::Output)),
     }
 }
 
-/// Writes what is asked for of the statement of a tenant's account, and gives the writer back.
+/// Writes what is asked for of the statement of a tenant's account, and gives the writer back where
+/// all of it is written.
 pub(crate) fn write_asked<L: Ledgers, O: Drain + Drop>(
     alloc: Global,
     ledgers: &mut L,
@@ -51,8 +54,30 @@ pub(crate) fn write_asked<L: Ledgers, O: Drain + Drop>(
 ) -> Result<O, Fault>
     requires usable { L.means.is_usable ledgers.old }
     requires open { O.failed out ≡ false }
+    ensures told { L.means.is_live ledgers.new → IsGivenBack (IsAskedTold O.written
+        (L.means.tenants ledgers.old digest.now) account asked.now out) result }
+    ensures reads { Reads L.means ledgers.old ledgers.new }
+{
+    let (out, written) = put_asked(alloc, ledgers, digest, account, asked, out);
+    match written {
+        Ok(()) => Ok(out),
+        Err(fault) => Err(fault),
+    }
+}
+
+// Writes it, and gives the writer back. After a fault a beginning of it may be written.
+fn put_asked<L: Ledgers, O: Drain + Drop>(
+    alloc: Global,
+    ledgers: &mut L,
+    digest: &[u8; 32],
+    account: u128,
+    asked: &Asked,
+    out: O,
+) -> (O, Result<(), Fault>)
+    requires usable { L.means.is_usable ledgers.old }
+    requires open { O.failed out ≡ false }
     ensures told { L.means.is_live ledgers.new → IsAskedTold O.written
-        (L.means.tenants ledgers.old digest.now) account asked.now out result }
+        (L.means.tenants ledgers.old digest.now) account asked.now out result.0 result.1 }
     ensures reads { Reads L.means ledgers.old ledgers.new }
 {
     if asked.is_whole() {

@@ -1,5 +1,6 @@
 //! What takes an account's statement, row by row.
-ghost use Rattle.std.specs.Prelude.{◌≡◌, Bool, false, is_err, OnOk};
+ghost use Rattle.std.specs.Prelude.{◌≡◌, Bool, false, is_err, IfErr, OnOk};
+ghost use Rattle.records.specs.declared.row_sink.SinkFault.{SinkFault};
 ghost use Rattle.records.specs.declared.statement_row.StatementRow.{StatementRow};
 
 use crate::StatementRow;
@@ -18,6 +19,9 @@ pub trait RowSink {
     // What taking a row makes of the sink.
     ghost takes: { Self → StatementRow → Self → Type 0 };
 
+    // What refusing a row with this fault makes of it.
+    ghost refuses: { Self → StatementRow → SinkFault → Self → Type 0 };
+
     // Whether it has refused a row.
     ghost refused: { Self → Bool };
 
@@ -25,5 +29,6 @@ pub trait RowSink {
     fn row(&mut self, row: &StatementRow) -> Result<(), SinkFault>
         requires { refused self.old ≡ false }
         ensures taken { OnOk result (takes self.old row.now self.new) }
+        ensures refusal { IfErr result (λ why. refuses self.old row.now why self.new) }
         ensures refused { refused self.new ≡ is_err result };
 }

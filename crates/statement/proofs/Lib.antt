@@ -2,6 +2,7 @@ pub mod Fronts
 pub mod Rows
 pub mod PlainLines
 pub mod WholeStatement
+pub mod BegunStatement
 pub mod KeptRows
 pub mod PlainExtracts
 pub mod WorkedExtracts

@@ -1,7 +1,9 @@
 -- What is seen of an extract, and what it keeps of the entries that it takes.
-use Rattle.std.specs.Prelude.{◌≡◌, ◌++◌, ◌∷◌, [], Bool, List, if◌then◌else◌}
+use Rattle.std.specs.Prelude.{◌≡◌, ◌++◌, ◌∷◌, [], Bool, true, List, if◌then◌else◌}
 use Rattle.records.specs.Streams.{TakesRows}
 use Rattle.records.specs.declared.balances.Balances.{Balances}
+use Rattle.records.specs.declared.row_sink.SinkFault.{SinkFault}
+use Rattle.records.specs.declared.row_sink.SinkFault.TheVariants.{Memory}
 use Rattle.records.specs.declared.statement_row.StatementRow.{StatementRow}
 use Rattle.statement.specs.Period.{closing, is_before, is_reached, is_within, no_balances, opening, within}
 use Rattle.statement.specs.declared.period.Period.{Period}
@@ -44,6 +46,16 @@ pub record Keeps (old : Extract) (row : StatementRow) (new : Extract) : Type 0 w
       ≡ (if is_reached (period_of old) row then row.balances else closing_of old)
   pub rows : kept_of new
       ≡ kept_of old ++ (if is_within (period_of old) row then row ∷ [] else [])
+
+-- it refuses an entry: one that lies in the period, for want of memory; it is as it was
+pub record RefusesEntry (old : Extract) (row : StatementRow) (why : SinkFault) (new : Extract) :
+    Type 0 where
+  pub within : is_within (period_of old) row ≡ true
+  pub memory : why ≡ Memory
+  pub period : period_of new ≡ period_of old
+  pub opening : opening_of new ≡ opening_of old
+  pub closing : closing_of new ≡ closing_of old
+  pub rows : kept_of new ≡ kept_of old
 
 -- it is what lies in the period of a whole statement
 pub record IsExtractOf (p : Period) (statement : List StatementRow) (e : Extract) : Type 0 where

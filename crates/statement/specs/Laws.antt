@@ -2,13 +2,14 @@
 use Rattle.std.specs.Prelude.{◌≡◌, ◌∷◌, ◌++◌, ℕ, [], List, Option, false}
 use Rattle.std.specs.List.{join_with_byte}
 use Rattle.std.specs.Io.KnownBytes.{Appends}
-use Rattle.records.specs.Streams.{TakesRows}
+use Rattle.records.specs.Streams.{AppendsFront, TakesRows}
 use Rattle.records.specs.declared.balances.Balances.{Balances}
+use Rattle.records.specs.declared.row_sink.SinkFault.{SinkFault}
 use Rattle.records.specs.declared.statement_row.StatementRow.{StatementRow}
 use Rattle.records.specs.declared.transfer.Transfer.{Transfer}
-use Rattle.statement.specs.Text.{fields_of, line_of, statement_text}
+use Rattle.statement.specs.Text.{begun_text, fields_of, line_of, statement_text}
 use Rattle.statement.specs.Written.{extract_text}
-use Rattle.statement.specs.Writer.{TakesRow, drain_of, has_begun, header_left}
+use Rattle.statement.specs.Writer.{RefusesRow, TakesRow, drain_of, has_begun, header_left}
 use Rattle.statement.specs.declared.form.Form.TheVariants.{Csv}
 use Rattle.statement.specs.declared.layout.Layout.{Layout}
 use Rattle.statement.specs.declared.writer.StatementWriter.{StatementWriter}
@@ -27,6 +28,25 @@ MakeRowsAStatement {W} written =
     → TakesRows (TakesRow written) new rows last
     → Appends (written (drain_of last)) end (header_left last)
     → Appends (written (drain_of new)) end (statement_text rows)
+
+-- what a new writer has written of a statement that breaks off: behind some rows their lines; where
+-- it refused the next row, or its header was cut off at the end, a beginning of the statement
+pub record BeginAStatement {W : Type 0} (written : W → Option (List ℕ)) : Type 0 where
+  pub taken :
+      (new last : StatementWriter W) (rows : List StatementRow) → has_begun new ≡ false
+      → TakesRows (TakesRow written) new rows last
+      → Appends (written (drain_of new)) (written (drain_of last)) (begun_text rows)
+  pub refused :
+      (new last left : StatementWriter W) (rows : List StatementRow) (row : StatementRow)
+      (more : List StatementRow) (why : SinkFault) → has_begun new ≡ false
+      → TakesRows (TakesRow written) new rows last → RefusesRow written last row why left
+      → AppendsFront (written (drain_of new)) (written (drain_of left))
+      (statement_text (rows ++ row ∷ more))
+  pub ended :
+      (new last : StatementWriter W) (rows : List StatementRow) (end : Option (List ℕ))
+      → has_begun new ≡ false → TakesRows (TakesRow written) new rows last
+      → AppendsFront (written (drain_of last)) end (header_left last)
+      → AppendsFront (written (drain_of new)) end (statement_text rows)
 
 -- lines of CSV as the service tells them, without sums
 abbrev pub plain_layout : Layout

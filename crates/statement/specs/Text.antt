@@ -56,3 +56,8 @@ lines_of (row ∷ rows) = line_of row ++ lines_of rows
 -- a whole statement
 abbrev pub statement_text : List StatementRow → List ℕ
 statement_text rows = header_line ++ lines_of rows
+
+-- what has gone out once some rows have: their statement; without one not even the header
+abbrev pub begun_text : List StatementRow → List ℕ
+begun_text [] = []
+begun_text (row ∷ rows) = statement_text (row ∷ rows)

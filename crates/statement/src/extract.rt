@@ -1,6 +1,6 @@
 ghost use Rattle.std.specs.Prelude.{◌≡◌, false, map, reverse, if◌then◌else◌, IfOk, [], Ok, is_err, OnOk};
-ghost use Rattle.statement.specs.Extract.{Keeps, IsEmptyOver, has_refused, closing_of, opening_of};
-ghost use Rattle.statement.specs.Extract.{kept_of, period_of};
+ghost use Rattle.statement.specs.Extract.{Keeps, IsEmptyOver, RefusesEntry, has_refused};
+ghost use Rattle.statement.specs.Extract.{closing_of, kept_of, opening_of, period_of};
 
 use crate::Period;
 use records::{Balances, Order, RowSink, SinkFault, StatementRow};
@@ -76,6 +76,8 @@ impl Extract {
 
 impl RowSink for Extract {
     ghost takes = { Keeps };
+
+    ghost refuses = { RefusesEntry };
 
     ghost refused = { λ e. has_refused e };
 

@@ -1,6 +1,7 @@
 //! What the words of the contracts say, taken together.
 ghost use Rattle.statement.specs.Extract.{RowsMakeAnExtract};
-ghost use Rattle.statement.specs.Laws.{AreExtractsPlain, AreLinesPlain, MakeRowsAStatement};
+ghost use Rattle.statement.specs.Laws.{AreExtractsPlain, AreLinesPlain, BeginAStatement};
+ghost use Rattle.statement.specs.Laws.{MakeRowsAStatement};
 
 use records::Drain;
 
@@ -13,6 +14,12 @@ pub fn lines_are_plain()
 /// statement.
 pub fn rows_make_a_statement<W: Drain>()
     ensures { MakeRowsAStatement W.written }
+{}
+
+/// What a new `StatementWriter` has written of a statement that breaks off is a beginning of it:
+/// behind some rows, at one that it refused, or where `finish` failed.
+pub fn rows_begin_a_statement<W: Drain>()
+    ensures { BeginAStatement W.written }
 {}
 
 /// What a new `Extract` holds once it took a whole statement, oldest entry first, is what lies in

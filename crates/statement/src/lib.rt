@@ -27,7 +27,8 @@ pub use extract_writing::extract_text;
 pub use fault::StatementFault;
 pub use form::Form;
 pub use laws::{
-    lines_are_plain, narrow_extracts_are_plain, rows_make_a_statement, rows_make_an_extract,
+    lines_are_plain, narrow_extracts_are_plain, rows_begin_a_statement, rows_make_a_statement,
+    rows_make_an_extract,
 };
 pub use layout::Layout;
 pub use period::Period;

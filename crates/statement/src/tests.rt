@@ -316,6 +316,9 @@ fn refuses_a_row_where_the_writer_fails(rt: HostRuntime) {
         hand(&mut writer, &pending_and_post()),
         Err(SinkFault::Write)
     );
+    let Narrow { bytes, len, .. } = writer.into_inner().into_inner();
+    let text = PENDING_AND_POST.as_bytes();
+    assert!(rt; bytes.iter().take(len).eq(text.iter().take(140)));
     let writer = StatementWriter::new(rt.alloc(), with_room(96));
     let (_out, ended) = writer.finish();
     assert_eq!(rt; ended, Err(StatementFault::Write));

@@ -1,10 +1,10 @@
-ghost use Rattle.std.specs.Prelude.{◌≡◌, ◌||◌, ◌++◌, false, true, is_err, IfErr, OnErr, OnOk};
+ghost use Rattle.std.specs.Prelude.{◌≡◌, ◌||◌, ◌++◌, false, true, is_err, Err, IfErr, OnErr, OnOk};
 ghost use Rattle.std.specs.Io.KnownBytes.{Appends};
 ghost use Rattle.records.specs.Streams.{AppendsFront};
 ghost use Rattle.statement.specs.Fault.{is_sink_write, is_write_fault};
 ghost use Rattle.statement.specs.Text.{line_of};
-ghost use Rattle.statement.specs.Writer.{TakesRow, drain_of, has_begun, has_refused, header_left};
-ghost use Rattle.statement.specs.Writer.{last_line};
+ghost use Rattle.statement.specs.Writer.{RefusesRow, TakesRow, drain_of, has_begun, has_refused};
+ghost use Rattle.statement.specs.Writer.{header_left, last_line};
 
 use crate::StatementFault;
 use crate::line::line_of;
@@ -54,6 +54,17 @@ impl<W: Drain> StatementWriter<W> {
         ensures failed { W.failed result.0 ≡ is_err result.1 }
     {
         let ended = self.put_header();
+        let writer = self.into_inner();
+        match ended {
+            Ok(()) => (writer, Ok(())),
+            Err(Failed) => (writer, Err(StatementFault::Write)),
+        }
+    }
+
+    /// Gives the writer back where the statement breaks off: it has what was written of it.
+    pub fn into_inner(self) -> W
+        ensures { result ≡ drain_of self }
+    {
         let StatementWriter {
             writer,
             alloc: _,
@@ -61,10 +72,7 @@ impl<W: Drain> StatementWriter<W> {
             has_begun: _,
             has_refused: _,
         } = self;
-        match ended {
-            Ok(()) => (writer, Ok(())),
-            Err(Failed) => (writer, Err(StatementFault::Write)),
-        }
+        writer
     }
 
     // Writes the header, where it is still to go out.
@@ -94,6 +102,8 @@ impl<W: Drain> StatementWriter<W> {
         ensures ok { OnOk result (TakesRow W.written self.old row.now self.new) }
         ensures err { OnErr result (AppendsFront (W.written (drain_of self.old))
             (W.written (drain_of self.new)) (header_left self.old ++ line_of row.now)) }
+        ensures memory { result ≡ Err StatementFault.Memory
+            → drain_of self.new ≡ drain_of self.old }
         ensures failed { W.failed (drain_of self.new) ≡ is_write_fault result }
         ensures same { has_refused self.new ≡ has_refused self.old }
     {
@@ -108,14 +118,15 @@ impl<W: Drain> StatementWriter<W> {
 impl<W: Drain> RowSink for StatementWriter<W> {
     ghost takes = { TakesRow W.written };
 
+    ghost refuses = { RefusesRow W.written };
+
     ghost refused = { λ s. has_refused s || W.failed (drain_of s) };
 
     fn row(&mut self, row: &StatementRow) -> Result<(), SinkFault>
         requires { (has_refused self.old || W.failed (drain_of self.old)) ≡ false }
         ensures taken { OnOk result (TakesRow W.written self.old row.now self.new) }
         ensures refused { (has_refused self.new || W.failed (drain_of self.new)) ≡ is_err result }
-        ensures front { OnErr result (AppendsFront (W.written (drain_of self.old))
-            (W.written (drain_of self.new)) (header_left self.old ++ line_of row.now)) }
+        ensures refusal { IfErr result (λ why. RefusesRow W.written self.old row.now why self.new) }
         ensures failed { W.failed (drain_of self.new) ≡ is_sink_write result }
     {
         match self.put_row(row) {

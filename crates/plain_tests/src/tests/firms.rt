@@ -260,6 +260,8 @@ impl Rows {
 impl RowSink for Rows {
     ghost takes = { λ _ _ _. Unit {0} };
 
+    ghost refuses = { λ _ _ _ _. Unit {0} };
+
     ghost refused = { λ rows. rows.has_refused };
 
     fn row(&mut self, row: &StatementRow) -> Result<(), SinkFault> {

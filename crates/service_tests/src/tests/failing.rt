@@ -99,6 +99,8 @@ impl Taken {
 impl RowSink for Taken {
     ghost takes = { λ _ _ _. Unit {0} };
 
+    ghost refuses = { λ _ _ _ _. Unit {0} };
+
     ghost refused = { λ taken. taken.has_refused };
 
     fn row(&mut self, row: &StatementRow) -> Result<(), SinkFault> {

@@ -7,7 +7,7 @@ use Rattle.records.specs.Streams.{TakesRows}
 use Rattle.chain.specs.declared.account_entry.AccountEntry.{AccountEntry}
 use Rattle.chain.specs.declared.reads.ReadFault.{ReadFault}
 use Rattle.chain.specs.AccountEntries.{entry_time, piece_behind, row_of}
-use Rattle.chain.specs.LedgerReads.{HandsOut, IsBegun, seen_in}
+use Rattle.chain.specs.LedgerReads.{HandsOut, RefusesNext, seen_in}
 use Rattle.chain.proofs.LookLemmas.{account_answered, account_refused, not_answered, refused_so}
 use Rattle.chain.proofs.StatementPieces.{IsReading, all_handed, as_reads, broken, goes_on, read_finds, read_on, reading_begins, reading_begun, same_fault, sink_refused, told_answered}
 use Rattle.chain.proofs.ledgers.Ledgers.each_statement_row.Goals as goal
@@ -25,11 +25,11 @@ pieces-init g c = (
 pub returns-in_err-found-clause-told : goal.returns-in_err-found-clause-told
 returns-in_err-found-clause-told g c live =
     let p = err_from_is_err_and c.from_residual.result c.from_residual.ensures.1 in
-    subst (λ (r : Result (Unit {0}) ReadFault). HandsOut g.S.RowSink.takes (seen_in (λ m. statement_answer m c.args.account c.args.order) (g.Self.Ledgers.means.tenants c.args.self.now c.args.digest.now)) c.args.sink.now c.pieces.sink r)
+    subst (λ (r : Result (Unit {0}) ReadFault). HandsOut g.S.RowSink.takes g.S.RowSink.refuses (seen_in (λ m. statement_answer m c.args.account c.args.order) (g.Self.Ledgers.means.tenants c.args.self.now c.args.digest.now)) c.args.sink.now c.pieces.sink r)
     (sym (p.1 ∙ ap Err p.2))
     (broken g.Self.Ledgers.means g.S.RowSink.takes c.args.digest.now c.args.account c.args.order
     c.args.self.now c.pieces.self c.in_batch.new.self c.pieces.span c.in_batch.result g.met.Self.Ledgers.then g.met.Self.Ledgers.lived
-    c.in_batch.ensures.run c.in_batch.ensures.usable c.in_batch.ensures.follows c.in_batch.ensures.finds c.args.sink.now c.pieces.sink c.pieces.invariant.0 _ (sym c.account_answer.ensures ∙ c.in_err-found.was) live)
+    c.in_batch.ensures.run c.in_batch.ensures.usable c.in_batch.ensures.follows c.in_batch.ensures.finds g.S.RowSink.refuses c.args.sink.now c.pieces.sink c.pieces.invariant.0 _ (sym c.account_answer.ensures ∙ c.in_err-found.was) live)
 
 pub returns-in_err-found-clause-finds : goal.returns-in_err-found-clause-finds
 returns-in_err-found-clause-finds g c =
@@ -49,17 +49,14 @@ returns-in_err-found-clause-reads g c =
 pub returns-in_err-next-clause-told : goal.returns-in_err-next-clause-told
 returns-in_err-next-clause-told g c live =
     let p = err_from_is_err_and c.from_residual-in_err-next.result c.from_residual-in_err-next.ensures.1 in
-    let begun = c.in_err-next.ensures.err in
-    subst (λ (r : Result (Unit {0}) ReadFault). HandsOut g.S.RowSink.takes (seen_in (λ m. statement_answer m c.args.account c.args.order) (g.Self.Ledgers.means.tenants c.args.self.now c.args.digest.now)) c.args.sink.now c.hand_piece.new.sink r)
-    (sym (p.1 ∙ ap Err p.2)) (
-      begun.0,
-      sink_refused g.Self.Ledgers.means g.S.RowSink.takes c.args.digest.now c.args.account c.args.order
-          c.args.self.now c.pieces.self c.in_batch.new.self c.pieces.span c.in_batch.result g.met.Self.Ledgers.then g.met.Self.Ledgers.lived
-          c.in_batch.ensures.run c.in_batch.ensures.usable c.in_batch.ensures.follows c.in_batch.ensures.finds c.args.sink.now c.pieces.sink c.pieces.invariant.0
-          c.in_ok-found.found (sym c.account_answer.ensures ∙ c.in_ok-found.was)
-          (λ live. g.met.Self.Ledgers.valid c.pieces.self live c.pieces.invariant.0.read.usable) begun.0
-          (subst (λ (es : List AccountEntry). IsBegun g.S.RowSink.takes (map (row_of c.args.account) es) c.pieces.sink begun.0) c.deref.ensures.value begun.1) live,
-    )
+    subst (λ (r : Result (Unit {0}) ReadFault). HandsOut g.S.RowSink.takes g.S.RowSink.refuses (seen_in (λ m. statement_answer m c.args.account c.args.order) (g.Self.Ledgers.means.tenants c.args.self.now c.args.digest.now)) c.args.sink.now c.hand_piece.new.sink r)
+    (sym (p.1 ∙ ap Err p.2))
+    (sink_refused g.Self.Ledgers.means g.S.RowSink.takes c.args.digest.now c.args.account c.args.order
+    c.args.self.now c.pieces.self c.in_batch.new.self c.pieces.span c.in_batch.result g.met.Self.Ledgers.then g.met.Self.Ledgers.lived
+    c.in_batch.ensures.run c.in_batch.ensures.usable c.in_batch.ensures.follows c.in_batch.ensures.finds g.S.RowSink.refuses c.args.sink.now c.pieces.sink c.pieces.invariant.0
+    c.in_ok-found.found (sym c.account_answer.ensures ∙ c.in_ok-found.was)
+    (λ live. g.met.Self.Ledgers.valid c.pieces.self live c.pieces.invariant.0.read.usable) _ c.hand_piece.new.sink
+    (subst (λ (es : List AccountEntry). RefusesNext g.S.RowSink.takes g.S.RowSink.refuses (map (row_of c.args.account) es) c.in_err-next.field-0.0 c.pieces.sink c.hand_piece.new.sink) c.deref.ensures.value c.in_err-next.ensures.err) live)
 
 pub returns-in_err-next-clause-finds : goal.returns-in_err-next-clause-finds
 returns-in_err-next-clause-finds g c =
@@ -78,7 +75,7 @@ pub returns-in_default-clause-told : goal.returns-in_default-clause-told
 returns-in_default-clause-told g c live =
     all_handed g.Self.Ledgers.means g.S.RowSink.takes c.args.digest.now c.args.account c.args.order
     c.args.self.now c.pieces.self c.in_batch.new.self c.pieces.span c.in_batch.result g.met.Self.Ledgers.then g.met.Self.Ledgers.lived
-    c.in_batch.ensures.run c.in_batch.ensures.usable c.in_batch.ensures.follows c.in_batch.ensures.finds c.args.sink.now c.pieces.sink c.pieces.invariant.0
+    c.in_batch.ensures.run c.in_batch.ensures.usable c.in_batch.ensures.follows c.in_batch.ensures.finds g.S.RowSink.refuses c.args.sink.now c.pieces.sink c.pieces.invariant.0
     c.in_ok-found.found (sym c.account_answer.ensures ∙ c.in_ok-found.was)
     (λ live. g.met.Self.Ledgers.valid c.pieces.self live c.pieces.invariant.0.read.usable)
     c.in_ok-next.field-0 c.hand_piece.new.sink
@@ -104,7 +101,7 @@ pub pieces-preserved : goal.pieces-preserved
 pieces-preserved g c = (
   goes_on g.Self.Ledgers.means g.S.RowSink.takes c.args.digest.now c.args.account c.args.order
       c.args.self.now c.pieces.self c.in_batch.new.self c.pieces.span c.in_batch.result g.met.Self.Ledgers.then g.met.Self.Ledgers.lived
-      c.in_batch.ensures.run c.in_batch.ensures.usable c.in_batch.ensures.follows c.in_batch.ensures.finds c.args.sink.now c.pieces.sink c.pieces.invariant.0
+      c.in_batch.ensures.run c.in_batch.ensures.usable c.in_batch.ensures.follows c.in_batch.ensures.finds g.S.RowSink.refuses c.args.sink.now c.pieces.sink c.pieces.invariant.0
       c.in_ok-found.found (sym c.account_answer.ensures ∙ c.in_ok-found.was)
       (λ live. g.met.Self.Ledgers.valid c.pieces.self live c.pieces.invariant.0.read.usable)
       c.in_ok-next.field-0 c.in-Some.next c.hand_piece.new.sink
