@@ -129,7 +129,11 @@ fn migratable_at(rt: &HostRuntime, path: &str) -> Result<LedgerOfVersion<File>, 
     ensures { IfOk result IsMigratable }
 {
     find(rt, path)?;
-    LedgerOfVersion::open_for_migration_at(rt, path, Unknown, options(rt, PAGES)?, &FullAudit)
+    let options = options(rt, PAGES)?;
+    match LedgerOfVersion::open_for_migration_at(rt, path, Unknown, options, &FullAudit) {
+        Ok(ledger) => Ok(ledger),
+        Err((fault, _files)) => Err(fault),
+    }
 }
 
 /// Where the ledger in a file that is there is damaged.
@@ -146,7 +150,10 @@ fn open_at<A: Audit>(rt: &HostRuntime, path: &str, audit: &A) -> Result<Store<Fi
     ensures ready { IfOk result IsReady }
 {
     find(rt, path)?;
-    Store::open_at(rt, path, Unknown, options(rt, PAGES)?, audit)
+    match Store::open_at(rt, path, Unknown, options(rt, PAGES)?, audit) {
+        Ok(store) => Ok(store),
+        Err((fault, _files)) => Err(fault),
+    }
 }
 
 // Opening would make a database of a file that is absent or empty, so it is looked for first.
@@ -209,7 +216,7 @@ fn make(rt: &HostRuntime, path: &str) -> Result<Opened, Fault>
             store,
             is_new: true,
         }),
-        Err(fault) => Err(open_fault(fault)),
+        Err((fault, _files)) => Err(open_fault(fault)),
     }
 }
 

@@ -5,6 +5,7 @@ ghost use Rattle.sqlite.specs.Files.{file_state, image_of};
 ghost use Rattle.sqlite.specs.State.{HasCleanDisk};
 ghost use Rattle.sqlite_wal.specs.Files.{image_at};
 ghost use Rattle.sqlite_wal.specs.Reads.{AreClean};
+ghost use Rattle.openings.specs.AtPath.{LeavesPath};
 ghost use Rattle.openings.specs.Found.{IsSettled, Yields};
 ghost use Rattle.stored_ledgers.specs.Resting.{Serves};
 ghost use Rattle.migrate.specs.Ledgers.{IsMigratable, IsOpenedToMigrate, RefusesFiles, state_of};
@@ -123,22 +124,27 @@ impl<D: Disk + Drop> LedgerOfVersion<D> {
 
 impl<St: Start> LedgerOfVersion<FileFrom<St>> {
     /// As `open_for_migration`, at a path. Files that are missing are made, and then refused as
-    /// empty ones. `St` stands for what they hold; which one it is matters to the clauses on values
-    /// alone.
+    /// empty ones. They are given back where the ledger is refused; there are none where the path
+    /// is. `St` stands for what they hold; which one it is matters to the clauses on values alone.
     pub fn open_for_migration_at<A: Audit>(
         rt: &HostRuntime,
         path: &str,
         start: St,
         options: Options,
         audit: &A,
-    ) -> Result<LedgerOfVersion<FileFrom<St>>, OpenFault>
+    ) -> Result<LedgerOfVersion<FileFrom<St>>, (OpenFault, Option<Files<FileFrom<St>>>)>
         ensures migratable { IfOk result IsMigratable }
         ensures opened { IfOk result (IsOpenedToMigrate (image_at St.Start)) }
+        ensures refused { IfErr result (λ e. LeavesPath ⟦<FileFrom<St> as Disk>⟧
+            (image_at St.Start) (RefusesFiles ⟦<FileFrom<St> as Disk>⟧) e.0 e.1) }
     {
-        let files = files_at(rt, path, start)?;
+        let files = match files_at(rt, path, start) {
+            Ok(files) => files,
+            Err(fault) => return Err((fault, None)),
+        };
         match LedgerOfVersion::open_for_migration(rt.alloc(), files, options, audit) {
             Ok(ledger) => Ok(ledger),
-            Err((fault, _files)) => Err(fault),
+            Err((fault, left)) => Err((fault, Some(left))),
         }
     }
 }

@@ -8,3 +8,4 @@ pub mod Opened
 pub mod Damage
 pub mod DamageLaws
 pub mod Told
+pub mod AtPath

@@ -4,7 +4,9 @@ ghost use Rattle.std.specs.Prelude.{◌≡◌, true, false, IsTrue, IfOk, IfErr}
 ghost use Rattle.sqlite.specs.State.{HasCleanDisk};
 ghost use Rattle.sqlite.specs.Files.{file_state, image_of};
 ghost use Rattle.sqlite_std_file.specs.File.{file_is_usable, IsFresh};
+ghost use Rattle.sqlite_wal.specs.Files.{image_at};
 ghost use Rattle.sqlite_wal.specs.Reads.{AreClean};
+ghost use Rattle.openings.specs.AtPath.{HoldHonestly};
 ghost use Rattle.openings.specs.Damage.{IsNoDamage};
 ghost use Rattle.openings.specs.Faults.{open_fault_in};
 ghost use Rattle.openings.specs.Told.{IsUnopenedFor};
@@ -119,7 +121,7 @@ pub(crate) fn open_on<D: Disk + Drop>(
 }
 
 /// The two files at a path, made where they are missing. `:memory:` and a URI are refused, and files
-/// that another process has are `InUse`.
+/// that another process has are `InUse`. `St` stands for what they hold.
 pub fn files_at<St: Start>(
     rt: &HostRuntime,
     path: &str,
@@ -128,6 +130,8 @@ pub fn files_at<St: Start>(
     ensures log { IfOk result (λ files. IsTrue (file_is_usable St.Start files.log)) }
     ensures db { IfOk result (λ files. IsTrue (file_is_usable St.Start files.db)) }
     ensures fresh { IfOk result (λ files. IsFresh true files.log × IsFresh false files.db) }
+    ensures held { IfOk result (HoldHonestly ⟦<FileFrom<St> as Disk>⟧ (image_at St.Start)) }
+    ensures fault { IfErr result (λ fault. IsOfLedger fault → ⊥) }
 {
     if path == ":memory:" || path.starts_with("file:") {
         return Err(OpenFault::Unreadable);

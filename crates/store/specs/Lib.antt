@@ -1,3 +1,4 @@
 pub mod Stores
+pub mod Refused
 pub mod StoreLaws
 pub mod Deeds

@@ -2,17 +2,17 @@
 ghost use Rattle.store.specs.Stores.{IsUsable};
 
 use super::files::Step::{Breaks, Posts};
-use super::files::take_steps;
+use super::files::{opened, take_steps};
 use super::homes::Notice::Refused;
 use super::homes::{Notes, Nowhere};
 use super::scripted::Hand;
 use super::serving::{UNAVAILABLE, exchange_over};
 use command_texts::Fault;
 use sqlite::Options;
-use sqlite_disk::{Disk, Unknown};
+use sqlite_disk::Disk;
 use std::fs;
 use std::test::Fail;
-use store::{FullAudit, Store};
+use store::Store;
 
 // So few pages that a batch reads the file.
 const SMALL: Options = Options {
@@ -25,7 +25,7 @@ const SMALL: Options = Options {
 /// Serves the ledger in a file to a client, once these bytes are written over the file and its log
 /// is emptied. It is told twice that the service is unavailable, and this fault is told once.
 pub fn breaks(rt: &HostRuntime, db: &str, bytes: &[u8], fault: Fault) -> Result<(), Fail> {
-    let store = Store::open_at(rt, db, Unknown, SMALL, &FullAudit)?;
+    let store = opened(rt, db, SMALL)?;
     let clock = Hand::new();
     let home = Nowhere(Notes::new(rt.alloc(), &clock));
     let told = broken(rt, db, bytes, &home, &clock, store)?;

@@ -1,5 +1,6 @@
 //! Steps on files of this machine: what is done to a file, and what the program tells of it.
-ghost use Rattle.std.specs.Prelude.{◌≡◌, false};
+ghost use Rattle.std.specs.Prelude.{◌≡◌, false, IfOk};
+ghost use Rattle.store.specs.Stores.{IsUsable};
 
 use super::broken::breaks;
 use super::firms::{ADDING, Messages};
@@ -7,13 +8,13 @@ use command_line::LimitWords;
 use command_texts::Fault;
 use commands::{program, serve_file};
 use records::{Drain, Streamed};
-use sqlite::{Alter, Connection, Options};
+use sqlite::{Alter, Connection, File, Options};
 use sqlite_disk::Unknown;
 use std::alloc::AllocError;
 use std::fs;
 use std::os::unix::fs::MetadataExt;
 use std::test::Fail;
-use store::{FullAudit, Store};
+use store::{FullAudit, OpenFault, Store};
 
 /// A step on a file. Words are the program's, but for `--db`, with which they end.
 #[derive(Clone, Copy)]
@@ -155,9 +156,19 @@ pub fn remove(rt: &HostRuntime, paths: [&str; 2]) {
     }
 }
 
+/// The ledger in a file.
+pub fn opened(rt: &HostRuntime, db: &str, options: Options) -> Result<Store<File>, OpenFault>
+    ensures { IfOk result IsUsable }
+{
+    match Store::open_at(rt, db, Unknown, options, &FullAudit) {
+        Ok(store) => Ok(store),
+        Err((fault, _files)) => Err(fault),
+    }
+}
+
 // Sends messages of the firm to the ledger in a file.
 fn send(rt: &HostRuntime, db: &str, messages: Messages) -> Result<(), Fail> {
-    let mut store = Store::open_at(rt, db, Unknown, Options::new(7), &FullAudit)?;
+    let mut store = opened(rt, db, Options::new(7))?;
     messages.send(rt.alloc(), &mut store);
     Ok(())
 }

@@ -182,6 +182,21 @@ fn makes_a_ledger_of_an_empty_file(rt: HostRuntime) -> Result<(), Fail> {
     take_steps(&rt, "empty.db", &EMPTY)
 }
 
+// A database without tables, as a making that was cut short leaves one.
+const BLANK: [Step; 6] = [
+    Changes("CREATE TABLE note (id INTEGER PRIMARY KEY) STRICT"),
+    Changes("DROP TABLE note"),
+    Refuses("check", 4, "not_a_ledger"),
+    Makes(tenant_add!("a", "00000000"), "added a\n"),
+    Tells("check", 0, "ok\n"),
+    Refuses(tenant_add!("a", "01010101"), 1, "name_taken"),
+];
+
+#[test]
+fn makes_a_ledger_of_a_database_without_tables(rt: HostRuntime) -> Result<(), Fail> {
+    take_steps(&rt, "blank.db", &BLANK)
+}
+
 const STATEMENTS: [Step; 6] = [
     Posts,
     Tells(

@@ -28,13 +28,19 @@ fn connected(rt: &HostRuntime) -> Result<Connection<FileStore<File>>, Error> {
 fn opened(rt: &HostRuntime) -> Result<LedgerOfVersion<File>, OpenFault>
     ensures { IfOk result IsMigratable }
 {
-    LedgerOfVersion::open_for_migration_at(rt, PATH, Unknown, SMALL, &FullAudit)
+    match LedgerOfVersion::open_for_migration_at(rt, PATH, Unknown, SMALL, &FullAudit) {
+        Ok(ledger) => Ok(ledger),
+        Err((fault, _files)) => Err(fault),
+    }
 }
 
 fn usable(rt: &HostRuntime) -> Result<Store<File>, OpenFault>
     ensures { IfOk result IsUsable }
 {
-    Store::open_at(rt, PATH, Unknown, SMALL, &FullAudit)
+    match Store::open_at(rt, PATH, Unknown, SMALL, &FullAudit) {
+        Ok(store) => Ok(store),
+        Err((fault, _files)) => Err(fault),
+    }
 }
 
 fn write_file(rt: &HostRuntime) -> Result<(), Error> {

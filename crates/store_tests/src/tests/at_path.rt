@@ -27,9 +27,14 @@ North see 1 => Ok((Some([0, 40, 0, 0]), Some(Posted), 9))
 North reopen => Ok(())
 North rows clock => 1 rows: 9";
 
-fn remove(rt: &HostRuntime) {
-    let _ = fs::remove_file(rt, PATH);
-    let _ = fs::remove_file(rt, LOG);
+const REFUSED: &str = "store_tests_refused.db";
+
+const REFUSED_LOG: &str = "store_tests_refused.db-wal";
+
+fn remove(rt: &HostRuntime, paths: [&str; 2]) {
+    for path in paths {
+        let _ = fs::remove_file(rt, path);
+    }
 }
 
 /// Why nothing was opened.
@@ -74,12 +79,22 @@ fn plays<D: Disk + Drop>(
 
 #[test]
 fn a_ledger_goes_on_in_a_file(rt: HostRuntime) {
-    remove(&rt);
+    remove(&rt, [PATH, LOG]);
     assert!(rt; is_refused(&rt, ":memory:", "Unreadable"));
     assert!(rt; is_refused(&rt, PATH, "NotALedger"));
     let made = Driven::make_at(&rt, PATH, Unknown, WIDE);
     plays(&rt, rt.alloc(), made, POSTED);
     let opened = Driven::open_at(&rt, PATH, Unknown, WIDE);
     plays(&rt, rt.alloc(), opened, RETRIED);
-    remove(&rt);
+    remove(&rt, [PATH, LOG]);
+}
+
+#[test]
+fn a_ledger_is_made_in_files_that_were_refused(rt: HostRuntime) {
+    remove(&rt, [REFUSED, REFUSED_LOG]);
+    let made = Driven::make_in_refused(&rt, REFUSED, Unknown, WIDE);
+    plays(&rt, rt.alloc(), made, POSTED);
+    let opened = Driven::open_at(&rt, REFUSED, Unknown, WIDE);
+    plays(&rt, rt.alloc(), opened, RETRIED);
+    remove(&rt, [REFUSED, REFUSED_LOG]);
 }

@@ -175,7 +175,7 @@ impl<St: Start> Driven<FileFrom<St>> {
     ) -> Result<Driven<FileFrom<St>>, OpenFault> {
         match Store::create_at(rt, path, start, options) {
             Ok(store) => Ok(Driven { store }),
-            Err(fault) => Err(fault),
+            Err((fault, _files)) => Err(fault),
         }
     }
 
@@ -187,7 +187,23 @@ impl<St: Start> Driven<FileFrom<St>> {
     ) -> Result<Driven<FileFrom<St>>, OpenFault> {
         match Store::open_at(rt, path, start, options, &FullAudit) {
             Ok(store) => Ok(Driven { store }),
-            Err(fault) => Err(fault),
+            Err((fault, _files)) => Err(fault),
+        }
+    }
+
+    /// Made in the files that an opening gives back, which tells that they are no ledger.
+    pub fn make_in_refused(
+        rt: &HostRuntime,
+        path: &str,
+        start: St,
+        options: Options,
+    ) -> Result<Driven<FileFrom<St>>, OpenFault> {
+        match Store::open_at(rt, path, start, options, &FullAudit) {
+            Ok(store) => Ok(Driven { store }),
+            Err((OpenFault::NotALedger, Some(files))) => {
+                Driven::make(rt.alloc(), files, options).map_err(|(fault, _files)| fault)
+            }
+            Err((fault, _files)) => Err(fault),
         }
     }
 }

@@ -1,18 +1,21 @@
-use Rattle.std.proofs.Common.{ℕ, Bool, cond, List, ap₂, subst}
-use Rattle.sqlite_disk.specs.Events.{Event, replay}
+use Rattle.std.proofs.Common.{subst}
 use Rattle.sqlite_wal.specs.Recovery.{Image}
 use Rattle.store.specs.Stores.{IsOpenedOn}
 use Rattle.store.proofs.at_path.Store+FileFrom+St.open_at.Goals as goal
 
-abbrev image : List ℕ → List ℕ → Image
-image log db = record { log = log; db = db }
+pub returns-in-Ok-open-clause-opened : goal.returns-in-Ok-open-clause-opened
+returns-in-Ok-open-clause-opened g c honest =
+    subst (λ (i : Image). IsOpenedOn i c.in-Ok-open.store) c.in-Ok.ensures.held.holds
+    (c.in-Ok-open.ensures.opened honest)
 
-abbrev seen : List ℕ → List ℕ → Bool → List Event → List ℕ
-seen log db is_log history = (replay (cond is_log log db) history).seen
-
-pub returns-in-Ok-clause-opened : goal.returns-in-Ok-clause-opened
-returns-in-Ok-clause-opened g c honest =
-    let fresh = c.in_ok-files.ensures.fresh in
-    let same = ap₂ image (ap₂ (seen g.St.Start.log g.St.Start.db) fresh.0.0 fresh.0.1)
-    (ap₂ (seen g.St.Start.log g.St.Start.db) fresh.1.0 fresh.1.1) in
-    subst (λ (i : Image). IsOpenedOn i c.in-Ok.store) same (c.in-Ok.ensures.opened honest)
+pub returns-in-Err-open-clause-refused : goal.returns-in-Err-open-clause-refused
+returns-in-Err-open-clause-refused g c = (
+  c.in-Ok.files,
+  c.in-Ok.ensures.held,
+  record {
+    damaged = c.in-Err-open.ensures.damaged;
+    told = c.in-Err-open.ensures.told;
+    left = c.in-Err-open.ensures.left;
+    stay = c.in-Err-open.ensures.stay;
+  },
+)
