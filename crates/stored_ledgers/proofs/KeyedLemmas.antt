@@ -75,17 +75,17 @@ one_numbered name number was trees few named =
 -- what passes a test where one row is replaced by another
 module _ (p : Row → Bool) (was : Row) (rest old : List Row) (all : IsPermutation (was ∷ rest) old)
     (few : length (filter p old) ≤ 1) where
-  before : filter p (was ∷ rest) ≡ filter p old
+  pub before : filter p (was ∷ rest) ≡ filter p old
   before = same_short _ _ (IsPermutation-sym _ _ (IsPermutation-filter p _ _ all)) few
 
-  few_rest : length (filter p rest) ≤ 1
+  pub few_rest : length (filter p rest) ≤ 1
   few_rest = elim (p was) as (λ b. length (cond b (was ∷ filter p rest) (filter p rest)) ≤ 1
       → length (filter p rest) ≤ 1) [
         | true ↦ λ e. omega (arith, e)
         | false ↦ λ e. e
       ] (subst (λ rows. length rows ≤ 1) (sym before) few)
 
-  alone_rest : p was ≡ true → filter p rest ≡ []
+  pub alone_rest : p was ≡ true → filter p rest ≡ []
   alone_rest passes = elim (p was) as (λ b. b ≡ true
       → length (cond b (was ∷ filter p rest) (filter p rest)) ≤ 1 → filter p rest ≡ []) [
         | true ↦ λ is e. short (filter p rest) e

@@ -10,5 +10,6 @@ mod JoinLemmas
 mod FreeLemmas
 mod JoinedLemmas
 mod KeyedLemmas
+mod NamedLemmas
 mod KeyLemmas
 mod ListingLemmas

@@ -10,5 +10,6 @@ pub mod RestingLaws
 pub mod Outcomes
 pub mod Joining
 pub mod Keying
+pub mod Names
 pub mod Rounds
 pub mod RoundLaws

@@ -2,6 +2,7 @@
 
 ghost use Rattle.stored_ledgers.specs.Joining.{JoiningAddsOne};
 ghost use Rattle.stored_ledgers.specs.Keying.{KeyingMovesKey};
+ghost use Rattle.stored_ledgers.specs.Names.{JoiningGivesName, KeyingGivesName};
 
 /// A tenant that joins has a new machine, where it had none, and every other tenant's stays.
 pub fn joining_adds_one()
@@ -12,4 +13,11 @@ pub fn joining_adds_one()
 /// every other tenant's stays.
 pub fn keying_moves_key()
     ensures { KeyingMovesKey }
+{}
+
+/// A name under which a tenant has joined goes together with its digest, and so does the name of a
+/// tenant whose key was changed with the new one; every other name stays.
+pub fn names_are_given()
+    ensures joining { JoiningGivesName }
+    ensures keying { KeyingGivesName }
 {}
