@@ -12,3 +12,4 @@ mod JoinedLemmas
 mod KeyedLemmas
 mod KeyLemmas
 mod ListingLemmas
+mod NumberedLemmas
