@@ -41,3 +41,4 @@ pub mod RetriedBatches
 pub mod BarredIds
 pub mod RememberedIds
 pub mod FailedRetries
+pub mod SettledFirst

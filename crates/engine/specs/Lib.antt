@@ -9,3 +9,4 @@ pub mod RetryLaws
 pub mod FailedLaws
 pub mod Following
 pub mod Follower
+pub mod Settling

@@ -14,6 +14,7 @@ mod laws;
 mod pending;
 mod refusals;
 mod retry_laws;
+mod settling_laws;
 mod step_laws;
 mod transfers;
 
@@ -31,5 +32,6 @@ pub use laws::{
 };
 pub use pending::{due, release};
 pub use retry_laws::{failed_stays_failed, retry_adds_nothing};
+pub use settling_laws::settling_first_changes_nothing;
 pub use step_laws::{later_of_later_is_later, steps_lead_to_later, steps_stay_valid};
 pub use transfers::decide_transfer;

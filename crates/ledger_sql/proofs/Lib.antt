@@ -20,6 +20,7 @@ pub mod ReplaceLemmas
 pub mod SetLemmas
 pub mod UpdateTexts
 pub mod DigestText
+pub mod NumberText
 pub mod WholeTexts
 pub mod WholeLemmas
 pub mod EntryTexts

@@ -1,14 +1,15 @@
 //! Single rows, found by their whole key.
 
-ghost use Rattle.std.specs.Prelude.{◌≡◌, pos, [], ◌∷◌, string_bytes};
+ghost use Rattle.std.specs.Prelude.{◌≡◌, filter, pos, [], ◌∷◌, string_bytes};
 ghost use Rattle.std.specs.List.{list_any};
 ghost use Rattle.sqlite_value.specs.declared.value.Value.TheVariants.{Int};
+ghost use Rattle.sqlite_value.specs.Order.{column};
 ghost use Rattle.amount.specs.Column.{column_of};
 ghost use Rattle.rows.specs.Cells.{account_cells, transfer_cells, balance_cells, status_cells};
 ghost use Rattle.rows.specs.Widths.{IsStorableAccount, IsStorableTransfer, IsStorableBalance, IsStorableStatus};
 ghost use Rattle.ledger_sql.specs.Calls.{AnyWidth, FindsRow, IfClean, Learns};
 ghost use Rattle.ledger_sql.specs.Effects.{IsLedger};
-ghost use Rattle.ledger_sql.specs.TableRows.{clock_rows, numbers_with_digest, directory_rows, with_name, account_rows, transfer_rows, balance_rows, status_rows, failed_rows, has_id, with_id};
+ghost use Rattle.ledger_sql.specs.TableRows.{clock_rows, is_int, numbers_with_digest, directory_rows, with_name, account_rows, transfer_rows, balance_rows, status_rows, failed_rows, has_id, with_id};
 ghost use Rattle.ledger_sql.specs.Values.{clock_values, directory_values, account_values, transfer_values, balance_values, status_values};
 
 use crate::query::first_row;
@@ -162,5 +163,23 @@ pub fn find_tenant_by_name<S: Alter>(
         conn,
         "SELECT no, name, digest FROM tenant WHERE name = ?1",
         params![name],
+    ))
+}
+
+/// The directory's row with this number.
+pub fn find_tenant_by_number<S: Alter>(
+    conn: &mut Connection<S>,
+    number: i64,
+) -> Result<Option<DirectoryRow>, Unavailable>
+    requires { IfClean (λ s. IsLedger s.now.schema) S.Store conn.old }
+    ensures { FindsRow AnyWidth
+        (λ row. directory_values row.number (string_bytes row.name) row.digest)
+        (λ trees. filter (λ row. is_int number (column row 0)) (directory_rows trees))
+        S.Store conn.old conn.new result }
+{
+    read_found(first_row(
+        conn,
+        "SELECT no, name, digest FROM tenant WHERE no = ?1",
+        params![number],
     ))
 }

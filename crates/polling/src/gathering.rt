@@ -2,7 +2,8 @@
 ghost use Rattle.std.specs.Prelude.{◌≡◌};
 ghost use Rattle.polling.specs.Seating.{AreSame, seats_in};
 
-use crate::Batch;
+use crate::{Batch, Steward};
+use chain::Ledgers;
 use clients::Client;
 use std::alloc::Global;
 use std::collections::BTreeMap;
@@ -27,7 +28,8 @@ pub(crate) enum Place {
     Gathered,
     /// It has its turn.
     Now,
-    /// It keeps its place for the next turn, since enough records are looked at in this one.
+    /// It keeps its place for the next turn: enough records are looked at in this one, or the steward
+    /// puts it off.
     Later,
 }
 
@@ -50,6 +52,8 @@ pub(crate) struct Gathered {
 enum Kind {
     /// A batch of so many bytes, which may share it.
     Batch(usize),
+    /// A batch that the steward puts off.
+    PutOff,
     /// A page of records, which takes as long as it looks at.
     Query,
     /// Any other, or none that may be answered and is whole. It needs no commit, and so no round.
@@ -68,14 +72,16 @@ fn kind_of(front: &[u8]) -> Kind {
 }
 
 /// What a client's next message is. A batch waits until the last reply is written.
-fn next_kind(client: &mut Client) -> Kind
+fn next_kind<L: Ledgers, H: Steward<L>>(client: &mut Client, steward: &H) -> Kind
     ensures { client.new ≡ client.old }
 {
     let Some(size) = client.next_size() else {
         return Kind::Other;
     };
-    match kind_of(client.front(size)) {
+    let message = client.front(size);
+    match kind_of(message) {
         Kind::Batch(_) if !client.may_answer() => Kind::Other,
+        Kind::Batch(_) if steward.puts_off(message) => Kind::PutOff,
         kind => kind,
     }
 }
@@ -105,7 +111,12 @@ impl Gathered {
     }
 
     /// What becomes of a client who is ready. Who is told again waits for nobody more.
-    pub(crate) fn place(&mut self, clients: &mut BTreeMap<u64, Client>, number: u64) -> Place
+    pub(crate) fn place<L: Ledgers, H: Steward<L>>(
+        &mut self,
+        clients: &mut BTreeMap<u64, Client>,
+        number: u64,
+        steward: &H,
+    ) -> Place
         ensures { AreSame (seats_in clients.old) (seats_in clients.new) }
     {
         if self.holds(number) {
@@ -115,8 +126,9 @@ impl Gathered {
         let Some(client) = clients.get_mut(&number) else {
             return Place::Now;
         };
-        match next_kind(client) {
+        match next_kind::<L, H>(client, steward) {
             Kind::Query => self.place_of_query(),
+            Kind::PutOff => Place::Later,
             Kind::Batch(size) if self.alone == 0 => self.place_of_batch(number, size),
             _ => {
                 self.alone = self.alone.saturating_sub(1);

@@ -148,13 +148,15 @@ enum Done {
 }
 
 /// Gathers a client whose next message may share a round, puts one off where enough records are looked
-/// at in this turn, and gives any other its turn. Says how many messages were replied to.
+/// at in this turn or the steward says so, and gives any other its turn. Says how many messages were
+/// replied to.
 fn serve_or_gather<L: Rounds, H: Steward<L>, C: Moments, P: Peers>(
     alloc: Global,
     peers: &mut P,
     seats: &mut Seats,
     number: u64,
     ledgers: &mut L,
+    steward: &H,
     moments: &mut C,
     piece: &mut [u8],
     gathered: &mut Gathered,
@@ -166,7 +168,7 @@ fn serve_or_gather<L: Rounds, H: Steward<L>, C: Moments, P: Peers>(
     ensures few { result ≤ 1 }
     ensures usable { L.means.is_usable ledgers.new }
 {
-    match gathered.place(&mut seats.clients, number) {
+    match gathered.place::<L, H>(&mut seats.clients, number, steward) {
         Place::Gathered => 0,
         Place::Later => {
             peers.again(number);
@@ -188,6 +190,7 @@ fn serve_told<L: Rounds, H: Steward<L>, C: Moments, P: Peers>(
     peers: &mut P,
     seats: &mut Seats,
     ledgers: &mut L,
+    steward: &H,
     moments: &mut C,
     piece: &mut [u8],
     gathered: &mut Gathered,
@@ -206,7 +209,7 @@ fn serve_told<L: Rounds, H: Steward<L>, C: Moments, P: Peers>(
             0
         }
         Told::Ready(number) => serve_or_gather::<L, H, C, P>(
-            alloc, peers, seats, number, ledgers, moments, piece, gathered,
+            alloc, peers, seats, number, ledgers, steward, moments, piece, gathered,
         ),
         Told::Late(number) => {
             let_go::<L, H, C, P>(peers, seats, number);
@@ -253,7 +256,7 @@ fn serve_next<L: Rounds, H: Steward<L>, C: Moments, P: Peers>(
         return Done::Nothing;
     }
     let replies = serve_told::<L, H, C, P>(
-        alloc, peers, seats, ledgers, moments, piece, gathered, told,
+        alloc, peers, seats, ledgers, steward, moments, piece, gathered, told,
     );
     let room = most - replies;
     let more = serve_due::<L, H, C, P>(
@@ -264,8 +267,8 @@ fn serve_next<L: Rounds, H: Steward<L>, C: Moments, P: Peers>(
 
 /// Serves all who are ready, one turn after the other, until nothing more has happened or so many
 /// messages were replied to, and says how many were. Messages that are ready at once share a round.
-/// Before each turn the steward attends to the ledgers: opens them again where they have failed, and
-/// does what an operator asks for.
+/// Before each turn the steward attends to the ledgers: opens them again where they have failed, does
+/// what an operator asks for, and a piece of what is due.
 pub fn serve_ready<L: Rounds, H: Steward<L>, C: Moments, P: Peers>(
     alloc: Global,
     peers: &mut P,

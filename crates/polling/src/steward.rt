@@ -3,8 +3,8 @@ ghost use Rattle.service.specs.Openings.{run_meaning, IsSettled};
 
 use chain::Ledgers;
 
-/// Who sees to the ledgers between turns: opens them again where they have failed, and does what an
-/// operator asks for.
+/// Who sees to the ledgers between turns: opens them again where they have failed, does what an
+/// operator asks for, and does a piece of what is due.
 pub trait Steward<L: Ledgers> {
     // What it may make of ledgers.
     ghost renews: { L → L → Type 0 };
@@ -15,9 +15,15 @@ pub trait Steward<L: Ledgers> {
         ensures { IsSettled (run_meaning L.means) ledgers.now };
 
     /// Does what is to be done: opens again what has failed, where it is time to, or one deed that an
-    /// operator asks for.
+    /// operator asks for or that is due.
     fn attend(&mut self, ledgers: &mut L)
         requires { L.means.is_usable ledgers.old }
         ensures renewed { renews ledgers.old ledgers.new }
         ensures usable { L.means.is_usable ledgers.new };
+
+    /// Whether a client's next message, which is a batch, waits for the client's next turn, since
+    /// more is to be done for its tenant first.
+    fn puts_off(&self, _message: &[u8]) -> bool {
+        false
+    }
 }

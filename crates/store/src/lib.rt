@@ -3,6 +3,7 @@
 
 mod at_path;
 mod ledgers;
+mod overdue;
 mod place;
 mod reopening;
 mod store;
@@ -14,3 +15,4 @@ pub use stored_ledgers::directory::ListedTenant;
 pub use stored_ledgers::joining::AddTenant;
 pub use stored_ledgers::keying::ChangeKey;
 pub use stored_ledgers::laws::{joining_adds_one, keying_moves_key};
+pub use stored_ledgers::overdue::{Overdue, Search};

@@ -13,3 +13,4 @@ mod KeyedLemmas
 mod NamedLemmas
 mod KeyLemmas
 mod ListingLemmas
+mod NumberedLemmas

@@ -5,12 +5,12 @@ ghost use Rattle.records.specs.declared.unavailable.Unavailable.TheVariants.{Dis
 ghost use Rattle.sqlite.specs.State.{HasCleanDisk, IsUnchanged};
 ghost use Rattle.sqlite.specs.Held.{state};
 ghost use Rattle.ledger_sql.specs.Frames.{Live, Follows};
-ghost use Rattle.stored_ledgers.specs.Directory.{tenants_in, digest_in};
+ghost use Rattle.stored_ledgers.specs.Directory.{tenants_in, digest_in, first_digest, with_number};
 ghost use Rattle.stored_ledgers.specs.Listing.{AreListed, AreThose, IsThat, IsTenantOf, IsMadeOf, by_name};
 ghost use Rattle.stored_ledgers.specs.Resting.{IsResting, IsQuiet, IsSame, HoldsHere};
 
 use crate::probe::judged;
-use ledger_sql::finding::{find_clock, find_tenant, find_tenant_by_name};
+use ledger_sql::finding::{find_clock, find_tenant, find_tenant_by_name, find_tenant_by_number};
 use ledger_sql::listing::directory;
 use records::Unavailable;
 use rows::DirectoryRow;
@@ -58,6 +58,24 @@ pub fn digest_of<S: Alter>(
     ensures follows { Follows (state S.Store conn.old) (state S.Store conn.new) }
 {
     let row = find_tenant_by_name(conn, name.as_str());
+    Ok(digest_in(judged(conn, row)?))
+}
+
+/// The digest of the tenant with this number.
+pub(crate) fn digest_numbered<S: Alter>(
+    conn: &mut Connection<S>,
+    number: i64,
+) -> Result<Option<[u8; 32]>, Unavailable>
+    requires { HoldsHere (state S.Store conn.old) }
+    ensures value { HasCleanDisk (state S.Store conn.new) → IfOk result (λ digest.
+        digest ≡ first_digest (with_number number (state S.Store conn.old).now.trees)) }
+    ensures same { Live (state S.Store conn.new)
+        → IsSame (state S.Store conn.old) (state S.Store conn.new) }
+    ensures open { HasCleanDisk (state S.Store conn.new) → result ≢ Err Disk
+        → IsTrue (state S.Store conn.new).is_open }
+    ensures follows { Follows (state S.Store conn.old) (state S.Store conn.new) }
+{
+    let row = find_tenant_by_number(conn, number);
     Ok(digest_in(judged(conn, row)?))
 }
 

@@ -7,6 +7,7 @@ pub mod directory;
 pub mod joining;
 pub mod keying;
 pub mod laws;
+pub mod overdue;
 pub mod probe;
 mod round;
 pub mod rounds;

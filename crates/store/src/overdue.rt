@@ -1,0 +1,37 @@
+//! Which tenants have holds that are due.
+
+ghost use Rattle.std.specs.Prelude.{◌≤◌, IfOk, IfSome};
+ghost use Rattle.store.specs.Stores.{IsUsable, Reads};
+
+use crate::Store;
+use crate::place::Place;
+use records::Unavailable;
+use sqlite_disk::Disk;
+use stored_ledgers::overdue::{Overdue, Search, find_overdue};
+use stored_ledgers::probe::is_disk_fault;
+
+impl<D: Disk + Drop> Store<D> {
+    /// Looks at the tenants that a search comes to next, 256 at most, for holds that are due by a
+    /// moment, in nanoseconds, and tells the first tenant that has some: more than 200, or one that
+    /// has been due for a second. It is told by when 200 of them are due, or all if they are fewer.
+    /// What the tenant's last batch has released may still be among them.
+    pub fn overdue(
+        &mut self,
+        search: &mut Search,
+        moment: u64,
+    ) -> Result<Option<Overdue>, Unavailable>
+        requires { IsUsable self.old }
+        ensures by { IfOk result (λ found. IfSome found (λ overdue. overdue.until ≤ moment)) }
+        ensures reads { Reads self.old self.new result }
+    {
+        if !self.ready {
+            return Err(Unavailable::Disk);
+        }
+        let Place::Open(conn) = &mut self.place else {
+            return Err(Unavailable::Disk);
+        };
+        let found = find_overdue(conn, &self.due, search, moment);
+        self.ready = !is_disk_fault(&found);
+        found
+    }
+}
