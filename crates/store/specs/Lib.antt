@@ -1,3 +1,4 @@
 pub mod Stores
+pub mod Names
 pub mod StoreLaws
 pub mod Deeds
