@@ -67,9 +67,8 @@ pub struct Store<D: Disk> {
 }
 
 impl<D: Disk + Drop> Store<D> {
-    /// Makes a ledger without tenants in files that hold no tables yet. They are given back where
-    /// it is refused: `NotALedger` where a table of a ledger is there, `Unreadable` where others
-    /// are.
+    /// Makes a ledger without tenants in files that hold no tables yet. Refused, they are given
+    /// back: `NotALedger` where a table of a ledger is there, `Unreadable` where others are.
     pub fn create(
         alloc: Global,
         files: Files<D>,

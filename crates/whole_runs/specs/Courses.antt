@@ -29,15 +29,16 @@ AreOf step.Reopen (answer.Reopened (Ok done)) (Reopened deeds ∷ []) = Unit {0}
 AreOf step.Reopen (answer.Reopened (Err refused)) [] = IsTrue refused.stands
 AreOf step answer events = ⊥
 
--- the events of steps and their answers since the last opening of which nothing stands, or since the
--- beginning where there was none, and the machines at that time. Behind such an opening the machines
--- are taken as the next one finds them.
+-- the events of steps and their answers since the last opening of which nothing stands, or since
+-- the beginning where there was none, and the machines at that time. Behind such an opening the
+-- machines are taken as the next one finds them.
 pub data IsSince (first : Tenants) : List Step → List Answer → List Event → Tenants → Type 0 where
   Start : IsSince first [] [] [] first
   Anew :
       (steps : List Step) (answers : List Answer) (refused : Refused) (found : Tenants) →
       refused.stands ≡ false →
-      IsSince first (steps ++ step.Reopen ∷ []) (answers ++ answer.Reopened (Err refused) ∷ []) [] found
+      IsSince first (steps ++ step.Reopen ∷ []) (answers ++ answer.Reopened (Err refused) ∷ []) []
+      found
   Onward :
       (steps : List Step) (answers : List Answer) (events : List Event) (began : Tenants)
       (step : Step) (answer : Answer) (more : List Event) →

@@ -1,5 +1,6 @@
 -- What each step of a run promises of ledgers that can be opened again, and what a run does.
-use Rattle.std.specs.Prelude.{◌≡◌, ◌≢◌, ℕ, false, List, [], ◌∷◌, ◌++◌, None, Result, Ok, Err, Vec, IsTrue}
+use Rattle.std.specs.Prelude.{◌≡◌, ◌≢◌, ℕ, false, List, [], ◌∷◌, ◌++◌, None, Result, Ok, Err, Vec}
+use Rattle.std.specs.Prelude.{IsTrue}
 use Rattle.chain.specs.Ledgers.{Tenants}
 use Rattle.ledger_http.specs.declared.reply.Reply.{Reply}
 use Rattle.service.specs.declared.turns.Message.{Message}
@@ -78,7 +79,8 @@ pub data RunsThrough {S : Type 0} (t : RunMeaning S) (names : S → Names)
   Goes_on :
       (steps : List Step) (answers : List Answer) (mid : S) (step : Step) (answer : Answer)
       (new : S) →
-      RunsThrough t names Unopened old steps answers mid → StepMakes t names Unopened mid step answer new →
+      RunsThrough t names Unopened old steps answers mid →
+      StepMakes t names Unopened mid step answer new →
       IsSettled t new → HasRun t old (steps ++ step ∷ []) (answers ++ answer ∷ []) new →
       RunsThrough t names Unopened old (steps ++ step ∷ []) (answers ++ answer ∷ []) new
 
