@@ -207,7 +207,10 @@ fn reopened<D: Disk + Drop>(store: &mut Store<D>) -> Result<(), OpenFault>
 {
     let opened = store.reopen(&FullAudit);
     store.is_settled();
-    opened
+    match opened {
+        Ok(()) => Ok(()),
+        Err(refused) => Err(refused.fault),
+    }
 }
 
 // Opens a store anew, where there is none or its files were refused: it lets go of them first.

@@ -5,6 +5,8 @@ pub mod Shape
 pub mod Found
 pub mod Faults
 pub mod Opened
+pub mod Refused
+pub mod RefusedLaws
 pub mod Damage
 pub mod DamageLaws
 pub mod Told

@@ -7,10 +7,12 @@ ghost use Rattle.sqlite_wal.specs.Reads.{AreClean};
 ghost use Rattle.openings.specs.Damage.{Hold, IfDamaged};
 ghost use Rattle.openings.specs.Found.{FilesStay, IsOfLedger};
 ghost use Rattle.openings.specs.Opened.{IsOpened, LeavesRefused};
+ghost use Rattle.openings.specs.Refused.{LeavesAsTold};
 ghost use Rattle.openings.specs.Told.{IsToldBy};
 
 use crate::closing::shut;
 use crate::opening::{OpenFault, open_on};
+use crate::refused::Refused;
 use sqlite::{Alter, Connection, FileStore, Files, Options};
 use sqlite_disk::Disk;
 use std::alloc::Global;
@@ -60,7 +62,46 @@ pub trait Inspection {
         ensures follows { Follows (state S.Store conn.old) (state S.Store conn.new) };
 }
 
-/// Opens the database in two files, and looks at it. They are given back where it is refused.
+/// Opens the database in two files, and looks at it. They are given back where it is refused, and it
+/// is told whether they hold what they held.
+pub(crate) fn open_telling<D: Disk + Drop, I: Inspection>(
+    alloc: Global,
+    files: Files<D>,
+    options: Options,
+    inspection: &I,
+) -> Result<(Connection<FileStore<D>>, I::Found), (Refused, Files<D>)>
+    requires log { IsTrue (D.Disk.is_usable files.log) }
+    requires db { IsTrue (D.Disk.is_usable files.db) }
+    ensures known { IfOk result (λ it. I.known it.1) }
+    ensures finds { IfOk result (λ it. HasCleanDisk (file_state it.0)
+        → I.finds it.1 (file_state it.0).now) }
+    ensures opened { IfOk result (λ it. HasCleanDisk (file_state it.0)
+        → IsOpened (image_of D.Disk files) (file_state it.0)) }
+    ensures honest { IfOk result (λ it. HasCleanDisk (file_state it.0)
+        → AreClean D.Disk files.log files.db) }
+    ensures damaged { IfErr result (λ e. AreClean D.Disk e.1.log e.1.db
+        → IfDamaged e.0.fault (λ damage. Hold D.Disk files (I.tells damage))) }
+    ensures told { IfErr result (λ e. AreClean D.Disk e.1.log e.1.db
+        → IsToldBy I.refuses D.Disk files e.0.fault e.1) }
+    ensures left { IfErr result (λ e. LeavesAsTold D.Disk files e.0 e.1) }
+{
+    let mut conn = match open_on(alloc, files, options) {
+        Ok(conn) => conn,
+        Err((fault, left)) => {
+            let stands = false;
+            return Err((Refused { fault, stands }, left));
+        }
+    };
+    match inspection.inspect(alloc, &mut conn) {
+        Ok(found) => Ok((conn, found)),
+        Err(fault) => {
+            let stands = true;
+            Err((Refused { fault, stands }, shut(conn)))
+        }
+    }
+}
+
+/// The same, where it is not asked whether the files hold what they held.
 pub fn open_inspected<D: Disk + Drop, I: Inspection>(
     alloc: Global,
     files: Files<D>,
@@ -83,9 +124,8 @@ pub fn open_inspected<D: Disk + Drop, I: Inspection>(
     ensures left { IfErr result (λ e. LeavesRefused D.Disk files e.1) }
     ensures stay { IfErr result (λ e. IsOfLedger e.0 → FilesStay D.Disk files e.1) }
 {
-    let mut conn = open_on(alloc, files, options)?;
-    match inspection.inspect(alloc, &mut conn) {
-        Ok(found) => Ok((conn, found)),
-        Err(fault) => Err((fault, shut(conn))),
+    match open_telling(alloc, files, options, inspection) {
+        Ok(found) => Ok(found),
+        Err((refused, left)) => Err((refused.fault, left)),
     }
 }

@@ -6,14 +6,15 @@ ghost use Rattle.sqlite.specs.Files.{file_state, image_of};
 ghost use Rattle.sqlite_wal.specs.Reads.{AreClean};
 ghost use Rattle.stored_ledgers.specs.Resting.{Serves};
 ghost use Rattle.openings.specs.Damage.{Hold, IfDamaged, IsDamagedIn};
-ghost use Rattle.openings.specs.Found.{FilesStay, IsOfLedger};
-ghost use Rattle.openings.specs.Opened.{IsOpened, LeavesRefused};
+ghost use Rattle.openings.specs.Opened.{IsOpened};
+ghost use Rattle.openings.specs.Refused.{LeavesAsTold};
 ghost use Rattle.openings.specs.Told.{IsTold};
 
 use crate::auditing::Audit;
-use crate::inspecting::{Inspection, open_inspected};
+use crate::inspecting::{Inspection, open_telling};
 use crate::opened::examine;
 use crate::opening::OpenFault;
+use crate::refused::Refused;
 use crate::versions::CURRENT_VERSION;
 use sqlite::{Alter, Connection, FileStore, Files, Options};
 use sqlite_disk::Disk;
@@ -51,13 +52,13 @@ impl<A: Audit> Inspection for ServedInspection<'_, A> {
 }
 
 /// Opens a ledger of the current version, with what is due of its tenants. The files are given back
-/// where it is refused.
+/// where it is refused, and it is told whether they hold what they held.
 pub fn open_ledger<D: Disk + Drop, A: Audit>(
     alloc: Global,
     files: Files<D>,
     options: Options,
     audit: &A,
-) -> Result<(Connection<FileStore<D>>, DueSets), (OpenFault, Files<D>)>
+) -> Result<(Connection<FileStore<D>>, DueSets), (Refused, Files<D>)>
     requires log { IsTrue (D.Disk.is_usable files.log) }
     requires db { IsTrue (D.Disk.is_usable files.db) }
     ensures serves { IfOk result (λ it. Serves it.1 (file_state it.0)) }
@@ -66,11 +67,10 @@ pub fn open_ledger<D: Disk + Drop, A: Audit>(
     ensures honest { IfOk result (λ it. HasCleanDisk (file_state it.0)
         → AreClean D.Disk files.log files.db) }
     ensures damaged { IfErr result (λ e. AreClean D.Disk e.1.log e.1.db
-        → IfDamaged e.0 (λ damage. Hold D.Disk files (IsDamagedIn CURRENT_VERSION damage))) }
+        → IfDamaged e.0.fault (λ damage. Hold D.Disk files (IsDamagedIn CURRENT_VERSION damage))) }
     ensures told { IfErr result (λ e. AreClean D.Disk e.1.log e.1.db
-        → IsTold D.Disk files e.0 e.1) }
-    ensures left { IfErr result (λ e. LeavesRefused D.Disk files e.1) }
-    ensures stay { IfErr result (λ e. IsOfLedger e.0 → FilesStay D.Disk files e.1) }
+        → IsTold D.Disk files e.0.fault e.1) }
+    ensures left { IfErr result (λ e. LeavesAsTold D.Disk files e.0 e.1) }
 {
-    open_inspected(alloc, files, options, &ServedInspection { audit })
+    open_telling(alloc, files, options, &ServedInspection { audit })
 }

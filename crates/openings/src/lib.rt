@@ -11,6 +11,7 @@ pub mod laws;
 pub mod ledgers;
 pub mod opened;
 pub mod opening;
+pub mod refused;
 mod shape;
 mod standing;
 pub mod tables;

@@ -7,6 +7,7 @@ mod examples;
 mod faults;
 mod memory;
 mod messages;
+mod refused;
 mod requests;
 mod rounds;
 mod runs;

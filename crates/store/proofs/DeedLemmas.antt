@@ -12,12 +12,13 @@ use Rattle.stored_ledgers.specs.declared.joining.AddTenant.{AddTenant}
 use Rattle.stored_ledgers.specs.declared.joining.AddTenant.TheVariants as add
 use Rattle.stored_ledgers.specs.declared.keying.ChangeKey.{ChangeKey}
 use Rattle.stored_ledgers.specs.declared.keying.ChangeKey.TheVariants as key
-use Rattle.stored_ledgers.specs.Directory.{tenants_in, digest_in, first_digest}
+use Rattle.stored_ledgers.specs.Directory.{tenants_in}
 use Rattle.stored_ledgers.specs.DueSets.{DueSets}
 use Rattle.stored_ledgers.specs.declared.joining.Taken.{Taken}
 use Rattle.stored_ledgers.specs.declared.keying.KeyRefused.{KeyRefused}
 use Rattle.stored_ledgers.specs.Joining.{AreTaken, IsJoined, HasJoined, Joined, JoiningAddsOne, joining_answer}
 use Rattle.stored_ledgers.specs.Keying.{IsKeyed, HasKeyed, Keyed, KeyingMovesKey, keying_answer}
+use Rattle.stored_ledgers.specs.Names.{names_in, first_named}
 use Rattle.stored_ledgers.specs.Transactions.{Answer}
 use Rattle.stored_ledgers.specs.Ledger.{HoldsLedgers}
 use Rattle.service.specs.Deeds as deed
@@ -26,7 +27,8 @@ use Rattle.service.specs.DeedLaws.{key_changed}
 use Rattle.service.specs.Courses as course
 use Rattle.service.specs.Courses.{Ending, Tried, Happens}
 use Rattle.service.specs.Openings.{run_meaning, IsSettled, Moves, FoundAfter, As_now, As_before, As_done}
-use Rattle.store.specs.Deeds.{ending_of, key_ending, IsKeyTried}
+use Rattle.store.specs.Deeds.{ending_of, key_ending}
+use Rattle.store.specs.Names.{names_at, digest_named}
 use Rattle.store.specs.StoreLaws.{store_meaning, finds_itself}
 use Rattle.store.specs.Stores.{IsUsable, IsUsableAt, IsLive, IsLiveAt, IsHonest, IsSettledStore, tenants_of}
 use Rattle.store.specs.Stores.{tenants_at, Answers, FindsTenants, Follows, Goes, OfDatabase, OfDatabaseAt, OfDatabases}
@@ -61,12 +63,11 @@ joining_in law name digest old new (Err (add.Unavailable why)) ledgers told =
 
 -- the digest of the tenant with this name, or none
 abbrev digest_now : List ℕ → Trees → List ℕ
-digest_now name trees = unwrap_or (digest_in name trees) []
+digest_now name trees = unwrap_or (names_in trees name) []
 
 had_digest : (name digest : List ℕ) (old new : Database) (keyed : IsKeyed name digest old new)
     → digest_now name old.trees ≡ keyed.was
-unfolding digest_in
-had_digest name digest old new keyed = ap (λ rows. unwrap_or (first_digest rows) []) keyed.named
+had_digest name digest old new keyed = ap (λ rows. unwrap_or (first_named rows) []) keyed.named
 
 -- a tenant has another key
 keyed_in : KeyingMovesKey → (name digest : List ℕ) (old new : Database) → HoldsLedgers old
@@ -187,11 +188,7 @@ module _ {D : Type 0} {g : disk.Ghosts D} where
       (λ honest differs. answers.open_yet honest
       (λ failed. differs (ap (λ tried. ending_of (joining_answer tried)) failed))))
 
-  abbrev digest_at : List ℕ → Place D g → List ℕ
-  digest_at name (at.Open conn) = digest_now name (file_state conn).now.trees
-  digest_at name (at.Shut files) = []
-
-  -- the change of a tenant's key
+  -- the change of a tenant's key: of whoever has the name
   pub keys_so : KeyingMovesKey → (name digest : List ℕ) (old new : Store D g)
       (keyed : Answer (Unit {0}) KeyRefused) (result : Result (Unit {0}) ChangeKey)
       → result ≡ keying_answer keyed → IsUsable old → Answers old new keyed
@@ -199,25 +196,25 @@ module _ {D : Type 0} {g : disk.Ghosts D} where
       → IsSettledStore new
       → (IsLive new → OfDatabases (λ before after.
       HasKeyed name digest before after (keying_answer keyed)) old new)
-      → IsKeyTried (run_meaning store_meaning) old digest result new
+      → Moves (run_meaning store_meaning) old
+      (Tried (deed.Keyed (digest_named old name) digest) (key_ending result)) new
   keys_so law name digest old new keyed result is usable answers goes settled told =
-      let tried : Place D g → Deed = λ place. deed.Keyed (digest_at name place) digest in
-      subst (λ result. IsKeyTried (run_meaning store_meaning) old digest result new) (sym is) (
-        digest_at name old.place,
-        tried_so (tried old.place) (Keyed name digest) old new usable answers.follows
-            (λ shut. (answers.refuses shut).1) goes
-            (crashed_at (λ place found. IsDeedDone (tried place) (tenants_at place) found)
-            (Keyed name digest)
-            (λ conn db ledgers. keyed_in law name digest (file_state conn).now
-            (record { schema = (file_state conn).now.schema; trees = db }) ledgers)
-            old.ready old.due old.place usable)
-            (finds_itself new settled answers.usable)
-            (key_ending (keying_answer keyed))
-            (λ live. now_at
-            (λ place found. Happens (tenants_at place) (Tried (tried place) (key_ending (keying_answer keyed))) found)
-            (λ before after. HasKeyed name digest before after (keying_answer keyed))
-            (λ conn after. keying_in law name digest (file_state conn).now after (keying_answer keyed))
-            old.ready old.due old.place new.place usable (answers.follows.lived live) live (told live))
-            (λ honest differs. answers.open_yet honest
-            (λ failed. differs (ap (λ tried. key_ending (keying_answer tried)) failed))),
-      )
+      let tried : Place D g → Deed = λ place. deed.Keyed (unwrap_or (names_at place name) []) digest in
+      subst (λ result. Moves (run_meaning store_meaning) old (Tried (tried old.place) (key_ending result)) new)
+      (sym is)
+      (tried_so (tried old.place) (Keyed name digest) old new usable answers.follows
+      (λ shut. (answers.refuses shut).1) goes
+      (crashed_at (λ place found. IsDeedDone (tried place) (tenants_at place) found)
+      (Keyed name digest)
+      (λ conn db ledgers. keyed_in law name digest (file_state conn).now
+      (record { schema = (file_state conn).now.schema; trees = db }) ledgers)
+      old.ready old.due old.place usable)
+      (finds_itself new settled answers.usable)
+      (key_ending (keying_answer keyed))
+      (λ live. now_at
+      (λ place found. Happens (tenants_at place) (Tried (tried place) (key_ending (keying_answer keyed))) found)
+      (λ before after. HasKeyed name digest before after (keying_answer keyed))
+      (λ conn after. keying_in law name digest (file_state conn).now after (keying_answer keyed))
+      old.ready old.due old.place new.place usable (answers.follows.lived live) live (told live))
+      (λ honest differs. answers.open_yet honest
+      (λ failed. differs (ap (λ tried. key_ending (keying_answer tried)) failed))))

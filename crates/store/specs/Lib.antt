@@ -1,4 +1,5 @@
 pub mod Stores
 pub mod Refused
+pub mod Names
 pub mod StoreLaws
 pub mod Deeds

@@ -17,8 +17,9 @@ use Rattle.chain.specs.Ledgers.{Tenants, KeepsAll}
 use Rattle.ledger_sql.specs.Frames.{Live}
 use Rattle.stored_ledgers.specs.Directory.{tenants_in, KeepsDirectory}
 use Rattle.stored_ledgers.specs.DueSets.{DueSets}
-use Rattle.openings.specs.Found.{IsSettled, LeavesUnopened, Yields}
+use Rattle.openings.specs.Found.{IsOfLedger, IsSettled, LeavesUnopened, Yields}
 use Rattle.openings.specs.Opened.{IsOpened}
+use Rattle.openings.specs.declared.refused.Refused.{Refused}
 use Rattle.stored_ledgers.specs.Resting.{IsResting}
 use Rattle.store.specs.declared.place.Place.{Place}
 use Rattle.store.specs.declared.place.Place.TheVariants as at
@@ -197,6 +198,10 @@ module _ {D : Type 0} {g : disk.Ghosts D} where
     pub place : new.place ≡ at.Shut left
     pub unopened : LeavesUnopened g files left
 
-  -- what a reopening that was refused leaves
-  abbrev pub LeavesStore : Store D g → Store D g → Type 0
-  LeavesStore old new = KeepsFound old new ⊎ IsUnopened old new
+  -- what a reopening that was refused leaves, as it tells: where it is told that the files stand, an
+  -- opening finds what it might have found before, and so it is told of each fault of the ledger that
+  -- is there; else the database's own opening refused them
+  pub record LeavesStore (refused : Refused) (old new : Store D g) : Type 0 where
+    pub stand : IsTrue refused.stands → KeepsFound old new
+    pub unopened : refused.stands ≡ false → IsUnopened old new
+    pub of_ledger : IsOfLedger refused.fault → IsTrue refused.stands

@@ -10,9 +10,10 @@ mod store;
 
 pub use openings::auditing::{Audit, FullAudit};
 pub use openings::opening::OpenFault;
+pub use openings::refused::Refused;
 pub use store::Store;
 pub use stored_ledgers::directory::ListedTenant;
 pub use stored_ledgers::joining::AddTenant;
 pub use stored_ledgers::keying::ChangeKey;
-pub use stored_ledgers::laws::{joining_adds_one, keying_moves_key};
+pub use stored_ledgers::laws::{joining_adds_one, keying_moves_key, names_are_given};
 pub use stored_ledgers::overdue::{Overdue, Search};

@@ -5,14 +5,16 @@ ghost use Rattle.openings.specs.Damage.{IfDamaged, IsDamagedIn};
 ghost use Rattle.store.specs.Stores.{IsHonest, IsLive, IsReady, IsUsable};
 ghost use Rattle.openings.specs.Found.{IsOfLedger};
 ghost use Rattle.openings.specs.Told.{Tells};
-ghost use Rattle.store.specs.Stores.{Finds, KeepsFound, LeavesStore};
+ghost use Rattle.store.specs.Stores.{Finds, LeavesStore};
 ghost use Rattle.store.specs.Stores.{MayHold, MayHoldOne, may_find};
 
 use crate::Store;
 use crate::place::Place;
 use core::mem::replace_with;
 use openings::auditing::Audit;
+use openings::ledgers::open_ledger;
 use openings::opening::OpenFault;
+use openings::refused::Refused;
 use openings::versions::CURRENT_VERSION;
 use records::Unavailable;
 use sqlite::{Files, Options};
@@ -22,18 +24,18 @@ use std::collections::BTreeMap;
 
 impl<D: Disk + Drop> Store<D> {
     /// Opens the store again, on what its files hold, as after a crash. Where it is refused, calls
-    /// are answered no more until it is opened again.
-    pub fn reopen<A: Audit>(&mut self, audit: &A) -> Result<(), OpenFault>
+    /// are answered no more until it is opened again, and it is told whether a later opening finds
+    /// what this one might have.
+    pub fn reopen<A: Audit>(&mut self, audit: &A) -> Result<(), Refused>
         ensures usable { IsUsable self.new }
         ensures ready { OnOk result (IsReady self.new) }
         ensures found { IsHonest self.new → OnOk result (Finds self.new (may_find self.old)) }
         ensures honest { IsHonest self.new → OnOk result (IsHonest self.old) }
-        ensures damaged { IsHonest self.new → IfErr result (λ fault. IfDamaged fault
+        ensures damaged { IsHonest self.new → IfErr result (λ refused. IfDamaged refused.fault
             (λ damage. MayHold self.old (IsDamagedIn CURRENT_VERSION damage))) }
-        ensures told { IsHonest self.new → IfErr result (λ fault. IsOfLedger fault
-            → MayHoldOne self.old (Tells fault)) }
-        ensures left { OnErr result (LeavesStore self.old self.new) }
-        ensures kept { IfErr result (λ fault. IsOfLedger fault → KeepsFound self.old self.new) }
+        ensures told { IsHonest self.new → IfErr result (λ refused. IsOfLedger refused.fault
+            → MayHoldOne self.old (Tells refused.fault)) }
+        ensures left { IfErr result (λ refused. LeavesStore refused self.old self.new) }
         ensures refused { OnErr result (self.new.ready ≡ false) }
         ensures shut { OnErr result (IsLive self.new → ⊥) }
     {
@@ -42,20 +44,16 @@ impl<D: Disk + Drop> Store<D> {
 }
 
 /// The store opened again, or with its files in hand.
-fn reopened<D: Disk + Drop, A: Audit>(
-    store: Store<D>,
-    audit: &A,
-) -> (Store<D>, Result<(), OpenFault>)
+fn reopened<D: Disk + Drop, A: Audit>(store: Store<D>, audit: &A) -> (Store<D>, Result<(), Refused>)
     ensures usable { IsUsable result.0 }
     ensures ready { OnOk result.1 (IsReady result.0) }
     ensures found { IsHonest result.0 → OnOk result.1 (Finds result.0 (may_find store)) }
     ensures honest { IsHonest result.0 → OnOk result.1 (IsHonest store) }
-    ensures damaged { IsHonest result.0 → IfErr result.1 (λ fault. IfDamaged fault
+    ensures damaged { IsHonest result.0 → IfErr result.1 (λ refused. IfDamaged refused.fault
         (λ damage. MayHold store (IsDamagedIn CURRENT_VERSION damage))) }
-    ensures told { IsHonest result.0 → IfErr result.1 (λ fault. IsOfLedger fault
-        → MayHoldOne store (Tells fault)) }
-    ensures left { OnErr result.1 (LeavesStore store result.0) }
-    ensures kept { IfErr result.1 (λ fault. IsOfLedger fault → KeepsFound store result.0) }
+    ensures told { IsHonest result.0 → IfErr result.1 (λ refused. IsOfLedger refused.fault
+        → MayHoldOne store (Tells refused.fault)) }
+    ensures left { IfErr result.1 (λ refused. LeavesStore refused store result.0) }
     ensures refused { OnErr result.1 (result.0.ready ≡ false) }
     ensures shut { OnErr result.1 (IsLive result.0 → ⊥) }
 {
@@ -63,14 +61,16 @@ fn reopened<D: Disk + Drop, A: Audit>(
     let options = store.options;
     let files = store.close();
     if !(files.log.may_be_used() && files.db.may_be_used()) {
+        let fault = OpenFault::Unavailable(Unavailable::Disk);
+        let stands = true;
         return (
             unopened(alloc, options, files),
-            Err(OpenFault::Unavailable(Unavailable::Disk)),
+            Err(Refused { fault, stands }),
         );
     }
-    match Store::open(alloc, files, options, audit) {
-        Ok(store) => (store, Ok(())),
-        Err((fault, left)) => (unopened(alloc, options, left), Err(fault)),
+    match open_ledger(alloc, files, options, audit) {
+        Ok((conn, due)) => (Store::over(alloc, conn, due, options), Ok(())),
+        Err((refused, left)) => (unopened(alloc, options, left), Err(refused)),
     }
 }
 

@@ -19,9 +19,10 @@ ghost use Rattle.openings.specs.Told.{IsTold};
 ghost use Rattle.stored_ledgers.specs.Resting.{Serves};
 ghost use Rattle.stored_ledgers.specs.Rounds.{IsAfterRound};
 ghost use Rattle.service.specs.Courses.{Tried};
-ghost use Rattle.service.specs.Deeds.{Joined as DeedJoined};
+ghost use Rattle.service.specs.Deeds.{Joined as DeedJoined, Keyed as DeedKeyed};
 ghost use Rattle.service.specs.Openings.{Moves, run_meaning};
-ghost use Rattle.store.specs.Deeds.{IsKeyTried, ending_of};
+ghost use Rattle.store.specs.Deeds.{IsKeyTried, ending_of, key_ending};
+ghost use Rattle.store.specs.Names.{digest_named};
 ghost use Rattle.store.specs.StoreLaws.{store_meaning};
 ghost use Rattle.store.specs.Stores.{IsLive, IsHonest, IsOpenedOn, IsReady, IsStoreOver, tenants_of, GivesBack, IsUsable, Follows, Goes, OfDatabase, OfDatabases, IsSettledStore, Answers, Reads, RefusesUnready};
 ghost use Rattle.openings.specs.Whole.{AreAllRows, AreRowsOf};
@@ -66,9 +67,8 @@ pub struct Store<D: Disk> {
 }
 
 impl<D: Disk + Drop> Store<D> {
-    /// Makes a ledger without tenants in files that hold no tables yet. They are given back where
-    /// it is refused: `NotALedger` where a table of a ledger is there, `Unreadable` where others
-    /// are.
+    /// Makes a ledger without tenants in files that hold no tables yet. Refused, they are given
+    /// back: `NotALedger` where a table of a ledger is there, `Unreadable` where others are.
     pub fn create(
         alloc: Global,
         files: Files<D>,
@@ -116,8 +116,10 @@ impl<D: Disk + Drop> Store<D> {
         ensures left { IfErr result (λ e. LeavesRefused D.Disk files e.1) }
         ensures stay { IfErr result (λ e. IsOfLedger e.0 → FilesStay D.Disk files e.1) }
     {
-        let (conn, due) = open_ledger(alloc, files, options, audit)?;
-        Ok(Store::over(alloc, conn, due, options))
+        match open_ledger(alloc, files, options, audit) {
+            Ok((conn, due)) => Ok(Store::over(alloc, conn, due, options)),
+            Err((refused, left)) => Err((refused.fault, left)),
+        }
     }
 
     /// A store over a database that is open, whose ledgers were looked at and are the current
@@ -321,6 +323,9 @@ impl<D: Disk + Drop> Store<D> {
         ensures refuses { RefusesUnready (ChangeKey.Unavailable DiskFailed) self.old self.new result }
         ensures unready { self.old.ready ≡ false → self.new ≡ self.old }
         ensures moves { IsKeyTried (run_meaning store_meaning) self.old digest.now result self.new }
+        ensures whose { Moves (run_meaning store_meaning) self.old
+            (Tried (DeedKeyed (digest_named self.old name.now) digest.now) (key_ending result))
+            self.new }
     {
         keying_moves_key();
         if !self.ready {

@@ -1,21 +1,22 @@
 -- A change of key over lists.
 use Rattle.std.proofs.Common.{◌≡◌, ◌≢◌, Bool, true, false, not, ℕ, List, Option, Some, None}
-use Rattle.std.proofs.Common.{is_some, option_map, bytes_eq, refl, ap, ◌∙◌}
+use Rattle.std.proofs.Common.{is_some, option_map, bytes_eq, refl, sym, ap, ◌∙◌}
 use Rattle.std.specs.Prelude.{IsNone}
+use Rattle.std.proofs.lemmas.Bool.{true≢false}
 use Rattle.std.proofs.lemmas.Slice.Eq.{bytes_eq-Decides}
 use Rattle.records.specs.Machine.{Machine}
 use Rattle.chain.specs.Tables.{State}
 use Rattle.plain.specs.declared.book.Tenant.{Tenant}
-use Rattle.plain.specs.Book.{state_with, machine_with, IsRekeyed}
+use Rattle.plain.specs.Book.{state_with, machine_with, ChangesOne, IsRekeyed}
 use Rattle.plain.specs.BookLedgers.{machines_in}
 use Rattle.service.specs.Deeds.{Keyed, IsDeedDone}
 use Rattle.service.specs.DeedLaws.{key_changed}
 
-some_of : (found : Option Machine) → is_some found ≡ true → (m : Machine) × (found ≡ Some m)
+some_of : (found : Option Machine) → found ≢ None → (m : Machine) × (found ≡ Some m)
 some_of (Some m) there = (m, refl)
-some_of None there = absurd (cc)
+some_of None there = absurd (there refl)
 
-none_of : (found : Option Machine) → is_some found ≡ false → found ≡ None
+pub none_of : (found : Option Machine) → is_some found ≡ false → found ≡ None
 none_of (Some m) gone = absurd (cc)
 none_of None gone = refl
 
@@ -31,9 +32,13 @@ pub same_digest : (was digest : List ℕ) → not (bytes_eq was digest) ≡ fals
 same_digest was digest is =
     (bytes_eq-Decides was digest).0 (not_false (bytes_eq was digest) is)
 
+pub another_digest : (was digest : List ℕ) → not (bytes_eq was digest) ≡ true → was ≢ digest
+another_digest was digest is same =
+    true≢false (sym is ∙ ap not ((bytes_eq-Decides was digest).1 same))
+
 -- whoever was known by another digest is known by this one
 pub rekeyed_done :
-    (was digest : List ℕ) (old new : List Tenant) → is_some (machine_with was old) ≡ true →
+    (was digest : List ℕ) (old new : List Tenant) → machine_with was old ≢ None →
     (was ≢ digest → is_some (machine_with digest old) ≡ false) → IsRekeyed was digest old new →
     IsDeedDone (Keyed was digest) (machines_in old) (machines_in new)
 rekeyed_done was digest old new there free rekeyed =
@@ -44,3 +49,36 @@ rekeyed_done was digest old new there free rekeyed =
     (λ moved. no_machine (state_with was new) (rekeyed.gone moved))
     (λ other unlike differs.
     ap (option_map (λ (s : State). s.now)) (rekeyed.others other unlike differs))
+
+-- and is there
+pub rekeyed_own :
+    (was digest : List ℕ) (old new : List Tenant) → machines_in old was ≢ None →
+    IsRekeyed was digest old new → machines_in new digest ≢ None
+rekeyed_own was digest old new there rekeyed none =
+    there (sym (ap (option_map (λ (s : State). s.now)) rekeyed.has) ∙ none)
+
+-- nobody else has moved
+pub rekeyed_others :
+    (was digest : List ℕ) (old new : List Tenant) → IsRekeyed was digest old new →
+    (d : List ℕ) → d ≢ was → d ≢ digest → machines_in new d ≡ machines_in old d
+rekeyed_others was digest old new rekeyed d unlike differs =
+    ap (option_map (λ (s : State). s.now)) (rekeyed.others d unlike differs)
+
+-- whoever has come is there
+pub added_own :
+    (digest : List ℕ) (tables : State) (old new : List Tenant) → ChangesOne digest tables old new →
+    machines_in new digest ≢ None
+added_own digest tables old new changes none =
+    let there : Some tables.now ≡ None =
+    sym (ap (option_map (λ (s : State). s.now)) changes.own) ∙ none in cc
+
+-- and so is whoever was
+pub added_stays :
+    (digest : List ℕ) (tables : State) (old new : List Tenant) → ChangesOne digest tables old new →
+    machines_in old digest ≡ None → (other : List ℕ) → machines_in old other ≢ None →
+    machines_in new other ≢ None
+added_stays digest tables old new changes absent other there none =
+    there
+    (sym (ap (option_map (λ (s : State). s.now))
+    (changes.others other (λ same. there (ap (machines_in old) same ∙ absent))))
+    ∙ none)

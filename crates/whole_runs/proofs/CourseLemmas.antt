@@ -1,7 +1,7 @@
 -- A run, step by step.
 use Rattle.std.proofs.Common.{◌≡◌, List, [], ◌∷◌, ◌++◌, Ok, Err, refl, sym, subst, ap, ◌∙◌, ◌+◌, ◌<◌}
 use Rattle.std.proofs.Common.{ℕ, length, take, get_or, add-one}
-use Rattle.std.proofs.Common.{◌⊎◌, inl, inr}
+use Rattle.std.proofs.Common.{Bool, true, false}
 use Rattle.std.proofs.Math.Logic.{∥∥₁_elim}
 use Rattle.std.proofs.Math.Seq.{take-suc}
 use Rattle.std.specs.List.{AllZip}
@@ -12,9 +12,8 @@ use Rattle.service.specs.Openings.{RunMeaning, IsSettled, Moves, HasLed, GoesOn,
 use Rattle.service.specs.OpeningLaws as openings
 use Rattle.service.specs.OpeningLaws.{event_more, same_more, opened_more, begun_anew}
 use Rattle.service.specs.TurnLaws.{round_more}
-use Rattle.openings.specs.Found.{IsOfLedger}
-use Rattle.openings.specs.declared.opening.OpenFault.{OpenFault}
-use Rattle.openings.specs.declared.opening.OpenFault.TheVariants as fault
+use Rattle.openings.specs.declared.refused.Refused.{Refused}
+use Rattle.stored_ledgers.specs.Names.{Names}
 use Rattle.store.specs.Deeds.{ending_of, key_ending}
 use Rattle.whole_runs.specs.declared.steps.Step.{Step}
 use Rattle.whole_runs.specs.declared.steps.Step.TheVariants as step
@@ -32,37 +31,29 @@ step_on :
 step_on first steps answers step answer more are events began since =
     Onward steps answers events began step answer more since are
 
--- a fault is of the ledger that is there, or it is not
-of_ledger : (fault : OpenFault) → IsOfLedger fault ⊎ (¬ IsOfLedger fault)
-of_ledger fault.InUse = inr (λ is. is)
-of_ledger fault.Unreadable = inr (λ is. is)
-of_ledger fault.NotALedger = inl tt
-of_ledger fault.OldSchema = inl tt
-of_ledger fault.NewerSchema = inl tt
-of_ledger (fault.Damaged damage) = inl tt
-of_ledger (fault.Unavailable why) = inr (λ is. is)
-
-module _ {S : Type 0} (t : RunMeaning S) (old mid new : S) (steps : List Step)
-    (answers : List Answer) (run : HasRun t old steps answers mid)
+module _ {S : Type 0} (t : RunMeaning S) (names : S → Names) (Unopened : S → S → Type 0)
+    (old mid new : S) (steps : List Step) (answers : List Answer)
+    (run : HasRun t old steps answers mid)
   where
     -- an opening that was refused
     refused_more :
-        (fault : OpenFault) → IsRefused t mid fault new → IsOfLedger fault ⊎ (¬ IsOfLedger fault) →
-        HasRun t old (steps ++ step.Reopen ∷ []) (answers ++ answer.Reopened (Err fault) ∷ []) new
-    refused_more fault makes (inl is) =
+        (refused : Refused) → IsRefused t Unopened mid refused new →
+        (stands : Bool) → refused.stands ≡ stands →
+        HasRun t old (steps ++ step.Reopen ∷ []) (answers ++ answer.Reopened (Err refused) ∷ []) new
+    refused_more refused makes true is =
         let same =
         same_more (IsSince (t.tenants old) steps answers)
-        (IsSince (t.tenants old) (steps ++ step.Reopen ∷ []) (answers ++ answer.Reopened (Err fault) ∷ []))
-        t mid (step_on (t.tenants old) steps answers step.Reopen (answer.Reopened (Err fault)) [] is) run in
+        (IsSince (t.tenants old) (steps ++ step.Reopen ∷ []) (answers ++ answer.Reopened (Err refused) ∷ []))
+        t mid (step_on (t.tenants old) steps answers step.Reopen (answer.Reopened (Err refused)) [] is) run in
         record {
           here = λ live. absurd (makes.shut live);
           found = λ found may. ∥∥₁_elim (makes.kept is found may) squash₁ (λ before. same.found found before);
         }
-    refused_more fault makes (inr other) =
+    refused_more refused makes false is =
         begun_anew t
         (IsSince (t.tenants old) (steps ++ step.Reopen ∷ [])
-        (answers ++ answer.Reopened (Err fault) ∷ []))
-        new (λ began may. Anew steps answers fault began other)
+        (answers ++ answer.Reopened (Err refused) ∷ []))
+        new (λ began may. Anew steps answers refused began is)
 
     event_step :
         (step : Step) (answer : Answer) (event : Event) → AreOf step answer (event ∷ []) →
@@ -75,11 +66,11 @@ module _ {S : Type 0} (t : RunMeaning S) (old mid new : S) (steps : List Step)
 
     -- one step more
     step_more :
-        (step : Step) (answer : Answer) → StepMakes t mid step answer new →
+        (step : Step) (answer : Answer) → StepMakes t names Unopened mid step answer new →
         HasRun t old (steps ++ step ∷ []) (answers ++ answer ∷ []) new
     step_more (step.Request bytes moment) (answer.Replied reply) makes =
-        event_step (step.Request bytes moment) (answer.Replied reply) makes.event makes.is
-        (subst IsFree (sym makes.is.is) (λ events. tt)) makes.moves
+        event_step (step.Request bytes moment) (answer.Replied reply) makes.0.event makes.0.is
+        (subst IsFree (sym makes.0.is.is) (λ events. tt)) makes.0.moves
     step_more (step.Request bytes moment) (answer.Round result) makes = absurd makes
     step_more (step.Request bytes moment) (answer.Added result) makes = absurd makes
     step_more (step.Request bytes moment) (answer.Keyed result) makes = absurd makes
@@ -90,13 +81,13 @@ module _ {S : Type 0} (t : RunMeaning S) (old mid new : S) (steps : List Step)
         (answers ++ answer.Round (Ok replies) ∷ []))
         mid new messages.items replies.items
         (step_on (t.tenants old) steps answers (step.Round messages) (answer.Round (Ok replies)))
-        makes run
+        makes.0 run
     step_more (step.Round messages) (answer.Round (Err why)) makes =
         subst
         (HasLed t
         (IsSince (t.tenants old) (steps ++ step.Round messages ∷ [])
         (answers ++ answer.Round (Err why) ∷ [])))
-        (sym makes)
+        (sym makes.0)
         (same_more (IsSince (t.tenants old) steps answers)
         (IsSince (t.tenants old) (steps ++ step.Round messages ∷ [])
         (answers ++ answer.Round (Err why) ∷ []))
@@ -129,9 +120,9 @@ module _ {S : Type 0} (t : RunMeaning S) (old mid new : S) (steps : List Step)
         (λ (deeds : List Deed).
         step_on (t.tenants old) steps answers step.Reopen (answer.Reopened (Ok tt))
         (Reopened deeds ∷ []) tt)
-        makes run
-    step_more step.Reopen (answer.Reopened (Err fault)) makes =
-        refused_more fault makes (of_ledger fault)
+        makes.0 run
+    step_more step.Reopen (answer.Reopened (Err refused)) makes =
+        refused_more refused makes.0 refused.stands refl
     step_more step.Reopen (answer.Replied reply) makes = absurd makes
     step_more step.Reopen (answer.Round result) makes = absurd makes
     step_more step.Reopen (answer.Added result) makes = absurd makes
@@ -163,26 +154,26 @@ take_step steps i step below is =
     (take-suc steps i step below ∙ ap (λ (s : Step). take i steps ++ s ∷ []) (sym is))
 
 pub run_on :
-    {S : Type 0} (t : RunMeaning S) (old mid new : S) (steps : List Step)
-    (answers more : List Answer) (i : ℕ) (step : Step) (answer : Answer) → i < length steps →
+    {S : Type 0} (t : RunMeaning S) (names : S → Names) (Unopened : S → S → Type 0)
+    (old mid new : S) (steps : List Step) (answers more : List Answer) (i : ℕ) (step : Step) (answer : Answer) → i < length steps →
     step ≡ get_or steps i step → more ≡ answers ++ answer ∷ [] →
-    HasRun t old (take i steps) answers mid → StepMakes t mid step answer new →
+    HasRun t old (take i steps) answers mid → StepMakes t names Unopened mid step answer new →
     HasRun t old (take (i + 1) steps) more new
-run_on t old mid new steps answers more i step answer below is grown run makes =
+run_on t names Unopened old mid new steps answers more i step answer below is grown run makes =
     rw (take_step steps i step below is, grown)
-    (step_more t old mid new (take i steps) answers run step answer makes)
+    (step_more t names Unopened old mid new (take i steps) answers run step answer makes)
 
 pub through_on :
-    {S : Type 0} (t : RunMeaning S) (old mid new : S) (steps : List Step)
-    (answers more : List Answer) (i : ℕ) (step : Step) (answer : Answer) → i < length steps →
+    {S : Type 0} (t : RunMeaning S) (names : S → Names) (Unopened : S → S → Type 0)
+    (old mid new : S) (steps : List Step) (answers more : List Answer) (i : ℕ) (step : Step) (answer : Answer) → i < length steps →
     step ≡ get_or steps i step → more ≡ answers ++ answer ∷ [] →
-    RunsThrough t old (take i steps) answers mid → HasRun t old (take i steps) answers mid →
-    StepMakes t mid step answer new → IsSettled t new →
-    RunsThrough t old (take (i + 1) steps) more new
-through_on t old mid new steps answers more i step answer below is grown through run makes settled =
+    RunsThrough t names Unopened old (take i steps) answers mid → HasRun t old (take i steps) answers mid →
+    StepMakes t names Unopened mid step answer new → IsSettled t new →
+    RunsThrough t names Unopened old (take (i + 1) steps) more new
+through_on t names Unopened old mid new steps answers more i step answer below is grown through run makes settled =
     rw (take_step steps i step below is, grown)
     (Goes_on (take i steps) answers mid step answer new through makes settled
-    (step_more t old mid new (take i steps) answers run step answer makes))
+    (step_more t names Unopened old mid new (take i steps) answers run step answer makes))
 
 pub answered_on :
     (steps : List Step) (answers more : List Answer) (i : ℕ) (step : Step) (answer : Answer) →

@@ -1,6 +1,9 @@
 mod Asked
 mod BookLemmas
 mod CourseLemmas
+mod NamedLemmas
 mod SameRowsLemmas
+mod StayLemmas
 mod StoreLemmas
+mod StoreNames
 mod TakenLemmas

@@ -2,11 +2,10 @@
 use Rattle.std.proofs.Common.{Result, Ok, Err, IfErr, OnOk, OnErr}
 use Rattle.std.proofs.Math.Logic.{∥∥₁_map}
 use Rattle.sqlite_disk.specs.declared.Disk as disk
-use Rattle.openings.specs.Found.{IsOfLedger}
-use Rattle.openings.specs.declared.opening.OpenFault.{OpenFault}
+use Rattle.openings.specs.declared.refused.Refused.{Refused}
 use Rattle.store.specs.declared.store.Store.{Store}
 use Rattle.store.specs.StoreLaws.{store_meaning, opened_is_found, opened_is_live}
-use Rattle.store.specs.Stores.{IsLive, IsHonest, may_find, Finds, KeepsFound}
+use Rattle.store.specs.Stores.{IsLive, IsHonest, may_find, Finds, IsUnopened, LeavesStore}
 use Rattle.service.specs.Openings.{run_meaning, IsSettled}
 use Rattle.service.specs.OpeningLaws.{is_opened}
 use Rattle.whole_runs.specs.Reopenings.{Reopens}
@@ -14,19 +13,21 @@ use Rattle.whole_runs.specs.Reopenings.{Reopens}
 module _ {D : Type 0} {g : disk.Ghosts D} where
   -- a reopening, as a step of a run
   pub reopens_so :
-      (old new : Store D g) (result : Result (Unit {0}) OpenFault) →
+      (old new : Store D g) (result : Result (Unit {0}) Refused) →
       (IsHonest new → OnOk result (Finds new (may_find old))) →
       (IsHonest new → OnOk result (IsHonest old)) →
       OnErr result (IsLive new → ⊥) →
-      IfErr result (λ fault. IsOfLedger fault → KeepsFound old new) → IsSettled (run_meaning store_meaning) new →
-      Reopens (run_meaning store_meaning) old result new
-  reopens_so old new (Ok done) finds honest shut kept settled =
+      IfErr result (λ refused. LeavesStore refused old new) →
+      IsSettled (run_meaning store_meaning) new →
+      Reopens (run_meaning store_meaning) IsUnopened old result new
+  reopens_so old new (Ok done) finds honest shut left settled =
       is_opened (run_meaning store_meaning) old new (opened_is_found old new finds honest)
       (opened_is_live old new finds) settled
-  reopens_so old new (Err fault) finds honest shut kept settled = record {
+  reopens_so old new (Err refused) finds honest shut left settled = record {
     shut = shut;
-    kept = λ is found f. ∥∥₁_map ((kept is).found f.honest f.db f.may) (λ may. record {
-      honest = (kept is).honest f.honest;
+    lost = left.unopened;
+    kept = λ is found f. ∥∥₁_map ((left.stand is).found f.honest f.db f.may) (λ may. record {
+      honest = (left.stand is).honest f.honest;
       db = f.db;
       may = may;
       agrees = f.agrees;

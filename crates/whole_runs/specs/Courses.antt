@@ -1,13 +1,12 @@
 -- A run as a course: its steps, its answers, and what happened.
-use Rattle.std.specs.Prelude.{◌≡◌, ℕ, List, [], ◌∷◌, ◌++◌, Ok, Err}
+use Rattle.std.specs.Prelude.{◌≡◌, ℕ, false, List, [], ◌∷◌, ◌++◌, Ok, Err, IsTrue}
 use Rattle.chain.specs.Ledgers.{Tenants}
 use Rattle.service.specs.Deeds.{Joined, Keyed}
 use Rattle.service.specs.Courses.{Event, Tried, Reopened, IsReplyTo}
 use Rattle.service.specs.Openings.{CourseSince}
 use Rattle.service.specs.OwnDeeds.{SeesItself}
 use Rattle.service.specs.Turns.{AreRepliesTo}
-use Rattle.openings.specs.Found.{IsOfLedger}
-use Rattle.openings.specs.declared.opening.OpenFault.{OpenFault}
+use Rattle.openings.specs.declared.refused.Refused.{Refused}
 use Rattle.store.specs.Deeds.{ending_of, key_ending}
 use Rattle.whole_runs.specs.declared.steps.Step.{Step}
 use Rattle.whole_runs.specs.declared.steps.Step.TheVariants as step
@@ -15,7 +14,7 @@ use Rattle.whole_runs.specs.declared.steps.Answer.{Answer}
 use Rattle.whole_runs.specs.declared.steps.Answer.TheVariants as answer
 
 -- the events are those of a step and its answer: one; or of a round one for each message; and none
--- where nothing was done, or an opening was refused for the ledger that is there
+-- where nothing was done, or an opening was refused and what it might have found stands
 abbrev pub AreOf : Step → Answer → List Event → Type 0
 AreOf (step.Request bytes moment) (answer.Replied reply) (event ∷ []) =
     IsReplyTo bytes.items moment reply event
@@ -27,17 +26,18 @@ AreOf (step.AddTenant name digest) (answer.Added result) (event ∷ []) =
 AreOf (step.ChangeKey name digest) (answer.Keyed result) (event ∷ []) =
     (was : List ℕ) × (event ≡ Tried (Keyed was digest) (key_ending result))
 AreOf step.Reopen (answer.Reopened (Ok done)) (Reopened deeds ∷ []) = Unit {0}
-AreOf step.Reopen (answer.Reopened (Err fault)) [] = IsOfLedger fault
+AreOf step.Reopen (answer.Reopened (Err refused)) [] = IsTrue refused.stands
 AreOf step answer events = ⊥
 
--- the events of steps and their answers since an opening was refused last, but for the ledger that
--- is there, or since the beginning where none was, and the machines at that time. After such an
--- opening the machines are taken as the next opening finds them.
+-- the events of steps and their answers since the last opening of which nothing stands, or since
+-- the beginning where there was none, and the machines at that time. Behind such an opening the
+-- machines are taken as the next one finds them.
 pub data IsSince (first : Tenants) : List Step → List Answer → List Event → Tenants → Type 0 where
   Start : IsSince first [] [] [] first
   Anew :
-      (steps : List Step) (answers : List Answer) (fault : OpenFault) (found : Tenants) →
-      ¬ IsOfLedger fault → IsSince first (steps ++ step.Reopen ∷ []) (answers ++ answer.Reopened (Err fault) ∷ []) []
+      (steps : List Step) (answers : List Answer) (refused : Refused) (found : Tenants) →
+      refused.stands ≡ false →
+      IsSince first (steps ++ step.Reopen ∷ []) (answers ++ answer.Reopened (Err refused) ∷ []) []
       found
   Onward :
       (steps : List Step) (answers : List Answer) (events : List Event) (began : Tenants)

@@ -1,4 +1,6 @@
+pub mod BookNames
 pub mod Courses
+pub mod Names
 pub mod Reopenings
 pub mod Retries
 pub mod SameRows

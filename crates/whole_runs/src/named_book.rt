@@ -1,7 +1,9 @@
 //! Lists, as ledgers that can be opened again.
 ghost use Rattle.std.specs.Prelude.{ℕ, ◌≡◌, List, None};
-ghost use Rattle.chain.specs.Ledgers.{AreValid, KeepsAll};
+ghost use Rattle.std.specs.List.{position};
+ghost use Rattle.chain.specs.Ledgers.{KeepsAll};
 ghost use Rattle.plain.specs.BookLedgers.{machines_in};
+ghost use Rattle.whole_runs.specs.BookNames.{IsNamedBook, has_name, names_among};
 
 use crate::Reopening;
 use ledger_http::Reply;
@@ -9,7 +11,7 @@ use plain::{Book, PlainTables};
 use records::Unavailable;
 use service::{Message, Settles, respond, respond_round, responses_happen};
 use std::alloc::Global;
-use store::{AddTenant, ChangeKey, OpenFault};
+use store::{AddTenant, ChangeKey, Refused};
 use tenants::TenantName;
 use wire::NoMemory;
 
@@ -41,6 +43,8 @@ impl NamedBook {
         ensures usable { ⟦<NamedBook as Reopening>⟧.means.is_usable result }
         ensures empty { (digest : List ℕ)
             → ⟦<NamedBook as Reopening>⟧.means.tenants result digest ≡ None }
+        ensures unnamed { (name : List ℕ)
+            → ⟦<NamedBook as Reopening>⟧.names result name ≡ None }
     {
         NamedBook {
             alloc,
@@ -50,13 +54,26 @@ impl NamedBook {
     }
 }
 
+// The place of the tenant with this name.
+fn place_of(names: &[Named], name: &TenantName) -> Option<usize>
+    ensures { result ≡ position (has_name name.now) names.now }
+{
+    names
+        .iter()
+        .position(|named| named.name.as_str() == name.as_str())
+}
+
 impl Reopening for NamedBook {
     ghost means = { record {
       tenants = λ named. machines_in named.book;
-      is_usable = λ named. AreValid (machines_in named.book);
+      is_usable = λ named. IsNamedBook named.book named.names.items;
       is_live = λ named. Unit {0};
       may_find = λ named found. KeepsAll (machines_in named.book) found;
     } };
+
+    ghost names = { λ named. names_among named.names.items };
+
+    ghost unopened = { λ old new. ⊥ };
 
     fn is_settled(&self) {}
 
@@ -74,36 +91,32 @@ impl Reopening for NamedBook {
     }
 
     fn join(&mut self, name: &TenantName, digest: &[u8; 32]) -> Result<(), AddTenant> {
-        if self.names.iter().any(|named| named.name == *name) {
+        if place_of(&self.names, name).is_some() {
             return Err(AddTenant::NameTaken);
         }
         if self.book.holds(digest) {
             return Err(AddTenant::DigestTaken);
         }
-        let named = Named {
-            name: *name,
-            digest: *digest,
-        };
-        if self.names.push(named).is_err() {
+        if self.names.reserve(1).is_err() {
             return Err(AddTenant::Unavailable(Unavailable::Memory));
         }
         match self.book.add(*digest, PlainTables::new(self.alloc)) {
-            Ok(()) => Ok(()),
-            Err(why) => {
-                self.names.pop();
-                Err(AddTenant::Unavailable(why))
+            Ok(()) => {
+                self.names.push_reserved(Named {
+                    name: *name,
+                    digest: *digest,
+                });
+                Ok(())
             }
+            Err(why) => Err(AddTenant::Unavailable(why)),
         }
     }
 
     fn change_key(&mut self, name: &TenantName, digest: &[u8; 32]) -> Result<(), ChangeKey> {
-        let Some(place) = self.names.iter().position(|named| named.name == *name) else {
+        let Some(place) = place_of(&self.names, name) else {
             return Err(ChangeKey::NoTenant);
         };
         let was = self.names[place].digest;
-        if !self.book.holds(&was) {
-            return Err(ChangeKey::NoTenant);
-        }
         if was != *digest && self.book.holds(digest) {
             return Err(ChangeKey::DigestTaken);
         }
@@ -112,9 +125,9 @@ impl Reopening for NamedBook {
         Ok(())
     }
 
-    fn open_again(&mut self) -> Result<(), OpenFault> {
+    fn open_again(&mut self) -> Result<(), Refused> {
         Ok(())
     }
 
-    ghost valid = { λ a live usable. usable };
+    ghost valid = { λ a live usable. usable.0 };
 }

@@ -6,13 +6,15 @@ ghost use Rattle.service.specs.Courses.{Tried};
 ghost use Rattle.service.specs.Openings.{RunMeaning, IsSettled, Replies, Moves};
 ghost use Rattle.service.specs.Responds.{RefusesEarly};
 ghost use Rattle.service.specs.Turns.{MovesInRound};
-ghost use Rattle.store.specs.Deeds.{ending_of, IsKeyTried};
+ghost use Rattle.store.specs.Deeds.{ending_of};
+ghost use Rattle.stored_ledgers.specs.Names.{Names, KeepsNames};
+ghost use Rattle.whole_runs.specs.Names.{IsKeyTriedOf, JoinsNames};
 ghost use Rattle.whole_runs.specs.Reopenings.{Reopens, TellsTaken};
 
 use ledger_http::Reply;
 use service::Message;
 use std::alloc::Global;
-use store::{AddTenant, ChangeKey, OpenFault};
+use store::{AddTenant, ChangeKey, Refused};
 use tenants::TenantName;
 use wire::NoMemory;
 
@@ -25,6 +27,12 @@ pub trait Reopening {
     // which machines an opening may find.
     ghost means: { RunMeaning Self };
 
+    // The digest of the tenant with each name.
+    ghost names: { Self → Names };
+
+    // An opening was refused by what keeps the ledgers, of which nothing is known then.
+    ghost unopened: { Self → Self → Type 0 };
+
     /// A law: while the ledgers are live, an opening finds what is there.
     fn is_settled(&self)
         requires { means.is_usable self.now }
@@ -35,6 +43,7 @@ pub trait Reopening {
         requires { means.is_usable self.old }
         ensures replies { Replies means self.old bytes.now moment result self.new }
         ensures early { RefusesEarly bytes.now result }
+        ensures named { means.is_live self.new → KeepsNames (names self.old) (names self.new) }
         ensures usable { means.is_usable self.new };
 
     /// The replies to messages, in order: they are answered in one round, and where that cannot be,
@@ -48,30 +57,36 @@ pub trait Reopening {
         ensures moves { IfOk result (λ replies.
             MovesInRound means self.old messages.now replies.items self.new) }
         ensures undone { OnErr result (self.new ≡ self.old) }
+        ensures named { means.is_live self.new → KeepsNames (names self.old) (names self.new) }
         ensures usable { means.is_usable self.new };
 
-    /// Adds a tenant, whose machine is a new one.
+    /// Adds a tenant, whose machine is a new one. The name is looked up before the digest.
     fn join(&mut self, name: &TenantName, digest: &[u8; 32]) -> Result<(), AddTenant>
         requires { means.is_usable self.old }
         ensures moves { Moves means self.old (Tried (Joined digest.now) (ending_of result)) self.new }
         ensures taken { TellsTaken means self.old digest.now (result ≡ Err AddTenant.DigestTaken)
             self.new }
+        ensures named { means.is_live self.new
+            → JoinsNames name.now digest.now (names self.old) result (names self.new) }
         ensures usable { means.is_usable self.new };
 
     /// Gives the tenant with this name the key of this digest, under which its machine stands from
     /// then on. The same key again changes nothing.
     fn change_key(&mut self, name: &TenantName, digest: &[u8; 32]) -> Result<(), ChangeKey>
         requires { means.is_usable self.old }
-        ensures moves { IsKeyTried means self.old digest.now result self.new }
+        ensures moves { IsKeyTriedOf means names self.old name.now digest.now result self.new }
         ensures taken { TellsTaken means self.old digest.now (result ≡ Err ChangeKey.DigestTaken)
             self.new }
         ensures usable { means.is_usable self.new };
 
     /// Closes the ledgers and opens them again. After an error each call but a later opening
-    /// answers that they are unavailable.
-    fn open_again(&mut self) -> Result<(), OpenFault>
+    /// answers that they are unavailable, and that opening finds what this one might have, where it
+    /// is told that this stands.
+    fn open_again(&mut self) -> Result<(), Refused>
         requires { means.is_usable self.old }
-        ensures opened { Reopens means self.old result self.new }
+        ensures opened { Reopens means unopened self.old result self.new }
+        ensures named { means.is_live self.old → means.is_live self.new
+            → KeepsNames (names self.old) (names self.new) }
         ensures usable { means.is_usable self.new };
 
     /// In live ledgers that may be called every tenant's machine is valid.

@@ -13,7 +13,7 @@ use wire::NoMemory;
 // Runs one step.
 fn run_step<L: Reopening>(alloc: Global, ledgers: &mut L, step: &Step) -> Answer
     requires { L.means.is_usable ledgers.old }
-    ensures makes { StepMakes L.means ledgers.old step.now result ledgers.new }
+    ensures makes { StepMakes L.means L.names L.unopened ledgers.old step.now result ledgers.new }
     ensures answer { IsAnswerTo step.now result }
     ensures usable { L.means.is_usable ledgers.new }
 {
@@ -36,9 +36,9 @@ fn run_step<L: Reopening>(alloc: Global, ledgers: &mut L, step: &Step) -> Answer
 /// As long as the disk is honest, each tenant's replies other than `unavailable` and its machine
 /// are those of its own requests alone: of those that were answered, and of those that were not and
 /// that the next opening finds done. What is told of the end of the run begins at the last
-/// reopening that was refused, but for the ledger that is there; the same is told of each moment of
-/// the run and the steps up to there. Room for all answers is made first: where memory lacks for
-/// it, no step is run.
+/// reopening that what keeps the ledgers refused, so that nothing stands (`Refused`); the same is
+/// told of each moment of the run and the steps up to there, and what each step makes of the names
+/// of tenants. Room for all answers is made first: where memory lacks for it, no step is run.
 pub fn run_all<L: Reopening>(
     alloc: Global,
     ledgers: &mut L,
@@ -48,7 +48,7 @@ pub fn run_all<L: Reopening>(
     ensures run { L.means.is_live ledgers.old → IfOk result (λ answers.
         HasRun L.means ledgers.old steps.now answers.items ledgers.new) }
     ensures through { L.means.is_live ledgers.old → IfOk result (λ answers.
-        RunsThrough L.means ledgers.old steps.now answers.items ledgers.new) }
+        RunsThrough L.means L.names L.unopened ledgers.old steps.now answers.items ledgers.new) }
     ensures answered { IfOk result (λ answers. AllZip IsAnswerTo steps.now answers.items) }
     ensures unrun { OnErr result (ledgers.new ≡ ledgers.old) }
     ensures settled { IsSettled L.means ledgers.new }

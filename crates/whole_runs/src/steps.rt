@@ -2,7 +2,7 @@
 
 use ledger_http::Reply;
 use service::Message;
-use store::{AddTenant, ChangeKey, OpenFault};
+use store::{AddTenant, ChangeKey, Refused};
 use tenants::TenantName;
 use wire::NoMemory;
 
@@ -29,5 +29,5 @@ pub enum Answer {
     Round(Result<Vec<Reply>, NoMemory>),
     Added(Result<(), AddTenant>),
     Keyed(Result<(), ChangeKey>),
-    Reopened(Result<(), OpenFault>),
+    Reopened(Result<(), Refused>),
 }

@@ -5,7 +5,7 @@ use ledger_http::Reply;
 use service::{Message, Settles, respond, respond_round, responses_move};
 use sqlite_disk::Disk;
 use std::alloc::Global;
-use store::{AddTenant, ChangeKey, FullAudit, OpenFault, Store};
+use store::{AddTenant, ChangeKey, FullAudit, Refused, Store, names_are_given};
 use tenants::TenantName;
 use wire::NoMemory;
 
@@ -20,9 +20,15 @@ impl<D: Disk + Drop> Settles<Store<D>> for Stores {
 
 impl<D: Disk + Drop> Reopening for Store<D> {
     ghost use Rattle.service.specs.Openings.{run_meaning};
+    ghost use Rattle.store.specs.Names.{names_of};
     ghost use Rattle.store.specs.StoreLaws.{store_meaning, valid_tenants};
+    ghost use Rattle.store.specs.Stores.{IsUnopened};
 
     ghost means = { run_meaning store_meaning };
+
+    ghost names = { λ store. names_of store };
+
+    ghost unopened = { λ old new. IsUnopened old new };
 
     fn is_settled(&self) {
         self.is_settled();
@@ -44,14 +50,17 @@ impl<D: Disk + Drop> Reopening for Store<D> {
     }
 
     fn join(&mut self, name: &TenantName, digest: &[u8; 32]) -> Result<(), AddTenant> {
+        names_are_given();
         self.add_tenant(name, digest)
     }
 
     fn change_key(&mut self, name: &TenantName, digest: &[u8; 32]) -> Result<(), ChangeKey> {
+        names_are_given();
         self.change_key(name, digest)
     }
 
-    fn open_again(&mut self) -> Result<(), OpenFault> {
+    fn open_again(&mut self) -> Result<(), Refused> {
+        self.is_settled();
         let opened = self.reopen(&FullAudit);
         self.is_settled();
         opened

@@ -110,5 +110,5 @@ pub fn rows_in(store: &mut Store<TestDisk>) -> Result<AllRows, Fail>
 pub fn reopen(store: &mut Store<TestDisk>) -> Result<(), OpenFault>
     ensures { IsUsable store.new }
 {
-    store.reopen(&FullAudit)
+    store.reopen(&FullAudit).map_err(|refused| refused.fault)
 }

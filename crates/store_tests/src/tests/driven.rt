@@ -11,7 +11,7 @@ use sqlite_disk::{Disk, Start};
 use sqlite_std_file::FileFrom;
 use std::alloc::Global;
 use std::marker::Model;
-use store::{AddTenant, Audit, ChangeKey, FullAudit, OpenFault, Store};
+use store::{AddTenant, Audit, ChangeKey, FullAudit, OpenFault, Refused, Store};
 use tenants::TenantName;
 
 /// A store that tests call.
@@ -67,7 +67,7 @@ impl<D: Disk + Drop> Driven<D> {
         self.store.close()
     }
 
-    pub fn reopen<A: Audit>(&mut self, audit: &A) -> Result<(), OpenFault> {
+    pub fn reopen<A: Audit>(&mut self, audit: &A) -> Result<(), Refused> {
         self.store.reopen(audit)
     }
 

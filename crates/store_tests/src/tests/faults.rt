@@ -71,7 +71,7 @@ fn a_disk_that_fails(rt: HostRuntime) {
 
 /// A reopening that is refused, and the next one.
 const MENDED: &str = "\
-North reopen-without-memory => Err(Unavailable(Memory))
+North reopen-without-memory => Err(Refused { fault: Unavailable(Memory), stands: true })
 North ready => (false, 3)
 North knows => Err(Disk)
 North reopen => Ok(())

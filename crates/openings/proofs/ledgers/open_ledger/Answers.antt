@@ -4,5 +4,5 @@ use Rattle.openings.proofs.ledgers.open_ledger.Goals as goal
 
 pub returns-clause-serves : goal.returns-clause-serves
 returns-clause-serves g c =
-    served g.D.Disk (image_of g.D.Disk c.args.files) c.open_inspected.result
-    c.open_inspected.ensures.opened c.open_inspected.ensures.finds
+    served g.D.Disk (image_of g.D.Disk c.args.files) c.open_telling.result
+    c.open_telling.ensures.opened c.open_telling.ensures.finds

@@ -1,23 +1,29 @@
-use Rattle.std.proofs.Common.{inl, inr, subst}
+use Rattle.std.proofs.Common.{subst, sym}
 use Rattle.audit.specs.declared.damage.Damage.{Damage}
+use Rattle.sqlite.specs.Files.{image_of}
 use Rattle.openings.specs.Damage.{IsDamagedIn, Hold}
 use Rattle.store.specs.Stores.{MayHold}
-use Rattle.store.specs.Stores.{IsHonestAt}
+use Rattle.store.specs.Stores.{IsHonestAt, IsOpenedAt}
 use Rattle.openings.specs.DamageLaws.{if_damaged_more}
 use Rattle.store.proofs.ReopenLemmas.{finds_again, held_again, keeps_left, keeps_same, told_again}
 use Rattle.store.proofs.reopening.reopened.Goals as goal
 
 pub returns-in-Ok-clause-found : goal.returns-in-Ok-clause-found
 returns-in-Ok-clause-found g c honest =
-    finds_again g.D.Disk g.met.D.Disk.seen_may_stay c.close-files.result (c.in-Ok.ensures.honest honest)
-    c.args.store.place c.in-Ok.store.place c.close-files.ensures.back (c.in-Ok.ensures.opened honest)
+    let clean = subst (λ place. IsHonestAt {g = g.D.Disk} place) c.over.ensures.over honest in
+    finds_again g.D.Disk g.met.D.Disk.seen_may_stay c.close-files.result (c.in-Ok.ensures.honest clean)
+    c.args.store.place c.over.result.place c.close-files.ensures.back
+    (subst (λ place. IsOpenedAt {g = g.D.Disk} (image_of g.D.Disk c.close-files.result) place)
+    (sym c.over.ensures.over) (c.in-Ok.ensures.opened clean))
 
 pub returns-in-Ok-clause-honest : goal.returns-in-Ok-clause-honest
-returns-in-Ok-clause-honest g c honest = c.close-files.ensures.honest (c.in-Ok.ensures.honest honest)
+returns-in-Ok-clause-honest g c honest =
+    c.close-files.ensures.honest (c.in-Ok.ensures.honest
+    (subst (λ place. IsHonestAt {g = g.D.Disk} place) c.over.ensures.over honest))
 
 pub returns-in-Err-clause-damaged : goal.returns-in-Err-clause-damaged
 returns-in-Err-clause-damaged g c honest =
-    if_damaged_more c.in-Err.fault (λ (damage : Damage). Hold g.D.Disk c.close-files.result (IsDamagedIn 3 damage))
+    if_damaged_more c.in-Err.refused.fault (λ (damage : Damage). Hold g.D.Disk c.close-files.result (IsDamagedIn 3 damage))
     (λ (damage : Damage). MayHold c.args.store (IsDamagedIn 3 damage))
     (λ damage held. held_again g.D.Disk g.met.D.Disk.seen_may_stay c.close-files.result held.honest
     c.args.store.place (IsDamagedIn 3 damage) c.close-files.ensures.back held)
@@ -25,33 +31,32 @@ returns-in-Err-clause-damaged g c honest =
 
 -- files that may not be used are kept as they are
 pub returns-then-not-may_be_used-clause-left : goal.returns-then-not-may_be_used-clause-left
-returns-then-not-may_be_used-clause-left g c =
-    inl (keeps_same g.D.Disk c.args.store c.unopened.result c.close-files.result c.close-files.ensures.back
-    c.close-files.ensures.honest c.unopened.ensures.place)
+returns-then-not-may_be_used-clause-left g c = record {
+  stand = λ is. keeps_same g.D.Disk c.args.store c.unopened.result c.close-files.result
+      c.close-files.ensures.back c.close-files.ensures.honest c.unopened.ensures.place;
+  unopened = λ is. absurd (cc);
+  of_ledger = λ is. absurd is;
+}
 
 pub returns-in-Err-clause-left : goal.returns-in-Err-clause-left
-returns-in-Err-clause-left g c = elim c.in-Err.ensures.left [
-  | inl unopened ↦ inr (record {
+returns-in-Err-clause-left g c = record {
+  stand = λ is. keeps_left g.D.Disk g.met.D.Disk.seen_may_stay c.args.store c.unopened-in-Err.result
+      c.close-files.result c.in-Err.left c.close-files.ensures.back c.close-files.ensures.honest
+      c.unopened-in-Err.ensures.place (c.in-Err.ensures.left.stand is);
+  unopened = λ is. record {
     files = c.close-files.result;
     back = c.close-files.ensures.back;
     left = c.in-Err.left;
     place = c.unopened-in-Err.ensures.place;
-    unopened = unopened;
-  })
-  | inr stay ↦ inl (keeps_left g.D.Disk g.met.D.Disk.seen_may_stay c.args.store c.unopened-in-Err.result
-      c.close-files.result c.in-Err.left c.close-files.ensures.back c.close-files.ensures.honest
-      c.unopened-in-Err.ensures.place stay)
-]
-
-pub returns-in-Err-clause-kept : goal.returns-in-Err-clause-kept
-returns-in-Err-clause-kept g c is =
-    keeps_left g.D.Disk g.met.D.Disk.seen_may_stay c.args.store c.unopened-in-Err.result
-    c.close-files.result c.in-Err.left c.close-files.ensures.back c.close-files.ensures.honest
-    c.unopened-in-Err.ensures.place (c.in-Err.ensures.stay is)
+    unopened = c.in-Err.ensures.left.unopened is;
+  };
+  of_ledger = c.in-Err.ensures.left.of_ledger;
+}
 
 pub returns-in-Err-clause-told : goal.returns-in-Err-clause-told
 returns-in-Err-clause-told g c honest is =
     let clean = subst (λ place. IsHonestAt {g = g.D.Disk} place) c.unopened-in-Err.ensures.place honest in
-    told_again g.D.Disk g.met.D.Disk.seen_may_stay c.close-files.result
-    ((c.in-Err.ensures.stay is).honest clean) c.args.store.place c.in-Err.fault
-    c.in-Err.left c.close-files.ensures.back (c.in-Err.ensures.told clean) is
+    let stay = c.in-Err.ensures.left.stand (c.in-Err.ensures.left.of_ledger is) in
+    told_again g.D.Disk g.met.D.Disk.seen_may_stay c.close-files.result (stay.honest clean)
+    c.args.store.place c.in-Err.refused.fault c.in-Err.left c.close-files.ensures.back
+    (c.in-Err.ensures.told clean) is

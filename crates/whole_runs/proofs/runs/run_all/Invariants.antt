@@ -13,7 +13,7 @@ invariant-loop-step g l = record {
       l.ledgers;
   through :
       g.L.Reopening.means.is_live l.fn.ledgers
-      → RunsThrough g.L.Reopening.means l.fn.ledgers (take l.step-index l.steps) l.answers.items
+      → RunsThrough g.L.Reopening.means g.L.Reopening.names g.L.Reopening.unopened l.fn.ledgers (take l.step-index l.steps) l.answers.items
       l.ledgers;
   answered : AllZip IsAnswerTo (take l.step-index l.steps) l.answers.items;
   count : vec_len l.answers ≡ l.step-index;

@@ -1,5 +1,6 @@
 use Rattle.std.proofs.Common.{◌⊎◌, ◌≡◌, true, not, refl, sym, subst, ap, arith, rules}
 use Rattle.stored_ledgers.specs.Keying.{Keyed, HasKeyed, keying_answer}
+use Rattle.store.specs.Names.{digest_named}
 use Rattle.store.specs.Stores.{may_find_at, OfDatabaseAt}
 use Rattle.store.specs.declared.place.Place.TheVariants as at
 use Rattle.store.proofs.DeedLemmas.{keys_so}
@@ -16,8 +17,8 @@ pub returns-clause-disk : goal.returns-clause-disk
 returns-clause-disk g c is =
     ap not (c.is_disk_fault.ensures.1 (c.keying_answer.ensures.disk is))
 
-pub returns-clause-moves : goal.returns-clause-moves
-returns-clause-moves g c =
+pub returns-clause-whose : goal.returns-clause-whose
+returns-clause-whose g c =
     let ready : c.args.self.now.ready ≡ true = search rules in
     keys_so c.keying_moves_key.ensures c.args.name.now c.args.digest.now c.args.self.now _ c.change_key-keyed.result
     c.keying_answer.result c.keying_answer.ensures.told c.requires
@@ -29,3 +30,6 @@ returns-clause-moves g c =
     (λ live. subst (OfDatabaseAt (λ before. OfDatabaseAt (λ after.
     HasKeyed c.args.name.now c.args.digest.now before after (keying_answer c.change_key-keyed.result))
     (at.Open c.change_key-keyed.new.conn))) (sym c.in-Open.is) (c.change_key-keyed.ensures.told live))
+
+pub returns-clause-moves : goal.returns-clause-moves
+returns-clause-moves g c = (digest_named c.args.self.now c.args.name.now, returns-clause-whose g c)

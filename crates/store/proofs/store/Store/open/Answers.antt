@@ -1,34 +1,22 @@
 use Rattle.std.proofs.Common.{sym, subst}
-use Rattle.std.proofs.lemmas.Result.{err_from_is_err_and}
 use Rattle.sqlite.specs.Files.{image_of}
+use Rattle.openings.specs.RefusedLaws.{files_stay, leaves_refused}
 use Rattle.store.specs.Stores.{IsHonestAt, IsOpenedAt}
 use Rattle.store.proofs.store.Store.open.Goals as goal
 
-pub returns-clause-opened : goal.returns-clause-opened
-returns-clause-opened g c honest =
+pub returns-in-Ok-clause-opened : goal.returns-in-Ok-clause-opened
+returns-in-Ok-clause-opened g c honest =
     subst (λ place. IsOpenedAt {g = g.D.Disk} (image_of g.D.Disk c.args.files) place) (sym c.over.ensures.over)
-    (c.in_ok-conn.ensures.opened (subst (λ place. IsHonestAt {g = g.D.Disk} place) c.over.ensures.over honest))
+    (c.in-Ok.ensures.opened (subst (λ place. IsHonestAt {g = g.D.Disk} place) c.over.ensures.over honest))
 
-pub returns-clause-honest : goal.returns-clause-honest
-returns-clause-honest g c honest =
-    c.in_ok-conn.ensures.honest (subst (λ place. IsHonestAt {g = g.D.Disk} place) c.over.ensures.over honest)
+pub returns-in-Ok-clause-honest : goal.returns-in-Ok-clause-honest
+returns-in-Ok-clause-honest g c honest =
+    c.in-Ok.ensures.honest (subst (λ place. IsHonestAt {g = g.D.Disk} place) c.over.ensures.over honest)
 
-pub returns-in_err-conn-clause-damaged : goal.returns-in_err-conn-clause-damaged
-returns-in_err-conn-clause-damaged g c =
-    let p = err_from_is_err_and c.from_residual.result c.from_residual.ensures.1 in
-    rw (p.1, p.2) c.in_err-conn.ensures.damaged
+pub returns-in-Err-clause-left : goal.returns-in-Err-clause-left
+returns-in-Err-clause-left g c =
+    leaves_refused g.D.Disk c.args.files c.in-Err.refused c.in-Err.left c.in-Err.ensures.left
 
-pub returns-in_err-conn-clause-left : goal.returns-in_err-conn-clause-left
-returns-in_err-conn-clause-left g c =
-    let p = err_from_is_err_and c.from_residual.result c.from_residual.ensures.1 in
-    rw (p.1, p.2) c.in_err-conn.ensures.left
-
-pub returns-in_err-conn-clause-stay : goal.returns-in_err-conn-clause-stay
-returns-in_err-conn-clause-stay g c =
-    let p = err_from_is_err_and c.from_residual.result c.from_residual.ensures.1 in
-    rw (p.1, p.2) c.in_err-conn.ensures.stay
-
-pub returns-in_err-conn-clause-told : goal.returns-in_err-conn-clause-told
-returns-in_err-conn-clause-told g c =
-    let p = err_from_is_err_and c.from_residual.result c.from_residual.ensures.1 in
-    rw (p.1, p.2) c.in_err-conn.ensures.told
+pub returns-in-Err-clause-stay : goal.returns-in-Err-clause-stay
+returns-in-Err-clause-stay g c =
+    files_stay g.D.Disk c.args.files c.in-Err.refused c.in-Err.left c.in-Err.ensures.left

@@ -1,26 +1,103 @@
-use Rattle.std.proofs.Common.{◌≡◌, ◌≢◌, false, is_some, sym, ◌∙◌}
+use Rattle.std.proofs.Common.{◌≡◌, ◌≢◌, false, [], Some, None, is_some, refl, sym, ap, ◌∙◌}
+use Rattle.std.specs.List.{position}
 use Rattle.plain.specs.Book.{machine_with}
+use Rattle.plain.specs.BookLedgers.{machines_in}
 use Rattle.service.specs.Openings.{As_now}
-use Rattle.whole_runs.proofs.BookLemmas.{rekeyed_done, same_digest}
+use Rattle.whole_runs.specs.BookNames.{has_name, names_among}
+use Rattle.whole_runs.proofs.BookLemmas.{another_digest, none_of, rekeyed_done, rekeyed_others, rekeyed_own, same_digest}
+use Rattle.whole_runs.proofs.NamedLemmas.{named_so, rekeyed_named, rekeys_name, unnamed}
 use Rattle.whole_runs.proofs.named_book.NamedBookReopening.change_key.Goals as goal
 use Rattle.whole_runs.proofs.named_book.NamedBookReopening.change_key.Goals.{else-ne-via-then-ne+else-holds, else-ne-via-else-ne}
 
+-- nobody has the name
+pub returns-in_default-clause-moves : goal.returns-in_default-clause-moves
+returns-in_default-clause-moves c = (
+  [],
+  record {
+    happens = λ live d. refl;
+    lived = λ live. live;
+    found = λ found keeps. As_now tt keeps;
+  },
+  λ live. (
+    unnamed c.args.name.now c.args.self.now.names.items
+        (ap is_some (sym (c.place_of.ensures
+        ∙ ap (position (has_name c.args.name.now)) c.deref.ensures.value) ∙ c.in_default.is)),
+    λ name. refl,
+  ),
+)
+
+-- another tenant has the digest
+pub returns-then-holds-clause-moves : goal.returns-then-holds-clause-moves
+returns-then-holds-clause-moves c = (
+  c.index.result.now.digest,
+  record {
+    happens = λ live d. refl;
+    lived = λ live. live;
+    found = λ found keeps. As_now tt keeps;
+  },
+  λ live. (
+    named_so c.args.name.now c.args.self.now.names.items c.in-Some.place c.index.result.now
+        (sym (c.place_of.ensures ∙ ap (position (has_name c.args.name.now)) c.deref.ensures.value)
+        ∙ c.in-Some.is)
+        c.index.ensures,
+    another_digest c.index.result.now.digest c.args.digest.now (sym c.ne.ensures ∙ c.if-ne.true),
+    λ name. refl,
+  ),
+)
+
+module _ (c : goal.After-self-1) where
+  found : position (has_name c.args.name.now) c.args.self.now.names.items ≡ Some c.in-Some.place
+  found =
+      sym (c.place_of.ensures ∙ ap (position (has_name c.args.name.now)) c.deref.ensures.value)
+      ∙ c.in-Some.is
+
+  had : names_among c.args.self.now.names.items c.args.name.now ≡ Some c.index.result.now.digest
+  had =
+      named_so c.args.name.now c.args.self.now.names.items c.in-Some.place c.index.result.now found
+      c.index.ensures
+
+  there : machines_in c.args.self.now.book c.index.result.now.digest ≢ None
+  there = c.requires.1.there c.args.name.now c.index.result.now.digest had
+
+  free :
+      c.index.result.now.digest ≢ c.args.digest.now →
+      is_some (machine_with c.args.digest.now c.args.self.now.book) ≡ false
+  free moved =
+      elim c.else-ne.branch [
+        | else-ne-via-then-ne+else-holds w ↦ sym w.holds.ensures ∙ w.if-holds.false
+        | else-ne-via-else-ne w ↦
+            absurd (moved (same_digest c.index.result.now.digest c.args.digest.now
+            (sym c.ne.ensures ∙ w.if-ne.false)))
+      ]
+
 pub returns-clause-moves : goal.returns-clause-moves
-returns-clause-moves c =
-    let was = c.index.result.now.digest in
-    let free : was ≢ c.args.digest.now → is_some (machine_with c.args.digest.now c.args.self.now.book) ≡ false =
-    λ (moved : was ≢ c.args.digest.now).
-    elim c.else-ne.branch [
-      | else-ne-via-then-ne+else-holds w ↦ sym w.holds-then-ne.ensures ∙ w.if-holds.false
-      | else-ne-via-else-ne w ↦
-          absurd (moved (same_digest was c.args.digest.now (sym c.ne.ensures ∙ w.if-ne.false)))
-    ] in (
-      was,
-      record {
-        happens = λ live.
-            rekeyed_done was c.args.digest.now c.args.self.now.book c.rekey.new.self
-            (sym c.holds.ensures ∙ c.if-not-holds.false) free c.rekey.ensures.rekeyed;
-        lived = λ live. tt;
-        found = λ found keeps. As_now tt keeps;
-      },
-    )
+returns-clause-moves c = (
+  c.index.result.now.digest,
+  record {
+    happens = λ live.
+        rekeyed_done c.index.result.now.digest c.args.digest.now c.args.self.now.book
+        c.rekey.new.self (there c) (free c) c.rekey.ensures.rekeyed;
+    lived = λ live. tt;
+    found = λ found keeps. As_now tt keeps;
+  },
+  λ live. (
+    had c,
+    rekeys_name c.args.name.now c.args.self.now.names.items c.in-Some.place c.index_mut.result.now
+        (found c) c.index_mut.ensures.value c.args.digest.now,
+  ),
+)
+
+pub returns-clause-usable : goal.returns-clause-usable
+returns-clause-usable c = (
+  c.rekey.ensures.usable c.requires.0,
+  rekeyed_named c.args.name.now c.args.digest.now _ _ (machines_in c.args.self.now.book)
+      (machines_in c.rekey.new.self)
+      (rekeys_name c.args.name.now c.args.self.now.names.items c.in-Some.place
+      c.index_mut.result.now (found c) c.index_mut.ensures.value c.args.digest.now)
+      c.requires.1
+      (rekeyed_own c.index.result.now.digest c.args.digest.now c.args.self.now.book c.rekey.new.self
+      (there c) c.rekey.ensures.rekeyed)
+      c.index.result.now.digest (had c) (λ moved. none_of _ (free c moved))
+      (rekeyed_others c.index.result.now.digest c.args.digest.now c.args.self.now.book
+      c.rekey.new.self c.rekey.ensures.rekeyed),
+)

@@ -2,6 +2,8 @@ use Rattle.std.proofs.Common.{refl}
 use Rattle.ledger_http.specs.Question.{asked_of}
 use Rattle.service.specs.Courses.{Replied}
 use Rattle.service.specs.Openings.{As_now}
+use Rattle.whole_runs.proofs.NamedLemmas.{named_still}
+use Rattle.whole_runs.proofs.StayLemmas.{responded_stay}
 use Rattle.whole_runs.proofs.named_book.NamedBookReopening.reply_to.Goals as goal
 
 pub returns-clause-replies : goal.returns-clause-replies
@@ -20,3 +22,11 @@ returns-clause-replies c =
         found = λ found keeps. As_now tt keeps;
       };
     }
+
+pub returns-clause-usable : goal.returns-clause-usable
+returns-clause-usable c = (
+  c.respond.ensures.usable,
+  named_still _ _ _ c.requires.1
+      (responded_stay _ _ c.args.bytes.now c.args.moment c.respond.result
+      (c.respond.ensures.responds tt)),
+)

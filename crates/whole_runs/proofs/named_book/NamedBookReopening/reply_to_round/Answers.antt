@@ -1,6 +1,12 @@
-use Rattle.std.proofs.Common.{Result, Ok, Err, IfOk}
+use Rattle.std.proofs.Common.{◌≡◌, List, Result, Ok, Err, IfOk, OnErr, sym, subst}
 use Rattle.service.specs.Openings.{All_as_now}
 use Rattle.service.specs.TurnLaws.{replies_happen}
+use Rattle.plain.specs.declared.book.Tenant.{Tenant}
+use Rattle.plain.specs.BookLedgers.{machines_in}
+use Rattle.stored_ledgers.specs.Names.{Names}
+use Rattle.whole_runs.specs.BookNames.{AreNamed}
+use Rattle.whole_runs.proofs.NamedLemmas.{named_still}
+use Rattle.whole_runs.proofs.StayLemmas.{in_turn_stay}
 use Rattle.whole_runs.proofs.named_book.NamedBookReopening.reply_to_round.Goals as goal
 
 if_ok_on :
@@ -20,3 +26,22 @@ returns-clause-moves c =
           (all.events, all.are, All_as_now tt keeps);
     })
     c.respond_round.ensures.moves
+
+-- the names are those of the tenants behind the round
+named_behind :
+    {X E : Type 0} (P : X → Type 0) (names : Names) (old new : List Tenant) (result : Result X E) →
+    AreNamed names (machines_in old) →
+    ((x : X) → P x → AreNamed names (machines_in new)) → IfOk result P → OnErr result (new ≡ old) →
+    AreNamed names (machines_in new)
+named_behind P names old new (Ok x) named on moved same = on x moved
+named_behind P names old new (Err why) named on moved same =
+    subst (λ (book : List Tenant). AreNamed names (machines_in book)) (sym same) named
+
+pub returns-clause-usable : goal.returns-clause-usable
+returns-clause-usable c = (
+  c.respond_round.ensures.usable,
+  named_behind _ _ c.args.self.now.book c.respond_round.new.ledgers c.respond_round.result c.requires.1
+      (λ replies moves.
+      named_still _ _ _ c.requires.1 (in_turn_stay _ _ _ replies.items (moves.respond tt)))
+      c.respond_round.ensures.moves c.respond_round.ensures.undone,
+)

@@ -2,6 +2,7 @@ use Rattle.std.proofs.Common.{refl}
 use Rattle.service.specs.Courses.{Replied}
 use Rattle.ledger_http.specs.Question.{asked_of}
 use Rattle.store.specs.StoreLaws.{finds_itself}
+use Rattle.whole_runs.proofs.StoreNames.{names_stay}
 use Rattle.whole_runs.proofs.stored.StoreReopening.reply_to.Goals as goal
 
 pub returns-clause-replies : goal.returns-clause-replies
@@ -17,3 +18,7 @@ returns-clause-replies g c =
           (finds_itself c.respond-reply.new.ledgers c.is_settled.ensures
           c.respond-reply.ensures.usable);
     }
+
+pub returns-clause-named : goal.returns-clause-named
+returns-clause-named g c live =
+    names_stay c.args.self.now c.respond-reply.new.ledgers c.respond-reply.ensures.follows live

@@ -1,0 +1,21 @@
+-- The names of a store's tenants.
+use Rattle.std.specs.Prelude.{ℕ, List, [], Option, None, unwrap_or}
+use Rattle.sqlite_disk.specs.declared.Disk as disk
+use Rattle.sqlite.specs.Files.{file_state}
+use Rattle.stored_ledgers.specs.Names.{Names, names_in}
+use Rattle.store.specs.declared.place.Place.{Place}
+use Rattle.store.specs.declared.place.Place.TheVariants as at
+use Rattle.store.specs.declared.store.Store.{Store}
+
+module _ {D : Type 0} {g : disk.Ghosts D} where
+  abbrev pub names_at : Place D g → Names
+  names_at (at.Open conn) = names_in (file_state conn).now.trees
+  names_at (at.Shut files) = λ name. None
+
+  -- the digest of the tenant with each name, if there is one
+  abbrev pub names_of : Store D g → Names
+  names_of store = names_at store.place
+
+  -- the digest of whoever has this name, or no bytes where nobody has it
+  abbrev pub digest_named : Store D g → List ℕ → List ℕ
+  digest_named store name = unwrap_or (names_of store name) []
