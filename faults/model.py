@@ -56,6 +56,13 @@ class Ledger:
                     sums[f"{side}s_{word}"] += each["amount"]
         return sums
 
+    def reach(self, clock):
+        """Comes to a later clock, at which a hold is due: between batches the service settles a tenant
+        to such times by itself. Says whether it is there."""
+        if clock > self.clock and any(due_of(each) == clock for each in self.transfers.values()):
+            self.clock = clock
+        return clock == self.clock
+
     # Batches.
 
     def batch(self, events, clock, transfers):

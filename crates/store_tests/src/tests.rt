@@ -12,6 +12,7 @@ mod keys;
 mod memory;
 mod on_files;
 mod opened_files;
+mod overdue;
 mod playing;
 mod read_answers;
 mod reads;

@@ -8,6 +8,7 @@ use polling::{Seats, Steward, serve_ready, write_rest};
 use records::Streamed;
 use service::{Moments, serve};
 use std::alloc::Global;
+use std::cell::Cell;
 use std::marker::Model;
 use std::test::Fail;
 use tenants::{Key, digest};
@@ -34,6 +35,30 @@ impl Steward<Book> for Never {
     fn is_settled(_ledgers: &Book) {}
 
     fn attend(&mut self, _ledgers: &mut Book) {}
+}
+
+/// Puts off batches of more than so many bytes, so many times.
+#[derive(Drop)]
+struct PutsOff {
+    most: usize,
+    left: Cell<u64>,
+}
+
+impl Steward<Book> for PutsOff {
+    ghost renews = { λ old new. new ≡ old };
+
+    fn is_settled(_ledgers: &Book) {}
+
+    fn attend(&mut self, _ledgers: &mut Book) {}
+
+    fn puts_off(&self, message: &[u8]) -> bool {
+        let left = self.left.get();
+        if left == 0 || message.len() <= self.most {
+            return false;
+        }
+        self.left.set(left - 1);
+        true
+    }
 }
 
 /// The ledgers of several firms.
@@ -117,6 +142,32 @@ impl Firms {
             99,
         );
         (replies, ledgers.rounds())
+    }
+
+    /// Serves clients while batches of more than so many bytes are put off, so many times. Says how many
+    /// messages were replied to.
+    pub(crate) fn serve_putting_off(
+        &mut self,
+        peers: &mut Scripted,
+        most: usize,
+        times: u64,
+    ) -> u64 {
+        let mut seats = Seats::new(self.alloc);
+        let mut piece = [0; 100];
+        let mut steward = PutsOff {
+            most,
+            left: Cell::new(times),
+        };
+        serve_ready(
+            self.alloc,
+            peers,
+            &mut seats,
+            &mut self.book,
+            &mut steward,
+            &mut Always(1000),
+            &mut piece,
+            99,
+        )
     }
 
     fn serve_seated(&mut self, peers: &mut Scripted, seats: &mut Seats, most: u64) -> u64 {

@@ -155,3 +155,20 @@ fn a_round_stops_behind_so_many_replies(rt: HostRuntime) -> Result<(), Fail> {
     }
     Ok(())
 }
+
+// The first batch of all has 190 bytes, and is put off ten times. The two of the other firm are answered
+// meanwhile, and what is no batch is not put off. Then the first firm hears what it hears alone.
+#[test]
+fn who_is_put_off_is_answered_behind_the_others(rt: HostRuntime) -> Result<(), Fail> {
+    let to_first = Firms::with(rt.alloc(), &KEYS)?.serve(OF_FIRST.as_bytes());
+    let mut firms = Firms::with(rt.alloc(), &KEYS)?;
+    let mut peers = clients(&rt, &[OF_FIRST, READ, OF_SECOND])?;
+    assert!(rt; firms.serve_putting_off(&mut peers, 150, 10) == 7);
+    assert!(rt; written_at(&peers, 2).is_some());
+    assert!(rt; written_at(&peers, 1) < written_at(&peers, 2));
+    assert!(rt; written_at(&peers, 2) < written_at(&peers, 0));
+    assert!(rt; has_heard(&peers, 0, to_first.as_slice()));
+    assert!(rt; has_heard(&peers, 1, NO_ACCOUNT.as_bytes()));
+    assert!(rt; has_heard(&peers, 2, TO_SECOND.as_bytes()));
+    Ok(())
+}

@@ -11,7 +11,7 @@ use sqlite_disk::{Disk, Start};
 use sqlite_std_file::FileFrom;
 use std::alloc::Global;
 use std::marker::Model;
-use store::{AddTenant, Audit, ChangeKey, FullAudit, OpenFault, Refused, Store};
+use store::{AddTenant, Audit, ChangeKey, FullAudit, OpenFault, Overdue, Refused, Search, Store};
 use tenants::TenantName;
 
 /// A store that tests call.
@@ -85,6 +85,14 @@ impl<D: Disk + Drop> Driven<D> {
 
     pub fn knows(&mut self, digest: &[u8; 32]) -> Result<bool, Unavailable> {
         self.store.knows(digest)
+    }
+
+    pub fn overdue(
+        &mut self,
+        search: &mut Search,
+        moment: u64,
+    ) -> Result<Option<Overdue>, Unavailable> {
+        self.store.overdue(search, moment)
     }
 
     pub fn all_rows(&mut self) -> Result<AllRows, Unavailable> {
