@@ -2,12 +2,13 @@
 ghost use Rattle.std.specs.Prelude.{◌≡◌};
 ghost use Rattle.store.specs.Stores.{IsUsable};
 
-use super::disks::{NEVER, TestDisk, new_store, shut};
+use super::disks::{Faulty, NEVER, TestDisk, new_store, shut};
 use super::messages::{asked, wanted};
 use super::scripts::runs;
 use chain::Ledgers;
 use records::Streamed;
 use service::{Moments, ServeFault, serve};
+use sqlite_disk::Disk;
 use std::alloc::{AllocError, Global};
 use std::io::{self, ErrorKind, Write};
 use std::process::Abort;
@@ -214,7 +215,11 @@ fn serves<L: Ledgers>(
 }
 
 /// Serves all connections, between the two scripts.
-fn serves_all(rt: &impl Abort, alloc: Global, store: &mut Store<TestDisk>) -> Result<(), Fail>
+fn serves_all<D: Disk + Drop>(
+    rt: &impl Abort,
+    alloc: Global,
+    store: &mut Store<D>,
+) -> Result<(), Fail>
     requires { IsUsable store.old }
 {
     runs(rt, alloc, store, BASES)?;
@@ -224,10 +229,15 @@ fn serves_all(rt: &impl Abort, alloc: Global, store: &mut Store<TestDisk>) -> Re
     runs(rt, alloc, store, DONE_UNTOLD)
 }
 
-#[test]
-fn serves_connections(rt: HostRuntime) -> Result<(), Fail> {
-    let mut store = new_store(rt.alloc(), NEVER, NEVER)?;
-    let ended = serves_all(&rt, rt.alloc(), &mut store);
+/// The same, over disks of their own.
+fn serves_on<D: Faulty, R: Abort>(rt: &R, alloc: Global) -> Result<(), Fail> {
+    let mut store: Store<D> = new_store(alloc, NEVER, NEVER)?;
+    let ended = serves_all(rt, alloc, &mut store);
     shut(store);
     ended
+}
+
+#[test]
+fn serves_connections(rt: HostRuntime) -> Result<(), Fail> {
+    serves_on::<TestDisk, _>(&rt, rt.alloc())
 }

@@ -10,8 +10,21 @@ use std::alloc::Global;
 use std::test::Fail;
 use store::{FullAudit, OpenFault, Store};
 
-/// A disk in memory that fails behind so many calls, until a crash.
+/// A disk that fails behind so many calls, until a crash. What holds a store is generic over it,
+/// since each function that holds a store of a named disk takes long to prove.
+pub trait Faulty: Crash + Drop {
+    /// A new disk, which fails behind so many calls.
+    fn made(alloc: Global, calls: u64) -> Self;
+}
+
+/// Such a disk in memory.
 pub type TestDisk = Fuse<Memory>;
+
+impl Faulty for TestDisk {
+    fn made(alloc: Global, calls: u64) -> TestDisk {
+        Fuse::new(Memory::new(alloc), calls)
+    }
+}
 
 /// Few pages, and so short a log that commits copy it into the database file.
 const SMALL: Options = Options {
@@ -25,18 +38,18 @@ const SMALL: Options = Options {
 pub const NEVER: u64 = 1_000_000;
 
 /// Empty files, whose disks fail behind so many calls.
-pub fn empty(alloc: Global, log: u64, database: u64) -> Files<TestDisk> {
+pub fn empty<D: Faulty>(alloc: Global, log: u64, database: u64) -> Files<D> {
     Files {
-        log: Fuse::new(Memory::new(alloc), log),
-        db: Fuse::new(Memory::new(alloc), database),
+        log: D::made(alloc, log),
+        db: D::made(alloc, database),
     }
 }
 
 /// A store that is made in files, or why it is not, with the files.
-pub fn made(
+pub fn made<D: Disk + Drop>(
     alloc: Global,
-    files: Files<TestDisk>,
-) -> Result<Store<TestDisk>, (OpenFault, Files<TestDisk>)>
+    files: Files<D>,
+) -> Result<Store<D>, (OpenFault, Files<D>)>
     ensures { IfOk result IsUsable }
 {
     if !(files.log.may_be_used() && files.db.may_be_used()) {
@@ -46,7 +59,7 @@ pub fn made(
 }
 
 /// A new store, whose disks fail behind so many calls.
-pub fn new_store(alloc: Global, log: u64, database: u64) -> Result<Store<TestDisk>, Fail>
+pub fn new_store<D: Faulty>(alloc: Global, log: u64, database: u64) -> Result<Store<D>, Fail>
     ensures { IfOk result IsUsable }
 {
     match made(alloc, empty(alloc, log, database)) {
@@ -56,14 +69,14 @@ pub fn new_store(alloc: Global, log: u64, database: u64) -> Result<Store<TestDis
 }
 
 /// What a crash leaves of files, on disks that fail no more.
-pub fn crashed(mut files: Files<TestDisk>) -> Files<TestDisk> {
+pub fn crashed<D: Crash>(mut files: Files<D>) -> Files<D> {
     files.log.crash();
     files.db.crash();
     files
 }
 
 /// The store that is found in files.
-pub fn opened(alloc: Global, files: Files<TestDisk>) -> Result<Store<TestDisk>, Fail>
+pub fn opened<D: Disk + Drop>(alloc: Global, files: Files<D>) -> Result<Store<D>, Fail>
     ensures { IfOk result IsUsable }
 {
     if !(files.log.may_be_used() && files.db.may_be_used()) {
@@ -76,19 +89,19 @@ pub fn opened(alloc: Global, files: Files<TestDisk>) -> Result<Store<TestDisk>, 
 }
 
 /// The store that is found in the files of another after a crash.
-pub fn after_a_crash(alloc: Global, store: Store<TestDisk>) -> Result<Store<TestDisk>, Fail>
+pub fn after_a_crash<D: Crash + Drop>(alloc: Global, store: Store<D>) -> Result<Store<D>, Fail>
     ensures { IfOk result IsUsable }
 {
     opened(alloc, crashed(store.close()))
 }
 
 /// Closes a store, and forgets its files.
-pub fn shut(store: Store<TestDisk>) {
+pub fn shut<D: Disk + Drop>(store: Store<D>) {
     let _files = store.close();
 }
 
 /// All rows.
-pub fn all_rows(store: &mut Store<TestDisk>) -> Result<AllRows, Unavailable>
+pub fn all_rows<D: Disk + Drop>(store: &mut Store<D>) -> Result<AllRows, Unavailable>
     requires { IsUsable store.old }
     ensures { IsUsable store.new }
 {
@@ -96,7 +109,7 @@ pub fn all_rows(store: &mut Store<TestDisk>) -> Result<AllRows, Unavailable>
 }
 
 /// All rows, once there is memory to read them.
-pub fn rows_in(store: &mut Store<TestDisk>) -> Result<AllRows, Fail>
+pub fn rows_in<D: Disk + Drop>(store: &mut Store<D>) -> Result<AllRows, Fail>
     requires { IsUsable store.old }
     ensures { IsUsable store.new }
 {
@@ -107,7 +120,7 @@ pub fn rows_in(store: &mut Store<TestDisk>) -> Result<AllRows, Fail>
 }
 
 /// Opens a store again.
-pub fn reopen(store: &mut Store<TestDisk>) -> Result<(), OpenFault>
+pub fn reopen<D: Disk + Drop>(store: &mut Store<D>) -> Result<(), OpenFault>
     ensures { IsUsable store.new }
 {
     store.reopen(&FullAudit).map_err(|refused| refused.fault)

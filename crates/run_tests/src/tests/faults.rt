@@ -3,9 +3,10 @@
 ghost use Rattle.store.specs.Stores.{IsUsable};
 
 use super::deeds::{CHAIN, Deed, JOINING, Spelled, Told};
-use super::disks::{NEVER, TestDisk, after_a_crash, new_store, rows_in, shut};
+use super::disks::{Faulty, NEVER, TestDisk, after_a_crash, new_store, rows_in, shut};
 use super::scripts::runs;
 use rows::AllRows;
+use sqlite_disk::{Crash, Disk};
 use std::alloc::Global;
 use std::process::Abort;
 use std::test::Fail;
@@ -42,10 +43,10 @@ enum Outcome {
 const OUTCOMES: [Outcome; 3] = [Outcome::Undone, Outcome::Undone, Outcome::Done];
 
 /// Adds the two tenants to a store, and reads the rows before a deed and those after it.
-fn around(
+fn around<D: Disk + Drop>(
     rt: &impl Abort,
     alloc: Global,
-    store: &mut Store<TestDisk>,
+    store: &mut Store<D>,
     deed: &Spelled,
 ) -> Result<(AllRows, AllRows), Fail>
     requires { IsUsable store.old }
@@ -59,8 +60,12 @@ fn around(
 }
 
 /// The rows before a deed, and those after it.
-fn both(rt: &impl Abort, alloc: Global, deed: &Spelled) -> Result<(AllRows, AllRows), Fail> {
-    let mut store = new_store(alloc, NEVER, NEVER)?;
+fn both<D: Faulty, R: Abort>(
+    rt: &R,
+    alloc: Global,
+    deed: &Spelled,
+) -> Result<(AllRows, AllRows), Fail> {
+    let mut store: Store<D> = new_store(alloc, NEVER, NEVER)?;
     let rows = around(rt, alloc, &mut store, deed);
     shut(store);
     rows
@@ -75,10 +80,10 @@ fn leaves_the_second(rt: &impl Abort, before: &AllRows, after: &AllRows) -> Resu
 }
 
 /// Adds the two tenants to a store, and tells what a deed is told then.
-fn told_among_two(
+fn told_among_two<D: Disk + Drop>(
     rt: &impl Abort,
     alloc: Global,
-    store: &mut Store<TestDisk>,
+    store: &mut Store<D>,
     deed: &Spelled,
 ) -> Result<Told, Fail>
     requires { IsUsable store.old }
@@ -88,7 +93,11 @@ fn told_among_two(
 }
 
 /// What is found in the files of a store after a crash, and what a deed is told then.
-fn found(alloc: Global, store: Store<TestDisk>, deed: &Spelled) -> Result<(AllRows, Told), Fail> {
+fn found<D: Crash + Drop>(
+    alloc: Global,
+    store: Store<D>,
+    deed: &Spelled,
+) -> Result<(AllRows, Told), Fail> {
     let mut store = after_a_crash(alloc, store)?;
     let rows = rows_in(&mut store);
     let told = deed.told(alloc, &mut store);
@@ -98,8 +107,8 @@ fn found(alloc: Global, store: Store<TestDisk>, deed: &Spelled) -> Result<(AllRo
 
 /// What becomes of a deed where a file fails behind so many calls, as found after a crash. The same
 /// deed is told then whether it was done. None where it became anything else.
-fn became(
-    rt: &impl Abort,
+fn became<D: Faulty, R: Abort>(
+    rt: &R,
     alloc: Global,
     (failing, calls): (Failing, u64),
     deed: &Spelled,
@@ -109,7 +118,7 @@ fn became(
         Failing::Log => (calls, NEVER),
         Failing::Database => (NEVER, calls),
     };
-    let mut store = new_store(alloc, log, database)?;
+    let mut store: Store<D> = new_store(alloc, log, database)?;
     let told = match told_among_two(rt, alloc, &mut store, deed) {
         Ok(told) => told,
         Err(fail) => {
@@ -127,39 +136,50 @@ fn became(
 }
 
 /// A deed has each outcome in turn where a file fails behind so many calls.
-fn has_each_outcome(
-    rt: &impl Abort,
+fn has_each_outcome<D: Faulty, R: Abort>(
+    rt: &R,
     alloc: Global,
     deed: &Deed,
     failing: Failing,
     calls: [u64; 3],
 ) -> Result<(), Fail> {
     let deed = deed.spelled(alloc)?;
-    let (before, after) = both(rt, alloc, &deed)?;
+    let (before, after) = both::<D, _>(rt, alloc, &deed)?;
     leaves_the_second(rt, &before, &after)?;
     for (calls, want) in calls.into_iter().zip(OUTCOMES) {
-        let got = became(rt, alloc, (failing, calls), &deed, (&before, &after))?;
+        let got = became::<D, _>(rt, alloc, (failing, calls), &deed, (&before, &after))?;
         assert_eq!(rt; got, Some(want), "behind {calls} calls");
     }
     Ok(())
 }
 
+/// The same, of disks in memory.
+fn has_each_outcome_in_memory(
+    rt: &impl Abort,
+    alloc: Global,
+    deed: &Deed,
+    failing: Failing,
+    calls: [u64; 3],
+) -> Result<(), Fail> {
+    has_each_outcome::<TestDisk, _>(rt, alloc, deed, failing, calls)
+}
+
 #[test]
 fn a_chain_over_a_log_that_fails(rt: HostRuntime) -> Result<(), Fail> {
-    has_each_outcome(&rt, rt.alloc(), &CHAIN, Failing::Log, [91, 108, 109])
+    has_each_outcome_in_memory(&rt, rt.alloc(), &CHAIN, Failing::Log, [91, 108, 109])
 }
 
 #[test]
 fn a_chain_over_a_database_file_that_fails(rt: HostRuntime) -> Result<(), Fail> {
-    has_each_outcome(&rt, rt.alloc(), &CHAIN, Failing::Database, [42, 53, 54])
+    has_each_outcome_in_memory(&rt, rt.alloc(), &CHAIN, Failing::Database, [42, 53, 54])
 }
 
 #[test]
 fn a_tenant_over_a_log_that_fails(rt: HostRuntime) -> Result<(), Fail> {
-    has_each_outcome(&rt, rt.alloc(), &JOINING, Failing::Log, [91, 108, 109])
+    has_each_outcome_in_memory(&rt, rt.alloc(), &JOINING, Failing::Log, [91, 108, 109])
 }
 
 #[test]
 fn a_tenant_over_a_database_file_that_fails(rt: HostRuntime) -> Result<(), Fail> {
-    has_each_outcome(&rt, rt.alloc(), &JOINING, Failing::Database, [42, 49, 50])
+    has_each_outcome_in_memory(&rt, rt.alloc(), &JOINING, Failing::Database, [42, 49, 50])
 }

@@ -5,12 +5,14 @@ ghost use Rattle.store.specs.Stores.{IsUsable};
 
 use super::deeds::{CHAIN, Spelled, Told};
 use super::disks::{
-    NEVER, TestDisk, after_a_crash, all_rows, crashed, empty, made, opened, reopen, rows_in, shut,
+    Faulty, NEVER, TestDisk, after_a_crash, all_rows, crashed, empty, made, opened, reopen,
+    rows_in, shut,
 };
 use super::scripts::{answers, steps};
 use records::Unavailable;
 use rows::AllRows;
 use sqlite::Files;
+use sqlite_disk::{Crash, Disk};
 use std::alloc::Global;
 use std::process::Abort;
 use std::test::Fail;
@@ -21,7 +23,7 @@ const ONE: &str = "tenant 0 = added
 0@0 base = 0@1 0@2 0@3 0@4";
 
 /// A new store, once there is memory for it.
-fn created(alloc: Global) -> Result<Store<TestDisk>, Fail>
+fn created<D: Faulty>(alloc: Global) -> Result<Store<D>, Fail>
     ensures { IfOk result IsUsable }
 {
     match made(alloc, empty(alloc, NEVER, NEVER)) {
@@ -35,7 +37,7 @@ fn created(alloc: Global) -> Result<Store<TestDisk>, Fail>
 }
 
 /// A store that is made in the files that were given back.
-fn created_again(alloc: Global, files: Files<TestDisk>) -> Result<Store<TestDisk>, Fail>
+fn created_again<D: Disk + Drop>(alloc: Global, files: Files<D>) -> Result<Store<D>, Fail>
     ensures { IfOk result IsUsable }
 {
     match made(alloc, files) {
@@ -45,7 +47,7 @@ fn created_again(alloc: Global, files: Files<TestDisk>) -> Result<Store<TestDisk
 }
 
 /// A store that is made after a crash, or that is there.
-fn created_or_found(alloc: Global, files: Files<TestDisk>) -> Result<Store<TestDisk>, Fail>
+fn created_or_found<D: Disk + Drop>(alloc: Global, files: Files<D>) -> Result<Store<D>, Fail>
     ensures { IfOk result IsUsable }
 {
     match made(alloc, files) {
@@ -56,7 +58,7 @@ fn created_or_found(alloc: Global, files: Files<TestDisk>) -> Result<Store<TestD
 }
 
 /// All rows of a store, which is closed.
-fn last_rows(mut store: Store<TestDisk>) -> Result<AllRows, Fail>
+fn last_rows<D: Disk + Drop>(mut store: Store<D>) -> Result<AllRows, Fail>
     requires { IsUsable store }
 {
     let rows = rows_in(&mut store);
@@ -64,9 +66,14 @@ fn last_rows(mut store: Store<TestDisk>) -> Result<AllRows, Fail>
     rows
 }
 
+/// The rows of a new store, which is closed.
+fn rows_of_new<D: Faulty>(alloc: Global) -> Result<AllRows, Fail> {
+    last_rows(created::<D>(alloc)?)
+}
+
 #[test]
 fn want_of_memory_in_create(rt: HostRuntime) -> Result<(), Fail> {
-    let rows = last_rows(created(rt.alloc())?)?;
+    let rows = rows_of_new::<TestDisk>(rt.alloc())?;
     assert!(rt;
         rows.directory.is_empty() && rows.tenants.is_empty(),
         "{rows:?}"
@@ -80,7 +87,7 @@ fn is_base(rows: &AllRows) -> bool {
 }
 
 /// Adds a tenant with its accounts, if there is memory for that, and reads its rows.
-fn added(alloc: Global, store: &mut Store<TestDisk>) -> Option<AllRows>
+fn added<D: Disk + Drop>(alloc: Global, store: &mut Store<D>) -> Option<AllRows>
     requires { IsUsable store.old }
     ensures { IsUsable store.new }
 {
@@ -91,7 +98,7 @@ fn added(alloc: Global, store: &mut Store<TestDisk>) -> Option<AllRows>
 }
 
 /// A store to which a tenant is added, and all rows, if there is memory for that.
-fn with_a_tenant(alloc: Global, mut store: Store<TestDisk>) -> Option<(Store<TestDisk>, AllRows)>
+fn with_a_tenant<D: Disk + Drop>(alloc: Global, mut store: Store<D>) -> Option<(Store<D>, AllRows)>
     requires { IsUsable store }
     ensures { IfSome result (λ base. IsUsable base.0) }
 {
@@ -105,7 +112,7 @@ fn with_a_tenant(alloc: Global, mut store: Store<TestDisk>) -> Option<(Store<Tes
 }
 
 /// A store with a tenant, and all rows, if there is memory for that.
-fn base(alloc: Global) -> Option<(Store<TestDisk>, AllRows)>
+fn base<D: Faulty>(alloc: Global) -> Option<(Store<D>, AllRows)>
     ensures { IfSome result (λ base. IsUsable base.0) }
 {
     match made(alloc, empty(alloc, NEVER, NEVER)) {
@@ -115,7 +122,7 @@ fn base(alloc: Global) -> Option<(Store<TestDisk>, AllRows)>
 }
 
 /// The same, once there is memory for it.
-fn whole_base(alloc: Global) -> Result<(Store<TestDisk>, AllRows), Fail>
+fn whole_base<D: Faulty>(alloc: Global) -> Result<(Store<D>, AllRows), Fail>
     ensures { IfOk result (λ base. IsUsable base.0) }
 {
     match base(alloc) {
@@ -125,7 +132,7 @@ fn whole_base(alloc: Global) -> Result<(Store<TestDisk>, AllRows), Fail>
 }
 
 /// The store opened again, now that there is memory for it.
-fn reopened_at_last(mut store: Store<TestDisk>) -> Result<Store<TestDisk>, Fail>
+fn reopened_at_last<D: Disk + Drop>(mut store: Store<D>) -> Result<Store<D>, Fail>
     ensures { IfOk result IsUsable }
 {
     match reopen(&mut store) {
@@ -138,7 +145,7 @@ fn reopened_at_last(mut store: Store<TestDisk>) -> Result<Store<TestDisk>, Fail>
 }
 
 /// The store opened again, once there is memory for it.
-fn reopened(alloc: Global, mut store: Store<TestDisk>) -> Result<Store<TestDisk>, Fail>
+fn reopened<D: Crash + Drop>(alloc: Global, mut store: Store<D>) -> Result<Store<D>, Fail>
     ensures { IfOk result IsUsable }
 {
     match reopen(&mut store) {
@@ -152,16 +159,22 @@ fn reopened(alloc: Global, mut store: Store<TestDisk>) -> Result<Store<TestDisk>
     }
 }
 
+/// The rows of a store with a tenant, and those that are found where it is opened again.
+fn rows_around_reopening<D: Faulty>(alloc: Global) -> Result<(AllRows, AllRows), Fail> {
+    let (store, before) = whole_base::<D>(alloc)?;
+    let rows = last_rows(reopened(alloc, store)?)?;
+    Ok((before, rows))
+}
+
 #[test]
 fn want_of_memory_in_reopen(rt: HostRuntime) -> Result<(), Fail> {
-    let (store, before) = whole_base(rt.alloc())?;
-    let rows = last_rows(reopened(rt.alloc(), store)?)?;
+    let (before, rows) = rows_around_reopening::<TestDisk>(rt.alloc())?;
     assert_eq!(rt; rows, before);
     Ok(())
 }
 
 /// A store on the same files where its disk has failed, or else itself.
-fn served_again(alloc: Global, store: Store<TestDisk>) -> Result<Store<TestDisk>, Fail>
+fn served_again<D: Crash + Drop>(alloc: Global, store: Store<D>) -> Result<Store<D>, Fail>
     requires { IsUsable store }
     ensures { IfOk result IsUsable }
 {
@@ -188,9 +201,9 @@ struct Found {
 }
 
 /// Looks at a store behind a chain, and sends the chain again.
-fn found_after(
+fn found_after<D: Crash + Drop>(
     alloc: Global,
-    store: Store<TestDisk>,
+    store: Store<D>,
     chain: &Spelled,
     before: &AllRows,
 ) -> Result<Found, Fail>
@@ -209,8 +222,12 @@ fn found_after(
 }
 
 /// Sends a chain. Where it is told to be unavailable, what is found behind it.
-fn sent(rt: &impl Abort, alloc: Global, chain: &Spelled) -> Result<Option<Found>, Fail> {
-    let (mut store, before) = whole_base(alloc)?;
+fn sent<D: Faulty, R: Abort>(
+    rt: &R,
+    alloc: Global,
+    chain: &Spelled,
+) -> Result<Option<Found>, Fail> {
+    let (mut store, before) = whole_base::<D>(alloc)?;
     let told = chain.told(alloc, &mut store);
     if told == Told::Done {
         shut(store);
@@ -223,7 +240,7 @@ fn sent(rt: &impl Abort, alloc: Global, chain: &Spelled) -> Result<Option<Found>
 #[test]
 fn want_of_memory_in_run_all(rt: HostRuntime) -> Result<(), Fail> {
     let chain = spelled_chain(rt.alloc())?;
-    if let Some(found) = sent(&rt, rt.alloc(), &chain)? {
+    if let Some(found) = sent::<TestDisk, _>(&rt, rt.alloc(), &chain)? {
         let want = if found.is_as_before {
             Told::Done
         } else {

@@ -1,12 +1,13 @@
 //! Runs over lists, and over disks in memory.
 
-use super::disks::{NEVER, new_store, shut};
+use super::disks::{Faulty, NEVER, TestDisk, new_store, shut};
 use super::examples::{EXAMPLES, TENANTS};
 use super::requests::{CLOCKS, READS, REFUSALS};
 use super::scripts::{answers, runs, runs_in_rounds};
 use std::alloc::{AllocError, Global};
 use std::process::Abort;
 use std::test::Fail;
+use store::Store;
 use whole_runs::{NamedBook, Reopening};
 use wire::NoMemory;
 
@@ -91,10 +92,21 @@ fn run_over_lists(rt: &impl Abort, alloc: Global, script: &str) -> Result<(), Fa
     runs(rt, alloc, &mut NamedBook::new(alloc), script)
 }
 
-/// Runs a script over disks of its own.
-fn run_over_disks(rt: &impl Abort, alloc: Global, script: &str) -> Result<(), Fail> {
-    let mut store = new_store(alloc, NEVER, NEVER)?;
-    let ended = runs(rt, alloc, &mut store, script);
+/// Runs each script over disks of its own.
+fn runs_on<D: Faulty, R: Abort>(rt: &R, alloc: Global, scripts: &[&str]) -> Result<(), Fail> {
+    for script in scripts {
+        let mut store: Store<D> = new_store(alloc, NEVER, NEVER)?;
+        let ended = runs(rt, alloc, &mut store, script);
+        shut(store);
+        ended?;
+    }
+    Ok(())
+}
+
+/// All examples, over disks of their own.
+fn examples_on<D: Faulty, R: Abort>(rt: &R, alloc: Global) -> Result<(), Fail> {
+    let mut store: Store<D> = new_store(alloc, NEVER, NEVER)?;
+    let ended = examples(rt, alloc, &mut store);
     shut(store);
     ended
 }
@@ -116,18 +128,12 @@ fn runs_over_lists(rt: HostRuntime) -> Result<(), Fail> {
 
 #[test]
 fn runs_over_disks(rt: HostRuntime) -> Result<(), Fail> {
-    for script in &RUNS {
-        run_over_disks(&rt, rt.alloc(), script)?;
-    }
-    Ok(())
+    runs_on::<TestDisk, _>(&rt, rt.alloc(), &RUNS)
 }
 
 #[test]
 fn examples_over_disks(rt: HostRuntime) -> Result<(), Fail> {
-    let mut store = new_store(rt.alloc(), NEVER, NEVER)?;
-    let ended = examples(&rt, rt.alloc(), &mut store);
-    shut(store);
-    ended
+    examples_on::<TestDisk, _>(&rt, rt.alloc())
 }
 
 /// The examples in rounds: each firm's requests are told what they are told one by one.
@@ -151,16 +157,31 @@ fn runs_in_rounds_over_lists(rt: HostRuntime) -> Result<(), Fail> {
     examples_in_rounds(&rt, rt.alloc(), &mut NamedBook::new(rt.alloc()))
 }
 
-#[test]
-fn runs_in_rounds_over_disks(rt: HostRuntime) -> Result<(), Fail> {
-    for script in &RUNS {
-        let mut store = new_store(rt.alloc(), NEVER, NEVER)?;
-        let ended = runs_in_rounds(&rt, rt.alloc(), &mut store, script);
+/// Runs each script in rounds over disks of its own.
+fn runs_in_rounds_on<D: Faulty, R: Abort>(
+    rt: &R,
+    alloc: Global,
+    scripts: &[&str],
+) -> Result<(), Fail> {
+    for script in scripts {
+        let mut store: Store<D> = new_store(alloc, NEVER, NEVER)?;
+        let ended = runs_in_rounds(rt, alloc, &mut store, script);
         shut(store);
         ended?;
     }
-    let mut store = new_store(rt.alloc(), NEVER, NEVER)?;
-    let ended = examples_in_rounds(&rt, rt.alloc(), &mut store);
+    Ok(())
+}
+
+/// The examples in rounds, over disks of their own.
+fn examples_in_rounds_on<D: Faulty, R: Abort>(rt: &R, alloc: Global) -> Result<(), Fail> {
+    let mut store: Store<D> = new_store(alloc, NEVER, NEVER)?;
+    let ended = examples_in_rounds(rt, alloc, &mut store);
     shut(store);
     ended
+}
+
+#[test]
+fn runs_in_rounds_over_disks(rt: HostRuntime) -> Result<(), Fail> {
+    runs_in_rounds_on::<TestDisk, _>(&rt, rt.alloc(), &RUNS)?;
+    examples_in_rounds_on::<TestDisk, _>(&rt, rt.alloc())
 }
