@@ -13,9 +13,8 @@ from runs import House
 from service import PATIENCE, body_of, check, look_at, want
 
 EACH = 1000
-# Seconds: for as long no client waits beside them, and behind so many a hold is released of a tenant
-# that does nothing.
-MOST, SOON = 3, 5
+# Seconds in which a hold is not released of a tenant that does nothing, where its time has not come.
+WHILE = 5
 
 
 class Writer(threading.Thread):
@@ -61,7 +60,6 @@ def due(trial):
         writer.end()
     longest, answered = (max(each.desk.longest for each in writers),
                          sum(each.answered for each in writers))
-    want(longest < MOST, f"a client waited for {longest:.2f} s")
     turned_back(house, control)
     look(house)
     for place in (1, 2):
@@ -144,12 +142,16 @@ def turned_back(house, control):
     want(other.ledger.clock >= one.ledger.clock, "a moment before one that was given")
     desk = house.take_turn(0)
     want(desk.batch(moves(3 * 10**12, flags=PENDING, timeout=1)), "unavailable at a clock set back")
-    time.sleep(SOON)
-    look(house)
-    held = desk.ledger.open_holds({"limit": 1})[0]
-    want(held, "a hold is released before it is due")
+    time.sleep(WHILE)
+    want(held(house), "a hold is released before it is due")
     control.turn_back(0)
-    time.sleep(SOON)
+    end = time.monotonic() + PATIENCE
+    while held(house):
+        want(time.monotonic() < end, "a hold that is due is not released")
+        time.sleep(0.3)
+
+
+def held(house):
+    """What is held of the first tenant, once all that it sees was looked at."""
     look(house)
-    held = desk.ledger.open_holds({"limit": 1})[0]
-    want(not held, f"not released: {held}")
+    return house.desks[0].ledger.open_holds({"limit": 1})[0]
