@@ -50,12 +50,12 @@ fn hold<D: Disk + Drop>(
     alloc: Global,
     store: &mut Driven<D>,
     digest: &[u8; 32],
-    many: u128,
+    many: u16,
 ) -> Result<(), Fail> {
     let mut holds = Vec::new(alloc);
     for id in 0..many {
         let mut hold = transfer("1>2 1 pending timeout=1");
-        hold.id = 1000 + id;
+        hold.id = 1000 + u128::from(id);
         holds.push(hold)?;
     }
     settle(alloc, store, digest, holds.as_slice(), 0)
@@ -78,11 +78,16 @@ fn settle<D: Disk + Drop>(
     Ok(())
 }
 
-fn found(number: i64, digest: [u8; 32], behind: u64, has_more: bool) -> Option<Overdue> {
+/// The time so many nanoseconds behind the first second.
+fn behind_first(nanoseconds: u32) -> u64 {
+    SECOND + u64::from(nanoseconds)
+}
+
+fn found(number: i64, digest: [u8; 32], behind: u32, has_more: bool) -> Option<Overdue> {
     Some(Overdue {
         number,
         digest,
-        until: SECOND + behind,
+        until: behind_first(behind),
         has_more,
     })
 }
@@ -103,7 +108,7 @@ fn finds<D: Faulty>(rt: &impl Abort, alloc: Global) -> Result<(), Fail> {
             store.overdue(&mut search, moment),
             Ok(found(1, NORTH, behind, true))
         );
-        settle(alloc, &mut store, &NORTH, &[], SECOND + behind)?;
+        settle(alloc, &mut store, &NORTH, &[], behind_first(behind))?;
         assert_eq!(rt; store.overdue(&mut search, moment), Ok(None));
         assert!(rt; search.begins());
     }
