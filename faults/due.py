@@ -7,7 +7,7 @@ import time
 import pages
 from control import Control
 from drawn import moves
-from model import PENDING, due_of
+from model import NEWEST_FIRST, PENDING, due_of
 from paused import HOUR
 from runs import House
 from service import PATIENCE, body_of, check, look_at, want
@@ -154,4 +154,4 @@ def turned_back(house, control):
 def held(house):
     """What is held of the first tenant, once all that it sees was looked at."""
     look(house)
-    return house.desks[0].ledger.open_holds({"limit": 1})[0]
+    return house.desks[0].ledger.open_holds({"limit": 1, "flags": NEWEST_FIRST})[0]

@@ -24,6 +24,7 @@ class Ledger:
 
     def __init__(self):
         self.accounts, self.transfers, self.failed, self.clock = {}, {}, set(), 0
+        self.has_timeouts = False
 
     # What has become of things.
 
@@ -57,9 +58,10 @@ class Ledger:
         return sums
 
     def reach(self, clock):
-        """Comes to a later clock, at which a hold is due: between batches the service settles a tenant
-        to such times by itself. Says whether it is there."""
-        if clock > self.clock and any(due_of(each) == clock for each in self.transfers.values()):
+        """Comes to a later clock, if holds may be due: between batches the service settles a tenant by
+        itself to times at which one is, or would be had it not been undone. Says whether it is
+        there."""
+        if clock > self.clock and (self.has_timeouts or any(map(due_of, self.transfers.values()))):
             self.clock = clock
         return clock == self.clock
 
@@ -69,6 +71,7 @@ class Ledger:
         """Judges a batch whose clock is told, and answers (number, timestamp) for each event."""
         assert clock >= self.clock + len(events)
         self.clock = clock
+        self.has_timeouts |= any(event.get("timeout") for event in events)
         results, first = [], 0
         for place, event in enumerate(events):
             if event["flags"] & LINKED and place + 1 < len(events):
