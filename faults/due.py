@@ -84,8 +84,9 @@ def hold_many(house, first, many, seconds):
         want(told and all(each["result"] == "ok" for each in told["results"]), f"holds: {told}")
         desk.ledger.clock = int(told["clock"])
         for event, each in zip(events, told["results"]):
-            desk.ledger.transfers[event["id"]] = {**event, "timestamp": int(each["timestamp"]),
-                                                  "at": desk.ledger.clock}
+            stored = {**event, "timestamp": int(each["timestamp"]), "at": desk.ledger.clock}
+            desk.ledger.transfers[event["id"]] = stored
+            desk.ledger.dues.add(due_of(stored))
     desk.leave()
 
 
