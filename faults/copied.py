@@ -198,13 +198,14 @@ def look_at_copy(house, clients, copy, span, is_last):
     """It is ok, and served it tells each tenant what that one had at the copy's moment. Then it is
     taken away."""
     check(house.program, copy)
-    service = Service(house.program, copy)
-    clients[0].copy.connect(service)
-    clients[0].copy.until_well()
+    # Once it is served its clocks may move, since holds come due in it too.
     status, text, errors = run(house.program, "tenants", "--db", copy)
     want((status, errors) == (0, ""), f"tenants of a copy: {status} {errors}")
     clocks = dict(row.split(",")[::2] for row in text.splitlines()[1:])
     want(set(clocks) == set(house.names), f"tenants of a copy: {text}")
+    service = Service(house.program, copy)
+    clients[0].copy.connect(service)
+    clients[0].copy.until_well()
     look_at_moment([client.follow(int(clocks[client.name])) for client in clients], span)
     for client in clients:
         client.compare(service, is_last)
