@@ -21,7 +21,6 @@ import commands
 import copied
 import damaged
 import desk
-import due
 import given
 import limits
 import little
@@ -52,7 +51,6 @@ TRIALS = {
     "crowd": rounds.killed_crowd,
     "limits": limits.limits,
     "reopened": reopened.reopened,
-    "due": due.due,
     "little": little.little,
     "paused": paused.paused,
     "chosen": chosen.chosen,

@@ -3,8 +3,6 @@ mod AddLemmas
 mod KeyLemmas
 pub mod PieceLemmas
 mod OrderLemmas
-mod BehindLemmas
-mod SettleLemmas
 pub mod ExtractLemmas
 mod StatementLemmas
 mod AskLemmas

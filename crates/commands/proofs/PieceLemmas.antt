@@ -126,6 +126,74 @@ module _ {D : Type 0} {g : disk.Ghosts D} where
       found = run_finds read finds settled;
     }
 
+  -- a question of a tenant's own, behind a call that only reads
+  module _ {T : Type 0} (account : ℕ) (digest : List ℕ) (old mid new : Store D g)
+      (told : Result T Unavailable) (reads : Reads old mid told)
+    where
+      done_before :
+          (found : Tenants) → KeepsAll (tenants_of old) (tenants_of mid) →
+          IsDeedDone (asked_for digest account) (tenants_of mid) found →
+          IsDeedDone (asked_for digest account) (tenants_of old) found
+      done_before found keeps done = record {
+        may = tt;
+        own =
+            subst
+            (λ (tenant : Option Machine).
+            found digest ≡ (served_to tenant (Ok (asks.Statement account)) 0).left) (keeps digest)
+            done.own;
+        others = λ other apart. done.others other apart ∙ keeps other;
+      }
+
+      happens_before :
+          (ending : Ending) → KeepsAll (tenants_of old) (tenants_of mid) →
+          Happens (tenants_of mid) (Tried (asked_for digest account) ending) (tenants_of new) →
+          Happens (tenants_of old) (Tried (asked_for digest account) ending) (tenants_of new)
+      happens_before IsEnded keeps done = done_before (tenants_of new) keeps done
+      happens_before Declined keeps same = λ other. same other ∙ keeps other
+      happens_before WasUnavailable keeps same = λ other. same other ∙ keeps other
+
+      found_read : (found : Tenants) → FindsTenants mid found → FindsTenants old found
+      found_read found f =
+          elim (reads.finds f.honest f.db f.may) [
+            | inl before ↦ record {
+              honest = reads.answers.follows.honest f.honest;
+              db = f.db;
+              may = before;
+              agrees = f.agrees;
+            }
+            | inr none ↦ absurd none
+          ]
+
+      found_before :
+          (ending : Ending) (found : Tenants) →
+          FoundAfter (run_meaning store_meaning) mid (Tried (asked_for digest account) ending) new
+          found →
+          FoundAfter (run_meaning store_meaning) old (Tried (asked_for digest account) ending) new
+          found
+      found_before ending found (As_now live keeps) = As_now live keeps
+      found_before ending found (As_before still before) =
+          As_before still (found_read found before)
+      found_before IsEnded found (As_done deed more untold live done) =
+          absurd (let e = untold in cc)
+      found_before Declined found (As_done deed more untold live done) =
+          absurd (let e = untold in cc)
+      found_before WasUnavailable found (As_done deed more untold live done) =
+          let all =
+          subst (λ (deeds : List Deed). AreDone deeds (tenants_of mid) found) (sym untold) done in
+          As_done (asked_for digest account) [] refl (reads.answers.follows.lived live)
+          (all.0, done_before all.0 (reads.same live) all.1, all.2)
+
+      pub both_move :
+          (ending : Ending) →
+          Moves (run_meaning store_meaning) mid (Tried (asked_for digest account) ending) new →
+          Moves (run_meaning store_meaning) old (Tried (asked_for digest account) ending) new
+      both_move ending moves = record {
+        happens = λ live.
+            happens_before ending (reads.same (moves.lived live)) (moves.happens live);
+        lived = λ live. reads.answers.follows.lived (moves.lived live);
+        found = λ found may. found_before ending found (moves.found found may);
+      }
+
   told_at :
       (account : ℕ) (span : Span) (name digest : List ℕ) (place : Place D g) (result : Result Done Fault) →
       OfDatabaseAt (λ db. Some digest ≡ digest_in name db.trees) place →

@@ -19,4 +19,3 @@ pub mod Served
 pub mod Listing
 pub mod Copying
 pub mod Tally
-pub mod Settling

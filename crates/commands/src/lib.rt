@@ -4,7 +4,6 @@
 
 mod adding;
 mod asked;
-mod behind;
 mod bell;
 mod calling;
 mod copied;
@@ -28,14 +27,13 @@ mod reasons;
 mod renewing;
 mod served_statements;
 mod serving;
-mod settling;
 mod statements;
 mod status;
 mod tally;
 mod whole_program;
 
 pub use file_serving::{serve_file, serve_store};
-pub use moments::{RisingClock, SystemMoments};
+pub use moments::SystemMoments;
 pub use orders::{Done, Order, Orders};
 pub use reasons::{Place, tell_file_fault};
 pub use renewing::Home;

@@ -11,4 +11,3 @@ mod periods;
 mod program;
 mod scripted;
 mod serving;
-mod settling;
