@@ -6,3 +6,4 @@ mod OrderLemmas
 pub mod ExtractLemmas
 mod AskLemmas
 pub mod RenewLemmas
+mod HeldLemmas

@@ -194,22 +194,31 @@ module _ {D : Type 0} {g : disk.Ghosts D} where
         found = λ found may. found_before ending found (moves.found found may);
       }
 
-  told_at :
-      (account : ℕ) (span : Span) (name digest : List ℕ) (place : Place D g) (result : Result Done Fault) →
+  named_at :
+      (P : Option Machine → Type 0) (name digest : List ℕ) (place : Place D g) →
       OfDatabaseAt (λ db. Some digest ≡ digest_in name db.trees) place →
-      IsPieceTold account span (tenants_at place digest) result →
-      OfDatabaseAt (λ db. IsPieceTold account span (machine_named name db.trees) result) place
-  told_at account span name digest (at.Open conn) result is told =
-      subst
-      (λ (known : Option (List ℕ)).
-      IsPieceTold account span (tenant_of_digest known) result) is told
+      P (tenants_at place digest) → OfDatabaseAt (λ db. P (machine_named name db.trees)) place
+  named_at P name digest (at.Open conn) is holds =
+      subst (λ (known : Option (List ℕ)). P (tenant_of_digest known)) is holds
     where
       tenant_of_digest : Option (List ℕ) → Option Machine
       tenant_of_digest None = None
       tenant_of_digest (Some known) = tenants_at (at.Open conn) known
-  told_at account span name digest (at.Shut files) result is told = is
+  named_at P name digest (at.Shut files) is holds = is
 
-  -- what the machine of a name tells, by that of its digest
+  -- what holds of the machine of a digest, behind a call that only reads, holds of that of its name
+  pub so_by_name :
+      (P : Option Machine → Type 0) (name digest : List ℕ) (known : Option (List ℕ))
+      (old mid : Store D g) → known ≡ Some digest → KeepsAll (tenants_of old) (tenants_of mid) →
+      OfDatabase (λ db. known ≡ digest_in name db.trees) old → P (tenants_of mid digest) →
+      OfDatabase (λ db. P (machine_named name db.trees)) old
+  so_by_name P name digest known old mid there keeps is holds =
+      named_at P name digest old.place
+      (subst
+      (λ (found : Option (List ℕ)). OfDatabase (λ db. found ≡ digest_in name db.trees) old) there is)
+      (subst P (keeps digest) holds)
+
+  -- so does what it tells
   pub told_by_name :
       (account : ℕ) (span : Span) (name digest : List ℕ) (known : Option (List ℕ))
       (old mid : Store D g) (result : Result Done Fault) → known ≡ Some digest →
@@ -217,9 +226,6 @@ module _ {D : Type 0} {g : disk.Ghosts D} where
       OfDatabase (λ db. known ≡ digest_in name db.trees) old →
       IsPieceTold account span (tenants_of mid digest) result →
       OfDatabase (λ db. IsPieceTold account span (machine_named name db.trees) result) old
-  told_by_name account span name digest known old mid result there keeps is told =
-      told_at account span name digest old.place result
-      (subst
-      (λ (found : Option (List ℕ)). OfDatabase (λ db. found ≡ digest_in name db.trees) old) there is)
-      (subst (λ (tenant : Option Machine). IsPieceTold account span tenant result) (keeps digest)
-      told)
+  told_by_name account span name digest known old mid result =
+      so_by_name (λ (tenant : Option Machine). IsPieceTold account span tenant result) name digest
+      known old mid

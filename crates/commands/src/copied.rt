@@ -7,6 +7,7 @@ use crate::opening::open_file;
 use command_texts::Fault;
 pub(crate) use copies::Progress;
 use copies::{CopyFault, Copying, copy_whole};
+use sqlite_disk::Start;
 use std::env;
 
 /// A path as any process finds it, whatever folder it is in.
@@ -22,8 +23,13 @@ pub(crate) fn absolute(rt: &HostRuntime, path: &str) -> Result<String, Fault> {
 }
 
 /// Copies a file that nobody serves, behind an audit, and says how many bytes the copy has.
-pub(crate) fn copy_file(rt: &HostRuntime, db: &str, to: &str) -> Result<u64, Fault> {
-    let store = open_file(rt, db)?;
+pub(crate) fn copy_file<St: Start>(
+    rt: &HostRuntime,
+    db: &str,
+    to: &str,
+    start: St,
+) -> Result<u64, Fault> {
+    let store = open_file(rt, db, start)?;
     let real = real_path(rt, db)?.ok_or(Fault::Unreadable)?;
     let copied = copy_whole(rt, real.as_str(), to);
     drop(store);
