@@ -21,6 +21,7 @@ import commands
 import copied
 import damaged
 import desk
+import due
 import given
 import limits
 import little
@@ -51,6 +52,7 @@ TRIALS = {
     "crowd": rounds.killed_crowd,
     "limits": limits.limits,
     "reopened": reopened.reopened,
+    "due": due.due,
     "little": little.little,
     "paused": paused.paused,
     "chosen": chosen.chosen,

@@ -7,6 +7,7 @@ import itertools
 import random
 import threading
 import time
+from functools import partial
 
 import limits
 import pages
@@ -256,7 +257,8 @@ class Tenant(Player, Client):
         if draw == 3:
             return [(lookup("/transfers/lookup", ids), desk.found(ids))]
         if draw == 4:
-            return [(pages.request(pages.HOLDS, ids), pages.reply(ledger, pages.HOLDS, ids))]
+            return [(pages.request(pages.HOLDS, ids),
+                     partial(pages.reply, ledger, pages.HOLDS, ids))]
         return statements(desk, SHORT_STATEMENT)
 
 
@@ -282,7 +284,7 @@ def all_of(desk):
     yield desk.accounts()
     for path in (pages.ACCOUNTS, pages.TRANSFERS, pages.OPEN):
         yield from pages.walk(ledger, path, {"limit": 1000})
-    yield pages.request(pages.HOLDS, ids), pages.reply(ledger, pages.HOLDS, ids)
+    yield pages.request(pages.HOLDS, ids), partial(pages.reply, ledger, pages.HOLDS, ids)
     yield from statements(desk, LONG_STATEMENT)
 
 

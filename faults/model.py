@@ -24,6 +24,8 @@ class Ledger:
 
     def __init__(self):
         self.accounts, self.transfers, self.failed, self.clock = {}, {}, set(), 0
+        # When holds are due, or would be had they not been undone with their chains.
+        self.dues = set()
 
     # What has become of things.
 
@@ -56,12 +58,23 @@ class Ledger:
                     sums[f"{side}s_{word}"] += each["amount"]
         return sums
 
+    def reach(self, clock):
+        """Comes to a later clock, at which a hold is due: between batches the service settles a tenant
+        to such times by itself, also of holds that were undone. Says whether it is there."""
+        if clock > self.clock and clock in self.dues:
+            self.clock = clock
+        return clock == self.clock
+
     # Batches.
 
     def batch(self, events, clock, transfers):
         """Judges a batch whose clock is told, and answers (number, timestamp) for each event."""
         assert clock >= self.clock + len(events)
         self.clock = clock
+        for place, event in enumerate(events if transfers else ()):
+            if event["flags"] & PENDING and event["timeout"]:
+                stamp = clock - len(events) + 1 + place
+                self.dues.add(due_of({**event, "timestamp": stamp}))
         results, first = [], 0
         for place, event in enumerate(events):
             if event["flags"] & LINKED and place + 1 < len(events):

@@ -2,6 +2,7 @@
 what its plain ledger answers, byte for byte."""
 
 import json
+from functools import partial
 
 from model import ACCOUNT_FIELDS, BALANCES, NEWEST_FIRST, TRANSFER_FIELDS, due_of
 
@@ -63,12 +64,11 @@ def open_hold(ledger, it):
 
 
 def walk(ledger, path, asked):
-    """Requests and their replies: for a page, and for all that are behind it."""
+    """Requests and their replies, once these are there: for a page, and for all that are behind it."""
     bound = "timestamp_max" if asked.get("flags", 0) & NEWEST_FIRST else "timestamp_min"
     while True:
-        told = reply(ledger, path, asked)
-        yield request(path, asked), told
-        behind = int(json.loads(told)["next"])
+        yield request(path, asked), partial(reply, ledger, path, asked)
+        behind = int(json.loads(reply(ledger, path, asked))["next"])
         if behind == 0:
             return
         asked = {**asked, bound: behind}
@@ -91,4 +91,4 @@ def expected(ledger, ids):
         yield from walk(ledger, TRANSFERS, between)
     for first in range(0, len(ids), MOST_IDS):
         listed = ids[first:first + MOST_IDS]
-        yield request(HOLDS, listed), reply(ledger, HOLDS, listed)
+        yield request(HOLDS, listed), partial(reply, ledger, HOLDS, listed)

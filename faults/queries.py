@@ -9,7 +9,7 @@ import pages
 from drawn import LEDGER, account, transfer
 from model import MAX, NEWEST_FIRST, PENDING, POST, VOID
 from runs import House
-from service import Connection, body_of, check, message, want
+from service import Connection, body_of, check, clock_in, message, want
 
 RARE, SOME = 2**64 - 1, 3
 BATCH, THIRTY = 100, 30
@@ -92,8 +92,8 @@ def ask_pages(house, desk):
 
 def ask(desk, request, reply):
     """A page, byte for byte: one."""
-    told = desk.ask(*request)
-    want(told == reply, f"{request}: {told}, not {reply}")
+    told, expected = desk.ask(*request), reply()
+    want(told == expected, f"{request}: {told}, not {expected}")
     return 1
 
 
@@ -121,7 +121,8 @@ def ask_at_once(house):
     other.judge(events, True, other.answer("POST", "/transfers"))
     for each in held:
         told = each.reply()[2]
-        want(told == reply, f"{request} at once: {told}, not {reply}")
+        desk.ledger.reach(clock_in(told))
+        want(told == reply(), f"{request} at once: {told}, not {reply()}")
         each.close()
     return THIRTY
 

@@ -13,8 +13,9 @@ import subprocess
 import time
 
 import pages
+from messages import body_of, clock_in, lookup, message, newest
 from model import ACCOUNT_FIELDS, BALANCES, HISTORY, TRANSFER_FIELDS, Ledger
-from pages import STRINGS, shown
+from pages import shown
 
 TOP = pathlib.Path(__file__).resolve().parent.parent
 # Seconds behind which something hangs: a busy machine may take minutes for a long file.
@@ -25,6 +26,8 @@ NO_DESK = "no commands while it is served: "
 # told as the second.
 UNAVAILABLE = (3, "", "ledgerd: unavailable\n")
 UNREADABLE = (4, "", "ledgerd: unreadable\n")
+# The paths of batches, whose clock is their own.
+BATCHES = ("/transfers", "/accounts")
 NAME_TAKEN = (1, "", "ledgerd: name_taken\n")
 
 
@@ -235,20 +238,6 @@ class Connection:
         return self.read == b"" and not self.more()
 
 
-def message(method, path, key, body=b""):
-    lines = [f"{method} {path} HTTP/1.1", f"x-ledger-key: {key}"]
-    if method != "GET":
-        lines.append(f"content-length: {len(body)}")
-    return "\r\n".join(lines).encode() + b"\r\n\r\n" + body
-
-
-def body_of(events):
-    """A batch as JSON; fields that are 0 are left out."""
-    listed = [{field: str(value) if field in STRINGS else value
-               for field, value in event.items() if value} for event in events]
-    return json.dumps(listed, separators=(",", ":")).encode()
-
-
 class Desk:
     """A tenant of a service, and the plain ledger beside it."""
 
@@ -280,6 +269,8 @@ class Desk:
             want(status == "503 Service Unavailable", f"unavailable comes with {status}")
             return None
         want(status == "200 OK", f"{method} {path}: {status} {told!r}")
+        if path not in BATCHES:
+            self.ledger.reach(clock_in(told))
         if path in pages.PATHS:
             return told
         return told.decode() if kind == "text/csv" else json.loads(told)
@@ -312,24 +303,45 @@ class Desk:
         return told
 
     def settle(self, events, transfers=True):
-        """After a lost reply, or a refusal, the ledger's clock tells whether the batch was kept."""
+        """After a lost reply, or a refusal, the ledger's clock tells whether the batch was kept, and so
+        does what was accepted of it: a clock at which a hold is due may be no batch's."""
+        before = self.ledger.clock
         clock = int(self.until_well()["clock"])
-        if clock != self.ledger.clock:
-            want(clock >= self.ledger.clock + len(events), f"the clock is {clock}")
-            self.ledger.batch(events, clock, transfers)
-            return True
-        return False
+        kept = self.kept_at(events, transfers)
+        if kept is None and clock == self.ledger.clock:
+            return False
+        last = kept or clock
+        self.ledger.clock = min(before, last - len(events))
+        want(kept or clock >= before + len(events), f"the clock is {clock}")
+        self.ledger.batch(events, last, transfers)
+        want(self.ledger.reach(clock), f"the clock is {clock}, of a batch at {last}")
+        return True
+
+    def kept_at(self, events, transfers):
+        """The clock of a batch of which an event was accepted that the plain ledger has not."""
+        path, name, known = (("/transfers/lookup", "transfers", self.ledger.transfers) if transfers
+                             else ("/accounts/lookup", "accounts", self.ledger.accounts))
+        ids = [event["id"] for event in events]
+        while (told := self.ask(*lookup(path, ids))) is None:
+            self.until_well()
+        stamps = {int(each["id"]): int(each["timestamp"]) for each in told[name]}
+        return next((stamps[number] + len(ids) - 1 - place for place, number in enumerate(ids)
+                     if number in stamps and number not in known), None)
 
     def accounts(self):
         """A look-up of all its accounts and of one more, and what has to stand in the reply."""
         ledger = self.ledger
-        accounts = [shown(each, ACCOUNT_FIELDS, ledger.balances(number).items())
-                    for number, each in sorted(ledger.accounts.items())]
-        return (lookup("/accounts/lookup", [*sorted(ledger.accounts), 2**100]),
-                {"accounts": accounts, "clock": str(ledger.clock)})
+
+        def reply():
+            accounts = [shown(each, ACCOUNT_FIELDS, ledger.balances(number).items())
+                        for number, each in sorted(ledger.accounts.items())]
+            return {"accounts": accounts, "clock": str(ledger.clock)}
+
+        return lookup("/accounts/lookup", [*sorted(ledger.accounts), 2**100]), reply
 
     def expected(self):
-        """All that the tenant can see: requests, and what has to stand in their replies."""
+        """All that the tenant can see: requests, and what has to stand in their replies. Where that
+        goes by the clock it is told once the reply is there, which may have come to a later one."""
         ledger = self.ledger
         yield self.accounts()
         asked = sorted(self.asked)
@@ -344,10 +356,13 @@ class Desk:
         yield from pages.expected(ledger, asked)
 
     def found(self, ids):
-        """What a look-up of transfers is told."""
-        kept = self.ledger.transfers
-        return {"transfers": [shown(kept[number], TRANSFER_FIELDS) for number in ids
-                              if number in kept], "clock": str(self.ledger.clock)}
+        """What a look-up of transfers is told, behind it."""
+        def reply():
+            kept = self.ledger.transfers
+            return {"transfers": [shown(kept[number], TRANSFER_FIELDS) for number in ids
+                                  if number in kept], "clock": str(self.ledger.clock)}
+
+        return reply
 
     def compare(self, service):
         """Compares all that the tenant can see."""
@@ -358,6 +373,7 @@ class Desk:
 
 def look_at(request, told, reply):
     """Compares what a request is told with what it has to be told."""
+    reply = reply() if callable(reply) else reply
     if request[0] == "GET":
         told = told.splitlines()[1:]
     elif request[1] == "/history/balances":
@@ -365,13 +381,3 @@ def look_at(request, told, reply):
                 for each in told["balances"]]
         reply = [[words[0], *words[5:]] for words in reply]
     want(told == reply, f"{request[:2]}: {told}, not {reply}")
-
-
-def lookup(path, ids):
-    return "POST", path, json.dumps([str(each) for each in ids]).encode()
-
-
-def newest(number):
-    """The newest ten balances of an account."""
-    body = {"account_id": str(number), "limit": 10, "flags": 7}
-    return "POST", "/history/balances", json.dumps(body).encode()

@@ -3,14 +3,15 @@
 import json
 import socket
 import time
+from functools import partial
 
 import pages
 from drawn import LEDGER, account, moves
 from model import TRANSFER_FIELDS
 from refused import post, routes, statements
 from runs import House
-from service import (Connection, Desk, Lost, add_tenant, body_of, check, lookup, message, shown,
-                     want)
+from service import (Connection, Desk, Lost, add_tenant, body_of, check, clock_in, lookup, message,
+                     shown, want)
 
 MOST_LENGTH = 2_097_152
 # So many bytes of a hostile message are sent ahead, behind a good one.
@@ -136,7 +137,8 @@ def good(house, place, hostile):
     want(status == "200 OK", f"a good message is answered {status} {told!r}")
     want(HOSTILE_MARK not in told, f"another tenant's marks in a reply: {told!r}")
     if is_read:
-        want(told == reply, f"{asked}: {told}, not {reply}")
+        desk.ledger.reach(clock_in(told))
+        want(told == reply(), f"{asked}: {told}, not {reply()}")
     else:
         desk.judge([marked], True, json.loads(told))
     desk.leave()
@@ -148,10 +150,10 @@ def read(ledger, place, number):
               (pages.OPEN, {"limit": 3}), (pages.HOLDS, [number]))
     turn = place // 30 % (len(listed) + 1)
     if turn < len(listed):
-        return pages.request(*listed[turn]), pages.reply(ledger, *listed[turn])
+        return pages.request(*listed[turn]), partial(pages.reply, ledger, *listed[turn])
     kept = [shown(ledger.transfers[number], TRANSFER_FIELDS)]
-    told = {"clock": str(ledger.clock), "transfers": kept}
-    return lookup("/transfers/lookup", [number]), pages.compact(told)
+    return (lookup("/transfers/lookup", [number]),
+            lambda: pages.compact({"clock": str(ledger.clock), "transfers": kept}))
 
 
 def beside(house, sent, is_slow):

@@ -3,6 +3,8 @@ mod AddLemmas
 mod KeyLemmas
 pub mod PieceLemmas
 mod OrderLemmas
+mod BehindLemmas
+mod SettleLemmas
 pub mod ExtractLemmas
 mod StatementLemmas
 mod AskLemmas

@@ -31,7 +31,7 @@ module _ {D : Type 0} {g : disk.Ghosts D} where
   found_kept old event new found (As_done deed more untold live done) =
       As_done deed more untold live done
 
-  moves_kept :
+  pub moves_kept :
       (old : Store D g) (event : Event) (new : Store D g) →
       Moves (run_meaning store_meaning) old event new → Moves kept_store (Open old) event (Open new)
   moves_kept old event new moves = record {
@@ -40,7 +40,7 @@ module _ {D : Type 0} {g : disk.Ghosts D} where
     found = λ found may. found_kept old event new found (moves.found found may);
   }
 
-  rest_kept :
+  pub rest_kept :
       (old new : Store D g) → IsAtRest (run_meaning store_meaning) old new →
       IsAtRest kept_store (Open old) (Open new)
   rest_kept old new rest =

@@ -19,3 +19,4 @@ pub mod Served
 pub mod Listing
 pub mod Copying
 pub mod Tally
+pub mod Settling

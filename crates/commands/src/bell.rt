@@ -4,12 +4,13 @@ use crate::tally::Tally;
 use sockets::Counts;
 use std::cell::Cell;
 
-/// Whether somebody has rung at the desk, whether it is busy, and whether the service is to end; how
-/// many clients there are, and what was done for them.
+/// Whether somebody has rung at the desk, whether it is busy, whether holds are being released, and
+/// whether the service is to end; how many clients there are, and what was done for them.
 #[derive(Drop)]
 pub(crate) struct Bell {
     has_rung: Cell<bool>,
     is_busy: Cell<bool>,
+    is_settling: Cell<bool>,
     is_stopping: Cell<bool>,
     counts: Cell<Counts>,
     tally: Cell<Tally>,
@@ -21,6 +22,7 @@ impl Bell {
         Bell {
             has_rung: Cell::new(true),
             is_busy: Cell::new(false),
+            is_settling: Cell::new(false),
             is_stopping: Cell::new(false),
             counts: Cell::new(Counts::new()),
             tally: Cell::new(Tally::new()),
@@ -36,8 +38,13 @@ impl Bell {
         self.has_rung.replace(false) || self.is_busy.get()
     }
 
+    /// Whether it is to be gone on soon, though nobody asks for anything.
     pub(crate) fn is_busy(&self) -> bool {
-        self.is_busy.get()
+        self.is_busy.get() || self.is_settling.get()
+    }
+
+    pub(crate) fn set_settling(&self, is_settling: bool) {
+        self.is_settling.set(is_settling);
     }
 
     pub(crate) fn set_busy(&self, is_busy: bool) {

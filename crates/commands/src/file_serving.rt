@@ -8,7 +8,6 @@ ghost use Rattle.commands.specs.Listening.{ReadsListening};
 ghost use Rattle.commands.specs.Openings.{IsOpeningFault};
 ghost use Rattle.commands.specs.Serving.{ServesStore};
 
-use crate::SystemMoments;
 use crate::bell::Bell;
 use crate::counting::CountingAudit;
 use crate::desk::HostDesk;
@@ -19,6 +18,7 @@ use crate::opening::{ServedFile, open_served};
 use crate::orders::Orders;
 use crate::renewing::{Home, Renewing};
 use crate::serving::{Served, serve_clients};
+use crate::{RisingClock, SystemMoments};
 use command_line::LimitWords;
 use command_texts::{Fault, address, tell_fault};
 use metered_disk::Meter;
@@ -121,6 +121,10 @@ impl<'a> Home<ServedFile<'a>> for HostFile<'a> {
         } else {
             let _ = tell_fault(&mut Streamed::new(self.rt.stderr()), fault);
         }
+    }
+
+    fn settles(&self, is_busy: bool) {
+        self.bell.set_settling(is_busy);
     }
 
     fn tried(&self, refused: Option<Fault>) {
@@ -236,14 +240,15 @@ pub fn serve_file(
         desk.open();
         home.tell_serving();
     }
-    let mut moments = SystemMoments::new(rt);
+    let clock = RisingClock::new(rt);
+    let mut moments = SystemMoments::new(&clock);
     let (served, desk) = serve_store(
         rt.alloc(),
         &mut peers,
         &home,
         store,
         &mut moments,
-        rt,
+        &clock,
         desk,
         most,
     );
@@ -255,7 +260,9 @@ pub fn serve_file(
 /// asks that it ends.
 ///
 /// Between turns an operator's orders are carried out, one at a time, and who asks for them is given
-/// back. Without a store one is opened first, likewise.
+/// back. Where there are none holds are released that are due by the clock, some 200 of a tenant at a
+/// time, and a batch of a tenant that has more of them waits. Without a store one is opened first,
+/// likewise.
 ///
 /// Where the store's disk has failed, the store is opened again, over the same files or else anew,
 /// before anything else is done: at once, and while that is refused, after a second, and then after

@@ -4,6 +4,7 @@
 
 mod adding;
 mod asked;
+mod behind;
 mod bell;
 mod calling;
 mod copied;
@@ -27,13 +28,14 @@ mod reasons;
 mod renewing;
 mod served_statements;
 mod serving;
+mod settling;
 mod statements;
 mod status;
 mod tally;
 mod whole_program;
 
 pub use file_serving::{serve_file, serve_store};
-pub use moments::SystemMoments;
+pub use moments::{RisingClock, SystemMoments};
 pub use orders::{Done, Order, Orders};
 pub use reasons::{Place, tell_file_fault};
 pub use renewing::Home;

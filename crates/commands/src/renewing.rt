@@ -1,5 +1,5 @@
-//! A store that is seen to between turns: opened again where its disk fails, and an operator's orders
-//! are carried out on it.
+//! A store that is seen to between turns: opened again where its disk fails, an operator's orders are
+//! carried out on it, and holds that are due are released.
 ghost use Rattle.std.specs.Prelude.{◌≡◌, ◌≤◌, ◌*◌, min, false, IfErr, IfOk, IsTrue, OnErr, OnOk};
 ghost use Rattle.service.specs.Openings.{run_meaning, IsSettled, IsOpened};
 ghost use Rattle.store.specs.Stores.{IsLive, IsReady, IsUsable};
@@ -11,6 +11,7 @@ use crate::kept::Kept;
 use crate::opening::open_fault;
 use crate::orders::{Orders, carry_out};
 use crate::serving::Stops;
+use crate::settling::Settler;
 use command_texts::Fault;
 use polling::Steward;
 use records::Unavailable;
@@ -41,6 +42,9 @@ pub trait Home<D: Disk + Drop> {
     /// none is.
     fn tried(&self, _refused: Option<Fault>) {}
 
+    /// Is told whether holds are being released, so that it is to be gone on soon.
+    fn settles(&self, _is_busy: bool) {}
+
     /// Is told that a store answers calls again.
     fn tell_answers(&self, store: &Store<D>)
         requires { IsReady store.now };
@@ -57,7 +61,7 @@ struct Pause {
 
 /// Carries out an operator's orders, and opens a store again where its disk has failed: at once, and
 /// then, while that is refused, after a second, and after twice the time that was waited for, up to a
-/// minute.
+/// minute. A store that answers has the holds released that are due.
 pub(crate) struct Renewing<'a, H, K: Clock, O> {
     alloc: Global,
     home: &'a H,
@@ -65,6 +69,7 @@ pub(crate) struct Renewing<'a, H, K: Clock, O> {
     orders: O,
     /// Since the last attempt, where that was refused.
     pause: Option<Pause>,
+    settler: Settler,
 }
 
 impl<'a, H, K: Clock, O> Renewing<'a, H, K, O> {
@@ -75,6 +80,7 @@ impl<'a, H, K: Clock, O> Renewing<'a, H, K, O> {
             clock,
             orders,
             pause: None,
+            settler: Settler::new(alloc),
         }
     }
 
@@ -88,6 +94,7 @@ impl<'a, H, K: Clock, O> Renewing<'a, H, K, O> {
             clock: _,
             orders,
             pause: _,
+            settler: _settler,
         } = self;
         orders
     }
@@ -122,8 +129,39 @@ impl<D: Disk + Drop, H: Home<D>, K: Clock, O: Orders> Steward<Kept<Store<D>>>
     fn attend(&mut self, kept: &mut Kept<Store<D>>) {
         match self.orders.next(is_answering(kept)) {
             Some(order) => carry_out(self.alloc, kept, &mut self.orders, &order),
-            None => renew(self.home, self.clock, &mut self.pause, kept),
+            None => {
+                if is_answering(kept) {
+                    settle(self.home, self.clock, &mut self.settler, kept);
+                } else {
+                    self.settler.begin();
+                    renew(self.home, self.clock, &mut self.pause, kept);
+                }
+            }
         }
+    }
+
+    fn puts_off(&self, message: &[u8]) -> bool {
+        self.settler.puts_off(message)
+    }
+}
+
+// Releases a piece of what is due, unless it is rested from the last one.
+fn settle<D: Disk + Drop, H: Home<D>, K: Clock>(
+    home: &H,
+    clock: &K,
+    settler: &mut Settler,
+    kept: &mut Kept<Store<D>>,
+)
+    requires { MayBeCalled kept.old }
+    ensures renews { Renews kept.old kept.new }
+    ensures usable { MayBeCalled kept.new }
+{
+    if settler.rests(clock) {
+        return;
+    }
+    if let Kept::Open(store) = kept {
+        settler.settle(clock, store);
+        home.settles(settler.is_busy());
     }
 }
 
@@ -134,11 +172,12 @@ fn renew<D: Disk + Drop, H: Home<D>, K: Clock>(
     pause: &mut Option<Pause>,
     kept: &mut Kept<Store<D>>,
 )
-    requires { MayBeCalled kept.old }
+    requires usable { MayBeCalled kept.old }
+    requires silent { answers kept.old ≡ false }
     ensures renews { Renews kept.old kept.new }
     ensures usable { MayBeCalled kept.new }
 {
-    if is_answering(kept) || !is_time(clock, *pause) {
+    if !is_time(clock, *pause) {
         return;
     }
     let opened = opened_again(home, kept);

@@ -11,3 +11,4 @@ mod periods;
 mod program;
 mod scripted;
 mod serving;
+mod settling;

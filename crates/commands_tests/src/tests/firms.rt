@@ -26,6 +26,25 @@ macro_rules! message {
 /// The firm's batch of no transfers.
 pub const NO_TRANSFERS: &str = message!("/transfers", "2", "[]");
 
+/// What it asks to see its account 1.
+pub const LOOKUP: &str = message!("/accounts/lookup", "5", "[\"1\"]");
+
+/// Its post of the hold 1005, of which 1 is held.
+pub const POST_OF_HOLD: &str = message!(
+    "/transfers",
+    "58",
+    "[{\"id\":\"9005\",\"pending_id\":\"1005\",\"amount\":\"1\",\"flags\":4}]"
+);
+
+/// The key of another firm, and its batch of no transfers.
+pub const OTHER_KEY: &str = "1111111111111111111111111111111111111111111111111111111111111111";
+
+pub const OF_OTHER: &str = concat!(
+    "POST /transfers HTTP/1.1\r\nx-ledger-key: ",
+    "1111111111111111111111111111111111111111111111111111111111111111",
+    "\r\ncontent-length: 2\r\n\r\n[]"
+);
+
 // The accounts 1 to 4.
 const ACCOUNTS: &str = message!(
     "/accounts",

@@ -1,6 +1,7 @@
 //! The moments that a clock gives.
-use commands::SystemMoments;
+use commands::{RisingClock, SystemMoments};
 use service::Moments;
+use std::cell::Cell;
 use std::io::{self, ErrorKind};
 use std::time::{Clock, Duration};
 
@@ -42,4 +43,41 @@ fn tells_a_moment_of_this_century(rt: HostRuntime) {
     let moment = SystemMoments::new(&rt).moment();
     assert!(rt; moment > 1_000_000_000_000_000_000);
     assert!(rt; moment < 4_102_444_800_000_000_000);
+}
+
+// A clock that is set, also back, or cannot be read.
+#[derive(Drop)]
+struct Set(Cell<Option<u64>>);
+
+impl Clock for Set {
+    fn monotonic(&self) -> io::Result<Duration> {
+        Err(ErrorKind::Unsupported.into())
+    }
+
+    fn since_1970(&self) -> io::Result<Duration> {
+        match self.0.get() {
+            Some(nanoseconds) => Ok(Duration::from_nanos(nanoseconds)),
+            None => Err(ErrorKind::Unsupported.into()),
+        }
+    }
+}
+
+// Two who are given moments of one clock are each given none before what the other was given.
+#[test]
+fn tells_no_moment_before_one_that_was_given(rt: HostRuntime) {
+    let set = Set(Cell::new(None));
+    let clock = RisingClock::new(&set);
+    let (mut one, mut other) = (SystemMoments::new(&clock), SystemMoments::new(&clock));
+    for (time, want) in [
+        (None, 0),
+        (Some(1000), 1000),
+        (Some(7), 1000),
+        (None, 1000),
+        (Some(1001), 1001),
+        (Some(1000), 1001),
+    ] {
+        set.0.set(time);
+        assert_eq!(rt; one.moment(), want);
+        assert_eq!(rt; other.moment(), want);
+    }
 }

@@ -121,7 +121,7 @@ pub enum Act {
     Finds(&'static [Row]),
     /// No row with such a key is found.
     Lacks(&'static [Row]),
-    /// A tenant's number is found by its name.
+    /// A tenant's number is found by its name, and its name by that.
     Names(&'static [(&'static str, Option<i64>)]),
     /// Each text of SQL answers a number.
     Counts(&'static [(&'static str, i64)]),

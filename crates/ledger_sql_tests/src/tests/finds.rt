@@ -72,6 +72,19 @@ pub fn number_of<S: Unclaimed>(
     Ok(number_in(finding::find_tenant_by_name(conn, name)?))
 }
 
+/// Whether the row of the tenant with this number has this name; where there is none, no name is right.
+pub fn is_named<S: Unclaimed>(
+    conn: &mut Connection<S>,
+    number: i64,
+    name: &str,
+) -> Result<bool, Unavailable> {
+    claims_nothing(conn);
+    match finding::find_tenant_by_number(conn, number)? {
+        Some(row) => Ok(row.number == number && row.name.as_str() == name),
+        None => Ok(false),
+    }
+}
+
 fn number_in(found: Option<DirectoryRow>) -> Option<i64> {
     Some(found?.number)
 }

@@ -3,7 +3,7 @@
 use super::acts::{Act, Call, Row};
 use super::calls::{Done, answer};
 use super::entries::{tells, tells_page, tells_two};
-use super::finds::{Found, find, number_of};
+use super::finds::{Found, find, is_named, number_of};
 use super::lists::{lists, lists_cells};
 use super::many::add_many;
 use super::places::{Visit, at_path, in_memory};
@@ -155,11 +155,19 @@ fn named_other<S: Unclaimed>(
     names: &[(&str, Option<i64>)],
 ) -> Option<usize> {
     for (place, (name, want)) in names.iter().enumerate() {
-        if number_of(conn, name) != Ok(*want) {
+        if number_of(conn, name) != Ok(*want) || !leads_back(conn, *want, name) {
             return Some(place);
         }
     }
     None
+}
+
+/// Whether a number, if there is one, is that of the tenant with this name.
+fn leads_back<S: Unclaimed>(conn: &mut Connection<S>, number: Option<i64>, name: &str) -> bool {
+    match number {
+        Some(number) => is_named(conn, number, name) == Ok(true),
+        None => true,
+    }
 }
 
 fn counted_other<S: Unclaimed>(conn: &mut Connection<S>, texts: &[(&str, i64)]) -> Option<usize> {

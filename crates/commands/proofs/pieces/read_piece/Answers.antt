@@ -1,7 +1,9 @@
-use Rattle.std.proofs.Common.{inl, inr}
+use Rattle.std.proofs.Common.{inl, inr, Ok}
+use Rattle.wire.specs.declared.request.Request.TheVariants as asks
 use Rattle.commands.specs.Endings.{ending_told}
 use Rattle.commands.proofs.OrderLemmas.{rest_so}
-use Rattle.commands.proofs.PieceLemmas.{both_move, told_by_name}
+use Rattle.commands.proofs.BehindLemmas.{both_move}
+use Rattle.commands.proofs.PieceLemmas.{told_by_name}
 use Rattle.commands.proofs.pieces.read_piece.Goals as goal
 
 pub returns-in-Ok-Some-clause-told : goal.returns-in-Ok-Some-clause-told
@@ -15,7 +17,8 @@ pub returns-in-Ok-Some-clause-read : goal.returns-in-Ok-Some-clause-read
 returns-in-Ok-Some-clause-read g c =
     inr (
       _,
-      both_move c.args.account _ c.args.store.now c.digest_of.new.self c.entries_of.new.store
+      both_move _ (Ok (asks.Statement c.args.account)) 0 c.args.store.now c.digest_of.new.self
+          c.entries_of.new.store
           c.digest_of.result c.digest_of.ensures.reads (ending_told c.entries_of.result)
           c.entries_of.ensures.moves,
     )
