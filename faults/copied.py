@@ -88,13 +88,16 @@ class Client(threading.Thread):
         return self.sent[self.held - 1], self.sent[self.held:][:1]
 
     def compare(self, service, is_last):
-        """What the tenant has in a copy that is served."""
+        """What the tenant has in a copy that is served. There holds come due too, so the second ledger's
+        clock is put back to the copy's."""
+        clock = self.copy.ledger.clock
         self.copy.connect(service)
         if is_last:
             self.copy.compare(service)
         for request, reply in (self.copy.accounts(), *found(self.copy)):
             look_at(request, self.copy.ask(*request), reply)
         self.copy.leave()
+        self.copy.ledger.clock = clock
 
 
 def found(desk):

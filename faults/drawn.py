@@ -45,6 +45,16 @@ class Requests:
         del self.sent[:-300]
         return events
 
+    def marked(self, most=12):
+        """The next batch behind a transfer that is accepted, so that a look-up tells whether it was done
+        where no reply does. Its clock alone does not, as a hold may be due behind it."""
+        return self.mark() + (self.batch(most - 1) if most > 1 else [])
+
+    def mark(self):
+        """A transfer that is accepted."""
+        self.sent += moves(self.identity())
+        return self.sent[-1:]
+
     def event(self):
         draw = self.random.random()
         if self.sent and draw < 0.12:

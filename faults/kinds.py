@@ -26,7 +26,7 @@ SILENT, ACCOUNTS = 20, 200
 # What a tenant does, and how often of a hundred times.
 STEPS = {"whole": 60, "ahead": 6, "cut": 3, "unread": 3, "gone": 2, "read": 24, "opened": 2}
 # The most events of a batch, and how often.
-SIZES = {1: 20, 4: 20, 12: 30, 100: 4, 1000: 1}
+SIZES = {2: 20, 4: 20, 12: 30, 100: 4, 1000: 1}
 # A statement is asked for of accounts with no more entries: the plain one sums anew for each line.
 SHORT_STATEMENT, LONG_STATEMENT = 100, 600
 DONE = b"HTTP/1.1 200"
@@ -133,10 +133,13 @@ class Tenant(Player, Client):
     # What is sent.
 
     def batch(self):
-        """A new batch, or where it has as much as it may have by now a batch of retries."""
-        if len(self.desk.ledger.transfers) < self.soak.allowed() or not self.requests.sent:
-            return self.requests.batch(drawn(self.random, SIZES))
-        return [self.requests.again() for _ in range(self.random.randint(1, 6))]
+        """A new batch, or where it has as much as it may have by now a batch of retries, which leave
+        nothing."""
+        ledger = self.desk.ledger
+        if len(ledger.transfers) < self.soak.allowed() or not self.requests.sent:
+            return self.requests.marked(drawn(self.random, SIZES))
+        again = [self.requests.again() for _ in range(self.random.randint(1, 6))]
+        return [each for each in again if each["id"] in ledger.transfers or each["id"] in ledger.failed]
 
     def opened(self):
         """Some accounts, of which some may be there."""
@@ -295,8 +298,7 @@ class Following(Player):
         super().__init__(soak, f"a follower of {tenant.name}")
         self.random, self.used, self.tenant = random.Random(seed), 0.0, tenant
         self.desk = Desk(tenant.desk.key)
-        self.desk.ledger = tenant.desk.ledger
-        self.follower = queries.Follower(self.desk)
+        self.follower = queries.Follower(self.desk, tenant.desk.ledger)
 
     def connect(self):
         """As ever. While it was down the tenant's key may have changed."""

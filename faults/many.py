@@ -91,7 +91,7 @@ class Client:
                 with self.lock:
                     if self.temper == "new" or not self.desk.connection:
                         self.desk.connect(self.house.service)
-                    getattr(self, step)(self.requests.batch())
+                    getattr(self, step)(self.requests.marked())
                 self.done += 1
         except Exception as surprise:
             self.surprise = surprise
@@ -149,7 +149,7 @@ class Client:
         before that one is answered, and nothing is done of it."""
         self.whole(moves(self.requests.identity() + 10**12, SHOWN))
         self.requests.next += SHOWN
-        want(any(self.is_deaf(events if pause == PAUSES[0] else self.requests.batch(), pause)
+        want(any(self.is_deaf(events if pause == PAUSES[0] else self.requests.marked(), pause)
                  for pause in PAUSES), "a client that reads nothing is kept")
 
     def is_deaf(self, events, pause):

@@ -21,7 +21,7 @@ def queries(trial):
     house = House(trial.fresh())
     house.begin()
     open_marked(house)
-    follower = Follower(house.desks[0])
+    follower = Follower(house.desks[0], house.desks[0].ledger)
     for turn in range(batches):
         send(house, turn)
         if turn % (batches // 4) == 5:
@@ -154,8 +154,9 @@ def time_near(random, ledger):
 class Follower:
     """A program that has each accepted transfer once: it keeps the number with which it asks."""
 
-    def __init__(self, desk):
-        self.desk, self.number, self.had = desk, 0, []
+    def __init__(self, desk, ledger):
+        """It asks by a desk, and the plain ledger knows what it has to have in the end."""
+        self.desk, self.ledger, self.number, self.had = desk, ledger, 0, []
 
     def take(self, house, limit):
         """Takes a page on a new connection. Says whether there is more."""
@@ -179,7 +180,7 @@ class Follower:
         """Takes what is left. It has had each transfer, in order and once; how many."""
         while self.take(house, 100):
             pass
-        accepted = sorted(self.desk.ledger.transfers.values(), key=lambda each: each["timestamp"])
+        accepted = sorted(self.ledger.transfers.values(), key=lambda each: each["timestamp"])
         want(self.had == [each["id"] for each in accepted],
              f"a follower had {len(self.had)} of {len(accepted)} transfers, or not in order")
         return len(self.had)

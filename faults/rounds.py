@@ -36,7 +36,7 @@ class Crowd(House):
         self.service.served.send_signal(signal.SIGCONT)
 
     def draw_all(self):
-        return [requests.batch(self.most) for requests in self.requests]
+        return [requests.marked(self.most) for requests in self.requests]
 
     def hear(self, batches):
         """The places of those that were answered, each as its plain ledger says."""
@@ -201,7 +201,7 @@ def send_on(house, place, batches):
     desk, answered, events, surprise = house.desks[place], 0, [], None
     try:
         while True:
-            events = house.requests[place].batch()
+            events = house.requests[place].marked()
             want(desk.batch(events), "unavailable, with all at hand")
             answered += 1
     except Lost:

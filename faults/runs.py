@@ -79,10 +79,10 @@ class House:
         for place, requests in enumerate(self.requests):
             want(self.take_turn(place).batch(requests.accounts(), False), "unavailable at first")
 
-    def draw(self):
+    def draw(self, drawn=Requests.batch):
         """A tenant's place, and its next batch."""
         place = self.random.randrange(len(self.desks))
-        return place, self.requests[place].batch()
+        return place, drawn(self.requests[place])
 
     def compare(self):
         """Debits equal credits by the plain ledgers' sums, and each tenant sees its own."""
@@ -140,7 +140,7 @@ def load_until_killed(house):
     answered = 0
     try:
         while True:
-            lost = house.draw()
+            lost = house.draw(Requests.marked)
             try:
                 house.take_turn(lost[0])
             except OSError:
@@ -196,7 +196,7 @@ def fill(house):
     """Sends batches until one is refused, or a hundred are done. The tenant and the last batch,
     and whether it was done."""
     for _ in range(100):
-        place, events = house.draw()
+        place, events = house.draw(Requests.marked)
         if not house.take_turn(place).batch(events):
             return place, events, False
     return place, events, True

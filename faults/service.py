@@ -296,37 +296,34 @@ class Desk:
     def until_well(self):
         """Asks until it is answered: a file that could not be opened again is tried anew, and then
         after a second, two, four and so on."""
+        return self.until_told("POST", "/accounts/lookup", b"[]")
+
+    def until_told(self, *asked):
+        """Likewise, with a request that tells a clock."""
         end = time.monotonic() + PATIENCE
-        while (told := self.ask("POST", "/accounts/lookup", b"[]")) is None:
+        while (told := self.ask(*asked)) is None:
             want(time.monotonic() < end, "unavailable for minutes")
             time.sleep(0.02)
         return told
 
     def settle(self, events, transfers=True):
-        """After a lost reply, or a refusal, the ledger's clock tells whether the batch was kept, and so
-        does what was accepted of it: a clock at which a hold is due may be no batch's."""
-        before = self.ledger.clock
-        clock = int(self.until_well()["clock"])
-        kept = self.kept_at(events, transfers)
-        if kept is None and clock == self.ledger.clock:
+        """After a lost reply, or a refusal: whether the batch was kept, by one look-up of its ids. What
+        was accepted of it tells when. Where nothing was, the clock tells, but not where a hold is due
+        at it."""
+        path, name, known = (("/transfers/lookup", "transfers", self.ledger.transfers) if transfers
+                             else ("/accounts/lookup", "accounts", self.ledger.accounts))
+        ids, before = [event["id"] for event in events], self.ledger.clock
+        told = self.until_told(*lookup(path, ids))
+        clock, stamps = int(told["clock"]), {int(it["id"]): int(it["timestamp"]) for it in told[name]}
+        last = next((stamps[number] + len(ids) - 1 - place for place, number in enumerate(ids)
+                     if number in stamps and number not in known), clock)
+        if last == clock == self.ledger.clock:
             return False
-        last = kept or clock
-        self.ledger.clock = min(before, last - len(events))
-        want(kept or clock >= before + len(events), f"the clock is {clock}")
+        if before in self.ledger.dues:
+            self.ledger.clock = min(before, last - len(events))
         self.ledger.batch(events, last, transfers)
         want(self.ledger.reach(clock), f"the clock is {clock}, of a batch at {last}")
         return True
-
-    def kept_at(self, events, transfers):
-        """The clock of a batch of which an event was accepted that the plain ledger has not."""
-        path, name, known = (("/transfers/lookup", "transfers", self.ledger.transfers) if transfers
-                             else ("/accounts/lookup", "accounts", self.ledger.accounts))
-        ids = [event["id"] for event in events]
-        while (told := self.ask(*lookup(path, ids))) is None:
-            self.until_well()
-        stamps = {int(each["id"]): int(each["timestamp"]) for each in told[name]}
-        return next((stamps[number] + len(ids) - 1 - place for place, number in enumerate(ids)
-                     if number in stamps and number not in known), None)
 
     def accounts(self):
         """A look-up of all its accounts and of one more, and what has to stand in the reply."""

@@ -49,7 +49,7 @@ class Mover(threading.Thread):
         try:
             self.find()
             while not self.is_over.is_set():
-                self.send(self.requests.batch(4))
+                self.send(self.requests.marked(4))
                 self.answered += 1
                 time.sleep(0.005)
         except Exception as surprise:
