@@ -115,8 +115,8 @@ class Ledger:
     def lookup_accounts(self, ids: Iterable[int]) -> Page[Account]:
         """The accounts with these ids that are there, at most 1,000, in the order asked.
 
-        Balances are those at the ledger's clock, which only batches move: a hold that is due is
-        among them until the next batch.
+        Balances are those at the ledger's clock: a hold that is due is among them until the next
+        batch, or until the service releases it by itself, within seconds.
         """
         return self._look_up("/accounts/lookup", ids, "accounts", wire.account_in)
 
@@ -157,8 +157,8 @@ class Ledger:
 
     def lookup_pending(self, ids: Iterable[int]) -> Page[Hold]:
         """What has become of the pending transfers with these ids, at most 1,000, in the order
-        asked. What is no pending transfer is left out. A hold expires by the ledger's clock, which
-        only batches move."""
+        asked. What is no pending transfer is left out. A hold expires by the ledger's clock, as of
+        a look-up."""
         return self._look_up("/pending/lookup", ids, "pending", wire.hold_in)
 
     def open_pending(self, asked: PageFilter = PageFilter()) -> QueryPage[OpenHold]:
