@@ -1,5 +1,5 @@
 -- What an opening may find after a call, as the machines of tenants.
-use Rattle.std.proofs.Common.{◌≡◌, ◌≢◌, ◌⊎◌, inl, inr, ℕ, Bool, true, false, List, Result, Ok, Err, IsOk, ap, sym, subst, ◌∙◌}
+use Rattle.std.proofs.Common.{◌≡◌, ◌≢◌, ◌⊎◌, inl, inr, ℕ, Bool, true, false, List, Result, Ok, Err, IsOk, refl, ap, sym, subst, ◌∙◌}
 use Rattle.std.proofs.lemmas.Bool.{cases_Bool, both_ways}
 use Rattle.records.specs.declared.unavailable.Unavailable.{Unavailable}
 use Rattle.records.specs.declared.unavailable.Unavailable.TheVariants.{Disk as DiskFailed}
@@ -19,6 +19,7 @@ use Rattle.stored_ledgers.specs.Rounds.{IsAfterRound}
 use Rattle.store.specs.StoreLaws.{store_meaning}
 use Rattle.store.specs.Stores.{IsUsable, IsUsableAt, IsLive, IsLiveAt, IsHonest, IsHonestAt, tenants_of, tenants_at}
 use Rattle.store.specs.Stores.{FindsTenants, Follows, Goes, OfDatabase, OfDatabaseAt, Answers, Reads, may_find}
+use Rattle.store.specs.Stores.{IsSettledAt, IsSettledStore, MayHold, may_find_at}
 use Rattle.store.specs.declared.place.Place.{Place}
 use Rattle.store.specs.declared.place.Place.TheVariants as at
 use Rattle.store.specs.declared.store.Store.{Store}
@@ -111,6 +112,48 @@ module _ {D : Type 0} {g : disk.Ghosts D} where
       | inr shut ↦ inl (subst (λ (s : Store D g). FindsTenants s found) (unready shut) f)
     ]
 
+  -- the database of a live store is one that an opening may find
+  stays_at :
+      (ready : Bool) (sets : DueSets) (place : Place D g) → IsSettledAt place →
+      IsUsableAt ready sets place → IsLiveAt place →
+      OfDatabaseAt (λ db. may_find_at place db.trees) place
+  stays_at ready sets (at.Open conn) settled usable live =
+      subst (λ (db : Database). (file_state conn).may_leave db.trees)
+      (sym (usable.0 live).quiet.settled) (settled.stays live.1)
+  stays_at ready sets (at.Shut files) settled usable live = absurd live
+
+  kept_in :
+      (Kept : Trees → Type 0) (After : Database → Type 0)
+      (keeps : (was : Database) → After was → Kept was.trees) (place found : Place D g) →
+      OfDatabaseAt (λ db. may_find_at found db.trees) place → OfDatabaseAt After place →
+      (was : Trees) × may_find_at found was × Kept was
+  kept_in Kept After keeps (at.Open conn) found stays after =
+      ((file_state conn).now.trees, stays, keeps (file_state conn).now after)
+  kept_in Kept After keeps (at.Shut files) found stays after = absurd after
+
+  -- what a call may leave in the files has a directory that might have been found before
+  module _ (old new : Store D g) (settled : IsSettledStore old) (usable : IsUsable old)
+      (follows : Follows old new) (unready : old.ready ≡ false → new ≡ old)
+      (After : Database → Trees → Type 0)
+      (keeps : (was : Database) (db : Trees) → After was db → KeepsDirectory was.trees db)
+      (goes : Goes old new (λ db. OfDatabase (λ was. After was db) old)) where
+    kept_after :
+        (db : Trees) → old.ready ≡ true → IsHonest old →
+        may_find old db ⊎ OfDatabase (λ was. After was db) old →
+        MayHold old (λ was. KeepsDirectory was db)
+    kept_after db ready honest (inl before) = ∣ (db, before, refl) ∣₁
+    kept_after db ready honest (inr after) =
+        let live = live_at old.ready old.due old.place ready usable honest in
+        ∣ kept_in (λ was. KeepsDirectory was db) (λ was. After was db) (λ was. keeps was db)
+        old.place old.place (stays_at old.ready old.due old.place settled usable live) after ∣₁
+
+    pub found_directory :
+        IsHonest new → (db : Trees) → may_find new db → MayHold old (λ was. KeepsDirectory was db)
+    found_directory honest db may = elim (cases_Bool old.ready) [
+      | inl ready ↦ kept_after db ready (follows.honest honest) (goes honest db may)
+      | inr shut ↦ ∣ (db, subst (λ (s : Store D g). may_find s db) (unready shut) may, refl) ∣₁
+    ]
+
   -- after a batch
   pub finds_batch :
       {O : Type 0} (gives : Machine → O → Machine → Type 0) (digest : List ℕ) (old new : Store D g) →
@@ -136,6 +179,15 @@ module _ {D : Type 0} {g : disk.Ghosts D} where
         (IsAfterRound gives) (LeadsByRound gives) (λ live. round_at gives old.place) goes;
     live = λ reached found f. answers.open_yet f.honest reached;
   }
+
+  -- a call that only reads leaves what might have been found before
+  pub found_unchanged :
+      {T : Type 0} (old new : Store D g) (result : Result T Unavailable) → Reads old new result →
+      IsHonest new → (db : Trees) → may_find new db → MayHold old (λ was. KeepsDirectory was db)
+  found_unchanged old new result reads honest db may = elim (reads.finds honest db may) [
+    | inl before ↦ ∣ (db, before, refl) ∣₁
+    | inr none ↦ absurd none
+  ]
 
   -- after a call that only reads
   pub finds_known :

@@ -1,4 +1,5 @@
+mod DeedLemmas
+mod FindsLemmas
+mod NamedRows
 mod ReadLemmas
 mod ReopenLemmas
-mod FindsLemmas
-mod DeedLemmas

@@ -1,5 +1,6 @@
 pub mod Stores
 pub mod Refused
 pub mod Names
+pub mod NameLaws
 pub mod StoreLaws
 pub mod Deeds

@@ -1,6 +1,6 @@
 -- What every run of calls on a store keeps, what a live one holds, and what an opening finds.
 use Rattle.std.proofs.Common.{◌≡◌, Bool, true, false, not, IsTrue, List, ℕ, refl, sym, ap, ◌∙◌}
-use Rattle.std.proofs.Math.Logic.{∥∥₁_map}
+use Rattle.std.proofs.Math.Logic.{∥∥₁_elim, ∥∥₁_map}
 use Rattle.sqlite_disk.specs.declared.Disk as disk
 use Rattle.chain.specs.Ledgers.{LedgersMeaning, Tenants, KeepsAll, AreValid}
 use Rattle.sqlite_trees.specs.Tree.{Trees}
@@ -70,6 +70,7 @@ module _ {D : Type 0} {g : disk.Ghosts D} where
   continues_itself a = record {
     follows = follows_itself a;
     directory = λ live. alike_itself a.place live;
+    found = λ honest db may. ∣ (db, may, refl) ∣₁;
   }
 
   -- a run of messages behind another is one
@@ -78,6 +79,9 @@ module _ {D : Type 0} {g : disk.Ghosts D} where
     follows = follows_then a b c first.follows second.follows;
     directory = λ live. alike_then a.place b.place c.place
         (first.directory (second.follows.lived live)) (second.directory live);
+    found = λ honest db may. ∥∥₁_elim (second.found honest db may) squash₁ (λ mid.
+        ∥∥₁_map (first.found (second.follows.honest honest) mid.0 mid.1)
+        (λ was. (was.0, was.1, mid.2 ∙ was.2)));
   }
 
   -- a store that answers no calls stays so

@@ -117,11 +117,18 @@ module _ {D : Type 0} {g : disk.Ghosts D} where
   abbrev pub OfDatabases : (Database → Database → Type 0) → Store D g → Store D g → Type 0
   OfDatabases P old new = OfDatabase (λ before. OfDatabase (P before) new) old
 
-  -- what every run of batches and reads keeps: that, and the number, name and digest of each tenant
+  -- a crash of the store may have left such a database
+  abbrev pub MayHold : Store D g → (Trees → Type 0) → Type 0
+  MayHold store P = ∥ ((trees : Trees) × may_find store trees × P trees) ∥₁
+
+  -- what every run of batches and reads keeps: that, and the number, name and digest of each tenant,
+  -- also in whatever an opening may find
   pub record Continues (old new : Store D g) : Type 0 where
     pub follows : Follows old new
     pub directory : IsLive new
         → OfDatabases (λ before after. KeepsDirectory before.trees after.trees) old new
+    pub found : IsHonest new → (db : Trees) → may_find new db
+        → MayHold old (λ was. KeepsDirectory was db)
 
   -- a crash leaves what is there, and nothing else
   abbrev pub IsSettledAt : Place D g → Type 0
@@ -176,10 +183,6 @@ module _ {D : Type 0} {g : disk.Ghosts D} where
 
   abbrev pub IsOpenedOn : Image → Store D g → Type 0
   IsOpenedOn image store = IsOpenedAt image store.place
-
-  -- a crash of the store may have left such a database
-  abbrev pub MayHold : Store D g → (Trees → Type 0) → Type 0
-  MayHold store P = ∥ ((trees : Trees) × may_find store trees × P trees) ∥₁
 
   -- a crash of the store may have left a database of which this is so
   abbrev pub MayHoldOne : Store D g → (Database → Type 0) → Type 0

@@ -20,6 +20,7 @@ impl<D: Disk + Drop> Ledgers for Store<D> {
         digest: &[u8; 32],
         work: W,
     ) -> Result<W::Output, BatchFault> {
+        self.is_settled();
         self.in_batch(digest, work)
     }
 
@@ -40,6 +41,7 @@ impl<D: Disk + Drop> Ledgers for Store<D> {
 
 impl<D: Disk + Drop> Rounds for Store<D> {
     fn in_round<W: RoundWork + Drop>(&mut self, work: W) -> Result<W::Output, Unavailable> {
+        self.is_settled();
         self.in_round(work)
     }
 }

@@ -3,6 +3,7 @@
 
 mod at_path;
 mod ledgers;
+mod names;
 mod overdue;
 mod place;
 mod reopening;

@@ -57,6 +57,12 @@ pub rekeyed_own :
 rekeyed_own was digest old new there rekeyed none =
     there (sym (ap (option_map (λ (s : State). s.now)) rekeyed.has) ∙ none)
 
+-- nobody is known by the one before
+pub rekeyed_gone :
+    (was digest : List ℕ) (old new : List Tenant) → IsRekeyed was digest old new → was ≢ digest →
+    machines_in new was ≡ None
+rekeyed_gone was digest old new rekeyed moved = no_machine (state_with was new) (rekeyed.gone moved)
+
 -- nobody else has moved
 pub rekeyed_others :
     (was digest : List ℕ) (old new : List Tenant) → IsRekeyed was digest old new →
@@ -72,13 +78,9 @@ added_own digest tables old new changes none =
     let there : Some tables.now ≡ None =
     sym (ap (option_map (λ (s : State). s.now)) changes.own) ∙ none in cc
 
--- and so is whoever was
-pub added_stays :
+-- and nobody else has moved
+pub added_others :
     (digest : List ℕ) (tables : State) (old new : List Tenant) → ChangesOne digest tables old new →
-    machines_in old digest ≡ None → (other : List ℕ) → machines_in old other ≢ None →
-    machines_in new other ≢ None
-added_stays digest tables old new changes absent other there none =
-    there
-    (sym (ap (option_map (λ (s : State). s.now))
-    (changes.others other (λ same. there (ap (machines_in old) same ∙ absent))))
-    ∙ none)
+    (other : List ℕ) → other ≢ digest → machines_in new other ≡ machines_in old other
+added_others digest tables old new changes other differs =
+    ap (option_map (λ (s : State). s.now)) (changes.others other differs)

@@ -13,14 +13,16 @@ use Rattle.service.specs.OpeningLaws as openings
 use Rattle.service.specs.OpeningLaws.{event_more, same_more, opened_more, begun_anew}
 use Rattle.service.specs.TurnLaws.{round_more}
 use Rattle.openings.specs.declared.refused.Refused.{Refused}
-use Rattle.stored_ledgers.specs.Names.{Names}
 use Rattle.store.specs.Deeds.{ending_of, key_ending}
 use Rattle.whole_runs.specs.declared.steps.Step.{Step}
 use Rattle.whole_runs.specs.declared.steps.Step.TheVariants as step
 use Rattle.whole_runs.specs.declared.steps.Answer.{Answer}
 use Rattle.whole_runs.specs.declared.steps.Answer.TheVariants as answer
 use Rattle.whole_runs.specs.Courses.{AreOf, IsSince, Start, Anew, Onward}
-use Rattle.whole_runs.specs.Reopenings.{StepMakes, HasRun, IsAnswerTo, IsRefused, RunsThrough, Goes_on}
+use Rattle.whole_runs.specs.Names.{NamesMeaning}
+use Rattle.whole_runs.specs.Reopenings.{StepMakes, HasNamed, HasRun, IsInOrder, IsAnswerTo, IsRefused}
+use Rattle.whole_runs.specs.Reopenings.{RunsThrough, Goes_on}
+use Rattle.whole_runs.proofs.NameLemmas.{named_more}
 
 -- behind a step there are its events
 step_on :
@@ -31,7 +33,7 @@ step_on :
 step_on first steps answers step answer more are events began since =
     Onward steps answers events began step answer more since are
 
-module _ {S : Type 0} (t : RunMeaning S) (names : S → Names) (Unopened : S → S → Type 0)
+module _ {S : Type 0} (t : RunMeaning S) (n : NamesMeaning S) (Unopened : S → S → Type 0)
     (old mid new : S) (steps : List Step) (answers : List Answer)
     (run : HasRun t old steps answers mid)
   where
@@ -66,7 +68,7 @@ module _ {S : Type 0} (t : RunMeaning S) (names : S → Names) (Unopened : S →
 
     -- one step more
     step_more :
-        (step : Step) (answer : Answer) → StepMakes t names Unopened mid step answer new →
+        (step : Step) (answer : Answer) → StepMakes t n Unopened mid step answer new →
         HasRun t old (steps ++ step ∷ []) (answers ++ answer ∷ []) new
     step_more (step.Request bytes moment) (answer.Replied reply) makes =
         event_step (step.Request bytes moment) (answer.Replied reply) makes.0.event makes.0.is
@@ -107,8 +109,8 @@ module _ {S : Type 0} (t : RunMeaning S) (names : S → Names) (Unopened : S →
     step_more (step.AddTenant name digest) (answer.Reopened result) makes = absurd makes
     step_more (step.ChangeKey name digest) (answer.Keyed result) makes =
         event_step (step.ChangeKey name digest) (answer.Keyed result)
-        (Tried (Keyed makes.0.0 digest) (key_ending result)) (makes.0.0, refl) (λ events. tt)
-        makes.0.1
+        (Tried (Keyed makes.0.was digest) (key_ending result)) (makes.0.was, refl) (λ events. tt)
+        makes.0.moves
     step_more (step.ChangeKey name digest) (answer.Replied reply) makes = absurd makes
     step_more (step.ChangeKey name digest) (answer.Round result) makes = absurd makes
     step_more (step.ChangeKey name digest) (answer.Added result) makes = absurd makes
@@ -154,26 +156,39 @@ take_step steps i step below is =
     (take-suc steps i step below ∙ ap (λ (s : Step). take i steps ++ s ∷ []) (sym is))
 
 pub run_on :
-    {S : Type 0} (t : RunMeaning S) (names : S → Names) (Unopened : S → S → Type 0)
+    {S : Type 0} (t : RunMeaning S) (n : NamesMeaning S) (Unopened : S → S → Type 0)
     (old mid new : S) (steps : List Step) (answers more : List Answer) (i : ℕ) (step : Step) (answer : Answer) → i < length steps →
     step ≡ get_or steps i step → more ≡ answers ++ answer ∷ [] →
-    HasRun t old (take i steps) answers mid → StepMakes t names Unopened mid step answer new →
+    HasRun t old (take i steps) answers mid → StepMakes t n Unopened mid step answer new →
     HasRun t old (take (i + 1) steps) more new
-run_on t names Unopened old mid new steps answers more i step answer below is grown run makes =
+run_on t n Unopened old mid new steps answers more i step answer below is grown run makes =
     rw (take_step steps i step below is, grown)
-    (step_more t names Unopened old mid new (take i steps) answers run step answer makes)
+    (step_more t n Unopened old mid new (take i steps) answers run step answer makes)
+
+pub named_on :
+    {S : Type 0} (t : RunMeaning S) (n : NamesMeaning S) (Unopened : S → S → Type 0)
+    (old mid new : S) (steps : List Step) (answers more : List Answer) (i : ℕ) (step : Step)
+    (answer : Answer) → i < length steps → step ≡ get_or steps i step →
+    more ≡ answers ++ answer ∷ [] → HasNamed t n old (take i steps) answers mid →
+    StepMakes t n Unopened mid step answer new → HasNamed t n old (take (i + 1) steps) more new
+named_on t n Unopened old mid new steps answers more i step answer below is grown named makes =
+    rw (take_step steps i step below is, grown)
+    (named_more t n Unopened old mid new (take i steps) answers named step answer makes)
 
 pub through_on :
-    {S : Type 0} (t : RunMeaning S) (names : S → Names) (Unopened : S → S → Type 0)
-    (old mid new : S) (steps : List Step) (answers more : List Answer) (i : ℕ) (step : Step) (answer : Answer) → i < length steps →
-    step ≡ get_or steps i step → more ≡ answers ++ answer ∷ [] →
-    RunsThrough t names Unopened old (take i steps) answers mid → HasRun t old (take i steps) answers mid →
-    StepMakes t names Unopened mid step answer new → IsSettled t new →
-    RunsThrough t names Unopened old (take (i + 1) steps) more new
-through_on t names Unopened old mid new steps answers more i step answer below is grown through run makes settled =
+    {S : Type 0} (t : RunMeaning S) (n : NamesMeaning S) (Unopened : S → S → Type 0)
+    (old mid new : S) (steps : List Step) (answers more : List Answer) (i : ℕ) (step : Step)
+    (answer : Answer) → i < length steps → step ≡ get_or steps i step →
+    more ≡ answers ++ answer ∷ [] → RunsThrough t n Unopened old (take i steps) answers mid →
+    HasRun t old (take i steps) answers mid → HasNamed t n old (take i steps) answers mid →
+    StepMakes t n Unopened mid step answer new → IsInOrder t n new →
+    RunsThrough t n Unopened old (take (i + 1) steps) more new
+through_on t n Unopened old mid new steps answers more i step answer below is grown through run
+    named makes settled =
     rw (take_step steps i step below is, grown)
     (Goes_on (take i steps) answers mid step answer new through makes settled
-    (step_more t names Unopened old mid new (take i steps) answers run step answer makes))
+    (step_more t n Unopened old mid new (take i steps) answers run step answer makes)
+    (named_more t n Unopened old mid new (take i steps) answers named step answer makes))
 
 pub answered_on :
     (steps : List Step) (answers more : List Answer) (i : ℕ) (step : Step) (answer : Answer) →

@@ -1,6 +1,9 @@
 mod Asked
 mod BookLemmas
 mod CourseLemmas
+mod FoundNames
+mod NameCourseLemmas
+mod NameLemmas
 mod NamedLemmas
 mod SameRowsLemmas
 mod StayLemmas

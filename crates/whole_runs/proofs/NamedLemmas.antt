@@ -10,10 +10,12 @@ use Rattle.std.proofs.lemmas.List.Folds.{find_at, find-set, find_past, find-appe
 use Rattle.std.proofs.lemmas.List.Quantifiers.{position-Some}
 use Rattle.std.proofs.lemmas.Option.{cond_some, slice_get_read, slice_get_past}
 use Rattle.std.proofs.lemmas.Slice.Eq.{bytes_eq-Decides}
+use Rattle.records.specs.Machine.{Machine}
 use Rattle.chain.specs.Ledgers.{Tenants}
 use Rattle.stored_ledgers.specs.Names.{Names, GivesName}
 use Rattle.whole_runs.specs.declared.named_book.Named.{Named}
-use Rattle.whole_runs.specs.BookNames.{AreNamed, has_name, names_among}
+use Rattle.store.specs.Names.{AreNamed}
+use Rattle.whole_runs.specs.BookNames.{has_name, names_among}
 
 other_name :
     (name other : List ℕ) (t : Named) → has_name name t ≡ true → other ≢ name →
@@ -134,20 +136,41 @@ joins_name name digest tenants none =
     }
 
 -- a book without tenants
-pub none_named : (tenants : Tenants) → AreNamed (names_among []) tenants
-none_named tenants = record {
+pub none_named : (tenants : Tenants) → ((digest : List ℕ) → tenants digest ≡ None)
+    → AreNamed (names_among []) tenants
+none_named tenants none = record {
   there = λ name digest is. absurd (cc);
+  all = λ digest there. absurd (there (none digest));
   one = λ name other digest is also. absurd (cc);
 }
 
--- the names of tenants of which none has gone
+some_there : (found : Option Machine) → is_some found ≡ true → found ≢ None
+some_there found is none = true≢false (sym is ∙ ap is_some none)
+
+there_some : (found : Option Machine) → found ≢ None → is_some found ≡ true
+there_some (Some m) there = refl
+there_some None there = absurd (there refl)
+
+-- the names of the same tenants
 pub named_still :
     (names : Names) (old new : Tenants) → AreNamed names old →
-    ((digest : List ℕ) → old digest ≢ None → new digest ≢ None) → AreNamed names new
+    ((digest : List ℕ) → is_some (new digest) ≡ is_some (old digest)) → AreNamed names new
 named_still names old new named stay = record {
-  there = λ name digest is. stay digest (named.there name digest is);
+  there = λ name digest is.
+      some_there (new digest) (stay digest ∙ there_some (old digest) (named.there name digest is));
+  all = λ digest there.
+      named.all digest (some_there (old digest) (sym (stay digest) ∙ there_some (new digest) there));
   one = named.one;
 }
+
+abbrev Is : List ℕ → List ℕ → Type 0
+Is a b = (a ≡ b) ⊎ (a ≢ b)
+
+is_or_not : (a b : List ℕ) → Is a b
+is_or_not a b = elim (cases_Bool (bytes_eq a b)) [
+  | inl same ↦ inl ((bytes_eq-Decides a b).0 same)
+  | inr not ↦ inr (λ same. true≢false (sym ((bytes_eq-Decides a b).1 same) ∙ not))
+]
 
 -- a name is given to a digest that goes together with no other
 module _ (name digest : List ℕ) (names names' : Names) (tenants' : Tenants)
@@ -155,16 +178,9 @@ module _ (name digest : List ℕ) (names names' : Names) (tenants' : Tenants)
     (one : (a b d : List ℕ) → names a ≡ Some d → names b ≡ Some d → b ≡ a)
     (fresh : (other : List ℕ) → other ≢ name → names other ≡ Some digest → ⊥)
     (own : tenants' digest ≢ None)
-    (kept : (other d : List ℕ) → other ≢ name → names other ≡ Some d → tenants' d ≢ None) where
-  abbrev Is : List ℕ → Type 0
-  Is a = (a ≡ name) ⊎ (a ≢ name)
-
-  is_or_not : (a : List ℕ) → Is a
-  is_or_not a = elim (cases_Bool (bytes_eq a name)) [
-    | inl same ↦ inl ((bytes_eq-Decides a name).0 same)
-    | inr not ↦ inr (λ same. true≢false (sym ((bytes_eq-Decides a name).1 same) ∙ not))
-  ]
-
+    (kept : (other d : List ℕ) → other ≢ name → names other ≡ Some d → tenants' d ≢ None)
+    (rest : (d : List ℕ) → d ≢ digest → tenants' d ≢ None
+    → (other : List ℕ) × (other ≢ name) × (names other ≡ Some d)) where
   is_digest : (a d : List ℕ) → a ≡ name → names' a ≡ Some d → digest ≡ d
   is_digest a d same is =
       let both : Some digest ≡ Some d = sym given.own ∙ (ap names' (sym same) ∙ is) in cc
@@ -172,11 +188,17 @@ module _ (name digest : List ℕ) (names names' : Names) (tenants' : Tenants)
   before : (a d : List ℕ) → a ≢ name → names' a ≡ Some d → names a ≡ Some d
   before a d differs is = sym (given.others a differs) ∙ is
 
-  there_now : (a d : List ℕ) → Is a → names' a ≡ Some d → tenants' d ≢ None
+  there_now : (a d : List ℕ) → Is a name → names' a ≡ Some d → tenants' d ≢ None
   there_now a d (inl same) is = subst (λ (d : List ℕ). tenants' d ≢ None) (is_digest a d same is) own
   there_now a d (inr differs) is = kept a d differs (before a d differs is)
 
-  one_now : (a b d : List ℕ) → Is a → Is b → names' a ≡ Some d → names' b ≡ Some d → b ≡ a
+  all_now : (d : List ℕ) → Is d digest → tenants' d ≢ None → (a : List ℕ) × (names' a ≡ Some d)
+  all_now d (inl same) there = (name, given.own ∙ ap Some (sym same))
+  all_now d (inr differs) there =
+      let other = rest d differs there in
+      (other.0, given.others other.0 other.1 ∙ other.2)
+
+  one_now : (a b d : List ℕ) → Is a name → Is b name → names' a ≡ Some d → names' b ≡ Some d → b ≡ a
   one_now a b d (inl same) (inl also) is_a is_b = also ∙ sym same
   one_now a b d (inl same) (inr differs) is_a is_b =
       absurd (fresh b differs (before b d differs is_b ∙ ap Some (sym (is_digest a d same is_a))))
@@ -187,35 +209,47 @@ module _ (name digest : List ℕ) (names names' : Names) (tenants' : Tenants)
 
   pub given_named : AreNamed names' tenants'
   given_named = record {
-    there = λ a d is. there_now a d (is_or_not a) is;
-    one = λ a b d is_a is_b. one_now a b d (is_or_not a) (is_or_not b) is_a is_b;
+    there = λ a d is. there_now a d (is_or_not a name) is;
+    all = λ d there. all_now d (is_or_not d digest) there;
+    one = λ a b d is_a is_b. one_now a b d (is_or_not a name) (is_or_not b name) is_a is_b;
   }
 
 module _ (name digest : List ℕ) (names names' : Names) (old new : Tenants)
     (given : GivesName name digest names names') (named : AreNamed names old)
     (own : new digest ≢ None) where
   -- to a tenant that joins
-  pub joined_named :
-      old digest ≡ None → ((d : List ℕ) → old d ≢ None → new d ≢ None) → AreNamed names' new
-  joined_named none stay =
-      given_named name digest names names' new given named.one
-      (λ other differs is. named.there other digest is none) own
-      (λ other d differs is. stay d (named.there other d is))
+  module _ (unnamed : names name ≡ None) (none : old digest ≡ None)
+      (others : (d : List ℕ) → d ≢ digest → new d ≡ old d) where
+    joined_kept : (other d : List ℕ) → other ≢ name → names other ≡ Some d → new d ≢ None
+    joined_kept other d differs is gone =
+        let there = named.there other d is in
+        there (sym (others d (λ same. there (ap old same ∙ none))) ∙ gone)
+
+    joined_rest : (d : List ℕ) → d ≢ digest → new d ≢ None
+        → (other : List ℕ) × (other ≢ name) × (names other ≡ Some d)
+    joined_rest d differs there =
+        let is = named.all d (λ gone. there (others d differs ∙ gone)) in (
+          is.0,
+          (λ same. let both : Some d ≡ None = sym is.1 ∙ (ap names same ∙ unnamed) in cc),
+          is.1,
+        )
+
+    pub joined_named : AreNamed names' new
+    joined_named =
+        given_named name digest names names' new given named.one
+        (λ other differs is. named.there other digest is none) own joined_kept joined_rest
 
   -- to one whose key is changed
   module _ (was : List ℕ) (had : names name ≡ Some was) (free : was ≢ digest → old digest ≡ None)
+      (gone : was ≢ digest → new was ≡ None)
       (others : (d : List ℕ) → d ≢ was → d ≢ digest → new d ≡ old d) where
-    fresh_by : (b : Bool) → bytes_eq was digest ≡ b → (other : List ℕ) → other ≢ name →
-        names other ≡ Some digest → ⊥
-    fresh_by true is other differs held =
-        let same = (bytes_eq-Decides was digest).0 is in
+    fresh_by : Is was digest → (other : List ℕ) → other ≢ name → names other ≡ Some digest → ⊥
+    fresh_by (inl same) other differs held =
         differs (named.one name other digest (had ∙ ap Some same) held)
-    fresh_by false is other differs held =
-        named.there other digest held
-        (free (λ same. true≢false (sym ((bytes_eq-Decides was digest).1 same) ∙ is)))
+    fresh_by (inr moved) other differs held = named.there other digest held (free moved)
 
     fresh : (other : List ℕ) → other ≢ name → names other ≡ Some digest → ⊥
-    fresh = fresh_by (bytes_eq was digest) refl
+    fresh = fresh_by (is_or_not was digest)
 
     kept : (other d : List ℕ) → other ≢ name → names other ≡ Some d → new d ≢ None
     kept other d differs is none =
@@ -225,5 +259,18 @@ module _ (name digest : List ℕ) (names names' : Names) (old new : Tenants)
         (λ same. fresh other differs (is ∙ ap Some same)))
         ∙ none)
 
+    rest_by : (d : List ℕ) → Is d was → d ≢ digest → new d ≢ None
+        → (other : List ℕ) × (other ≢ name) × (names other ≡ Some d)
+    rest_by d (inl same) differs there =
+        absurd (there (ap new same ∙ gone (λ still. differs (same ∙ still))))
+    rest_by d (inr unlike) differs there =
+        let is = named.all d (λ none. there (others d unlike differs ∙ none)) in (
+          is.0,
+          (λ same. unlike (let both : Some d ≡ Some was = sym is.1 ∙ (ap names same ∙ had) in cc)),
+          is.1,
+        )
+
     pub rekeyed_named : AreNamed names' new
-    rekeyed_named = given_named name digest names names' new given named.one fresh own kept
+    rekeyed_named =
+        given_named name digest names names' new given named.one fresh own kept
+        (λ d. rest_by d (is_or_not d was))

@@ -1,6 +1,6 @@
--- No message makes a tenant go.
-use Rattle.std.proofs.Common.{◌≡◌, ◌≢◌, ℕ, Bool, true, false, List, [], ◌∷◌, Option, Some, None}
-use Rattle.std.proofs.Common.{Result, Ok, Err, bytes_eq, refl, sym, ap, ◌∙◌}
+-- No message makes a tenant come or go.
+use Rattle.std.proofs.Common.{◌≡◌, ℕ, Bool, true, false, List, [], ◌∷◌, Option, Some, None}
+use Rattle.std.proofs.Common.{Result, Ok, Err, bytes_eq, is_some, refl, sym, ap, ◌∙◌}
 use Rattle.std.proofs.lemmas.Bool.{true≢false}
 use Rattle.std.proofs.lemmas.Slice.Eq.{bytes_eq-Decides}
 use Rattle.records.specs.Machine.{Machine}
@@ -19,67 +19,58 @@ use Rattle.service.specs.Replies.{AnswersTenant}
 use Rattle.service.specs.Served.{Served, served_to}
 use Rattle.service.specs.Turns.{RespondInTurn}
 
--- whoever was there is there
-abbrev pub AllStay : Tenants → Tenants → Type 0
-AllStay old new = (digest : List ℕ) → old digest ≢ None → new digest ≢ None
+-- whoever was there is there, and nobody else
+abbrev pub SameStay : Tenants → Tenants → Type 0
+SameStay old new = (digest : List ℕ) → is_some (new digest) ≡ is_some (old digest)
 
 served_stays :
-    (tenant : Option Machine) (meaning : Result Request Refusal) (moment : ℕ) → tenant ≢ None →
-    (served_to tenant meaning moment).left ≢ None
-served_stays None meaning moment there none = absurd (there refl)
-served_stays (Some m) meaning moment there none = absurd (cc)
-
-kept_stays :
-    (old new : Tenants) (digest : List ℕ) → new digest ≡ old digest → old digest ≢ None →
-    new digest ≢ None
-kept_stays old new digest same there none = there (sym same ∙ none)
+    (tenant : Option Machine) (meaning : Result Request Refusal) (moment : ℕ) →
+    is_some (served_to tenant meaning moment).left ≡ is_some tenant
+served_stays None meaning moment = refl
+served_stays (Some m) meaning moment = refl
 
 module _ (old new : Tenants) (caller : List ℕ) (serves : Option Machine → Served (Option Machine))
     (text : List ℕ) (answers : AnswersTenant old new caller serves text)
-    (stays : (tenant : Option Machine) → tenant ≢ None → (serves tenant).left ≢ None)
-    (digest : List ℕ) (there : old digest ≢ None) where
-  by_caller : (b : Bool) → bytes_eq digest caller ≡ b → new digest ≢ None
-  by_caller true is none =
+    (stays : (tenant : Option Machine) → is_some (serves tenant).left ≡ is_some tenant)
+    (digest : List ℕ) where
+  by_caller : (b : Bool) → bytes_eq digest caller ≡ b → is_some (new digest) ≡ is_some (old digest)
+  by_caller true is =
       let same = (bytes_eq-Decides digest caller).0 is in
-      stays (old caller) (λ gone. there (ap old same ∙ gone))
-      (sym answers.own ∙ (ap new (sym same) ∙ none))
-  by_caller false is none =
-      kept_stays old new digest
+      ap (λ d. is_some (new d)) same ∙ ap is_some answers.own ∙ stays (old caller)
+      ∙ sym (ap (λ d. is_some (old d)) same)
+  by_caller false is =
+      ap is_some
       (answers.others digest
       (λ same. true≢false (sym ((bytes_eq-Decides digest caller).1 same) ∙ is)))
-      there none
 
 answered_stay :
     (old new : Tenants) (asked : Result Question Early) (moment : ℕ) (text : List ℕ) →
-    Answers old new asked moment text → AllStay old new
-answered_stay old new (Ok question) moment text answers digest there =
+    Answers old new asked moment text → SameStay old new
+answered_stay old new (Ok question) moment text answers digest =
     by_caller old new _ _ text answers
     (λ tenant. served_stays tenant (meaning_of question.route question.account question.body) moment)
-    digest there (bytes_eq digest _) refl
-answered_stay old new (Err early) moment text answers digest there =
-    kept_stays old new digest (answers.same digest) there
+    digest (bytes_eq digest _) refl
+answered_stay old new (Err early) moment text answers digest = ap is_some (answers.same digest)
 
 module _ (old new : Tenants) (bytes : List ℕ) (moment : ℕ) (reply : Reply)
     (responds : Responds old new bytes moment reply) where
-  by_reply : (b : Bool) → is_unavailable reply ≡ b → AllStay old new
-  by_reply true is digest there =
-      kept_stays old new digest (responds.same (told_unavailable reply is) digest) there
-  by_reply false is digest there =
+  by_reply : (b : Bool) → is_unavailable reply ≡ b → SameStay old new
+  by_reply true is digest = ap is_some (responds.same (told_unavailable reply is) digest)
+  by_reply false is digest =
       answered_stay old new (asked_of bytes responds.head) moment _
-      (responds.answered (told_available reply is)) digest there
+      (responds.answered (told_available reply is)) digest
 
   -- behind a message
-  pub responded_stay : AllStay old new
+  pub responded_stay : SameStay old new
   responded_stay = by_reply (is_unavailable reply) refl
 
 -- behind messages
 pub in_turn_stay :
     (old new : Tenants) (messages : List Message) (replies : List Reply) →
-    RespondInTurn old messages replies new → AllStay old new
-in_turn_stay old new [] [] same digest there =
-    kept_stays old new digest (ap (λ (tenants : Tenants). tenants digest) same) there
-in_turn_stay old new [] (reply ∷ replies) none digest there = absurd none
-in_turn_stay old new (message ∷ messages) [] none digest there = absurd none
-in_turn_stay old new (message ∷ messages) (reply ∷ replies) responds digest there =
+    RespondInTurn old messages replies new → SameStay old new
+in_turn_stay old new [] [] same digest = ap (λ (tenants : Tenants). is_some (tenants digest)) same
+in_turn_stay old new [] (reply ∷ replies) none digest = absurd none
+in_turn_stay old new (message ∷ messages) [] none digest = absurd none
+in_turn_stay old new (message ∷ messages) (reply ∷ replies) responds digest =
     in_turn_stay responds.0 new messages replies responds.2 digest
-    (responded_stay old responds.0 message.bytes.items message.moment reply responds.1 digest there)
+    ∙ responded_stay old responds.0 message.bytes.items message.moment reply responds.1 digest

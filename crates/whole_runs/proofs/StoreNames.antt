@@ -1,11 +1,8 @@
 -- The names of a store's tenants, behind each call.
 use Rattle.std.proofs.Common.{◌≡◌, ◌≢◌, ℕ, Bool, List, [], ◌∷◌, Option, Some, None, unwrap_or, Result}
-use Rattle.std.proofs.Common.{Ok, Err, OnOk, OnErr, refl, sym, ap, ◌∙◌}
-use Rattle.std.proofs.Math.Logic.{∥∥₁_elim}
+use Rattle.std.proofs.Common.{Ok, Err, refl, sym, ap, ◌∙◌}
 use Rattle.sqlite_disk.specs.declared.Disk as disk
 use Rattle.sqlite_value.specs.Order.{Row}
-use Rattle.sqlite_trees.specs.Props.{Trees-set}
-use Rattle.sqlite_trees.specs.Tree.{Trees}
 use Rattle.sqlite.specs.Effect.{Database}
 use Rattle.sqlite.specs.Files.{file_state}
 use Rattle.ledger_sql.specs.TableRows.{with_name as rows_with_name}
@@ -21,9 +18,9 @@ use Rattle.stored_ledgers.specs.declared.joining.AddTenant.TheVariants as add
 use Rattle.stored_ledgers.specs.declared.keying.ChangeKey.{ChangeKey}
 use Rattle.stored_ledgers.specs.declared.keying.ChangeKey.TheVariants as key
 use Rattle.store.specs.Names.{digest_named, names_at, names_of}
-use Rattle.store.specs.Stores.{Continues, Finds, FindsAt, IsHonest, IsHonestAt, IsLive, IsLiveAt}
-use Rattle.store.specs.Stores.{IsSettledAt, IsSettledStore, IsUsable, IsUsableAt, OfDatabases}
-use Rattle.store.specs.Stores.{OfDatabaseAt, may_find, may_find_at}
+use Rattle.store.specs.Stores.{Continues, IsLive, IsLiveAt}
+use Rattle.store.specs.Stores.{IsUsable, IsUsableAt, OfDatabases}
+use Rattle.store.specs.Stores.{OfDatabaseAt}
 use Rattle.store.specs.declared.place.Place.{Place}
 use Rattle.store.specs.declared.place.Place.TheVariants as at
 use Rattle.store.specs.declared.store.Store.{Store}
@@ -134,29 +131,3 @@ module _ {D : Type 0} {g : disk.Ghosts D} where
       (λ before after. HasKeyed name digest before after result)
       (λ before after. keys_in law name digest before after result)
       old.ready old.due old.place new.place usable live told
-
-  found_at : (ready : Bool) (sets : DueSets) (old new : Place D g) → IsSettledAt old
-      → IsUsableAt ready sets old → IsLiveAt old → FindsAt (may_find_at old) new
-      → KeepsNames (names_at old) (names_at new)
-  found_at ready sets (at.Open conn) (at.Open conn') settled usable live finds name =
-      let same : (file_state conn').now.trees ≡ (file_state conn).committed.trees =
-      ∥∥₁_elim finds.1 (Trees-set _ _) (λ may. settled.only live.1 (file_state conn').now.trees may) in
-      ap (λ (trees : Trees). names_in trees name)
-      (same ∙ sym (ap (λ (db : Database). db.trees) (usable.0 live).quiet.settled))
-  found_at ready sets (at.Open conn) (at.Shut files) settled usable live finds name = absurd finds
-  found_at ready sets (at.Shut files) new settled usable live finds name = absurd live
-
-  honest_at : (place : Place D g) → IsLiveAt place → IsHonestAt place
-  honest_at (at.Open conn) live = live.0
-  honest_at (at.Shut files) live = absurd live
-
-  -- an opening again
-  pub reopening_keeps_names : {E : Type 0} (old new : Store D g) (result : Result (Unit {0}) E)
-      → IsSettledStore old → IsUsable old
-      → (IsHonest new → OnOk result (Finds new (may_find old))) → OnErr result (IsLive new → ⊥)
-      → IsLive old → IsLive new → KeepsNames (names_of old) (names_of new)
-  reopening_keeps_names old new (Ok done) settled usable finds shut lived live =
-      found_at old.ready old.due old.place new.place settled usable lived
-      (finds (honest_at new.place live))
-  reopening_keeps_names old new (Err fault) settled usable finds shut lived live =
-      absurd (shut live)

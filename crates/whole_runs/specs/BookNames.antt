@@ -1,11 +1,12 @@
 -- The names of the tenants of a book.
-use Rattle.std.specs.Prelude.{◌≡◌, ◌≢◌, ℕ, Bool, List, Some, None, bytes_eq}
+use Rattle.std.specs.Prelude.{ℕ, Bool, List, bytes_eq}
 use Rattle.std.specs.List.{find}
 use Rattle.std.specs.Option.{option_map}
-use Rattle.chain.specs.Ledgers.{Tenants, AreValid}
+use Rattle.chain.specs.Ledgers.{AreValid}
 use Rattle.plain.specs.declared.book.Tenant.{Tenant}
 use Rattle.plain.specs.BookLedgers.{machines_in}
 use Rattle.stored_ledgers.specs.Names.{Names}
+use Rattle.store.specs.Names.{AreNamed}
 use Rattle.whole_runs.specs.declared.named_book.Named.{Named}
 
 -- whether the tenant has this name
@@ -15,13 +16,6 @@ has_name name named = bytes_eq named.name name
 -- the digest of the first that has each name
 abbrev pub names_among : List Named → Names
 names_among tenants name = option_map (λ named. named.digest) (find (has_name name) tenants)
-
--- each name goes together with the digest of some tenant, and no two names with one
-pub record AreNamed (names : Names) (tenants : Tenants) : Type 0 where
-  pub there : (name digest : List ℕ) → names name ≡ Some digest → tenants digest ≢ None
-  pub one :
-      (name other digest : List ℕ) → names name ≡ Some digest → names other ≡ Some digest →
-      other ≡ name
 
 -- a book of valid machines, whose tenants have these names
 abbrev pub IsNamedBook : List Tenant → List Named → Type 0

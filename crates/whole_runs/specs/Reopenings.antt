@@ -12,14 +12,17 @@ use Rattle.service.specs.Turns.{MovesInRound}
 use Rattle.openings.specs.declared.refused.Refused.{Refused}
 use Rattle.stored_ledgers.specs.declared.joining.AddTenant.TheVariants as add
 use Rattle.stored_ledgers.specs.declared.keying.ChangeKey.TheVariants as key
-use Rattle.stored_ledgers.specs.Names.{Names, KeepsNames}
+use Rattle.stored_ledgers.specs.Names.{Names}
 use Rattle.store.specs.Deeds.{ending_of}
+use Rattle.store.specs.Names.{AreNamed}
 use Rattle.whole_runs.specs.declared.steps.Step.{Step}
 use Rattle.whole_runs.specs.declared.steps.Step.TheVariants as step
 use Rattle.whole_runs.specs.declared.steps.Answer.{Answer}
 use Rattle.whole_runs.specs.declared.steps.Answer.TheVariants as answer
 use Rattle.whole_runs.specs.Courses.{IsSince}
-use Rattle.whole_runs.specs.Names.{IsKeyTriedOf, JoinsNames}
+use Rattle.whole_runs.specs.NameCourses.{AreNamesAfter}
+use Rattle.whole_runs.specs.Names.{AreNamesSettled, IsJoinTried, IsKeyTriedOf, LeavesNames}
+use Rattle.whole_runs.specs.Names.{NamesMeaning, ReopensNames}
 
 -- an opening was refused: they are not live; and where it is told that what it might have found
 -- stands, the next opening finds that; else what keeps the ledgers was not opened
@@ -47,42 +50,56 @@ TellsTaken t old digest Told new = t.is_live new → Told → t.tenants old dige
 
 -- what a step makes of the ledgers, whose tenants have names
 abbrev pub StepMakes :
-    {S : Type 0} → RunMeaning S → (S → Names) → (S → S → Type 0) → S → Step → Answer → S → Type 0
-StepMakes t names Unopened old (step.Request bytes moment) (answer.Replied reply) new =
-    Replies t old bytes.items moment reply new
-    × (t.is_live new → KeepsNames (names old) (names new))
-StepMakes t names Unopened old (step.Round messages) (answer.Round result) new =
-    RoundMakes t old messages.items result new
-    × (t.is_live new → KeepsNames (names old) (names new))
-StepMakes t names Unopened old (step.AddTenant name digest) (answer.Added result) new =
+    {S : Type 0} → RunMeaning S → NamesMeaning S → (S → S → Type 0) → S → Step → Answer → S
+    → Type 0
+StepMakes t n Unopened old (step.Request bytes moment) (answer.Replied reply) new =
+    Replies t old bytes.items moment reply new × LeavesNames t n old new
+StepMakes t n Unopened old (step.Round messages) (answer.Round result) new =
+    RoundMakes t old messages.items result new × LeavesNames t n old new
+StepMakes t n Unopened old (step.AddTenant name digest) (answer.Added result) new =
     Moves t old (Tried (Joined digest) (ending_of result)) new
     × TellsTaken t old digest (result ≡ Err add.DigestTaken) new
-    × (t.is_live new → JoinsNames name digest (names old) result (names new))
-StepMakes t names Unopened old (step.ChangeKey name digest) (answer.Keyed result) new =
-    IsKeyTriedOf t names old name digest result new
+    × IsJoinTried t n old name digest result new
+StepMakes t n Unopened old (step.ChangeKey name digest) (answer.Keyed result) new =
+    IsKeyTriedOf t n old name digest result new
     × TellsTaken t old digest (result ≡ Err key.DigestTaken) new
-StepMakes t names Unopened old step.Reopen (answer.Reopened result) new =
-    Reopens t Unopened old result new
-    × (t.is_live old → t.is_live new → KeepsNames (names old) (names new))
-StepMakes t names Unopened old step answer new = ⊥
+StepMakes t n Unopened old step.Reopen (answer.Reopened result) new =
+    Reopens t Unopened old result new × ReopensNames t n old result new
+StepMakes t n Unopened old step answer new = ⊥
 
 -- what a run makes of them: some course of the steps and the answers leads to what is there, and
 -- one to whatever an opening may find
 abbrev pub HasRun : {S : Type 0} → RunMeaning S → S → List Step → List Answer → S → Type 0
 HasRun t old steps answers new = HasLed t (IsSince (t.tenants old) steps answers) new
 
+-- the same of names
+pub record HasNamed {S : Type 0} (t : RunMeaning S) (n : NamesMeaning S) (old : S)
+    (steps : List Step) (answers : List Answer) (new : S) : Type 0 where
+  pub here : t.is_live new → ∥ AreNamesAfter (n.named old) steps answers (n.named new) ∥₁
+  pub found : (found : Names) → n.may_find new found
+      → ∥ AreNamesAfter (n.named old) steps answers found ∥₁
+
+-- while the ledgers are live, an opening finds what is there, machines and names, and each tenant has
+-- one name
+pub record IsInOrder {S : Type 0} (t : RunMeaning S) (n : NamesMeaning S) (ledgers : S) : Type 0
+  where
+    pub machines : IsSettled t ledgers
+    pub names : AreNamesSettled t n ledgers
+    pub named : t.is_live ledgers → AreNamed (n.named ledgers) (t.tenants ledgers)
+
 -- a run step by step: each step makes its ledgers of those before it, and the steps up to there
--- have run. At each moment an opening finds what is there, while the ledgers are live.
-pub data RunsThrough {S : Type 0} (t : RunMeaning S) (names : S → Names)
+-- have run. At each moment the ledgers are in order.
+pub data RunsThrough {S : Type 0} (t : RunMeaning S) (n : NamesMeaning S)
     (Unopened : S → S → Type 0) (old : S) : List Step → List Answer → S → Type 0 where
-  Begins : IsSettled t old → RunsThrough t names Unopened old [] [] old
+  Begins : IsInOrder t n old → RunsThrough t n Unopened old [] [] old
   Goes_on :
       (steps : List Step) (answers : List Answer) (mid : S) (step : Step) (answer : Answer)
       (new : S) →
-      RunsThrough t names Unopened old steps answers mid →
-      StepMakes t names Unopened mid step answer new →
-      IsSettled t new → HasRun t old (steps ++ step ∷ []) (answers ++ answer ∷ []) new →
-      RunsThrough t names Unopened old (steps ++ step ∷ []) (answers ++ answer ∷ []) new
+      RunsThrough t n Unopened old steps answers mid →
+      StepMakes t n Unopened mid step answer new →
+      IsInOrder t n new → HasRun t old (steps ++ step ∷ []) (answers ++ answer ∷ []) new →
+      HasNamed t n old (steps ++ step ∷ []) (answers ++ answer ∷ []) new →
+      RunsThrough t n Unopened old (steps ++ step ∷ []) (answers ++ answer ∷ []) new
 
 -- an answer is one to its step; whatever the ledgers are, what is told before a tenant is looked up
 -- is told right, and that they are unavailable is told of a whole message alone

@@ -2,6 +2,7 @@
 ghost use Rattle.service.specs.Following.{ToldStays};
 ghost use Rattle.service.specs.Retries.{RetriesAddNothing, FailedStaysFailed};
 ghost use Rattle.whole_runs.specs.Courses.{RunsServeEachAlone};
+ghost use Rattle.whole_runs.specs.NameCourses.{DigestsStay, NamesStay};
 ghost use Rattle.whole_runs.specs.Retries.{HasAskedInRun, StaysFailedIn};
 ghost use Rattle.records.specs.Step.{account_rules, transfer_rules};
 ghost use Rattle.records.specs.declared.account_result.AccountResult.TheVariants as for_account;
@@ -51,3 +52,11 @@ pub fn told_stays()
 {
     told_in_course_stays();
 }
+
+/// In the course of any run no name of a tenant goes away, and each keeps its digest as long as no
+/// other key is asked for it, whatever faults of the disk there were; unless an opening was refused
+/// so that nothing stands.
+pub fn names_stay()
+    ensures there { NamesStay }
+    ensures digests { DigestsStay }
+{}

@@ -3,6 +3,7 @@ ghost use Rattle.std.specs.Prelude.{ℕ, ◌≡◌, List, None};
 ghost use Rattle.std.specs.List.{position};
 ghost use Rattle.chain.specs.Ledgers.{KeepsAll};
 ghost use Rattle.plain.specs.BookLedgers.{machines_in};
+ghost use Rattle.stored_ledgers.specs.Names.{KeepsNames};
 ghost use Rattle.whole_runs.specs.BookNames.{IsNamedBook, has_name, names_among};
 
 use crate::Reopening;
@@ -44,7 +45,7 @@ impl NamedBook {
         ensures empty { (digest : List ℕ)
             → ⟦<NamedBook as Reopening>⟧.means.tenants result digest ≡ None }
         ensures unnamed { (name : List ℕ)
-            → ⟦<NamedBook as Reopening>⟧.names result name ≡ None }
+            → ⟦<NamedBook as Reopening>⟧.names.named result name ≡ None }
     {
         NamedBook {
             alloc,
@@ -71,7 +72,10 @@ impl Reopening for NamedBook {
       may_find = λ named found. KeepsAll (machines_in named.book) found;
     } };
 
-    ghost names = { λ named. names_among named.names.items };
+    ghost names = { record {
+      named = λ named. names_among named.names.items;
+      may_find = λ named found. KeepsNames (names_among named.names.items) found;
+    } };
 
     ghost unopened = { λ old new. ⊥ };
 

@@ -3,13 +3,13 @@ ghost use Rattle.std.specs.Prelude.{◌≡◌, Err, IfOk, OnErr};
 ghost use Rattle.chain.specs.Ledgers.{AreValid};
 ghost use Rattle.service.specs.Deeds.{Joined};
 ghost use Rattle.service.specs.Courses.{Tried};
-ghost use Rattle.service.specs.Openings.{RunMeaning, IsSettled, Replies, Moves};
+ghost use Rattle.service.specs.Openings.{RunMeaning, Replies, Moves};
 ghost use Rattle.service.specs.Responds.{RefusesEarly};
 ghost use Rattle.service.specs.Turns.{MovesInRound};
 ghost use Rattle.store.specs.Deeds.{ending_of};
-ghost use Rattle.stored_ledgers.specs.Names.{Names, KeepsNames};
-ghost use Rattle.whole_runs.specs.Names.{IsKeyTriedOf, JoinsNames};
-ghost use Rattle.whole_runs.specs.Reopenings.{Reopens, TellsTaken};
+ghost use Rattle.whole_runs.specs.Names.{IsJoinTried, IsKeyTriedOf, LeavesNames};
+ghost use Rattle.whole_runs.specs.Names.{NamesMeaning, ReopensNames};
+ghost use Rattle.whole_runs.specs.Reopenings.{IsInOrder, Reopens, TellsTaken};
 
 use ledger_http::Reply;
 use service::Message;
@@ -21,29 +21,31 @@ use wire::NoMemory;
 /// The ledgers of many tenants, which can be closed and opened again.
 ///
 /// A fault of what they stand on ends them until they are opened again. The request that came to the
-/// fault, or the round, may be found done then, all of it, or not: no other may.
+/// fault, or the round, may be found done then, all of it, or not: no other may. So it is with the
+/// name of a tenant, and its digest.
 pub trait Reopening {
     // The machine of each tenant; whether calls are allowed; whether the ledgers are live; and
     // which machines an opening may find.
     ghost means: { RunMeaning Self };
 
-    // The digest of the tenant with each name.
-    ghost names: { Self → Names };
+    // The digest of the tenant with each name, and which names an opening may find.
+    ghost names: { NamesMeaning Self };
 
     // An opening was refused by what keeps the ledgers, of which nothing is known then.
     ghost unopened: { Self → Self → Type 0 };
 
-    /// A law: while the ledgers are live, an opening finds what is there.
+    /// A law: while the ledgers are live, an opening finds what is there, and each tenant has one
+    /// name.
     fn is_settled(&self)
         requires { means.is_usable self.now }
-        ensures { IsSettled means self.now };
+        ensures { IsInOrder means names self.now };
 
     /// The reply to the first message of `bytes`, at a moment in nanoseconds.
     fn reply_to(&mut self, alloc: Global, bytes: &[u8], moment: u64) -> Reply
         requires { means.is_usable self.old }
         ensures replies { Replies means self.old bytes.now moment result self.new }
         ensures early { RefusesEarly bytes.now result }
-        ensures named { means.is_live self.new → KeepsNames (names self.old) (names self.new) }
+        ensures named { LeavesNames means names self.old self.new }
         ensures usable { means.is_usable self.new };
 
     /// The replies to messages, in order: they are answered in one round, and where that cannot be,
@@ -57,7 +59,7 @@ pub trait Reopening {
         ensures moves { IfOk result (λ replies.
             MovesInRound means self.old messages.now replies.items self.new) }
         ensures undone { OnErr result (self.new ≡ self.old) }
-        ensures named { means.is_live self.new → KeepsNames (names self.old) (names self.new) }
+        ensures named { LeavesNames means names self.old self.new }
         ensures usable { means.is_usable self.new };
 
     /// Adds a tenant, whose machine is a new one. The name is looked up before the digest.
@@ -66,8 +68,7 @@ pub trait Reopening {
         ensures moves { Moves means self.old (Tried (Joined digest.now) (ending_of result)) self.new }
         ensures taken { TellsTaken means self.old digest.now (result ≡ Err AddTenant.DigestTaken)
             self.new }
-        ensures named { means.is_live self.new
-            → JoinsNames name.now digest.now (names self.old) result (names self.new) }
+        ensures named { IsJoinTried means names self.old name.now digest.now result self.new }
         ensures usable { means.is_usable self.new };
 
     /// Gives the tenant with this name the key of this digest, under which its machine stands from
@@ -85,8 +86,7 @@ pub trait Reopening {
     fn open_again(&mut self) -> Result<(), Refused>
         requires { means.is_usable self.old }
         ensures opened { Reopens means unopened self.old result self.new }
-        ensures named { means.is_live self.old → means.is_live self.new
-            → KeepsNames (names self.old) (names self.new) }
+        ensures named { ReopensNames means names self.old result self.new }
         ensures usable { means.is_usable self.new };
 
     /// In live ledgers that may be called every tenant's machine is valid.

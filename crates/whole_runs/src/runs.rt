@@ -2,8 +2,8 @@
 ghost use Rattle.std.specs.Prelude.{◌≡◌, ◌<◌, ◌++◌, ◌∷◌, [], IfOk, OnErr, vec_len, vec_capacity};
 ghost use Rattle.std.specs.List.{AllZip};
 ghost use Rattle.chain.specs.Ledgers.{AreValid};
-ghost use Rattle.service.specs.Openings.{IsSettled};
-ghost use Rattle.whole_runs.specs.Reopenings.{StepMakes, HasRun, RunsThrough, IsAnswerTo};
+ghost use Rattle.whole_runs.specs.Reopenings.{StepMakes, HasNamed, HasRun, RunsThrough, IsInOrder};
+ghost use Rattle.whole_runs.specs.Reopenings.{IsAnswerTo};
 
 use crate::reopening::Reopening;
 use crate::steps::{Answer, Step};
@@ -37,8 +37,9 @@ fn run_step<L: Reopening>(alloc: Global, ledgers: &mut L, step: &Step) -> Answer
 /// are those of its own requests alone: of those that were answered, and of those that were not and
 /// that the next opening finds done. What is told of the end of the run begins at the last
 /// reopening that what keeps the ledgers refused, so that nothing stands (`Refused`); the same is
-/// told of each moment of the run and the steps up to there, and what each step makes of the names
-/// of tenants. Room for all answers is made first: where memory lacks for it, no step is run.
+/// told of each moment of the run and the steps up to there. The names of tenants and their digests
+/// are those of the joinings and changes of keys that were done, and of those that were answered
+/// `unavailable` and that the next opening finds done. Room for all answers is made first: where memory lacks for it, no step is run.
 pub fn run_all<L: Reopening>(
     alloc: Global,
     ledgers: &mut L,
@@ -49,9 +50,11 @@ pub fn run_all<L: Reopening>(
         HasRun L.means ledgers.old steps.now answers.items ledgers.new) }
     ensures through { L.means.is_live ledgers.old → IfOk result (λ answers.
         RunsThrough L.means L.names L.unopened ledgers.old steps.now answers.items ledgers.new) }
+    ensures named { L.means.is_live ledgers.old → IfOk result (λ answers.
+        HasNamed L.means L.names ledgers.old steps.now answers.items ledgers.new) }
     ensures answered { IfOk result (λ answers. AllZip IsAnswerTo steps.now answers.items) }
     ensures unrun { OnErr result (ledgers.new ≡ ledgers.old) }
-    ensures settled { IsSettled L.means ledgers.new }
+    ensures settled { IsInOrder L.means L.names ledgers.new }
     ensures valid { L.means.is_live ledgers.new → AreValid (L.means.tenants ledgers.new) }
     ensures usable { L.means.is_usable ledgers.new }
 {

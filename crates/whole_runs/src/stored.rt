@@ -20,18 +20,19 @@ impl<D: Disk + Drop> Settles<Store<D>> for Stores {
 
 impl<D: Disk + Drop> Reopening for Store<D> {
     ghost use Rattle.service.specs.Openings.{run_meaning};
-    ghost use Rattle.store.specs.Names.{names_of};
     ghost use Rattle.store.specs.StoreLaws.{store_meaning, valid_tenants};
     ghost use Rattle.store.specs.Stores.{IsUnopened};
+    ghost use Rattle.whole_runs.specs.StoredNames.{store_names};
 
     ghost means = { run_meaning store_meaning };
 
-    ghost names = { λ store. names_of store };
+    ghost names = { store_names };
 
     ghost unopened = { λ old new. IsUnopened old new };
 
     fn is_settled(&self) {
         self.is_settled();
+        self.are_named();
     }
 
     fn reply_to(&mut self, alloc: Global, bytes: &[u8], moment: u64) -> Reply {
@@ -51,12 +52,18 @@ impl<D: Disk + Drop> Reopening for Store<D> {
 
     fn join(&mut self, name: &TenantName, digest: &[u8; 32]) -> Result<(), AddTenant> {
         names_are_given();
-        self.add_tenant(name, digest)
+        self.is_settled();
+        let joined = self.add_tenant(name, digest);
+        self.is_settled();
+        joined
     }
 
     fn change_key(&mut self, name: &TenantName, digest: &[u8; 32]) -> Result<(), ChangeKey> {
         names_are_given();
-        self.change_key(name, digest)
+        self.is_settled();
+        let keyed = self.change_key(name, digest);
+        self.is_settled();
+        keyed
     }
 
     fn open_again(&mut self) -> Result<(), Refused> {

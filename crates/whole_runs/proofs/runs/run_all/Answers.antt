@@ -1,14 +1,18 @@
 use Rattle.std.proofs.Common.{ℕ, ◌+◌, ap, ◌∙◌, arith}
 use Rattle.whole_runs.specs.Reopenings.{Begins}
-use Rattle.whole_runs.proofs.CourseLemmas.{none_yet, run_on, through_on, answered_on}
+use Rattle.whole_runs.proofs.CourseLemmas.{none_yet, run_on, named_on, through_on, answered_on}
+use Rattle.whole_runs.proofs.NameLemmas.{none_named_yet}
 use Rattle.whole_runs.proofs.runs.run_all.Goals as goal
 
 pub loop-step-init : goal.loop-step-init
 loop-step-init g c = record {
   run = λ live.
       rw c.in_ok-answers.ensures.items
-      (none_yet g.L.Reopening.means c.args.ledgers.now live c.is_settled.ensures);
+      (none_yet g.L.Reopening.means c.args.ledgers.now live c.is_settled.ensures.machines);
   through = λ live. rw c.in_ok-answers.ensures.items (Begins c.is_settled.ensures);
+  named = λ live. rw c.in_ok-answers.ensures.items
+      (none_named_yet g.L.Reopening.means g.L.Reopening.names c.args.ledgers.now live
+      c.is_settled.ensures.names);
   answered = rw c.in_ok-answers.ensures.items tt;
   count = c.in_ok-answers.ensures.len;
   room = c.in_ok-answers.ensures.exact;
@@ -22,9 +26,15 @@ loop-step-preserved g c = record {
       run_on g.L.Reopening.means g.L.Reopening.names g.L.Reopening.unopened _ _ _ _ _ _ _ _ _ (omega arith) c.step-item.is
       c.push_reserved.ensures.items (c.loop-step.invariant.run live) c.run_step-answer.ensures.makes;
   through = λ live.
-      through_on g.L.Reopening.means g.L.Reopening.names g.L.Reopening.unopened _ _ _ _ _ _ _ _ _ (omega arith) c.step-item.is
-      c.push_reserved.ensures.items (c.loop-step.invariant.through live)
-      (c.loop-step.invariant.run live) c.run_step-answer.ensures.makes c.is_settled-in-loop-step.ensures;
+      through_on g.L.Reopening.means g.L.Reopening.names g.L.Reopening.unopened _ _ _ _ _ _ _ _ _
+      (omega arith) c.step-item.is c.push_reserved.ensures.items (c.loop-step.invariant.through live)
+      (c.loop-step.invariant.run live) (c.loop-step.invariant.named live)
+      c.run_step-answer.ensures.makes
+      c.is_settled-in-loop-step.ensures;
+  named = λ live.
+      named_on g.L.Reopening.means g.L.Reopening.names g.L.Reopening.unopened _ _ _ _ _ _ _ _ _
+      (omega arith) c.step-item.is c.push_reserved.ensures.items (c.loop-step.invariant.named live)
+      c.run_step-answer.ensures.makes;
   answered =
       answered_on _ _ _ _ _ _ (omega arith) c.step-item.is c.push_reserved.ensures.items
       c.loop-step.invariant.answered c.run_step-answer.ensures.answer;

@@ -1,7 +1,6 @@
 use Rattle.std.proofs.Common.{◌≡◌, take, length, vec_len, vec_capacity}
 use Rattle.std.specs.List.{AllZip}
-use Rattle.service.specs.Openings.{IsSettled}
-use Rattle.whole_runs.specs.Reopenings.{HasRun, RunsThrough, IsAnswerTo}
+use Rattle.whole_runs.specs.Reopenings.{HasNamed, HasRun, IsInOrder, IsAnswerTo, RunsThrough}
 use Rattle.whole_runs.proofs.runs.run_all.Given as goal
 
 -- The steps so far have run, and there is room for the answers to all.
@@ -13,11 +12,15 @@ invariant-loop-step g l = record {
       l.ledgers;
   through :
       g.L.Reopening.means.is_live l.fn.ledgers
-      → RunsThrough g.L.Reopening.means g.L.Reopening.names g.L.Reopening.unopened l.fn.ledgers (take l.step-index l.steps) l.answers.items
-      l.ledgers;
+      → RunsThrough g.L.Reopening.means g.L.Reopening.names g.L.Reopening.unopened l.fn.ledgers
+      (take l.step-index l.steps) l.answers.items l.ledgers;
+  named :
+      g.L.Reopening.means.is_live l.fn.ledgers
+      → HasNamed g.L.Reopening.means g.L.Reopening.names l.fn.ledgers (take l.step-index l.steps)
+      l.answers.items l.ledgers;
   answered : AllZip IsAnswerTo (take l.step-index l.steps) l.answers.items;
   count : vec_len l.answers ≡ l.step-index;
   room : vec_capacity l.answers ≡ length l.steps;
   usable : g.L.Reopening.means.is_usable l.ledgers;
-  settled : IsSettled g.L.Reopening.means l.ledgers;
+  settled : IsInOrder g.L.Reopening.means g.L.Reopening.names l.ledgers;
 }

@@ -1,5 +1,6 @@
 use Rattle.std.proofs.lemmas.Bool.{not-true}
-use Rattle.store.proofs.FindsLemmas.{finds_batch}
+use Rattle.stored_ledgers.specs.Outcomes.{IsAfterBatch}
+use Rattle.store.proofs.FindsLemmas.{finds_batch, found_directory}
 use Rattle.store.proofs.ledgers.StoreLedgers.in_batch.Goals as goal
 
 pub returns-clause-finds : goal.returns-clause-finds
@@ -15,4 +16,8 @@ pub returns-clause-follows : goal.returns-clause-follows
 returns-clause-follows g c = record {
   follows = c.in_batch.ensures.follows;
   directory = c.in_batch.ensures.directory;
+  found = found_directory c.args.self.now c.in_batch.new.self c.is_settled.ensures c.requires
+      c.in_batch.ensures.follows (λ shut. (c.in_batch.ensures.refuses shut).1)
+      (IsAfterBatch (g.W.Work.gives c.args.work) c.args.digest.now) (λ was db after. after.directory)
+      c.in_batch.ensures.finds;
 }

@@ -1,6 +1,6 @@
 use Rattle.chain.specs.Ledgers.{LeadsNowhere}
 use Rattle.std.proofs.lemmas.Bool.{not-true}
-use Rattle.store.proofs.FindsLemmas.{finds_known, still_keeps}
+use Rattle.store.proofs.FindsLemmas.{finds_known, found_unchanged, still_keeps}
 use Rattle.store.proofs.ledgers.StoreLedgers.knows.Goals as goal
 
 pub returns-clause-finds : goal.returns-clause-finds
@@ -15,4 +15,5 @@ returns-clause-follows g c = record {
   follows = c.knows.ensures.reads.answers.follows;
   directory = λ live. still_keeps c.args.self.now.place c.knows.new.self.place
       (c.knows.ensures.reads.unchanged live);
+  found = found_unchanged c.args.self.now c.knows.new.self c.knows.result c.knows.ensures.reads;
 }

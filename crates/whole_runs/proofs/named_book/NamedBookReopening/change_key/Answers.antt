@@ -4,46 +4,49 @@ use Rattle.plain.specs.Book.{machine_with}
 use Rattle.plain.specs.BookLedgers.{machines_in}
 use Rattle.service.specs.Openings.{As_now}
 use Rattle.whole_runs.specs.BookNames.{has_name, names_among}
-use Rattle.whole_runs.proofs.BookLemmas.{another_digest, none_of, rekeyed_done, rekeyed_others, rekeyed_own, same_digest}
+use Rattle.whole_runs.proofs.BookLemmas.{another_digest, none_of, rekeyed_done, rekeyed_gone, rekeyed_others, rekeyed_own, same_digest}
+use Rattle.whole_runs.proofs.NameLemmas.{gives_on, some_named}
 use Rattle.whole_runs.proofs.NamedLemmas.{named_so, rekeyed_named, rekeys_name, unnamed}
 use Rattle.whole_runs.proofs.named_book.NamedBookReopening.change_key.Goals as goal
 use Rattle.whole_runs.proofs.named_book.NamedBookReopening.change_key.Goals.{else-ne-via-then-ne+else-holds, else-ne-via-else-ne}
 
 -- nobody has the name
 pub returns-in_default-clause-moves : goal.returns-in_default-clause-moves
-returns-in_default-clause-moves c = (
-  [],
-  record {
+returns-in_default-clause-moves c = record {
+  was = [];
+  moves = record {
     happens = λ live d. refl;
     lived = λ live. live;
     found = λ found keeps. As_now tt keeps;
-  },
-  λ live. (
+  };
+  told = λ live. (
     unnamed c.args.name.now c.args.self.now.names.items
         (ap is_some (sym (c.place_of.ensures
         ∙ ap (position (has_name c.args.name.now)) c.deref.ensures.value) ∙ c.in_default.is)),
     λ name. refl,
-  ),
-)
+  );
+  found = λ found keeps. ∣ keeps ∣₁;
+}
 
 -- another tenant has the digest
 pub returns-then-holds-clause-moves : goal.returns-then-holds-clause-moves
-returns-then-holds-clause-moves c = (
-  c.index.result.now.digest,
-  record {
+returns-then-holds-clause-moves c = record {
+  was = c.index.result.now.digest;
+  moves = record {
     happens = λ live d. refl;
     lived = λ live. live;
     found = λ found keeps. As_now tt keeps;
-  },
-  λ live. (
+  };
+  told = λ live. (
     named_so c.args.name.now c.args.self.now.names.items c.in-Some.place c.index.result.now
         (sym (c.place_of.ensures ∙ ap (position (has_name c.args.name.now)) c.deref.ensures.value)
         ∙ c.in-Some.is)
         c.index.ensures,
     another_digest c.index.result.now.digest c.args.digest.now (sym c.ne.ensures ∙ c.if-ne.true),
     λ name. refl,
-  ),
-)
+  );
+  found = λ found keeps. ∣ keeps ∣₁;
+}
 
 module _ (c : goal.After-self-1) where
   found : position (has_name c.args.name.now) c.args.self.now.names.items ≡ Some c.in-Some.place
@@ -71,21 +74,28 @@ module _ (c : goal.After-self-1) where
       ]
 
 pub returns-clause-moves : goal.returns-clause-moves
-returns-clause-moves c = (
-  c.index.result.now.digest,
-  record {
-    happens = λ live.
-        rekeyed_done c.index.result.now.digest c.args.digest.now c.args.self.now.book
-        c.rekey.new.self (there c) (free c) c.rekey.ensures.rekeyed;
-    lived = λ live. tt;
-    found = λ found keeps. As_now tt keeps;
-  },
-  λ live. (
-    had c,
+returns-clause-moves c =
+    let gives =
     rekeys_name c.args.name.now c.args.self.now.names.items c.in-Some.place c.index_mut.result.now
-        (found c) c.index_mut.ensures.value c.args.digest.now,
-  ),
-)
+    (found c) c.index_mut.ensures.value c.args.digest.now in
+    record {
+      was = c.index.result.now.digest;
+      moves = record {
+        happens = λ live.
+            rekeyed_done c.index.result.now.digest c.args.digest.now c.args.self.now.book
+            c.rekey.new.self (there c) (free c) c.rekey.ensures.rekeyed;
+        lived = λ live. tt;
+        found = λ found keeps. As_now tt keeps;
+      };
+      told = λ live. (had c, gives);
+      found = λ found keeps. ∣ (
+        tt,
+        (
+          some_named _ c.index.result.now.digest (had c),
+          gives_on c.args.name.now c.args.digest.now _ _ found gives keeps,
+        ),
+      ) ∣₁;
+    }
 
 pub returns-clause-usable : goal.returns-clause-usable
 returns-clause-usable c = (
@@ -98,6 +108,8 @@ returns-clause-usable c = (
       (rekeyed_own c.index.result.now.digest c.args.digest.now c.args.self.now.book c.rekey.new.self
       (there c) c.rekey.ensures.rekeyed)
       c.index.result.now.digest (had c) (λ moved. none_of _ (free c moved))
+      (rekeyed_gone c.index.result.now.digest c.args.digest.now c.args.self.now.book c.rekey.new.self
+      c.rekey.ensures.rekeyed)
       (rekeyed_others c.index.result.now.digest c.args.digest.now c.args.self.now.book
       c.rekey.new.self c.rekey.ensures.rekeyed),
 )

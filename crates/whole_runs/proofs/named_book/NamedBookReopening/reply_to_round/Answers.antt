@@ -4,7 +4,7 @@ use Rattle.service.specs.TurnLaws.{replies_happen}
 use Rattle.plain.specs.declared.book.Tenant.{Tenant}
 use Rattle.plain.specs.BookLedgers.{machines_in}
 use Rattle.stored_ledgers.specs.Names.{Names}
-use Rattle.whole_runs.specs.BookNames.{AreNamed}
+use Rattle.store.specs.Names.{AreNamed}
 use Rattle.whole_runs.proofs.NamedLemmas.{named_still}
 use Rattle.whole_runs.proofs.StayLemmas.{in_turn_stay}
 use Rattle.whole_runs.proofs.named_book.NamedBookReopening.reply_to_round.Goals as goal

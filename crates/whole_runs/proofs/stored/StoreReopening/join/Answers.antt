@@ -1,15 +1,43 @@
+use Rattle.std.proofs.Common.{ap}
+use Rattle.stored_ledgers.specs.Joining.{Joined}
+use Rattle.store.specs.Deeds.{ending_of}
+use Rattle.store.specs.Names.{names_of}
+use Rattle.store.specs.Stores.{IsLive}
+use Rattle.whole_runs.specs.Names.{AddsName, JoinsNames}
+use Rattle.whole_runs.proofs.FoundNames.{found_tried}
+use Rattle.whole_runs.proofs.NameLemmas.{joins_go}
 use Rattle.whole_runs.proofs.StoreNames.{joins_names}
 use Rattle.whole_runs.proofs.TakenLemmas.{taken_at_joining}
 use Rattle.whole_runs.proofs.stored.StoreReopening.join.Goals as goal
 
 pub returns-clause-taken : goal.returns-clause-taken
 returns-clause-taken g c live told =
-    taken_at_joining c.args.name.now c.args.digest.now c.args.self.now c.add_tenant.new.self
-    c.add_tenant.result c.requires (c.add_tenant.ensures.follows.lived live)
-    (c.add_tenant.ensures.told live) told
+    taken_at_joining c.args.name.now c.args.digest.now c.args.self.now c.add_tenant-joined.new.self
+    c.add_tenant-joined.result c.requires (c.add_tenant-joined.ensures.follows.lived live)
+    (c.add_tenant-joined.ensures.told live) told
 
 pub returns-clause-named : goal.returns-clause-named
-returns-clause-named g c live =
+returns-clause-named g c =
+    let told : IsLive c.add_tenant-joined.new.self
+    → JoinsNames c.args.name.now c.args.digest.now (names_of c.args.self.now) c.add_tenant-joined.result
+    (names_of c.add_tenant-joined.new.self) =
+    λ live.
     joins_names c.names_are_given.ensures.joining c.args.name.now c.args.digest.now c.args.self.now
-    c.add_tenant.new.self c.add_tenant.result c.requires (c.add_tenant.ensures.follows.lived live)
-    (c.add_tenant.ensures.told live)
+    c.add_tenant-joined.new.self c.add_tenant-joined.result c.requires
+    (c.add_tenant-joined.ensures.follows.lived live) (c.add_tenant-joined.ensures.told live) in
+    record {
+      told = told;
+      found =
+          found_tried (AddsName c.args.name.now c.args.digest.now)
+          (Joined c.args.name.now c.args.digest.now)
+          (λ before db ledgers joined.
+          c.names_are_given.ensures.joining c.args.name.now c.args.digest.now before
+          (record { schema = before.schema; trees = db }) ledgers joined.0 joined.1)
+          c.args.self.now c.add_tenant-joined.new.self c.is_settled.ensures c.requires
+          c.add_tenant-joined.ensures.follows c.add_tenant-joined.ensures.unready
+          c.add_tenant-joined.ensures.finds c.is_settled-2.ensures c.add_tenant-joined.ensures.usable
+          (ending_of c.add_tenant-joined.result)
+          (λ live. joins_go c.args.name.now c.args.digest.now _ _ c.add_tenant-joined.result (told live))
+          (λ honest differs.
+          c.add_tenant-joined.ensures.open honest (λ is. differs (ap ending_of is)));
+    }

@@ -1,6 +1,6 @@
 use Rattle.store.specs.StoreLaws.{finds_itself}
 use Rattle.whole_runs.proofs.StoreLemmas.{reopens_so}
-use Rattle.whole_runs.proofs.StoreNames.{reopening_keeps_names}
+use Rattle.whole_runs.proofs.FoundNames.{names_reopened}
 use Rattle.whole_runs.proofs.stored.StoreReopening.open_again.Goals as goal
 
 pub returns-clause-opened : goal.returns-clause-opened
@@ -12,5 +12,6 @@ returns-clause-opened g c =
 
 pub returns-clause-named : goal.returns-clause-named
 returns-clause-named g c =
-    reopening_keeps_names c.args.self.now c.reopen-opened.new.self c.reopen-opened.result
-    c.is_settled.ensures c.requires c.reopen-opened.ensures.found c.reopen-opened.ensures.shut
+    names_reopened c.args.self.now c.reopen-opened.new.self c.reopen-opened.result
+    c.is_settled-2.ensures c.reopen-opened.ensures.usable c.reopen-opened.ensures.found
+    c.reopen-opened.ensures.honest c.reopen-opened.ensures.left

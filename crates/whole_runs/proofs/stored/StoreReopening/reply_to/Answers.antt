@@ -2,7 +2,7 @@ use Rattle.std.proofs.Common.{refl}
 use Rattle.service.specs.Courses.{Replied}
 use Rattle.ledger_http.specs.Question.{asked_of}
 use Rattle.store.specs.StoreLaws.{finds_itself}
-use Rattle.whole_runs.proofs.StoreNames.{names_stay}
+use Rattle.whole_runs.proofs.FoundNames.{names_left}
 use Rattle.whole_runs.proofs.stored.StoreReopening.reply_to.Goals as goal
 
 pub returns-clause-replies : goal.returns-clause-replies
@@ -20,5 +20,5 @@ returns-clause-replies g c =
     }
 
 pub returns-clause-named : goal.returns-clause-named
-returns-clause-named g c live =
-    names_stay c.args.self.now c.respond-reply.new.ledgers c.respond-reply.ensures.follows live
+returns-clause-named g c =
+    names_left c.args.self.now c.respond-reply.new.ledgers c.respond-reply.ensures.follows
