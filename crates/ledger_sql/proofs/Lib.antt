@@ -23,6 +23,8 @@ pub mod DigestText
 pub mod NumberText
 pub mod WholeTexts
 pub mod WholeLemmas
+pub mod OwnTexts
+pub mod OwnLemmas
 pub mod EntryTexts
 pub mod HandLemmas
 pub mod EntryLemmas

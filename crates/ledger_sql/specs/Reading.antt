@@ -1,10 +1,9 @@
--- What a table that is read whole tells.
-use Rattle.std.specs.Prelude.{ℕ, ℤ, List, ◌∷◌, map, filter, IsPermutation, IsSorted}
-use Rattle.std.specs.Ordering.{nat_cmp, int_cmp, int_eq, on, then_cmp}
+-- What rows that are read whole tell.
+use Rattle.std.specs.Prelude.{ℕ, ℤ, List, map, IsPermutation, IsSorted}
+use Rattle.std.specs.Ordering.{nat_cmp, int_cmp, on, then_cmp}
 use Rattle.std.specs.Cmp.Lexicographic.{slice_cmp}
 use Rattle.std.specs.declared.cmp.Ordering.{Ordering}
 use Rattle.std.specs.declared.cmp.Ordering.TheVariants.{Equal}
-use Rattle.sqlite_value.specs.declared.value.Value.TheVariants.{Int}
 use Rattle.sqlite_value.specs.Order.{Row}
 use Rattle.rows.specs.declared.account_cells.AccountCells.{AccountCells}
 use Rattle.rows.specs.declared.transfer_cells.TransferCells.{TransferCells}
@@ -12,7 +11,6 @@ use Rattle.rows.specs.declared.balance_cells.BalanceCells.{BalanceCells}
 use Rattle.rows.specs.declared.status_cells.StatusCells.{StatusCells}
 use Rattle.rows.specs.declared.history_cells.HistoryCells.{HistoryCells}
 use Rattle.rows.specs.declared.all_rows.DirectoryRow.{DirectoryRow}
-use Rattle.ledger_sql.specs.declared.owned.Owned.{Owned}
 
 -- the order of ids, as columns of bytes have it
 abbrev pub id_cmp : List ℕ → List ℕ → Ordering
@@ -37,31 +35,11 @@ status_cmp = on (λ row. row.transfer) id_cmp
 abbrev pub history_cmp : HistoryCells → HistoryCells → Ordering
 history_cmp = then_cmp (on (λ row. row.account) id_cmp) (on (λ row. row.timestamp) int_cmp)
 
--- by tenant, and then by this order of the rows
-abbrev pub by_tenant : {R : Type 0} → (R → R → Ordering) → Owned R → Owned R → Ordering
-by_tenant cmp = then_cmp (on (λ owned. owned.tenant) int_cmp) (on (λ owned. owned.row) cmp)
-
 -- the order of the directory
 abbrev pub directory_cmp : DirectoryRow → DirectoryRow → Ordering
 directory_cmp = on (λ row. row.number) int_cmp
 
--- the values of a row that names its tenant first
-abbrev pub owned_values : {R : Type 0} → (R → Row) → Owned R → Row
-owned_values values owned = Int owned.tenant ∷ values owned.row
-
--- a tenant's rows
-abbrev pub own_rows : {R : Type 0} → ℤ → List (Owned R) → List R
-own_rows tenant rows =
-    map (λ owned. owned.row) (filter (λ owned. int_eq owned.tenant tenant) rows)
-
--- a table that tenants share was read: all its rows, so each tenant's, in order of tenant and key
-pub record ReadsTable {R : Type 0} (values : R → Row) (cmp : R → R → Ordering) (table : List Row)
-    (own : ℤ → List Row) (read : List (Owned R)) : Type 0 where
-  pub all : IsPermutation table (map (owned_values values) read)
-  pub each : (tenant : ℤ) → IsPermutation (own tenant) (map values (own_rows tenant read))
-  pub order : IsSorted (by_tenant cmp) read
-
--- a table was read: all its rows, in order
+-- these rows were read: all of them, in order
 pub record ReadsRows {R : Type 0} (values : R → Row) (cmp : R → R → Ordering) (table : List Row)
     (read : List R) : Type 0 where
   pub all : IsPermutation table (map values read)

@@ -74,11 +74,6 @@ history_rows = rows_in history_tree 6
 abbrev pub failed_rows : ℤ → Trees → List Row
 failed_rows = rows_in failed_tree 1
 
--- a table whole, each row after the column at a place that names its tenant
-abbrev pub whole_table : ℕ → ℕ → ℕ → Trees → List Row
-whole_table tree place width trees =
-    map (λ row. column row place ∷ cells_from 2 width row) (trees tree)
-
 -- the rowid of a clock row is its tenant
 abbrev pub clock_rows : ℤ → Trees → List Row
 clock_rows tenant trees =
@@ -86,7 +81,7 @@ clock_rows tenant trees =
 
 -- the rowid of a row of the directory is its number
 abbrev pub directory_rows : Trees → List Row
-directory_rows = whole_table tenant_tree 0 2
+directory_rows trees = map (λ row. column row 0 ∷ cells_from 2 2 row) (trees tenant_tree)
 
 -- the rows of the directory with this name
 abbrev pub with_name : List ℕ → List Row → List Row

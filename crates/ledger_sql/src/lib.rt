@@ -9,7 +9,6 @@ mod entry_cells;
 mod entry_sink;
 pub mod finding;
 pub mod listing;
-mod owned;
 mod query;
 mod read;
 pub mod setting;
@@ -20,5 +19,4 @@ pub mod upgrading;
 
 pub use entry_cells::EntryCells;
 pub use entry_sink::EntrySink;
-pub use owned::Owned;
 pub use table_fault::TableFault;

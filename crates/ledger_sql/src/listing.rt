@@ -1,17 +1,17 @@
-//! Tables read whole, in order of tenant and key, whatever version the file has.
+//! Tables read whole, whatever version the file has: those that say what the file holds, and one
+//! tenant's rows of each table that tenants share.
 
 ghost use Rattle.std.specs.Prelude.{map, string_bytes, IsPermutation};
 ghost use Rattle.ledger_sql.specs.Calls.{Lists};
-ghost use Rattle.ledger_sql.specs.Reading.{clock_cmp, account_cmp, transfer_cmp, balance_cmp, status_cmp, history_cmp, id_cmp, directory_cmp, ReadsTable, ReadsRows};
-ghost use Rattle.ledger_sql.specs.Schema.{after_schema, after_tenant, list_schema, balance_schema, ledger_schema, clock_tree, account_tree, transfer_tree, balance_tree, status_tree, history_tree, failed_tree};
-ghost use Rattle.ledger_sql.specs.TableRows.{version_rows, whole_table, directory_rows, clock_rows, account_rows, transfer_rows, balance_rows, status_rows, history_rows, failed_rows};
+ghost use Rattle.ledger_sql.specs.Reading.{clock_cmp, account_cmp, transfer_cmp, balance_cmp, status_cmp, history_cmp, id_cmp, directory_cmp, ReadsRows};
+ghost use Rattle.ledger_sql.specs.Schema.{after_schema, after_tenant, list_schema, balance_schema, ledger_schema};
+ghost use Rattle.ledger_sql.specs.TableRows.{version_rows, directory_rows, clock_rows, account_rows, transfer_rows, balance_rows, status_rows, history_rows, failed_rows};
 ghost use Rattle.ledger_sql.specs.Values.{version_values, clock_values, directory_values, account_values, transfer_values, balance_values, status_values, history_values, id_values};
 
-use crate::owned::Owned;
 use crate::query::all_rows;
 use crate::table_fault::TableFault;
 use rows::{AccountCells, BalanceCells, DirectoryRow, HistoryCells, StatusCells, TransferCells};
-use sqlite::{Alter, Connection};
+use sqlite::{Alter, Connection, params};
 use std::alloc::Global;
 
 /// The versions of the schema that a file names: one, where it is a ledger.
@@ -42,125 +42,125 @@ pub fn directory<S: Alter>(
     )
 }
 
-/// Every tenant's clock, as the file has it, in nanoseconds, in order of tenant.
+/// A tenant's clock, as the file has it, in nanoseconds: one, where the file is sound.
 pub fn list_clocks<S: Alter>(
     alloc: Global,
     conn: &mut Connection<S>,
-) -> Result<Vec<Owned<i64>>, TableFault>
-    ensures { Lists list_schema (λ trees read. ReadsTable clock_values clock_cmp
-        (whole_table clock_tree 0 1 trees) (λ tenant. clock_rows tenant trees) read.items)
-        S.Store conn.old conn.new result }
+    tenant: i64,
+) -> Result<Vec<i64>, TableFault>
+    ensures { Lists list_schema (λ trees read. ReadsRows clock_values clock_cmp
+        (clock_rows tenant trees) read.items) S.Store conn.old conn.new result }
 {
     all_rows(
         alloc,
         conn,
-        "SELECT tenant, clock FROM clock ORDER BY tenant",
-        &[],
+        "SELECT clock FROM clock WHERE tenant = ?1",
+        params![tenant],
     )
 }
 
-/// Every tenant's accounts, in order of tenant and id.
+/// A tenant's accounts, in order of id.
 pub fn list_accounts<S: Alter>(
     alloc: Global,
     conn: &mut Connection<S>,
-) -> Result<Vec<Owned<AccountCells>>, TableFault>
-    ensures { Lists list_schema (λ trees read. ReadsTable account_values account_cmp
-        (whole_table account_tree 1 8 trees) (λ tenant. account_rows tenant trees) read.items)
-        S.Store conn.old conn.new result }
+    tenant: i64,
+) -> Result<Vec<AccountCells>, TableFault>
+    ensures { Lists list_schema (λ trees read. ReadsRows account_values account_cmp
+        (account_rows tenant trees) read.items) S.Store conn.old conn.new result }
 {
     all_rows(
         alloc,
         conn,
-        "SELECT tenant, id, user_data_128, user_data_64, user_data_32, ledger, code, flags, \
-                timestamp FROM account ORDER BY tenant, id",
-        &[],
+        "SELECT id, user_data_128, user_data_64, user_data_32, ledger, code, flags, timestamp \
+            FROM account WHERE tenant = ?1 ORDER BY id",
+        params![tenant],
     )
 }
 
-/// Every tenant's transfers, in order of tenant and id.
+/// A tenant's transfers, in order of id.
 pub fn list_transfers<S: Alter>(
     alloc: Global,
     conn: &mut Connection<S>,
-) -> Result<Vec<Owned<TransferCells>>, TableFault>
-    ensures { Lists list_schema (λ trees read. ReadsTable transfer_values transfer_cmp
-        (whole_table transfer_tree 1 14 trees) (λ tenant. transfer_rows tenant trees) read.items)
-        S.Store conn.old conn.new result }
+    tenant: i64,
+) -> Result<Vec<TransferCells>, TableFault>
+    ensures { Lists list_schema (λ trees read. ReadsRows transfer_values transfer_cmp
+        (transfer_rows tenant trees) read.items) S.Store conn.old conn.new result }
 {
     all_rows(
         alloc,
         conn,
-        "SELECT tenant, id, debit, credit, amount, pending_id, user_data_128, user_data_64, \
-                user_data_32, timeout, ledger, code, flags, timestamp, at_clock FROM transfer \
-                ORDER BY tenant, id",
-        &[],
+        "SELECT id, debit, credit, amount, pending_id, user_data_128, user_data_64, \
+            user_data_32, timeout, ledger, code, flags, timestamp, at_clock FROM transfer \
+            WHERE tenant = ?1 ORDER BY id",
+        params![tenant],
     )
 }
 
-/// Every tenant's balances, in order of tenant and account.
+/// A tenant's balances, in order of account.
 pub fn list_balances<S: Alter>(
     alloc: Global,
     conn: &mut Connection<S>,
-) -> Result<Vec<Owned<BalanceCells>>, TableFault>
-    ensures { Lists balance_schema (λ trees read. ReadsTable balance_values balance_cmp
-        (whole_table balance_tree 1 5 trees) (λ tenant. balance_rows tenant trees) read.items)
-        S.Store conn.old conn.new result }
+    tenant: i64,
+) -> Result<Vec<BalanceCells>, TableFault>
+    ensures { Lists balance_schema (λ trees read. ReadsRows balance_values balance_cmp
+        (balance_rows tenant trees) read.items) S.Store conn.old conn.new result }
 {
     all_rows(
         alloc,
         conn,
-        "SELECT tenant, account, dp, dd, cp, cc FROM balance ORDER BY tenant, account",
-        &[],
+        "SELECT account, dp, dd, cp, cc FROM balance WHERE tenant = ?1 ORDER BY account",
+        params![tenant],
     )
 }
 
-/// What has become of every tenant's pending transfers, in order of tenant and id.
+/// What has become of a tenant's pending transfers, in order of id.
 pub fn list_statuses<S: Alter>(
     alloc: Global,
     conn: &mut Connection<S>,
-) -> Result<Vec<Owned<StatusCells>>, TableFault>
-    ensures { Lists balance_schema (λ trees read. ReadsTable status_values status_cmp
-        (whole_table status_tree 1 3 trees) (λ tenant. status_rows tenant trees) read.items)
-        S.Store conn.old conn.new result }
+    tenant: i64,
+) -> Result<Vec<StatusCells>, TableFault>
+    ensures { Lists balance_schema (λ trees read. ReadsRows status_values status_cmp
+        (status_rows tenant trees) read.items) S.Store conn.old conn.new result }
 {
     all_rows(
         alloc,
         conn,
-        "SELECT tenant, transfer, state, due FROM status ORDER BY tenant, transfer",
-        &[],
+        "SELECT transfer, state, due FROM status WHERE tenant = ?1 ORDER BY transfer",
+        params![tenant],
     )
 }
 
-/// Every tenant's history, in order of tenant, account and timestamp.
+/// A tenant's history, in order of account and timestamp.
 pub fn list_history<S: Alter>(
     alloc: Global,
     conn: &mut Connection<S>,
-) -> Result<Vec<Owned<HistoryCells>>, TableFault>
-    ensures { Lists balance_schema (λ trees read. ReadsTable history_values history_cmp
-        (whole_table history_tree 1 6 trees) (λ tenant. history_rows tenant trees) read.items)
-        S.Store conn.old conn.new result }
+    tenant: i64,
+) -> Result<Vec<HistoryCells>, TableFault>
+    ensures { Lists balance_schema (λ trees read. ReadsRows history_values history_cmp
+        (history_rows tenant trees) read.items) S.Store conn.old conn.new result }
 {
     all_rows(
         alloc,
         conn,
-        "SELECT tenant, account, timestamp, dp, dd, cp, cc FROM history ORDER BY tenant, \
-                account, timestamp",
-        &[],
+        "SELECT account, timestamp, dp, dd, cp, cc FROM history WHERE tenant = ?1 \
+            ORDER BY account, timestamp",
+        params![tenant],
     )
 }
 
-/// The ids of every tenant's failed transfers, in order of tenant and id.
+/// The ids of a tenant's failed transfers, in order.
 pub fn list_failed<S: Alter>(
     alloc: Global,
     conn: &mut Connection<S>,
-) -> Result<Vec<Owned<[u8; 16]>>, TableFault>
-    ensures { Lists ledger_schema (λ trees read. ReadsTable id_values id_cmp
-        (whole_table failed_tree 1 1 trees) (λ tenant. failed_rows tenant trees) read.items)
-        S.Store conn.old conn.new result }
+    tenant: i64,
+) -> Result<Vec<[u8; 16]>, TableFault>
+    ensures { Lists ledger_schema (λ trees read. ReadsRows id_values id_cmp
+        (failed_rows tenant trees) read.items) S.Store conn.old conn.new result }
 {
     all_rows(
         alloc,
         conn,
-        "SELECT tenant, id FROM failed ORDER BY tenant, id",
-        &[],
+        "SELECT id FROM failed WHERE tenant = ?1 ORDER BY id",
+        params![tenant],
     )
 }

@@ -10,7 +10,6 @@ mod directory;
 mod entry;
 mod history;
 mod numbers;
-mod owned;
 mod status;
 mod transfer;
 

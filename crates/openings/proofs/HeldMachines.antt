@@ -26,9 +26,8 @@ use Rattle.stored_tables.specs.Holds.{HoldsMachine}
 use Rattle.stored_ledgers.specs.Directory.{number_of}
 use Rattle.stored_ledgers.specs.DueSets.{DueSet, due_cmp, CoversMachine}
 use Rattle.openings.specs.Opened.{CoversCells}
-use Rattle.openings.specs.Whole.{AreAllRows, lists_in, lists_for}
-use Rattle.openings.specs.Tables.{ReadsWhole, own_lists}
-use Rattle.openings.specs.declared.tables.WholeTables.{WholeTables}
+use Rattle.openings.specs.Whole.{AreAllRows}
+use Rattle.openings.specs.Tables.{AreTenantRows}
 use Rattle.stored_ledgers.specs.DirectoryLaws.{found_row, all_among}
 
 -- a list with the elements of a list of one
@@ -51,51 +50,49 @@ table_held cells values xs typed own rows same are reads =
     (subst (λ zs. IsPermutation zs rows) (map-map values cells typed)
     (subst (λ zs. IsPermutation (map values zs) rows) (sym are) (IsPermutation-sym rows (map values own) reads)))
 
-module _ (number : ℤ) (trees : Trees) (tables : WholeTables) (whole : ReadsWhole 3 trees tables)
-    (sound : AreSound 3 (own_lists tables number)) where
+module _ (number : ℤ) (trees : Trees) (own : FileRows) (read : AreTenantRows 3 number trees own)
+    (sound : AreSound 3 own) where
   abbrev told : Machine
   told = sound.0
 
   clock_held : clock_rows number trees ≡ clock_values (pos (rows_for 3 told).clock) ∷ []
   clock_held =
-      let own = ap (λ (rows : FileRows). rows.clocks) sound.2.cells in
+      let clocks = ap (λ (rows : FileRows). rows.clocks) sound.2.cells in
       only_one (clock_rows number trees) (clock_values (pos sound.2.typed.clock))
-      (subst (λ cs. IsPermutation (clock_rows number trees) (map clock_values cs)) (sym own)
-      (whole.entries.clocks.each number))
+      (subst (λ cs. IsPermutation (clock_rows number trees) (map clock_values cs)) (sym clocks) read.clocks.all)
       ∙ ap (λ clock. clock_values (pos clock) ∷ []) (sym sound.2.same.clock)
 
   -- the database holds the machine that the tenant's rows tell
   pub machine_held : HoldsMachine number told trees
   machine_held =
-      let derived = whole.derived.there (omega arith) in
       let same = sound.2.same in
       let cells = sound.2.cells in record {
         valid = sound.1;
         rows = record {
           clock = clock_held;
           accounts = table_held account_cells account_values _ _ _ _ same.accounts
-              (ap (λ (rows : FileRows). rows.accounts) cells) (whole.entries.accounts.each number);
+              (ap (λ (rows : FileRows). rows.accounts) cells) read.accounts.all;
           transfers = table_held transfer_cells transfer_values _ _ _ _ same.transfers
-              (ap (λ (rows : FileRows). rows.transfers) cells) (whole.entries.transfers.each number);
+              (ap (λ (rows : FileRows). rows.transfers) cells) read.transfers.all;
           balances = table_held balance_cells balance_values _ _ _ _ same.balances
-              (ap (λ (rows : FileRows). rows.balances) cells) (derived.balances.each number);
+              (ap (λ (rows : FileRows). rows.balances) cells) (read.balances.there (omega arith)).all;
           statuses = table_held status_cells status_values _ _ _ _ same.statuses
-              (ap (λ (rows : FileRows). rows.statuses) cells) (derived.statuses.each number);
+              (ap (λ (rows : FileRows). rows.statuses) cells) (read.statuses.there (omega arith)).all;
           history = table_held history_cells history_values _ _ _ _ same.history
-              (ap (λ (rows : FileRows). rows.history) cells) (derived.history.each number);
+              (ap (λ (rows : FileRows). rows.history) cells) (read.history.there (omega arith)).all;
           failed = table_held column_of id_values _ _ _ _ same.failed
-              (ap (λ (rows : FileRows). rows.failed) cells) ((whole.failed.there (omega arith)).each number);
+              (ap (λ (rows : FileRows). rows.failed) cells) (read.failed.there (omega arith)).all;
         };
       }
 
   -- and a set that was made of its statuses covers it
   pub machine_covered : (set : DueSet) → AreStorable (rows_for 3 told)
-      → All (CoversCells set) (own_lists tables number).statuses → CoversMachine set told
+      → All (CoversCells set) own.statuses → CoversMachine set told
   machine_covered set fits covers =
       let typed = sound.2.typed.statuses in
-      let own = ap (λ (rows : FileRows). rows.statuses) sound.2.cells in
+      let statuses = ap (λ (rows : FileRows). rows.statuses) sound.2.cells in
       let each = all_from_map (CoversCells set) status_cells typed
-      (subst (AllByRecursion (CoversCells set)) (sym own) (recursion_from_All (CoversCells set) _ covers)) in
+      (subst (AllByRecursion (CoversCells set)) (sym statuses) (recursion_from_All (CoversCells set) _ covers)) in
       let widths = all-permutation IsStorableStatus (rows_for 3 told).statuses typed sound.2.same.statuses
       (recursion_from_All IsStorableStatus _ fits.statuses) in
       let there = all_both (λ row. CoversCells set (status_cells row)) IsStorableStatus (IsCovered (contains due_cmp set))
@@ -106,8 +103,7 @@ module _ (number : ℤ) (trees : Trees) (tables : WholeTables) (whole : ReadsWho
             (IsPermutation-sym (rows_for 3 told).statuses typed sound.2.same.statuses) there);
       }
 
-module _ (trees : Trees) (all : AllRows) (read : AreAllRows 3 trees all)
-    (sound : All (λ tenant. AreSound 3 (lists_of tenant.rows)) all.tenants.items) where
+module _ (trees : Trees) (all : AllRows) (read : AreAllRows 3 trees all) where
   abbrev values : DirectoryRow → Row
   values row = directory_values row.number (string_bytes row.name) row.digest
 
@@ -132,11 +128,3 @@ module _ (trees : Trees) (all : AllRows) (read : AreAllRows 3 trees all)
       let found = found_row digest number trees is in
       all_among (λ row. (number : ℤ) → column row 0 ≡ Int number → P number) (directory_rows trees) found.row
       (of_numbers P each) found.among number found.has_number
-
-  -- the rows of each number in the directory are those of a machine
-  pub all_sound : AllByRecursion (λ row. AreSound 3 (own_lists read.tables row.number)) all.directory.items
-  all_sound =
-      all_from_map (λ (own : List ℕ × FileRows). AreSound 3 own.1) (lists_for read.tables) all.directory.items
-      (subst (AllByRecursion (λ (own : List ℕ × FileRows). AreSound 3 own.1)) read.tenants
-      (recursion_from_All (λ (own : List ℕ × FileRows). AreSound 3 own.1) _
-      (All-map (λ (own : List ℕ × FileRows). AreSound 3 own.1) lists_in all.tenants.items sound)))

@@ -1,5 +1,4 @@
 mod ReadLemmas
-mod PartLemmas
 mod FileLemmas
 mod EmptyLemmas
 mod WholeLemmas

@@ -1,5 +1,7 @@
 -- A database that was examined holds ledgers.
-use Rattle.std.proofs.Common.{◌≡◌, ℕ, zero, suc, inl, inr, ℤ, All, List, [], ◌∷◌, map, Some, refl, sym, ap, subst, ◌∙◌}
+use Rattle.std.proofs.Common.{◌≡◌, ℕ, zero, suc, inl, inr, ℤ, List, [], ◌∷◌, Some, refl, sym, ap, subst, ◌∙◌}
+use Rattle.std.specs.List.{AllByRecursion, AllZip}
+use Rattle.std.proofs.lemmas.List.Elements.{recursion_from_All}
 use Rattle.std.specs.Prelude.{slice_get}
 use Rattle.records.specs.Machine.{Machine}
 use Rattle.records.specs.Valid.{IsValid}
@@ -21,24 +23,28 @@ use Rattle.stored_ledgers.specs.DueSets.{DueSets, CoversMachine, AreCovered}
 use Rattle.openings.specs.Found.{HasOrderedTables}
 use Rattle.stored_ledgers.specs.Ledger.{HoldsLedgers}
 use Rattle.openings.specs.Opened.{CoversCells, IsKept, IsExamined}
-use Rattle.openings.specs.Whole.{lists_in, lists_for}
-use Rattle.openings.specs.Tables.{own_lists}
-use Rattle.openings.proofs.HeldMachines.{machine_held, machine_covered, of_tenant, all_sound}
+use Rattle.openings.specs.Whole.{IsReadFor}
+use Rattle.openings.specs.Tables.{AreTenantRows}
+use Rattle.openings.proofs.HeldMachines.{machine_held, machine_covered, of_tenant}
 use Rattle.openings.proofs.RuledRows.{are_numbered, are_distinct, no_rows_of}
 
--- the element of the first list at a place that the second has
-same_place : {X Y Z : Type 0} (f : X → Z) (g : Y → Z) (xs : List X) (ys : List Y) (k : ℕ) (y : Y)
-    → map f xs ≡ map g ys → slice_get ys k ≡ Some y → (x : X) × (slice_get xs k ≡ Some x) × (f x ≡ g y)
-same_place f g [] [] k y same is = absurd (cc)
-same_place f g (x ∷ xs) [] k y same is = absurd (cc)
-same_place f g [] (z ∷ ys) k y same is = absurd (cc)
-same_place f g (x ∷ xs) (z ∷ ys) zero y same is =
-    let here : z ≡ y = cc in
-    let first : f x ≡ g z = cc in
-    (x, refl, first ∙ ap g here)
-same_place f g (x ∷ xs) (z ∷ ys) (suc k) y same is =
-    let rest : map f xs ≡ map g ys = cc in
-    same_place f g xs ys k y rest is
+-- the element of the second list at a place that the first has
+same_place : {X Y : Type 0} (R : X → Y → Type 0) (xs : List X) (ys : List Y) (k : ℕ) (x : X)
+    → AllZip R xs ys → slice_get xs k ≡ Some x → (y : Y) × (slice_get ys k ≡ Some y) × R x y
+same_place R [] [] k x those is = absurd (cc)
+same_place R [] (y ∷ ys) k x those is = absurd those
+same_place R (z ∷ xs) [] k x those is = absurd those
+same_place R (z ∷ xs) (y ∷ ys) zero x those is =
+    let here : z ≡ x = cc in (y, refl, subst (λ w. R w y) here those.0)
+same_place R (z ∷ xs) (y ∷ ys) (suc k) x those is = same_place R xs ys k x those.1 is
+
+-- what holds of each element does so at a place
+at_place : {X : Type 0} (P : X → Type 0) (xs : List X) (k : ℕ) (x : X) → AllByRecursion P xs
+    → slice_get xs k ≡ Some x → P x
+at_place P [] k x each is = absurd (cc)
+at_place P (y ∷ xs) zero x each is =
+    let here : y ≡ x = cc in subst P here each.0
+at_place P (y ∷ xs) (suc k) x each is = at_place P xs k x each.1 is
 
 place_of : {X : Type 0} (xs : List X) (x : X) → Has xs x → (k : ℕ) × (slice_get xs k ≡ Some x)
 place_of [] x here = absurd here
@@ -56,26 +62,41 @@ RowsTell =
 
 module _ (sets : DueSets) (db : Database) (sound : IsSound db.schema db.trees) (ordered : HasOrderedTables db)
     (examined : IsExamined sets db) (fit : RowsFit) (tell : RowsTell) where
-  abbrev own : ℤ → FileRows
-  own number = own_lists examined.read.tables number
+  abbrev Kept : ℤ → Type 0
+  Kept = IsKept sets examined.all.directory.items examined.all.tenants.items
 
-  sound_at : (digest : List ℕ) (number : ℤ) → number_of digest db.trees ≡ Some number → AreSound 3 (own number)
-  sound_at =
-      of_tenant db.trees examined.all examined.read examined.sound (λ number. AreSound 3 (own number))
-      (all_sound db.trees examined.all examined.read examined.sound)
-
-  kept_at : (digest : List ℕ) (number : ℤ) → number_of digest db.trees ≡ Some number
-      → IsKept sets examined.all.directory.items examined.all.tenants.items number
+  kept_at : (digest : List ℕ) (number : ℤ) → number_of digest db.trees ≡ Some number → Kept number
   kept_at =
-      of_tenant db.trees examined.all examined.read examined.sound
-      (IsKept sets examined.all.directory.items examined.all.tenants.items)
-      (all_from (λ (row : DirectoryRow). IsKept sets examined.all.directory.items examined.all.tenants.items row.number)
-      examined.all.directory.items
+      of_tenant db.trees examined.all examined.read Kept
+      (all_from (λ (row : DirectoryRow). Kept row.number) examined.all.directory.items
       (λ row here.
       let place = place_of examined.all.directory.items row here in
-      let tenant = same_place lists_in (lists_for examined.read.tables) examined.all.tenants.items
-      examined.all.directory.items place.0 row examined.read.tenants place.1 in
+      let tenant = same_place (IsReadFor 3 db.trees) examined.all.directory.items examined.all.tenants.items place.0
+      row examined.read.tenants place.1 in
       examined.kept place.0 row tenant.0 place.1 tenant.1))
+
+  module _ (number : ℤ) (kept : Kept number) where
+    abbrev own : FileRows
+    own = lists_of kept.tenant.rows
+
+    own_read : AreTenantRows 3 number db.trees own
+    own_read =
+        let tenant = same_place (IsReadFor 3 db.trees) examined.all.directory.items examined.all.tenants.items
+        kept.place kept.row examined.read.tenants kept.row_is in
+        let same : tenant.0 ≡ kept.tenant = some_same _ _ (sym tenant.1 ∙ kept.tenant_is) in
+        subst (λ n. AreTenantRows 3 n db.trees own) kept.numbered
+        (subst (λ (t : TenantOfDigest). AreTenantRows 3 kept.row.number db.trees (lists_of t.rows)) same tenant.2.rows)
+      where
+        some_same : (a b : TenantOfDigest) → Some a ≡ Some b → a ≡ b
+        some_same a b e = cc
+
+    own_sound : AreSound 3 own
+    own_sound =
+        at_place (λ (t : TenantOfDigest). AreSound 3 (lists_of t.rows)) examined.all.tenants.items kept.place kept.tenant
+        (recursion_from_All (λ (t : TenantOfDigest). AreSound 3 (lists_of t.rows)) _ examined.sound) kept.tenant_is
+
+    own_held : HoldsMachine number own_sound.0 db.trees
+    own_held = machine_held number db.trees own own_read own_sound
 
   -- the database holds ledgers
   pub examined_holds : HoldsLedgers db
@@ -85,7 +106,7 @@ module _ (sets : DueSets) (db : Database) (sound : IsSound db.schema db.trees) (
     numbered = are_numbered db.schema db.trees examined.ledger sound ordered;
     distinct = are_distinct db.schema db.trees examined.ledger sound ordered;
     machines = λ digest number is.
-        let held = machine_held number db.trees examined.read.tables examined.read.whole (sound_at digest number is) in
+        let held = own_held number (kept_at digest number is) in
         subst (λ m. HoldsMachine number m db.trees) (sym (tell number _ db.trees held)) held;
     owned = no_rows_of db.schema db.trees examined.ledger sound ordered;
   }
@@ -93,19 +114,8 @@ module _ (sets : DueSets) (db : Database) (sound : IsSound db.schema db.trees) (
   -- which the sets cover
   pub examined_covered : AreCovered sets db.trees
   examined_covered digest number is =
-      let rows = sound_at digest number is in
       let kept = kept_at digest number is in
-      let held = machine_held number db.trees examined.read.tables examined.read.whole rows in
-      let tenant = same_place lists_in (lists_for examined.read.tables) examined.all.tenants.items
-      examined.all.directory.items kept.place kept.row examined.read.tenants kept.row_is in
-      let same : tenant.0 ≡ kept.tenant = some_same _ _ (sym tenant.1 ∙ kept.tenant_is) in
-      let lists : lists_of kept.tenant.rows ≡ own number =
-      ap (λ (t : TenantOfDigest). lists_of t.rows) (sym same)
-      ∙ ap (λ (p : List ℕ × FileRows). p.1) tenant.2 ∙ ap own kept.numbered in
-      let covers = machine_covered number db.trees examined.read.tables examined.read.whole rows kept.set
-      (fit 3 rows.0 rows.1)
-      (subst (λ (all : FileRows). All (CoversCells kept.set) all.statuses) lists kept.covers) in
-      (kept.set, kept.found, subst (CoversMachine kept.set) (sym (tell number rows.0 db.trees held)) covers)
-    where
-      some_same : (a b : TenantOfDigest) → Some a ≡ Some b → a ≡ b
-      some_same a b e = cc
+      let rows = own_sound number kept in
+      let covers = machine_covered number db.trees (own number kept) (own_read number kept) rows kept.set
+      (fit 3 rows.0 rows.1) kept.covers in
+      (kept.set, kept.found, subst (CoversMachine kept.set) (sym (tell number rows.0 db.trees (own_held number kept))) covers)

@@ -1,6 +1,8 @@
--- What a walk over the directory makes of the tables.
-use Rattle.std.proofs.Common.{◌≡◌, ℕ, ◌+◌, ◌<◌, List, [], ◌∷◌, ◌++◌, map, take, drop, length, get_or, sym, ap, ◌∙◌}
-use Rattle.std.proofs.lemmas.List.{take_more, map-append}
+-- A walk over the directory, and the tables that it needs.
+use Rattle.std.proofs.Common.{◌≡◌, ℕ, ◌+◌, ◌<◌, List, [], ◌∷◌, ◌++◌, take, drop, length, get_or, sym, ap, ◌∙◌}
+use Rattle.std.specs.List.{AllZip}
+use Rattle.std.proofs.lemmas.List.{take_more}
+use Rattle.std.proofs.lemmas.Slice.Zip.{all_zipped_more}
 use Rattle.sqlite_schema.specs.declared.schema.Schema.{Schema}
 use Rattle.sqlite.specs.State.{State}
 use Rattle.ledger_sql.specs.Effects.{StartsAs, IsLedger}
@@ -9,14 +11,13 @@ use Rattle.stored_ledgers.specs.Resting.{HoldsHere}
 use Rattle.openings.specs.Whole.{CanBeRead}
 use Rattle.openings.specs.Tables.{HasTables}
 
--- the next pair of two lists that agree so far
-pub paired_more : {X Y Z : Type 0} (f : X → Z) (g : Y → Z) (xs ys : List X) (zs : List Y) (i : ℕ) (x : X) (z : Y)
-    → ys ≡ xs ++ x ∷ [] → map f xs ≡ map g (take i zs) → i < length zs → z ≡ get_or zs i z → f x ≡ g z
-    → map f ys ≡ map g (take (i + 1) zs)
-paired_more {X} {Y} {Z} f g xs ys zs i x z pushed so_far within is same =
-    ap (map f) pushed ∙ map-append f xs (x ∷ []) ∙ ap (λ (p : List Z). p ++ f x ∷ []) so_far
-    ∙ ap (λ (q : Z). map g (take i zs) ++ q ∷ []) same ∙ sym (map-append g (take i zs) (z ∷ []))
-    ∙ ap (map g) (ap (λ (y : Y). take i zs ++ y ∷ []) is ∙ sym (take_more zs i z within))
+-- the next pair of two lists, place by place
+pub zipped_on : {X Y : Type 0} (R : X → Y → Type 0) (xs : List X) (ys more : List Y) (i : ℕ) (x : X) (y : Y)
+    → i < length xs → x ≡ get_or xs i x → more ≡ ys ++ y ∷ [] → AllZip R (take i xs) ys → R x y
+    → AllZip R (take (i + 1) xs) more
+zipped_on {X} R xs ys more i x y below at grown those is =
+    rw (take_more xs i x below ∙ ap (λ (r : X). take i xs ++ r ∷ []) (sym at), grown)
+    (all_zipped_more R (take i xs) ys x y those is)
 
 -- a ledger has the tables of every version
 pub has_tables : (version : ℕ) (schema : Schema) → IsLedger schema → HasTables version schema

@@ -1,5 +1,4 @@
 pub mod Tables
-pub mod TablesLaws
 pub mod Whole
 pub mod Shape
 pub mod Found

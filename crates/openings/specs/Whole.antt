@@ -1,10 +1,11 @@
 -- All rows of a database, table by table and tenant by tenant.
-use Rattle.std.specs.Prelude.{◌≡◌, ℕ, ℤ, List, map, string_bytes, IsTrue, Option, Some, None}
+use Rattle.std.specs.Prelude.{◌≡◌, ℕ, ℤ, List, string_bytes, IsTrue, Option, Some, None}
+use Rattle.std.specs.List.{AllZip}
 use Rattle.rows.specs.declared.all_rows.AllRows.{AllRows}
 use Rattle.rows.specs.declared.all_rows.DirectoryRow.{DirectoryRow}
 use Rattle.rows.specs.declared.all_rows.TenantOfDigest.{TenantOfDigest}
 use Rattle.rows.specs.declared.tenant_rows.TenantRows.{TenantRows}
-use Rattle.rows.specs.TypedRows.{FileRows, lists_of}
+use Rattle.rows.specs.TypedRows.{lists_of}
 use Rattle.sqlite.specs.State.{State, HasCleanDisk}
 use Rattle.sqlite_trees.specs.Tree.{Trees}
 use Rattle.ledger_sql.specs.Reading.{ReadsRows}
@@ -13,16 +14,13 @@ use Rattle.ledger_sql.specs.TableRows.{directory_rows}
 use Rattle.ledger_sql.specs.Values.{directory_values}
 use Rattle.stored_ledgers.specs.Directory.{number_of}
 use Rattle.stored_ledgers.specs.Resting.{IsQuiet}
-use Rattle.openings.specs.declared.tables.WholeTables.{WholeTables}
-use Rattle.openings.specs.Tables.{HasTables, ReadsWhole, own_lists}
+use Rattle.openings.specs.Tables.{HasTables, AreTenantRows}
 
--- the rows of a tenant with its digest
-abbrev pub lists_in : TenantOfDigest → List ℕ × FileRows
-lists_in tenant = (tenant.digest, lists_of tenant.rows)
-
--- the same of the tenant in a row of the directory
-abbrev pub lists_for : WholeTables → DirectoryRow → List ℕ × FileRows
-lists_for tables row = (row.digest, own_lists tables row.number)
+-- a tenant's rows were read for this row of the directory, which has its digest and its number
+pub record IsReadFor (version : ℕ) (trees : Trees) (row : DirectoryRow) (tenant : TenantOfDigest)
+    : Type 0 where
+  pub digest : tenant.digest ≡ row.digest
+  pub rows : AreTenantRows version row.number trees (lists_of tenant.rows)
 
 -- all rows of a database in this version: the directory, and each tenant's rows at its place there,
 -- all in order of key
@@ -30,22 +28,14 @@ pub record AreAllRows (version : ℕ) (trees : Trees) (all : AllRows) : Type 0 w
   pub version_is : all.version ≡ version
   pub directory : ReadsRows (λ row. directory_values row.number (string_bytes row.name) row.digest)
       directory_cmp (directory_rows trees) all.directory.items
-  pub tables : WholeTables
-  pub whole : ReadsWhole version trees tables
-  pub tenants : map lists_in all.tenants.items ≡ map (lists_for tables) all.directory.items
-
--- a tenant's rows of each table of this version, all in order of key
-pub record AreTenantRows (version : ℕ) (number : ℤ) (trees : Trees) (rows : TenantRows)
-    : Type 0 where
-  pub tables : WholeTables
-  pub whole : ReadsWhole version trees tables
-  pub own : lists_of rows ≡ own_lists tables number
+  pub tenants : AllZip (IsReadFor version trees) all.directory.items all.tenants.items
 
 -- the rows of the tenant with this digest, if there is one
 abbrev pub AreRowsOf : ℕ → List ℕ → Trees → Option TenantRows → Type 0
 AreRowsOf version digest trees None = number_of digest trees ≡ None
 AreRowsOf version digest trees (Some rows) =
-    (number : ℤ) × (number_of digest trees ≡ Some number) × AreTenantRows version number trees rows
+    (number : ℤ) × (number_of digest trees ≡ Some number)
+    × AreTenantRows version number trees (lists_of rows)
 
 -- as long as the disk was honest it is open and quiet, over the tables of this version
 abbrev pub CanBeRead : ℕ → State → Type 0

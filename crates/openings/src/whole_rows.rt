@@ -1,15 +1,16 @@
 //! All rows of a database, tenant by tenant, as the file has them.
 
-ghost use Rattle.std.specs.Prelude.{◌≡◌, ◌≢◌, Err, map, IfOk, OnOk, IsTrue};
+ghost use Rattle.std.specs.Prelude.{◌≢◌, ◌≡◌, Err, IfOk, OnOk, IsTrue};
+ghost use Rattle.std.specs.List.{AllZip};
 ghost use Rattle.sqlite.specs.State.{HasCleanDisk, IsUnchanged};
 ghost use Rattle.sqlite.specs.Held.{state};
 ghost use Rattle.ledger_sql.specs.Frames.{Live, Follows};
 ghost use Rattle.stored_ledgers.specs.Resting.{IsQuiet, IsSame, HoldsHere};
 ghost use Rattle.records.specs.declared.unavailable.Unavailable.TheVariants.{Disk};
-ghost use Rattle.openings.specs.Whole.{CanBeRead, AreRowsOf, AreAllRows, lists_in, lists_for};
-ghost use Rattle.openings.specs.Tables.{HasTables, AreInOrder};
+ghost use Rattle.openings.specs.Whole.{CanBeRead, AreRowsOf, AreAllRows, IsReadFor};
+ghost use Rattle.openings.specs.Tables.{HasTables};
 
-use crate::tables::{WholeTables, own_tables, read_tables};
+use crate::tables::read_tenant;
 use ledger_sql::TableFault;
 use ledger_sql::finding::find_tenant;
 use ledger_sql::listing::directory;
@@ -115,8 +116,7 @@ fn try_rows_of<S: Alter>(
     let Some(number) = find_tenant(conn, digest)? else {
         return Ok(None);
     };
-    let tables = read_tables(alloc, conn, version)?;
-    Ok(Some(own_tables(alloc, &tables, number)?))
+    Ok(Some(read_tenant(alloc, conn, version, number)?))
 }
 
 /// All rows of a file of this version, or that it lacks a table.
@@ -136,8 +136,7 @@ pub fn read_all<S: Alter>(
     ensures follows { Follows (state S.Store conn.old) (state S.Store conn.new) }
 {
     let directory = directory(alloc, conn)?;
-    let tables = read_tables(alloc, conn, version)?;
-    let tenants = by_tenant(alloc, &tables, &directory)?;
+    let tenants = read_tenants(alloc, conn, version, &directory)?;
     Ok(AllRows {
         version,
         directory,
@@ -145,18 +144,28 @@ pub fn read_all<S: Alter>(
     })
 }
 
-/// Each tenant's rows, in the order of the directory.
-fn by_tenant(
+/// The rows of the tenants in these rows of the directory, one after the other.
+fn read_tenants<S: Alter>(
     alloc: Global,
-    tables: &WholeTables,
+    conn: &mut Connection<S>,
+    version: u32,
     directory: &[DirectoryRow],
-) -> Result<Vec<TenantOfDigest>, Unavailable>
-    ensures { AreInOrder tables.now → IfOk result (λ tenants.
-        map lists_in tenants.items ≡ map (lists_for tables.now) directory.now) }
+) -> Result<Vec<TenantOfDigest>, TableFault>
+    ensures whole { HasCleanDisk (state S.Store conn.new)
+        → HasTables version (state S.Store conn.old).now.schema
+        → IfOk result (λ tenants.
+        AllZip (IsReadFor version (state S.Store conn.old).now.trees) directory.now
+        tenants.items) }
+    ensures kept { HasCleanDisk (state S.Store conn.new)
+        → IsTrue (state S.Store conn.old).is_open → OnOk result
+        (IsUnchanged (state S.Store conn.old) (state S.Store conn.new)) }
+    ensures same { Live (state S.Store conn.new) → IsQuiet (state S.Store conn.old)
+        → IsSame (state S.Store conn.old) (state S.Store conn.new) }
+    ensures follows { Follows (state S.Store conn.old) (state S.Store conn.new) }
 {
     let mut tenants = Vec::new(alloc);
     for row in directory {
-        let rows = own_tables(alloc, tables, row.number)?;
+        let rows = read_tenant(alloc, conn, version, row.number)?;
         tenants.push(TenantOfDigest {
             digest: row.digest,
             rows,

@@ -147,27 +147,7 @@ module _ (trees : Trees) where
     order = order;
   }
 
--- a connection that changed nothing
-pub unchanged : (s : State) → IsTrue s.is_open → IsUnchanged s s
-unchanged s is_open = (
-  record { was_open = is_open; is_open = is_open; now_is = refl; committed_is = refl; mode = refl },
-  record { changes = refl; last_rowid = refl },
-  refl,
-)
-
-pub unchanged_then : (a b c : State) → IsUnchanged a b → IsUnchanged b c → IsUnchanged a c
-unchanged_then a b c f g = (
-  record {
-    was_open = f.0.was_open;
-    is_open = g.0.is_open;
-    now_is = g.0.now_is ∙ f.0.now_is;
-    committed_is = g.0.committed_is ∙ f.0.committed_is;
-    mode = g.0.mode ∙ f.0.mode;
-  },
-  record { changes = g.1.changes ∙ f.1.changes; last_rowid = g.1.last_rowid ∙ f.1.last_rowid },
-  g.2 ∙ f.2,
-)
-
+-- a connection that only read
 pub still_same : (a b : State) → IsUnchanged a b → IsQuiet a → IsSame a b
 still_same a b same quiet = record {
   now = same.0.now_is;

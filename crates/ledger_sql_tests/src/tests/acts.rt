@@ -76,16 +76,17 @@ pub enum Call {
     Fill(Filled),
 }
 
+/// What is read whole: what says what a file holds, or the rows of the tenant with this number.
 pub enum Table {
     Versions,
     Directory,
-    Clocks,
-    Accounts,
-    Transfers,
-    Balances,
-    Statuses,
-    Histories,
-    FailedIds,
+    Clocks(i64),
+    Accounts(i64),
+    Transfers(i64),
+    Balances(i64),
+    Statuses(i64),
+    Histories(i64),
+    FailedIds(i64),
 }
 
 /// Which entries of an account are asked for, and in which order.
@@ -125,9 +126,9 @@ pub enum Act {
     Names(&'static [(&'static str, Option<i64>)]),
     /// Each text of SQL answers a number.
     Counts(&'static [(&'static str, i64)]),
-    /// All rows of a table, in this order: each tenant's number, and the last byte of the key.
-    Lists(Table, &'static [(i64, u8)]),
-    /// The cells of the base's account 3, when all accounts are read.
+    /// All these rows, in this order: the last byte of each one's key.
+    Lists(Table, &'static [u8]),
+    /// The cells of the base's account 3, when all accounts of its tenant are read.
     ListsCells,
     /// All entries that are asked for.
     Entries(Asked, Told),

@@ -6,6 +6,7 @@ use super::acts::Call::*;
 use super::acts::Change::*;
 use super::acts::Row::*;
 use super::acts::Stage::*;
+use super::acts::Table::*;
 use super::acts::Times::*;
 use super::acts::{Act, Spanned};
 use super::scenarios::{BASE, COMMIT, NONE, Scenario};
@@ -21,7 +22,8 @@ const OVER_FEW: &[Act] = &[Does(BASE), AddMany(100), Does(COMMIT)];
 
 const OVER_MANY: &[Act] = &[Does(BASE), AddMany(1000), Does(COMMIT)];
 
-/// Each text by a whole key takes few steps, and a scan is refused.
+/// Each text by a whole key takes few steps, as does one for all rows of a tenant that has few. A scan
+/// is refused.
 const BY_KEY: &[Act] = &[
     LimitSteps(8),
     Fails("SELECT count(*) FROM account WHERE code = 10"),
@@ -51,6 +53,13 @@ const BY_KEY: &[Act] = &[
     ]),
     FirstTwo(From(1, 0), (Some(6), Some(1000))),
     FirstTwo(Until(2, 1001), (Some(1001), Some(1000))),
+    Lists(Clocks(2), &[4]),
+    Lists(Accounts(2), &[]),
+    Lists(Transfers(2), &[]),
+    Lists(Balances(2), &[]),
+    Lists(Statuses(2), &[]),
+    Lists(Histories(2), &[]),
+    Lists(FailedIds(2), &[]),
 ];
 
 /// A page takes as many steps as it has entries, whatever the account has more.

@@ -1,80 +1,74 @@
-//! Tables that are read whole.
+//! What is read whole: the version, the directory, and a tenant's rows of a table.
 
 use super::acts::Table;
 use super::sample::account;
 use super::unclaimed::Unclaimed;
-use ledger_sql::{Owned, TableFault, listing};
+use ledger_sql::{TableFault, listing};
 use rows::{AccountCells, BalanceCells, DirectoryRow, HistoryCells, StatusCells, TransferCells};
 use sqlite::Connection;
 use std::alloc::Global;
 
-/// The number of a row's tenant, and the last byte of its key.
+/// The last byte of a row's key.
 trait Keyed {
-    fn key(&self) -> (i64, u8);
+    fn last_byte(&self) -> u8;
 }
 
 impl Keyed for i64 {
-    fn key(&self) -> (i64, u8) {
-        (*self, 0)
+    fn last_byte(&self) -> u8 {
+        self.to_be_bytes()[7]
     }
 }
 
 impl Keyed for DirectoryRow {
-    fn key(&self) -> (i64, u8) {
-        (self.number, self.digest[31])
+    fn last_byte(&self) -> u8 {
+        self.digest[31]
     }
 }
 
-impl Keyed for Owned<i64> {
-    fn key(&self) -> (i64, u8) {
-        (self.tenant, self.row.to_be_bytes()[7])
+impl Keyed for AccountCells {
+    fn last_byte(&self) -> u8 {
+        self.id[15]
     }
 }
 
-impl Keyed for Owned<AccountCells> {
-    fn key(&self) -> (i64, u8) {
-        (self.tenant, self.row.id[15])
+impl Keyed for TransferCells {
+    fn last_byte(&self) -> u8 {
+        self.id[15]
     }
 }
 
-impl Keyed for Owned<TransferCells> {
-    fn key(&self) -> (i64, u8) {
-        (self.tenant, self.row.id[15])
+impl Keyed for BalanceCells {
+    fn last_byte(&self) -> u8 {
+        self.account[15]
     }
 }
 
-impl Keyed for Owned<BalanceCells> {
-    fn key(&self) -> (i64, u8) {
-        (self.tenant, self.row.account[15])
+impl Keyed for StatusCells {
+    fn last_byte(&self) -> u8 {
+        self.transfer[15]
     }
 }
 
-impl Keyed for Owned<StatusCells> {
-    fn key(&self) -> (i64, u8) {
-        (self.tenant, self.row.transfer[15])
+impl Keyed for HistoryCells {
+    fn last_byte(&self) -> u8 {
+        self.account[15]
     }
 }
 
-impl Keyed for Owned<HistoryCells> {
-    fn key(&self) -> (i64, u8) {
-        (self.tenant, self.row.account[15])
+impl Keyed for [u8; 16] {
+    fn last_byte(&self) -> u8 {
+        self[15]
     }
 }
 
-impl Keyed for Owned<[u8; 16]> {
-    fn key(&self) -> (i64, u8) {
-        (self.tenant, self.row[15])
-    }
-}
-
-/// Whether the rows have these keys, in this order.
+/// Whether the rows have keys that end so, in this order.
 fn have_keys<T: Keyed + Drop>(
     rows: Result<Vec<T>, TableFault>,
-    keys: &[(i64, u8)],
+    keys: &[u8],
 ) -> Result<bool, TableFault> {
     let rows = rows?;
     for (row, key) in rows.iter().zip(keys) {
-        if row.key() != *key {
+        if row.last_byte() != *key {
             return Ok(false);
         }
     }
@@ -85,29 +79,26 @@ pub fn lists<S: Unclaimed>(
     alloc: Global,
     conn: &mut Connection<S>,
     table: &Table,
-    keys: &[(i64, u8)],
+    keys: &[u8],
 ) -> Result<bool, TableFault> {
-    match table {
+    match *table {
         Table::Versions => have_keys(listing::list_versions(alloc, conn), keys),
         Table::Directory => have_keys(listing::directory(alloc, conn), keys),
-        Table::Clocks => have_keys(listing::list_clocks(alloc, conn), keys),
-        Table::Accounts => have_keys(listing::list_accounts(alloc, conn), keys),
-        Table::Transfers => have_keys(listing::list_transfers(alloc, conn), keys),
-        Table::Balances => have_keys(listing::list_balances(alloc, conn), keys),
-        Table::Statuses => have_keys(listing::list_statuses(alloc, conn), keys),
-        Table::Histories => have_keys(listing::list_history(alloc, conn), keys),
-        Table::FailedIds => have_keys(listing::list_failed(alloc, conn), keys),
+        Table::Clocks(tenant) => have_keys(listing::list_clocks(alloc, conn, tenant), keys),
+        Table::Accounts(tenant) => have_keys(listing::list_accounts(alloc, conn, tenant), keys),
+        Table::Transfers(tenant) => have_keys(listing::list_transfers(alloc, conn, tenant), keys),
+        Table::Balances(tenant) => have_keys(listing::list_balances(alloc, conn, tenant), keys),
+        Table::Statuses(tenant) => have_keys(listing::list_statuses(alloc, conn, tenant), keys),
+        Table::Histories(tenant) => have_keys(listing::list_history(alloc, conn, tenant), keys),
+        Table::FailedIds(tenant) => have_keys(listing::list_failed(alloc, conn, tenant), keys),
     }
 }
 
-/// Whether the third account that is read is account 3, cell by cell.
+/// Whether the third account of tenant 1 that is read is account 3, cell by cell.
 pub fn lists_cells<S: Unclaimed>(
     alloc: Global,
     conn: &mut Connection<S>,
 ) -> Result<bool, TableFault> {
-    let third = Owned {
-        tenant: 1,
-        row: AccountCells::from_account(&account(3, 3, 10)),
-    };
-    Ok(listing::list_accounts(alloc, conn)?.get(2) == Some(&third))
+    let third = AccountCells::from_account(&account(3, 3, 10));
+    Ok(listing::list_accounts(alloc, conn, 1)?.get(2) == Some(&third))
 }

@@ -1,9 +1,9 @@
 use Rattle.std.proofs.Common.{◌∙◌, sym, subst, rules, arith}
+use Rattle.rows.specs.TypedRows.{lists_of}
 use Rattle.sqlite.specs.Effect.{Database}
 use Rattle.sqlite.specs.Held.{state}
 use Rattle.sqlite.specs.State.{HasCleanDisk}
-use Rattle.openings.specs.Tables.{HasTables, ReadsWhole}
-use Rattle.openings.specs.TablesLaws.{whole_in_order}
+use Rattle.openings.specs.Tables.{HasTables, AreTenantRows}
 use Rattle.openings.proofs.Passed.{passed}
 use Rattle.stored_tables.specs.BatchLaws.{follows_then}
 use Rattle.stored_ledgers.specs.DirectoryLaws.{found_number}
@@ -21,26 +21,21 @@ returns-in_default-clause-whole g c clean =
 pub returns-clause-whole : goal.returns-clause-whole
 returns-clause-whole g c clean =
     let first : HasCleanDisk (state g.S.Store c.find_tenant.new.conn) =
-    omega (arith, c.in_ok-tables.ensures.follows.survives.clean, clean) in
+    omega (arith, c.in_ok-read_tenant.ensures.follows.survives.clean, clean) in
     let before : HasCleanDisk (state g.S.Store c.args.conn.now) =
     omega (arith, c.in_ok-number.ensures.reads.follows.survives.clean, first) in
     let ledgers = (c.requires before).2 in
     let kept = c.in_ok-number.ensures.reads.same first in
-    let whole = subst (λ (db : Database). ReadsWhole c.args.version db.trees c.in_ok-tables.tables) kept.0.now_is
-    (c.in_ok-tables.ensures.whole clean
-    (subst (λ (db : Database). HasTables c.args.version db.schema) (sym kept.0.now_is)
-    (has_tables c.args.version _ ledgers.schema))) in
-    let in_order = whole_in_order c.args.version _ c.in_ok-tables.tables whole in (
+    let there = subst (λ (db : Database). HasTables c.args.version db.schema) (sym kept.0.now_is)
+    (has_tables c.args.version _ ledgers.schema) in
+    let rows = rw (passed c.in-Some.number (search rules)) at (c.in_ok-read_tenant.ensures.whole clean there) in (
       c.in-Some.number,
       found_number c.args.digest.now _ c.in_ok-number.field-0 (ledgers.distinct.digests c.args.digest.now)
           (c.in_ok-number.ensures.ok first) ∙ c.in-Some.is,
-      record {
-        tables = c.in_ok-tables.tables;
-        whole = whole;
-        own = rw (passed c.in-Some.number (search rules)) at (c.in_ok-own_tables.ensures in_order);
-      },
+      subst (λ (db : Database). AreTenantRows c.args.version c.in-Some.number db.trees
+          (lists_of c.in_ok-read_tenant.field-0)) kept.0.now_is rows,
     )
 
 pub returns-clause-follows : goal.returns-clause-follows
 returns-clause-follows g c =
-    follows_then _ _ _ c.in_ok-number.ensures.reads.follows c.in_ok-tables.ensures.follows
+    follows_then _ _ _ c.in_ok-number.ensures.reads.follows c.in_ok-read_tenant.ensures.follows

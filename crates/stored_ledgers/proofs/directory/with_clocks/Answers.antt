@@ -4,7 +4,8 @@ use Rattle.sqlite.specs.Held.{state}
 use Rattle.sqlite.specs.State.{HasCleanDisk}
 use Rattle.stored_tables.specs.BatchLaws.{follows_itself, follows_then}
 use Rattle.stored_ledgers.specs.Listing.{AreThose, IsTenantOf, IsThat}
-use Rattle.stored_ledgers.proofs.ListingLemmas.{here_still, those_on, unchanged, unchanged_then}
+use Rattle.stored_ledgers.specs.RestingLaws.{unchanged, unchanged_then}
+use Rattle.stored_ledgers.proofs.ListingLemmas.{here_still, those_on}
 use Rattle.stored_ledgers.proofs.directory.with_clocks.Goals as goal
 
 pub loop-row-init : goal.loop-row-init
