@@ -221,7 +221,7 @@ impl<D: Disk + Drop> Store<D> {
         rows
     }
 
-    /// The rows of the tenant with this digest, if there is one. All tables are read for it.
+    /// The rows of the tenant with this digest, if there is one. No other tenant's are read.
     pub fn rows_of(&mut self, digest: &[u8; 32]) -> Result<Option<TenantRows>, Unavailable>
         requires { IsUsable self.old }
         ensures value { IsLive self.new → IfOk result (λ rows. OfDatabase
