@@ -1,5 +1,5 @@
 -- What a text that reads a tenant's rows of a table answers.
-use Rattle.std.proofs.Common.{◌≡◌, ℕ, ℤ, List, [], ◌∷◌, ◌+◌, get_or, false, true, map, filter, Bool, ◌&&◌, Ok, Err, Result, IfOk, sym, ap, subst, ◌∙◌}
+use Rattle.std.proofs.Common.{◌≡◌, ℕ, ℤ, List, [], ◌∷◌, ◌+◌, get_or, false, true, map, filter, ◌&&◌, Ok, Err, Result, IfOk, ap, subst, ◌∙◌}
 use Rattle.std.specs.declared.cmp.Ordering.{Ordering}
 use Rattle.std.specs.Ordering.{int_cmp, is_lt, ordering_then}
 use Rattle.std.specs.Prelude.{take}

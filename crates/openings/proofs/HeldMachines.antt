@@ -4,7 +4,7 @@ use Rattle.std.specs.BTreeSet.{contains}
 use Rattle.std.specs.List.{AllByRecursion}
 use Rattle.std.specs.List.Sorted.{IsPermutation}
 use Rattle.std.specs.String.{string_bytes}
-use Rattle.std.proofs.lemmas.List.Elements.{All-cons, All-nil, All-map, All-from_recursion, recursion_from_All}
+use Rattle.std.proofs.lemmas.List.Elements.{All-cons, All-nil, All-from_recursion, recursion_from_All}
 use Rattle.std.proofs.lemmas.List.Sorted.{length_permutation, All-permutation, IsPermutation-map, IsPermutation-trans, IsPermutation-sym}
 use Rattle.amount.specs.Column.{column_of}
 use Rattle.records.specs.Machine.{Machine}
@@ -12,7 +12,7 @@ use Rattle.rows.specs.declared.all_rows.AllRows.{AllRows}
 use Rattle.rows.specs.declared.all_rows.DirectoryRow.{DirectoryRow}
 use Rattle.rows.specs.Cells.{account_cells, transfer_cells, balance_cells, status_cells, history_cells}
 use Rattle.rows.specs.Prescribed.{rows_for}
-use Rattle.rows.specs.TypedRows.{FileRows, lists_of}
+use Rattle.rows.specs.TypedRows.{FileRows}
 use Rattle.rows.specs.Widths.{AreStorable, IsStorableStatus}
 use Rattle.audit.specs.Sound.{AreSound}
 use Rattle.sqlite_value.specs.declared.value.Value.TheVariants.{Int}

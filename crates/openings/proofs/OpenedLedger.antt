@@ -22,7 +22,7 @@ use Rattle.stored_ledgers.specs.Directory.{number_of}
 use Rattle.stored_ledgers.specs.DueSets.{DueSets, CoversMachine, AreCovered}
 use Rattle.openings.specs.Found.{HasOrderedTables}
 use Rattle.stored_ledgers.specs.Ledger.{HoldsLedgers}
-use Rattle.openings.specs.Opened.{CoversCells, IsKept, IsExamined}
+use Rattle.openings.specs.Opened.{IsKept, IsExamined}
 use Rattle.openings.specs.Whole.{IsReadFor}
 use Rattle.openings.specs.Tables.{AreTenantRows}
 use Rattle.openings.proofs.HeldMachines.{machine_held, machine_covered, of_tenant}

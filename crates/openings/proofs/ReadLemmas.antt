@@ -1,5 +1,5 @@
 -- Rows that were read one table after the other.
-use Rattle.std.proofs.Common.{◌≡◌, ℕ, ◌<◌, ◌≤◌, ℤ, List, [], refl, sym, subst, arith}
+use Rattle.std.proofs.Common.{◌≡◌, ℕ, ◌<◌, ◌≤◌, ℤ, List, [], sym, subst, arith}
 use Rattle.std.specs.declared.cmp.Ordering.{Ordering}
 use Rattle.rows.specs.TypedRows.{FileRows}
 use Rattle.rows.specs.declared.balance_cells.BalanceCells.{BalanceCells}

@@ -1,4 +1,4 @@
-use Rattle.std.proofs.Common.{◌∙◌, sym, subst, drop, ◌++◌, rules, arith}
+use Rattle.std.proofs.Common.{◌∙◌, drop, ◌++◌, rules, arith}
 use Rattle.rows.specs.TypedRows.{lists_of}
 use Rattle.sqlite.specs.Held.{state}
 use Rattle.sqlite.specs.State.{HasCleanDisk}
