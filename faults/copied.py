@@ -313,7 +313,9 @@ def judge_rest(house, told, copy):
     if there != {"", "-wal"}:
         want(told[0] and there <= PARTS, f"killed beside `copy`: {told}, and there are {there}")
         return "parts are there" if there else "nothing is there"
-    want(told[0] == 0 or told in (UNAVAILABLE, IN_USE, KILLED), f"killed beside `copy`: {told}")
+    # The command may have been killed while it told of it.
+    is_killed = told[0] == KILLED[0] and "copied ".startswith(told[1][:7]) and not told[2]
+    want(told[0] == 0 or told in (UNAVAILABLE, IN_USE) or is_killed, f"killed beside `copy`: {told}")
     check(house.program, copy)
     remove(copy)
     return "it is whole"
