@@ -68,7 +68,7 @@ FindsChanged t n Changes old ending new =
 -- what the adding of a tenant makes of the names
 abbrev pub JoinsNames :
     List ℕ → List ℕ → Names → Result (Unit {0}) AddTenant → Names → Type 0
-JoinsNames name digest old (Ok done) new = (old name ≡ None) × GivesName name digest old new
+JoinsNames name digest old (Ok done) new = AddsName name digest old new
 JoinsNames name digest old (Err add.NameTaken) new = (old name ≢ None) × KeepsNames old new
 JoinsNames name digest old (Err add.DigestTaken) new = (old name ≡ None) × KeepsNames old new
 JoinsNames name digest old (Err (add.Unavailable why)) new = KeepsNames old new

@@ -35,11 +35,11 @@ fn run_step<L: Reopening>(alloc: Global, ledgers: &mut L, step: &Step) -> Answer
 ///
 /// As long as the disk is honest, each tenant's replies other than `unavailable` and its machine
 /// are those of its own requests alone: of those that were answered, and of those that were not and
-/// that the next opening finds done. What is told of the end of the run begins at the last
-/// reopening that what keeps the ledgers refused, so that nothing stands (`Refused`); the same is
-/// told of each moment of the run and the steps up to there. The names of tenants and their digests
-/// are those of the joinings and changes of keys that were done, and of those that were answered
-/// `unavailable` and that the next opening finds done. Room for all answers is made first: where memory lacks for it, no step is run.
+/// that the next opening finds done. So the names of tenants, and their digests, are those of the
+/// joinings and changes of keys that were done, and of those that are found done. What is told of
+/// the end of the run begins at the last reopening that what keeps the ledgers refused, so that
+/// nothing stands (`Refused`); the same is told of each moment of the run and the steps up to
+/// there. Room for all answers is made first: where memory lacks for it, no step is run.
 pub fn run_all<L: Reopening>(
     alloc: Global,
     ledgers: &mut L,
