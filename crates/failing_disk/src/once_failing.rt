@@ -1,6 +1,6 @@
 //! A disk that fails one call and goes on, for tests.
 
-ghost use Rattle.std.specs.Prelude.{◌≡◌, ◌+◌, false, is_none};
+ghost use Rattle.std.specs.Prelude.{◌≡◌, ◌≢◌, ◌+◌, true, false, Some, is_err, is_none};
 ghost use Rattle.sqlite_disk.specs.Disk.{CountsFault};
 ghost use Rattle.sqlite_disk.specs.Refusal.{finds_no_room};
 
@@ -18,7 +18,8 @@ pub struct OnceFailing<D: Disk> {
 
 impl<D: Disk> OnceFailing<D> {
     pub fn new(inner: D, before: u64) -> OnceFailing<D>
-        ensures { result.inner ≡ inner }
+        ensures inner { result.inner ≡ inner }
+        ensures before { result.before ≡ Some before }
     {
         OnceFailing {
             inner,
@@ -39,6 +40,8 @@ impl<D: Disk> OnceFailing<D> {
 fn spend(before: &mut Option<u64>, refused: &mut u64) -> io::Result<()>
     ensures faults { CountsFault result refused.old refused.new }
     ensures kind { finds_no_room result ≡ false }
+    ensures fails { before.old ≡ Some 0 → is_err result ≡ true }
+    ensures goes_on { before.old ≢ Some 0 → is_err result ≡ false }
 {
     match *before {
         None => Ok(()),

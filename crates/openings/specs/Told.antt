@@ -3,18 +3,19 @@ use Rattle.std.specs.Prelude.{◌≡◌, ◌⊎◌, ℕ, ◌<ℤ◌, pos, true, 
 use Rattle.std.specs.List.{list_any, list_all}
 use Rattle.rows.specs.declared.all_rows.AllRows.{AllRows}
 use Rattle.audit.specs.declared.damage.Damage.{Damage}
-use Rattle.sqlite_disk.specs.Disk.{MoreFaults}
 use Rattle.sqlite_disk.specs.declared.Disk as disk
 use Rattle.sqlite_disk.specs.declared.Files.{Files}
+use Rattle.sqlite_disk.specs.declared.tally.Tally.{Tally}
 use Rattle.sqlite_schema.specs.Names.{same_name}
 use Rattle.sqlite_schema.specs.declared.schema.Schema.{Schema}
 use Rattle.sqlite_schema.specs.declared.schema.Table.{Table}
+use Rattle.sqlite_store.specs.Report.{named}
 use Rattle.sqlite_trees.specs.Tree.{Trees}
+use Rattle.sqlite_trees.specs.declared.error.StoreError.TheVariants.{Corrupt}
+use Rattle.sqlite_wal.specs.Reads.{tally_of_files}
 use Rattle.sqlite_wal.specs.Recovery.{Image}
-use Rattle.sqlite.specs.Closing.{files_left}
 use Rattle.sqlite.specs.Effect.{Database}
-use Rattle.sqlite.specs.Files.{HoldsDatabase, IsNothing, faults_left, faults_of, image_of}
-use Rattle.sqlite.specs.declared.file.Leftover.{Leftover}
+use Rattle.sqlite.specs.Files.{HoldsDatabase, IsNothing, image_of}
 use Rattle.ledger_sql.specs.Effects.{StartsAs, IsLedger}
 use Rattle.ledger_sql.specs.Schema.{after_schema, ledger_schema}
 use Rattle.openings.specs.Damage.{IsDamagedIn, NamesVersion}
@@ -121,12 +122,14 @@ CasesAreApart =
 abbrev pub HoldsNone : Image → Type 0
 HoldsNone image = ¬ (((db : Trees) × HoldsDatabase image db) ⊎ IsNothing image)
 
--- the database refuses the files: they hold none, or the disk has counted a fault
+-- what failed calls of the two files have met
+abbrev pub tally_in : {D : Type 0} → disk.Ghosts D → Files D → Tally
+tally_in g files = tally_of_files g (files.log, files.db)
+
+-- the database refuses the files: they hold none, or a read has failed its test, as the disk counts
 pub data IsRefused {D : Type 0} (g : disk.Ghosts D) (files left : Files D) : Type 0 where
   Holds_none : HoldsNone (image_of g files) → IsRefused g files left
-  Met_fault :
-      (rest : Leftover D g) → files_left rest ≡ (left.log, left.db) →
-      MoreFaults (faults_of g files) (faults_left rest) → IsRefused g files left
+  Failed_test : named (tally_in g files) (tally_in g left) ≡ Corrupt → IsRefused g files left
 
 -- why the database's own opening refuses two files
 abbrev pub IsUnopenedFor :

@@ -5,13 +5,13 @@ use Rattle.std.proofs.lemmas.List.{append-nil, take-append-drop, length-append}
 use Rattle.std.proofs.lemmas.Grind.{flat_map-append}
 use Rattle.ledger_http.specs.declared.reply.Reply.{Reply}
 use Rattle.clients.specs.Talk.{Talk, received, input_ended, written, may_answer}
-use Rattle.clients.specs.Answering.{IsUnmoved, HasReplied}
+use Rattle.clients.specs.Answering.{IsUnmoved, IsWanting, HasReplied}
 use Rattle.clients.specs.Deeds.{Deed, Came, Replied, Wrote, client_of, Does, told_in, all_told}
 use Rattle.clients.specs.Deeds as deed
 use Rattle.service.specs.Seen.{Whole}
 use Rattle.polling.specs.Peers.{Gave, Ended, Took, Stirred, Hands}
 use Rattle.service.specs.Openings.{run_meaning, IsSettled}
-use Rattle.polling.specs.Serving.{Hall, hall, Rules, Settles, gone_with, Happens, Did, Stirs, Goes, Loses, Serves, Begin, Then}
+use Rattle.polling.specs.Serving.{Hall, hall, Rules, Settles, IsDueOf, gone_with, Happens, Did, Stirs, Goes, Loses, Serves, Begin, Then}
 use Rattle.polling.specs.Seating.{with_talk, ServesOne, gone_by, replies_in}
 use Rattle.polling.specs.declared.step.Step.{Step}
 use Rattle.polling.specs.declared.step.Step.TheVariants as step
@@ -58,13 +58,13 @@ with_talk-other client other talk talks differ =
 pub did_one :
     {S C P : Type 0} (r : Rules S C P) (deed : Deed) (ledgers ledgers_now : S) (moments moments_now : C)
     (peers peers_now : P) (talk talk_now : Talk) (talks : ℕ → Talk) (gone : ℕ → Bool) →
-    gone (client_of deed) ≡ false →
+    gone (client_of deed) ≡ false → IsDueOf deed talk →
     Does r.means r.gives deed ledgers moments talk ledgers_now moments_now talk_now →
     Settles r.means deed ledgers_now → Hands r.does deed peers peers_now →
     Serves S C P r (hall ledgers moments peers (with_talk (client_of deed) talk talks) gone) (deed ∷ [])
     (hall ledgers_now moments_now peers_now (with_talk (client_of deed) talk_now talks) gone)
 did_one {S} {C} {P} r deed ledgers ledgers_now moments moments_now peers peers_now talk talk_now talks
-    gone stays does settled hands =
+    gone stays due does settled hands =
     let client = client_of deed in
     once r (hall ledgers moments peers (with_talk client talk talks) gone)
     (hall ledgers_now moments_now peers_now (with_talk client talk_now talks) gone) (deed ∷ [])
@@ -74,7 +74,11 @@ did_one {S} {C} {P} r deed ledgers ledgers_now moments moments_now peers peers_n
       moments = moments_now;
       talks = with_talk client talk_now talks;
     })
-    peers_now stays
+    peers_now
+    (record {
+      there = stays;
+      due = subst (IsDueOf deed) (sym (with_talk-own client talk talks)) due;
+    })
     (record {
       does =
           subst
@@ -180,25 +184,26 @@ module _ {S C P : Type 0} (r : Rules S C P) (client : ℕ) where
   -- a piece came
   pub came :
       (ledgers : S) (moments : C) (peers peers_now : P) (talk talk_now : Talk) (piece : List ℕ) →
-      talk.unread.ended ≡ false → talk_now ≡ received piece talk →
+      IsWanting talk.unread → talk_now ≡ received piece talk →
       r.does peers (Gave client piece) peers_now →
       Stays r client ledgers moments peers talk ledgers moments peers_now talk_now 0
   came ledgers moments peers peers_now talk talk_now piece more is does talks gone stays = (
     Came client piece ∷ [],
     did_one r (Came client piece) ledgers ledgers moments moments peers peers_now talk talk_now talks
-        gone stays (record { ledgers_same = refl; moments_same = refl; same = is }, more) tt does,
+        gone stays more (record { ledgers_same = refl; moments_same = refl; same = is }, more.0) tt
+        does,
     refl,
   )
 
   -- the input ended
   pub ended :
       (ledgers : S) (moments : C) (peers peers_now : P) (talk talk_now : Talk) →
-      talk_now ≡ input_ended talk → r.does peers (Ended client) peers_now →
+      IsWanting talk.unread → talk_now ≡ input_ended talk → r.does peers (Ended client) peers_now →
       Stays r client ledgers moments peers talk ledgers moments peers_now talk_now 0
-  ended ledgers moments peers peers_now talk talk_now is does talks gone stays = (
+  ended ledgers moments peers peers_now talk talk_now more is does talks gone stays = (
     deed.Ended client ∷ [],
     did_one r (deed.Ended client) ledgers ledgers moments moments peers peers_now talk talk_now talks
-        gone stays (record { ledgers_same = refl; moments_same = refl; same = is }) tt does,
+        gone stays more (record { ledgers_same = refl; moments_same = refl; same = is }) tt does,
     refl,
   )
 
@@ -211,7 +216,7 @@ module _ {S C P : Type 0} (r : Rules S C P) (client : ℕ) where
       let bytes = take count talk.unsent in (
         Wrote client bytes ∷ [],
         did_one r (Wrote client bytes) ledgers ledgers moments moments peers peers_now talk talk_now
-            talks gone stays
+            talks gone stays tt
             (record {
               ledgers_same = refl;
               moments_same = refl;
@@ -234,7 +239,7 @@ module _ {S C P : Type 0} (r : Rules S C P) (client : ℕ) where
   replied ledgers ledgers_now moments moments_now peers talk talk_now reply may has settled talks gone stays = (
     Replied client reply ∷ [],
     did_one r (Replied client reply) ledgers ledgers_now moments moments_now peers peers talk
-        talk_now talks gone stays (has, may) settled refl,
+        talk_now talks gone stays tt (has, may) settled refl,
     refl,
   )
 

@@ -8,6 +8,7 @@ use Rattle.service.specs.Deeds as service
 use Rattle.service.specs.Openings.{run_meaning, IsSettled}
 use Rattle.service.specs.Replies.{unavailable}
 use Rattle.service.specs.Seen.{Seen, Whole, seen}
+use Rattle.clients.specs.Answering.{IsWanting}
 use Rattle.clients.specs.Talk.{Talk}
 use Rattle.clients.specs.Deeds.{Room, Deed, Came, Ended, Replied, Wrote, client_of, IsDone, Lives}
 use Rattle.clients.specs.Deeds as life
@@ -57,6 +58,18 @@ Settles t (Replied client reply) ledgers = IsSettled (run_meaning t) ledgers
 Settles t (Came client piece) ledgers = Unit {0}
 Settles t (Ended client) ledgers = Unit {0}
 Settles t (Wrote client bytes) ledgers = Unit {0}
+
+-- a client is read only where its next message is not whole
+abbrev pub IsDueOf : Deed → Talk → Type 0
+IsDueOf (Came client piece) talk = IsWanting talk.unread
+IsDueOf (Ended client) talk = IsWanting talk.unread
+IsDueOf (Replied client reply) talk = Unit {0}
+IsDueOf (Wrote client bytes) talk = Unit {0}
+
+-- a deed of a client that has not gone, in its turn
+pub record IsInTurn {S C P : Type 0} (old : Hall S C P) (deed : Deed) : Type 0 where
+  pub there : old.gone (client_of deed) ≡ false
+  pub due : IsDueOf deed (old.room.talks (client_of deed))
 
 -- these moments were given, one after the other
 abbrev pub AreGiven : {C : Type 0} → (C → ℕ → C → Type 0) → C → List ℕ → C → Type 0
@@ -116,7 +129,7 @@ module _ {S C : Type 0} {t : LedgersMeaning S} {gives : C → ℕ → C → Type
   AreToldUnavailable gone (life.Then deeds last deed next lives done) =
       AreToldUnavailable gone lives × IsToldUnavailable gone deed
 
--- a deed of a client that has not gone, with what peers did of it; peers tell something; anything
+-- a deed of a client in its turn, with what peers did of it; peers tell something; anything
 -- else among them; a client goes; it goes, and what was read of it last is lost; a steward attends to
 -- the ledgers; a round begins, ends or is taken back; moments were given for a round that was not
 -- kept; or the disk fails with a round, and all its clients are told that the ledgers are unavailable
@@ -124,7 +137,7 @@ pub data Happens (S C P : Type 0) (r : Rules S C P) (old : Hall S C P) :
     List Deed → Hall S C P → Type 0 where
   Did :
       (deed : Deed) (room : Room S C) (peers : P) →
-      old.gone (client_of deed) ≡ false → IsDone r.means r.gives old.room deed room →
+      IsInTurn old deed → IsDone r.means r.gives old.room deed room →
       Settles r.means deed room.ledgers → Hands r.does deed old.peers peers →
       Happens S C P r old (deed ∷ []) (record old { room = room; peers = peers })
   Tells :

@@ -1,5 +1,6 @@
 //! Steps of serving one client.
-ghost use Rattle.std.specs.Prelude.{◌≡◌, ◌≤◌, false};
+ghost use Rattle.std.specs.Prelude.{◌≤◌};
+ghost use Rattle.clients.specs.Answering.{IsWanting};
 ghost use Rattle.ledger_http.specs.Limits.{longest_message};
 ghost use Rattle.service.specs.Seen.{Seen};
 ghost use Rattle.polling.specs.Serving.{rules};
@@ -38,7 +39,7 @@ fn read_piece<L: Ledgers, H: Steward<L>, C: Moments, P: Peers>(
     client: &mut Client,
     piece: &mut [u8],
 ) -> Step
-    requires { client.old.unread.ended ≡ false }
+    requires { IsWanting client.old.unread }
     ensures { (ledgers : Seen L) → (moments : C) →
         ServesOne (rules L.means C.gives H.renews P.does) number
         ledgers moments peers.old client.old ledgers moments peers.new client.new result 0 }
@@ -65,7 +66,7 @@ pub(crate) fn read_some<L: Ledgers, H: Steward<L>, C: Moments, P: Peers>(
     client: &mut Client,
     piece: &mut [u8],
 ) -> Step
-    requires { client.old.unread.ended ≡ false }
+    requires { IsWanting client.old.unread }
     ensures { (ledgers : Seen L) → (moments : C) →
         ServesOne (rules L.means C.gives H.renews P.does) number
         ledgers moments peers.old client.old ledgers moments peers.new client.new result 0 }

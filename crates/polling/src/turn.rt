@@ -1,5 +1,6 @@
 //! A client's turn.
 ghost use Rattle.std.specs.Prelude.{◌≡◌, true, false};
+ghost use Rattle.clients.specs.Answering.{IsWanting};
 ghost use Rattle.clients.specs.Talk.{may_answer};
 ghost use Rattle.service.specs.Seen.{Seen, Whole};
 ghost use Rattle.polling.specs.Serving.{rules};
@@ -57,7 +58,7 @@ fn read_or_give_up<L: Ledgers, H: Steward<L>, C: Moments, P: Peers>(
 ) -> Turned
     requires usable { L.means.is_usable ledgers.now }
     requires open { may_answer client.old ≡ true }
-    requires more { client.old.unread.ended ≡ false }
+    requires more { IsWanting client.old.unread }
     ensures { (moments : C) → ServesOne (rules L.means C.gives H.renews P.does) number
         (Whole ledgers.now) moments peers.old client.old
         (Whole ledgers.now) moments peers.new client.new result.step (count_of result.replied) }

@@ -1,5 +1,5 @@
 -- What an opening finds in files that a store gave back.
-use Rattle.std.proofs.Common.{◌≡◌, inl, inr, sym, subst}
+use Rattle.std.proofs.Common.{◌≡◌, sym, subst}
 use Rattle.std.proofs.Math.Logic.{∥∥₁_elim, ∥∥₁_map}
 use Rattle.sqlite_disk.specs.declared.Disk as disk
 use Rattle.sqlite_disk.specs.declared.Files.{Files}
@@ -10,9 +10,7 @@ use Rattle.sqlite_wal.specs.Recovery.{Image}
 use Rattle.sqlite.specs.Effect.{Database}
 use Rattle.sqlite.specs.Files.{HoldsDatabase, AreFoundIn, image_of, file_state}
 use Rattle.openings.specs.Damage.{Hold}
-use Rattle.openings.specs.Found.{FilesStay, IsOfLedger, IsThere, Yields}
-use Rattle.openings.specs.Told.{IsTold, Tells}
-use Rattle.openings.specs.declared.opening.OpenFault.{OpenFault}
+use Rattle.openings.specs.Found.{FilesStay, IsThere, Yields}
 use Rattle.store.specs.Stores.{IsHonest, IsHonestAt, IsOpenedAt, KeepsFound}
 use Rattle.store.specs.Stores.{FindsAt, GivesBack, GivesBackAt, left_in, may_find_at}
 use Rattle.store.specs.declared.place.Place.{Place}
@@ -56,17 +54,6 @@ module _ {D : Type 0} (g : disk.Ghosts D) (stays : (file : D) → g.may_leave fi
   held_again old P back held =
       ∥∥₁_map (found_of old held.trees back (record { reads = held.reads; holds = held.holds }))
       (λ may. (held.trees, may, held.is))
-
-  -- and a database for which a fault is told
-  pub told_again : (old : Place D g) (told : OpenFault) (left : Files D) → GivesBackAt old files
-      → IsTold g files told left → IsOfLedger told
-      → ∥ ((db : Database) × may_find_at old db.trees × Tells told db) ∥₁
-  told_again old told left back (inl unopened) is = absurd (elim unopened [
-    | inl why ↦ subst IsOfLedger why.1 is
-    | inr unreadable ↦ subst IsOfLedger unreadable.0 is
-  ])
-  told_again old told left back (inr found) is =
-      ∥∥₁_map (found_of old found.db.trees back found.there) (λ may. (found.db, may, found.is))
 
   -- and what is found in files that hold what these held
   stayed : (old : Place D g) (left : Files D) → GivesBackAt old files → AreClean g left.log left.db

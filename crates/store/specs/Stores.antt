@@ -19,6 +19,8 @@ use Rattle.stored_ledgers.specs.Directory.{tenants_in, KeepsDirectory}
 use Rattle.stored_ledgers.specs.DueSets.{DueSets}
 use Rattle.openings.specs.Found.{IsOfLedger, IsSettled, LeavesUnopened, Yields}
 use Rattle.openings.specs.Opened.{IsOpened}
+use Rattle.openings.specs.Told.{IsTold}
+use Rattle.openings.specs.declared.opening.OpenFault.{OpenFault}
 use Rattle.openings.specs.declared.refused.Refused.{Refused}
 use Rattle.stored_ledgers.specs.Resting.{IsResting}
 use Rattle.store.specs.declared.place.Place.{Place}
@@ -184,10 +186,6 @@ module _ {D : Type 0} {g : disk.Ghosts D} where
   abbrev pub IsOpenedOn : Image → Store D g → Type 0
   IsOpenedOn image store = IsOpenedAt image store.place
 
-  -- a crash of the store may have left a database of which this is so
-  abbrev pub MayHoldOne : Store D g → (Database → Type 0) → Type 0
-  MayHoldOne store P = ∥ ((db : Database) × may_find store db.trees × P db) ∥₁
-
   -- what an opening may find is what it might have found before, unless the disk has lied
   pub record KeepsFound (old new : Store D g) : Type 0 where
     pub honest : IsHonest new → IsHonest old
@@ -201,6 +199,15 @@ module _ {D : Type 0} {g : disk.Ghosts D} where
     pub place : new.place ≡ at.Shut left
     pub unopened : LeavesUnopened g files left
 
+  -- an opening refused the files that the old store gives back, in this fault's case, and the new one
+  -- has them as that left them
+  pub record IsRefusedFor (fault : OpenFault) (old new : Store D g) : Type 0 where
+    pub files : Files D
+    pub back : GivesBack old files
+    pub left : Files D
+    pub place : new.place ≡ at.Shut left
+    pub told : AreClean g left.log left.db → IsTold g files fault left
+
   -- what a reopening that was refused leaves, as it tells: where it is told that the files stand, an
   -- opening finds what it might have found before, and so it is told of each fault of the ledger that
   -- is there; else the database's own opening refused them
@@ -208,3 +215,4 @@ module _ {D : Type 0} {g : disk.Ghosts D} where
     pub stand : IsTrue refused.stands → KeepsFound old new
     pub unopened : refused.stands ≡ false → IsUnopened old new
     pub of_ledger : IsOfLedger refused.fault → IsTrue refused.stands
+    pub cause : IsRefusedFor refused.fault old new

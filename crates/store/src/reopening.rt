@@ -3,10 +3,8 @@
 ghost use Rattle.std.specs.Prelude.{◌≡◌, false, IfErr, OnOk, OnErr};
 ghost use Rattle.openings.specs.Damage.{IfDamaged, IsDamagedIn};
 ghost use Rattle.store.specs.Stores.{IsHonest, IsLive, IsReady, IsUsable};
-ghost use Rattle.openings.specs.Found.{IsOfLedger};
-ghost use Rattle.openings.specs.Told.{Tells};
 ghost use Rattle.store.specs.Stores.{Finds, LeavesStore};
-ghost use Rattle.store.specs.Stores.{MayHold, MayHoldOne, may_find};
+ghost use Rattle.store.specs.Stores.{MayHold, may_find};
 
 use crate::Store;
 use crate::place::Place;
@@ -33,8 +31,6 @@ impl<D: Disk + Drop> Store<D> {
         ensures honest { IsHonest self.new → OnOk result (IsHonest self.old) }
         ensures damaged { IsHonest self.new → IfErr result (λ refused. IfDamaged refused.fault
             (λ damage. MayHold self.old (IsDamagedIn CURRENT_VERSION damage))) }
-        ensures told { IsHonest self.new → IfErr result (λ refused. IsOfLedger refused.fault
-            → MayHoldOne self.old (Tells refused.fault)) }
         ensures left { IfErr result (λ refused. LeavesStore refused self.old self.new) }
         ensures refused { OnErr result (self.new.ready ≡ false) }
         ensures shut { OnErr result (IsLive self.new → ⊥) }
@@ -51,8 +47,6 @@ fn reopened<D: Disk + Drop, A: Audit>(store: Store<D>, audit: &A) -> (Store<D>, 
     ensures honest { IsHonest result.0 → OnOk result.1 (IsHonest store) }
     ensures damaged { IsHonest result.0 → IfErr result.1 (λ refused. IfDamaged refused.fault
         (λ damage. MayHold store (IsDamagedIn CURRENT_VERSION damage))) }
-    ensures told { IsHonest result.0 → IfErr result.1 (λ refused. IsOfLedger refused.fault
-        → MayHoldOne store (Tells refused.fault)) }
     ensures left { IfErr result.1 (λ refused. LeavesStore refused store result.0) }
     ensures refused { OnErr result.1 (result.0.ready ≡ false) }
     ensures shut { OnErr result.1 (IsLive result.0 → ⊥) }

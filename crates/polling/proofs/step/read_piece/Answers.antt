@@ -19,7 +19,8 @@ returns-in-Err g c ledgers moments =
 pub returns-in-Ended : goal.returns-in-Ended
 returns-in-Ended g c ledgers moments =
     ended (rules g.L.Ledgers.means g.C.Moments.gives g.H.Steward.renews g.P.Peers.does) c.args.number
-    ledgers moments c.args.peers.now c.read.new.self c.args.client.now c.end.new.self c.end.ensures
+    ledgers moments c.args.peers.now c.read.new.self c.args.client.now c.end.new.self c.requires
+    c.end.ensures
     c.in-Ended.ensures.read
 
 pub returns-in-Waits : goal.returns-in-Waits

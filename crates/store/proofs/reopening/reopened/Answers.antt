@@ -1,11 +1,12 @@
-use Rattle.std.proofs.Common.{subst, sym}
+use Rattle.std.proofs.Common.{inl, refl, subst, sym}
+use Rattle.records.specs.declared.unavailable.Unavailable.TheVariants.{Disk}
 use Rattle.audit.specs.declared.damage.Damage.{Damage}
 use Rattle.sqlite.specs.Files.{image_of}
 use Rattle.openings.specs.Damage.{IsDamagedIn, Hold}
 use Rattle.store.specs.Stores.{MayHold}
 use Rattle.store.specs.Stores.{IsHonestAt, IsOpenedAt}
 use Rattle.openings.specs.DamageLaws.{if_damaged_more}
-use Rattle.store.proofs.ReopenLemmas.{finds_again, held_again, keeps_left, keeps_same, told_again}
+use Rattle.store.proofs.ReopenLemmas.{finds_again, held_again, keeps_left, keeps_same}
 use Rattle.store.proofs.reopening.reopened.Goals as goal
 
 pub returns-in-Ok-clause-found : goal.returns-in-Ok-clause-found
@@ -36,6 +37,13 @@ returns-then-not-may_be_used-clause-left g c = record {
       c.close-files.ensures.back c.close-files.ensures.honest c.unopened.ensures.place;
   unopened = λ is. absurd (cc);
   of_ledger = λ is. absurd is;
+  cause = record {
+    files = c.close-files.result;
+    back = c.close-files.ensures.back;
+    left = c.close-files.result;
+    place = c.unopened.ensures.place;
+    told = λ clean. inl (inl (Disk, refl));
+  };
 }
 
 pub returns-in-Err-clause-left : goal.returns-in-Err-clause-left
@@ -51,12 +59,11 @@ returns-in-Err-clause-left g c = record {
     unopened = c.in-Err.ensures.left.unopened is;
   };
   of_ledger = c.in-Err.ensures.left.of_ledger;
+  cause = record {
+    files = c.close-files.result;
+    back = c.close-files.ensures.back;
+    left = c.in-Err.left;
+    place = c.unopened-in-Err.ensures.place;
+    told = c.in-Err.ensures.told;
+  };
 }
-
-pub returns-in-Err-clause-told : goal.returns-in-Err-clause-told
-returns-in-Err-clause-told g c honest is =
-    let clean = subst (λ place. IsHonestAt {g = g.D.Disk} place) c.unopened-in-Err.ensures.place honest in
-    let stay = c.in-Err.ensures.left.stand (c.in-Err.ensures.left.of_ledger is) in
-    told_again g.D.Disk g.met.D.Disk.seen_may_stay c.close-files.result (stay.honest clean)
-    c.args.store.place c.in-Err.refused.fault c.in-Err.left c.close-files.ensures.back
-    (c.in-Err.ensures.told clean) is
