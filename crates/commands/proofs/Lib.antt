@@ -9,3 +9,4 @@ pub mod ExtractLemmas
 mod StatementLemmas
 mod AskLemmas
 pub mod RenewLemmas
+mod HeldLemmas

@@ -6,21 +6,19 @@ use Rattle.std.proofs.lemmas.Slice.Eq.{bytes_eq-Decides}
 use Rattle.sqlite_disk.specs.declared.Disk as disk
 use Rattle.records.specs.Machine.{Machine}
 use Rattle.records.specs.declared.query.Span.{Span}
-use Rattle.records.specs.declared.unavailable.Unavailable.{Unavailable}
 use Rattle.wire.specs.declared.request.Request.TheVariants as asks
 use Rattle.chain.specs.Ledgers.{Tenants, KeepsAll, KeepsOthers, IsDone, IsRun, Finds, IsAnswered, LeadsBy}
 use Rattle.chain.specs.declared.account_entry.AccountEntry.{AccountEntry}
 use Rattle.chain.specs.declared.ledgers.BatchFault.{BatchFault}
 use Rattle.chain.specs.declared.ledgers.BatchFault.TheVariants as batch_fault
 use Rattle.chain.specs.declared.reads.Listed.{Listed}
-use Rattle.service.specs.Courses.{Ending, Done as IsEnded, Declined, Unavailable as WasUnavailable}
 use Rattle.service.specs.Courses.{Happens, Tried}
-use Rattle.service.specs.Deeds.{Deed, AreDone, IsDeedDone}
+use Rattle.service.specs.Deeds.{IsDeedDone}
 use Rattle.service.specs.Openings.{run_meaning, FoundAfter, As_now, As_before, As_done, IsSettled, Moves}
 use Rattle.service.specs.Served.{served_to}
 use Rattle.stored_ledgers.specs.Directory.{digest_in}
 use Rattle.store.specs.StoreLaws.{store_meaning}
-use Rattle.store.specs.Stores.{FindsTenants, Follows, IsLive, OfDatabase, OfDatabaseAt, Reads, tenants_at, tenants_of}
+use Rattle.store.specs.Stores.{FindsTenants, Follows, IsLive, OfDatabase, OfDatabaseAt, tenants_at, tenants_of}
 use Rattle.store.specs.declared.place.Place.{Place}
 use Rattle.store.specs.declared.place.Place.TheVariants as at
 use Rattle.store.specs.declared.store.Store.{Store}
@@ -126,22 +124,31 @@ module _ {D : Type 0} {g : disk.Ghosts D} where
       found = run_finds read finds settled;
     }
 
-  told_at :
-      (account : ℕ) (span : Span) (name digest : List ℕ) (place : Place D g) (result : Result Done Fault) →
+  named_at :
+      (P : Option Machine → Type 0) (name digest : List ℕ) (place : Place D g) →
       OfDatabaseAt (λ db. Some digest ≡ digest_in name db.trees) place →
-      IsPieceTold account span (tenants_at place digest) result →
-      OfDatabaseAt (λ db. IsPieceTold account span (machine_named name db.trees) result) place
-  told_at account span name digest (at.Open conn) result is told =
-      subst
-      (λ (known : Option (List ℕ)).
-      IsPieceTold account span (tenant_of_digest known) result) is told
+      P (tenants_at place digest) → OfDatabaseAt (λ db. P (machine_named name db.trees)) place
+  named_at P name digest (at.Open conn) is holds =
+      subst (λ (known : Option (List ℕ)). P (tenant_of_digest known)) is holds
     where
       tenant_of_digest : Option (List ℕ) → Option Machine
       tenant_of_digest None = None
       tenant_of_digest (Some known) = tenants_at (at.Open conn) known
-  told_at account span name digest (at.Shut files) result is told = is
+  named_at P name digest (at.Shut files) is holds = is
 
-  -- what the machine of a name tells, by that of its digest
+  -- what holds of the machine of a digest, behind a call that only reads, holds of that of its name
+  pub so_by_name :
+      (P : Option Machine → Type 0) (name digest : List ℕ) (known : Option (List ℕ))
+      (old mid : Store D g) → known ≡ Some digest → KeepsAll (tenants_of old) (tenants_of mid) →
+      OfDatabase (λ db. known ≡ digest_in name db.trees) old → P (tenants_of mid digest) →
+      OfDatabase (λ db. P (machine_named name db.trees)) old
+  so_by_name P name digest known old mid there keeps is holds =
+      named_at P name digest old.place
+      (subst
+      (λ (found : Option (List ℕ)). OfDatabase (λ db. found ≡ digest_in name db.trees) old) there is)
+      (subst P (keeps digest) holds)
+
+  -- so does what it tells
   pub told_by_name :
       (account : ℕ) (span : Span) (name digest : List ℕ) (known : Option (List ℕ))
       (old mid : Store D g) (result : Result Done Fault) → known ≡ Some digest →
@@ -149,9 +156,6 @@ module _ {D : Type 0} {g : disk.Ghosts D} where
       OfDatabase (λ db. known ≡ digest_in name db.trees) old →
       IsPieceTold account span (tenants_of mid digest) result →
       OfDatabase (λ db. IsPieceTold account span (machine_named name db.trees) result) old
-  told_by_name account span name digest known old mid result there keeps is told =
-      told_at account span name digest old.place result
-      (subst
-      (λ (found : Option (List ℕ)). OfDatabase (λ db. found ≡ digest_in name db.trees) old) there is)
-      (subst (λ (tenant : Option Machine). IsPieceTold account span tenant result) (keeps digest)
-      told)
+  told_by_name account span name digest known old mid result =
+      so_by_name (λ (tenant : Option Machine). IsPieceTold account span tenant result) name digest
+      known old mid

@@ -7,6 +7,8 @@ pub mod Adding
 pub mod Keying
 pub mod Openings
 pub mod Migrating
+pub mod Holding
+pub mod OverFiles
 pub mod Program
 pub mod Asking
 pub mod Extracts

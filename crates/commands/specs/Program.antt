@@ -2,6 +2,8 @@
 use Rattle.std.specs.Prelude.{◌≡◌, ◌≢◌, ◌⊎◌, ◌<◌, ◌≤◌, ◌^◌, ℕ, Bool, true, false, codes, if◌then◌else◌}
 use Rattle.std.specs.Prelude.{List, [], ◌∷◌, ◌++◌}
 use Rattle.std.specs.Prelude.{Option, None, Some, Result, Ok, Err, IfOk}
+use Rattle.sqlite_disk.specs.declared.Disk as disk
+use Rattle.sqlite_wal.specs.Recovery.{Image}
 use Rattle.std.specs.Io.KnownBytes.{Appends}
 use Rattle.clap.specs.declared.error.kind.ErrorKind.TheVariants.{DisplayVersion}
 use Rattle.clap.specs.Words.{IsAmong, fault_of, kind_of}
@@ -20,11 +22,17 @@ use Rattle.command_line.specs.declared.fault.LineFault.TheVariants.{Refused, Ver
 use Rattle.command_texts.specs.Faults.{status_of}
 use Rattle.command_texts.specs.Lines.{IsWritten, added_line, changed_line, damage_line}
 use Rattle.command_texts.specs.Lines.{copied_line, fault_line, new_ledger_line, schema_line, stopped_line}
+use Rattle.command_texts.specs.Words.{IsDigestOfKey}
 use Rattle.command_line.specs.declared.commands.StatementWords.{StatementWords}
-use Rattle.commands.specs.Asking.{MeansPeriod, read_form}
+use Rattle.commands.specs.Asking.{IsAsked, MeansPeriod, read_form}
+use Rattle.commands.specs.Holding.{HasAsked, HasAskedOr, HasDamaged, HasMigrated, HasOpened}
+use Rattle.commands.specs.Holding.{IsBroughtTo, IsDamagedAt, IsFrom}
+use Rattle.commands.specs.OverFiles.{HasAdded, HasChanged, HasListed, HasWritten, IsWrittenFrom}
+use Rattle.commands.specs.declared.asked.Asked.{Asked}
 use Rattle.statement.specs.declared.period.Period.{Period}
-use Rattle.commands.specs.GivenKeys.{IsGivenKey, AreLinesTold}
+use Rattle.commands.specs.GivenKeys.{IsGivenKey, AreLinesTold, key_text}
 use Rattle.commands.specs.declared.ended.Ended.{Ended}
+use Rattle.commands.specs.declared.ended.Held.TheVariants.{Nothing}
 use Rattle.commands.specs.declared.given_key.GivenKey.{GivenKey}
 use Rattle.command_texts.specs.declared.fault.Fault.{Fault}
 use Rattle.command_texts.specs.declared.fault.Fault.TheVariants.{BadName, BadKey, BadAccount}
@@ -44,10 +52,6 @@ abbrev pub IsNoneOr : List ℕ → Option (List ℕ) → Type 0
 IsNoneOr text None = Unit {0}
 IsNoneOr text (Some found) = found ≡ text
 
--- no damage was told, and no file has become a new ledger
-abbrev pub IsCalm : {O : Type 0} → Ended O → Type 0
-IsCalm ended = (ended.is_damaged ≡ false) × (ended.made ≡ None)
-
 -- a word on the command line that is no key
 abbrev pub IsNoKey : Option (List ℕ) → Type 0
 IsNoKey None = ⊥
@@ -55,102 +59,173 @@ IsNoKey (Some word) = (word ≢ codes "-") × (key_of word ≡ None)
 
 -- a line is told, and behind it the key, where no word gives one and it is drawn
 abbrev pub TellsKey :
-    Option (List ℕ) → Option (List ℕ) → Option (List ℕ) → List ℕ → Type 0
-TellsKey word old new line = (key : GivenKey) × IsGivenKey word key × AreLinesTold old new line key
+    Option (List ℕ) → Option (List ℕ) → Option (List ℕ) → List ℕ → GivenKey → Type 0
+TellsKey word old new line key = IsGivenKey word key × AreLinesTold old new line key
 
--- a tenant is added, and a line tells so, and whether the file has become a new ledger; before the
--- file is opened the name is judged, then the key
-pub record AddsTenant {O : Type 0} (written : O → Option (List ℕ)) (db name : List ℕ)
-    (key : Option (List ℕ)) (out : O) (result : Result (Ended O) Fault) : Type 0 where
-  pub name_first : ¬ IsTenantName name → result ≡ Err BadName
-  pub key_next : IsTenantName name → IsNoKey key → result ≡ Err BadKey
-  pub line : IfOk result (λ ended. TellsKey key (written out) (written ended.out) (added_line name))
-  pub calm : IfOk result (λ ended. ended.is_damaged ≡ false)
-  pub made : IfOk result (λ ended. IsNoneOr db (text_in ended.made))
+-- something is so of the digest of a key
+abbrev pub OfDigest : GivenKey → (List ℕ → Type 0) → Type 0
+OfDigest key P =
+    (digest : List ℕ) × IsDigestOfKey (key_of (key_text key)) (Ok digest) × P digest
 
--- a tenant's key is changed, and a line tells so; before the file is opened the name is judged, then
--- the key
-pub record ChangesKey {O : Type 0} (written : O → Option (List ℕ)) (name : List ℕ)
-    (key : Option (List ℕ)) (out : O) (result : Result (Ended O) Fault) : Type 0 where
-  pub name_first : ¬ IsTenantName name → result ≡ Err BadName
-  pub key_next : IsTenantName name → IsNoKey key → result ≡ Err BadKey
-  pub line :
-      IfOk result (λ ended. TellsKey key (written out) (written ended.out) (changed_line name))
-  pub calm : IfOk result IsCalm
+module _ {O D : Type 0} {g : disk.Ghosts D} where
+  -- no damage was told, and no file has become a new ledger
+  abbrev pub IsCalm : Ended O D g → Type 0
+  IsCalm ended = (ended.is_damaged ≡ false) × (ended.made ≡ None)
 
--- a statement is written; before the file is opened the name is judged, then the account's id, then
--- the period's bounds, and then the form
-pub record WritesStatement {O : Type 0} (name account : List ℕ) (words : StatementWords)
-    (result : Result (Ended O) Fault) : Type 0 where
-  pub name_first : ¬ IsTenantName name → result ≡ Err BadName
-  pub account_next : IsTenantName name → ¬ IsAccountId account → result ≡ Err BadAccount
-  pub period_next : IsTenantName name → IsAccountId account
-      → ((period : Period) → ¬ MeansPeriod words period) → result ≡ Err BadTime
-  pub form_last : (period : Period) → IsTenantName name → IsAccountId account
-      → MeansPeriod words period → read_form (text_in words.format) ≡ Err BadFormat
-      → result ≡ Err BadFormat
-  pub calm : IfOk result IsCalm
+  -- a tenant is added, and a line tells so, and whether the file has become a new ledger
+  pub record IsAddedSo (written : O → Option (List ℕ)) (image : Image) (name : List ℕ)
+      (key : Option (List ℕ)) (out : O) (ended : Ended O D g) : Type 0 where
+    pub given : GivenKey
+    pub line : TellsKey key (written out) (written ended.out) (added_line name) given
+    pub added : OfDigest given (λ digest. HasAskedOr
+        (HasOpened (HasAdded image (text_in ended.made) name digest)) ended.held)
 
--- a file is audited, and a line tells what was found
-abbrev pub Checks :
-    {O : Type 0} → (O → Option (List ℕ)) → O → Result (Ended O) Fault → Type 0
-Checks written out (Ok ended) =
-    (ended.made ≡ None)
-    × ((Appends (written out) (written ended.out) (codes "ok" ++ 10 ∷ [])
-    × (ended.is_damaged ≡ false))
-    ⊎ ((damage : Damage)
-    × Appends (written out) (written ended.out) (damage_line damage) × (ended.is_damaged ≡ true)))
-Checks written out (Err fault) = Unit {0}
+  -- so it is; before the file is opened the name is judged, then the key
+  pub record AddsTenant (written : O → Option (List ℕ)) (image : Image) (db name : List ℕ)
+      (key : Option (List ℕ)) (out : O) (result : Result (Ended O D g) Fault) : Type 0 where
+    pub name_first : ¬ IsTenantName name → result ≡ Err BadName
+    pub key_next : IsTenantName name → IsNoKey key → result ≡ Err BadKey
+    pub added : IfOk result (IsAddedSo written image name key out)
+    pub calm : IfOk result (λ ended. ended.is_damaged ≡ false)
+    pub made : IfOk result (λ ended. IsNoneOr db (text_in ended.made))
 
--- a file is brought to a version, and a line tells it; before it is opened the version is judged
-pub record Migrates {O : Type 0} (written : O → Option (List ℕ)) (to : List ℕ) (out : O)
-    (result : Result (Ended O) Fault) : Type 0 where
-  pub version_first : ¬ IsVersion to → result ≡ Err BadVersion
-  pub line : IfOk result (λ ended. Appends (written out) (written ended.out) (schema_line to))
-  pub calm : IfOk result IsCalm
+  -- a tenant's key is changed, and a line tells so
+  pub record IsChangedSo (written : O → Option (List ℕ)) (image : Image) (name : List ℕ)
+      (key : Option (List ℕ)) (out : O) (ended : Ended O D g) : Type 0 where
+    pub given : GivenKey
+    pub line : TellsKey key (written out) (written ended.out) (changed_line name) given
+    pub changed : OfDigest given
+        (λ digest. HasAskedOr (HasOpened (HasChanged image name digest)) ended.held)
 
--- a line tells how many bytes a copy has
-pub record Copies {O : Type 0} (written : O → Option (List ℕ)) (out : O)
-    (result : Result (Ended O) Fault) : Type 0 where
-  pub line : IfOk result (λ ended. (bytes : List ℕ)
-      × Appends (written out) (written ended.out) (copied_line bytes))
-  pub calm : IfOk result IsCalm
+  -- so it is; before the file is opened the name is judged, then the key
+  pub record ChangesKey (written : O → Option (List ℕ)) (image : Image) (name : List ℕ)
+      (key : Option (List ℕ)) (out : O) (result : Result (Ended O D g) Fault) : Type 0 where
+    pub name_first : ¬ IsTenantName name → result ≡ Err BadName
+    pub key_next : IsTenantName name → IsNoKey key → result ≡ Err BadKey
+    pub changed : IfOk result (IsChangedSo written image name key out)
+    pub calm : IfOk result IsCalm
 
--- a line tells that the service has ended
-pub record Stops {O : Type 0} (written : O → Option (List ℕ)) (out : O)
-    (result : Result (Ended O) Fault) : Type 0 where
-  pub line : IfOk result (λ ended. Appends (written out) (written ended.out) stopped_line)
-  pub calm : IfOk result IsCalm
+  -- what the words ask for of an account's statement is written
+  pub record IsStatementWritten (written : O → Option (List ℕ)) (image : Image)
+      (name account : List ℕ) (words : StatementWords) (out : O) (ended : Ended O D g)
+      : Type 0 where
+    pub id : ℕ
+    pub is : account ≡ decimal_of id
+    pub asked : Asked
+    pub means : IsAsked words asked
+    pub told : HasAskedOr (HasOpened (HasWritten image
+        (IsWrittenFrom written name id asked out ended.out))) ended.held
 
--- the versions are written
-pub record TellsVersion {O : Type 0} (written : O → Option (List ℕ)) (out : O)
-    (result : Result (Ended O) Fault) : Type 0 where
-  pub lines : IfOk result (λ ended. Appends (written out) (written ended.out) version_text)
-  pub calm : IfOk result IsCalm
+  -- so it is; before the file is opened the name is judged, then the account's id, then the period's
+  -- bounds, and then the form
+  pub record WritesStatement (written : O → Option (List ℕ)) (image : Image)
+      (name account : List ℕ) (words : StatementWords) (out : O)
+      (result : Result (Ended O D g) Fault) : Type 0 where
+    pub name_first : ¬ IsTenantName name → result ≡ Err BadName
+    pub account_next : IsTenantName name → ¬ IsAccountId account → result ≡ Err BadAccount
+    pub period_next : IsTenantName name → IsAccountId account
+        → ((period : Period) → ¬ MeansPeriod words period) → result ≡ Err BadTime
+    pub form_last : (period : Period) → IsTenantName name → IsAccountId account
+        → MeansPeriod words period → read_form (text_in words.format) ≡ Err BadFormat
+        → result ≡ Err BadFormat
+    pub statement : IfOk result (IsStatementWritten written image name account words out)
+    pub calm : IfOk result IsCalm
 
--- nothing is done
-abbrev pub DoesNothing : {O : Type 0} → O → Result (Ended O) Fault → Type 0
-DoesNothing out result = result ≡ Ok (record { out = out; is_damaged = false; made = None })
+  -- a ledger was audited and is open, and a line tells that all is sound
+  pub record TellsSound (written : O → Option (List ℕ)) (image : Image) (out : O)
+      (ended : Ended O D g) : Type 0 where
+    pub line : Appends (written out) (written ended.out) (codes "ok" ++ 10 ∷ [])
+    pub calm : ended.is_damaged ≡ false
+    pub sound : HasOpened (IsFrom image) ended.held
 
--- what a command comes to
-abbrev pub Does :
-    {O : Type 0} → (O → Option (List ℕ)) → Command → O → Result (Ended O) Fault → Type 0
-Does written command.Lists out result = DoesNothing out result
-Does written (command.Serve db address port requests standby limits) out result = DoesNothing out result
-Does written (command.AddTenant db name key) out result =
-    AddsTenant written db.now name.now (text_in key) out result
-Does written (command.ChangeKey db name key) out result =
-    ChangesKey written name.now (text_in key) out result
-Does written (command.Statement db tenant account asked) out result =
-    WritesStatement tenant.now account.now asked result
-Does written (command.Check db) out result = Checks written out result
-Does written (command.Migrate db to) out result = Migrates written to.now out result
-Does written (command.Lint route) out result = DoesNothing out result
-Does written (command.Tenants db) out result = IfOk result IsCalm
-Does written (command.Status db prometheus) out result = IfOk result IsCalm
-Does written (command.Copy db to) out result = Copies written out result
-Does written (command.Stop db) out result = Stops written out result
-Does written command.Version out result = TellsVersion written out result
+  -- a line tells the first damage
+  pub record TellsDamage (written : O → Option (List ℕ)) (image : Image) (out : O)
+      (ended : Ended O D g) : Type 0 where
+    pub damage : Damage
+    pub line : Appends (written out) (written ended.out) (damage_line damage)
+    pub damaged : ended.is_damaged ≡ true
+    pub first : HasDamaged (IsDamagedAt g image damage) ended.held
+
+  -- a file is audited, and a line tells what was found
+  abbrev pub Checks :
+      (O → Option (List ℕ)) → Image → O → Result (Ended O D g) Fault → Type 0
+  Checks written image out result =
+      IfOk result (λ ended. (ended.made ≡ None)
+      × (TellsSound written image out ended ⊎ TellsDamage written image out ended))
+
+  -- a ledger is brought to a version, and a line tells it
+  pub record IsMigratedSo (written : O → Option (List ℕ)) (image : Image) (to : List ℕ) (out : O)
+      (ended : Ended O D g) : Type 0 where
+    pub line : Appends (written out) (written ended.out) (schema_line to)
+    pub version : ℕ
+    pub is : to ≡ decimal_of version
+    pub brought : HasMigrated (IsBroughtTo image version) ended.held
+
+  -- so it is; before the file is opened the version is judged
+  pub record Migrates (written : O → Option (List ℕ)) (image : Image) (to : List ℕ) (out : O)
+      (result : Result (Ended O D g) Fault) : Type 0 where
+    pub version_first : ¬ IsVersion to → result ≡ Err BadVersion
+    pub migrated : IfOk result (IsMigratedSo written image to out)
+    pub calm : IfOk result IsCalm
+
+  -- the tenants of a ledger are listed
+  pub record ListsTenants (written : O → Option (List ℕ)) (image : Image) (out : O)
+      (result : Result (Ended O D g) Fault) : Type 0 where
+    pub listed : IfOk result (λ ended. HasAskedOr
+        (HasOpened (HasListed image (written out) (written ended.out))) ended.held)
+    pub calm : IfOk result IsCalm
+
+  -- a line tells how many bytes a copy has, and the ledger that was copied is open
+  pub record Copies (written : O → Option (List ℕ)) (image : Image) (out : O)
+      (result : Result (Ended O D g) Fault) : Type 0 where
+    pub line : IfOk result (λ ended. (bytes : List ℕ)
+        × Appends (written out) (written ended.out) (copied_line bytes))
+    pub opened : IfOk result (λ ended. HasAskedOr (HasOpened (IsFrom image)) ended.held)
+    pub calm : IfOk result IsCalm
+
+  -- the service was asked for what it tells of itself
+  pub record AsksStatus (result : Result (Ended O D g) Fault) : Type 0 where
+    pub asked : IfOk result (λ ended. HasAsked ended.held)
+    pub calm : IfOk result IsCalm
+
+  -- the service was asked to end, and a line tells that it has
+  pub record Stops (written : O → Option (List ℕ)) (out : O)
+      (result : Result (Ended O D g) Fault) : Type 0 where
+    pub line : IfOk result (λ ended. Appends (written out) (written ended.out) stopped_line)
+    pub asked : IfOk result (λ ended. HasAsked ended.held)
+    pub calm : IfOk result IsCalm
+
+  -- the versions are written
+  pub record TellsVersion (written : O → Option (List ℕ)) (out : O)
+      (result : Result (Ended O D g) Fault) : Type 0 where
+    pub lines : IfOk result (λ ended. Appends (written out) (written ended.out) version_text)
+    pub calm : IfOk result IsCalm
+
+  -- nothing is done
+  abbrev pub DoesNothing : O → Result (Ended O D g) Fault → Type 0
+  DoesNothing out result =
+      result ≡ Ok (record { out = out; is_damaged = false; made = None; held = Nothing })
+
+  -- what a command comes to, of a file and its log that hold this
+  abbrev pub Does :
+      (O → Option (List ℕ)) → Image → Command → O → Result (Ended O D g) Fault → Type 0
+  Does written image command.Lists out result = DoesNothing out result
+  Does written image (command.Serve db address port requests standby limits) out result =
+      DoesNothing out result
+  Does written image (command.AddTenant db name key) out result =
+      AddsTenant written image db.now name.now (text_in key) out result
+  Does written image (command.ChangeKey db name key) out result =
+      ChangesKey written image name.now (text_in key) out result
+  Does written image (command.Statement db tenant account asked) out result =
+      WritesStatement written image tenant.now account.now asked out result
+  Does written image (command.Check db) out result = Checks written image out result
+  Does written image (command.Migrate db to) out result = Migrates written image to.now out result
+  Does written image (command.Lint route) out result = DoesNothing out result
+  Does written image (command.Tenants db) out result = ListsTenants written image out result
+  Does written image (command.Status db prometheus) out result = AsksStatus result
+  Does written image (command.Copy db to) out result = Copies written image out result
+  Does written image (command.Stop db) out result = Stops written out result
+  Does written image command.Version out result = TellsVersion written out result
 
 -- standard error, before and behind the program
 pub record Told : Type 0 where
@@ -182,7 +257,8 @@ IsMadeTold (Some path) err =
 
 -- what a command has come to is told: 0, or 4 where damage was, with nothing on standard error but a
 -- new ledger; or its fault
-abbrev pub Tells : {O : Type 0} → Result (Ended O) Fault → Told → ℕ → Type 0
+abbrev pub Tells :
+    {O D : Type 0} {g : disk.Ghosts D} → Result (Ended O D g) Fault → Told → ℕ → Type 0
 Tells (Ok ended) err status =
     (status ≡ (if ended.is_damaged then 4 else 0)) × IsMadeTold (text_in ended.made) err
 Tells (Err fault) err status = TellsFileFault fault err status
@@ -191,22 +267,22 @@ Tells (Err fault) err status = TellsFileFault fault err status
 abbrev pub IsRefusalTold : Told → ℕ → Type 0
 IsRefusalTold err status = (status ≡ 2) ⊎ TellsFault Unavailable err status
 
--- what the program does for words that are read so
-abbrev pub HasRunFor :
-    {O : Type 0} → (O → Option (List ℕ)) → List (List ℕ) → O → Told → ℕ → Result Command LineFault
-    → Type 0
-HasRunFor {O} written words out err status (Ok asked) =
-    IsCommandOf words asked
-    × ((ended : Result (Ended O) Fault) × Does written asked out ended × Tells ended err status)
-HasRunFor written words out err status (Err (Refused error)) =
-    IsAmong (kind_of error) (fault_of ledgerd_app words) × IsRefusalTold err status
-HasRunFor {O} written words out err status (Err Version) =
-    IsAmong DisplayVersion (fault_of ledgerd_app words)
-    × ((ended : Result (Ended O) Fault) × TellsVersion written out ended × Tells ended err status)
-HasRunFor written words out err status (Err Memory) = TellsFault Unavailable err status
+module _ {O D : Type 0} (g : disk.Ghosts D) (written : O → Option (List ℕ)) (image : Image) where
+  -- what the program does for words that are read so
+  abbrev pub HasRunFor : List (List ℕ) → O → Told → ℕ → Result Command LineFault → Type 0
+  HasRunFor words out err status (Ok asked) =
+      IsCommandOf words asked
+      × ((ended : Result (Ended O D g) Fault) × Does written image asked out ended
+      × Tells ended err status)
+  HasRunFor words out err status (Err (Refused error)) =
+      IsAmong (kind_of error) (fault_of ledgerd_app words) × IsRefusalTold err status
+  HasRunFor words out err status (Err Version) =
+      IsAmong DisplayVersion (fault_of ledgerd_app words)
+      × ((ended : Result (Ended O D g) Fault) × TellsVersion written out ended
+      × Tells ended err status)
+  HasRunFor words out err status (Err Memory) = TellsFault Unavailable err status
 
--- what the program does for its words
-abbrev pub HasRun :
-    {O : Type 0} → (O → Option (List ℕ)) → List (List ℕ) → O → Told → ℕ → Type 0
-HasRun written words out err status =
-    (line : Result Command LineFault) × HasRunFor written words out err status line
+  -- what the program does for its words
+  abbrev pub HasRun : List (List ℕ) → O → Told → ℕ → Type 0
+  HasRun words out err status =
+      (line : Result Command LineFault) × HasRunFor words out err status line

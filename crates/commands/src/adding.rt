@@ -1,10 +1,10 @@
 //! New tenants.
-ghost use Rattle.std.specs.Prelude.{◌≡◌};
+ghost use Rattle.std.specs.Prelude.{◌≡◌, OnOk};
 ghost use Rattle.service.specs.Courses.{Tried};
 ghost use Rattle.service.specs.Deeds.{Joined};
 ghost use Rattle.service.specs.Openings.{run_meaning, Moves};
 ghost use Rattle.store.specs.StoreLaws.{store_meaning};
-ghost use Rattle.store.specs.Stores.{Follows, IsLive, IsUsable, OfDatabases};
+ghost use Rattle.store.specs.Stores.{Follows, IsHonest, IsLive, IsUsable, OfDatabases};
 ghost use Rattle.commands.specs.Adding.{IsAdded, add_fault};
 ghost use Rattle.commands.specs.Endings.{ending_told};
 
@@ -26,6 +26,7 @@ pub(crate) fn add_tenant<D: Disk + Drop>(
         (Tried (Joined digest.now) (ending_told result)) store.new }
     ensures usable { IsUsable store.new }
     ensures follows { Follows store.old store.new }
+    ensures open { IsHonest store.new → OnOk result (IsLive store.new) }
 {
     match store.add_tenant(name, digest) {
         Ok(()) => Ok(()),

@@ -26,11 +26,26 @@ pub(crate) fn desk_path(rt: &HostRuntime, db: &str) -> Result<Option<String>, Fa
     Ok(Some(format!(in rt.alloc(); "{path}.control")?))
 }
 
+/// What the service that has a file has answered. Only `ask` makes one.
+#[derive(Drop)]
+pub(crate) struct Answer {
+    body: Vec<u8>,
+}
+
+impl Answer {
+    pub(crate) fn body(&self) -> &[u8] {
+        self.body.as_slice()
+    }
+}
+
 /// What the service that has a file answers, if one has it and listens for its operator. It is
 /// `Unreadable` where a folder on the way to the file is another user's.
-pub(crate) fn ask(rt: &HostRuntime, db: &str, what: &Call<'_>) -> Result<Option<Vec<u8>>, Fault> {
-    match desk_path(rt, db)? {
-        Some(path) => call(rt, rt.alloc(), path.as_str(), what),
+pub(crate) fn ask(rt: &HostRuntime, db: &str, what: &Call<'_>) -> Result<Option<Answer>, Fault> {
+    let Some(path) = desk_path(rt, db)? else {
+        return Ok(None);
+    };
+    match call(rt, rt.alloc(), path.as_str(), what)? {
+        Some(body) => Ok(Some(Answer { body })),
         None => Ok(None),
     }
 }

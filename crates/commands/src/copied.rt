@@ -1,13 +1,18 @@
 //! Copies of files.
-ghost use Rattle.std.specs.Prelude.{◌≡◌};
+ghost use Rattle.std.specs.Prelude.{◌≡◌, IfOk};
+ghost use Rattle.sqlite_wal.specs.Files.{image_at};
 ghost use Rattle.commands.specs.Copying.{copy_fault};
+ghost use Rattle.commands.specs.Holding.{IsFrom};
 
 use crate::calling::real_path;
 use crate::opening::open_file;
 use command_texts::Fault;
 pub(crate) use copies::Progress;
 use copies::{CopyFault, Copying, copy_whole};
+use sqlite_disk::Start;
+use sqlite_std_file::FileFrom;
 use std::env;
+use store::Store;
 
 /// A path as any process finds it, whatever folder it is in.
 pub(crate) fn absolute(rt: &HostRuntime, path: &str) -> Result<String, Fault> {
@@ -21,13 +26,22 @@ pub(crate) fn absolute(rt: &HostRuntime, path: &str) -> Result<String, Fault> {
     Ok(format!(in rt.alloc(); "{folder}/{path}")?)
 }
 
-/// Copies a file that nobody serves, behind an audit, and says how many bytes the copy has.
-pub(crate) fn copy_file(rt: &HostRuntime, db: &str, to: &str) -> Result<u64, Fault> {
-    let store = open_file(rt, db)?;
+/// Copies a file that nobody serves, behind an audit, and says how many bytes the copy has. The
+/// ledger is open meanwhile, so that nobody else can have it.
+pub(crate) fn copy_file<St: Start>(
+    rt: &HostRuntime,
+    db: &str,
+    to: &str,
+    start: St,
+) -> Result<(u64, Store<FileFrom<St>>), Fault>
+    ensures { IfOk result (λ done. IsFrom (image_at St.Start) done.1) }
+{
+    let store = open_file(rt, db, start)?;
     let real = real_path(rt, db)?.ok_or(Fault::Unreadable)?;
-    let copied = copy_whole(rt, real.as_str(), to);
-    drop(store);
-    copied.map_err(copy_fault)
+    match copy_whole(rt, real.as_str(), to) {
+        Ok(bytes) => Ok((bytes, store)),
+        Err(fault) => Err(copy_fault(fault)),
+    }
 }
 
 /// Goes on with a copy of a file that is served, by one turn. Nothing is written to the file

@@ -1,10 +1,30 @@
+use crate::calling::Answer;
+use migrate::LedgerOfVersion;
+use sqlite::Files;
+use sqlite_disk::Disk;
+use store::Store;
+
 /// What a command leaves where it ends without a fault.
 #[derive(Drop)]
-pub(crate) struct Ended<'a, O> {
+pub(crate) struct Ended<'a, O, D: Disk> {
     /// Standard output.
     pub(crate) out: O,
     /// Whether damage was told there.
     pub(crate) is_damaged: bool,
     /// The file that has become a new ledger, if it has.
     pub(crate) made: Option<&'a str>,
+    pub(crate) held: Held<D>,
+}
+
+/// What a command has of the ledger in a file, where it ends.
+#[derive(Drop)]
+pub(crate) enum Held<D: Disk> {
+    Nothing,
+    /// The service that has the file was asked.
+    Asked(Answer),
+    Opened(Store<D>),
+    /// It was brought to a version.
+    Migrated(LedgerOfVersion<D>),
+    /// It was not opened, as it is damaged.
+    Damaged(Files<D>),
 }

@@ -23,6 +23,7 @@ mod moments;
 mod opening;
 mod orders;
 mod over_files;
+mod over_tenants;
 mod pieces;
 mod reasons;
 mod renewing;

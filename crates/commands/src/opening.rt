@@ -1,7 +1,11 @@
 //! The ledger in a file.
 ghost use Rattle.std.specs.Prelude.{◌≡◌, IfErr, IfOk};
-ghost use Rattle.migrate.specs.Ledgers.{IsMigratable};
+ghost use Rattle.sqlite_wal.specs.Files.{image_at};
+ghost use Rattle.sqlite_wal.specs.Recovery.{Image};
+ghost use Rattle.migrate.specs.Ledgers.{IsMigratable, IsOpenedToMigrate};
+ghost use Rattle.openings.specs.Found.{IsThere, Yields};
 ghost use Rattle.store.specs.Stores.{IsReady, IsUsable};
+ghost use Rattle.commands.specs.Holding.{IsBegun, IsFoundAs, IsFrom, IsMade};
 ghost use Rattle.commands.specs.Openings.{IsOpeningFault, open_fault};
 
 use audit::Damage;
@@ -10,9 +14,9 @@ use metered_disk::{Meter, Metered, measured};
 use migrate::LedgerOfVersion;
 use openings::opening::files_at;
 use records::Unavailable;
-use sqlite::Options;
-use sqlite_disk::Unknown;
-use sqlite_std_file::File;
+use sqlite::{Files, Options};
+use sqlite_disk::{Disk, Start, Unknown};
+use sqlite_std_file::{File, FileFrom};
 use std::fs::{self, OpenOptions};
 use std::hash::{BuildHasher, RandomState};
 use std::io::{self, ErrorKind};
@@ -38,13 +42,18 @@ enum Found {
 }
 
 /// The ledger in a file that is there. Only `open_or_make` makes one.
-pub(crate) fn open_file(rt: &HostRuntime, path: &str) -> Result<Store<File>, Fault>
-    ensures usable { IfOk result IsUsable }
+pub(crate) fn open_file<St: Start>(
+    rt: &HostRuntime,
+    path: &str,
+    start: St,
+) -> Result<Store<FileFrom<St>>, Fault>
+    ensures opened { IfOk result (IsFrom (image_at St.Start)) }
     ensures fault { IfErr result IsOpeningFault }
 {
-    match open_at(rt, path, &FullAudit) {
+    let options = prepared(rt, path)?;
+    match Store::open_at(rt, path, start, options, &FullAudit) {
         Ok(store) => Ok(store),
-        Err(fault) => Err(open_fault(fault)),
+        Err((fault, _files)) => Err(open_fault(fault)),
     }
 }
 
@@ -87,72 +96,81 @@ fn open_measured<'a, A: Audit>(
 
 /// A ledger that was opened, or made.
 #[derive(Drop)]
-pub(crate) struct Opened {
-    pub(crate) store: Store<File>,
+pub(crate) struct Opened<D: Disk> {
+    pub(crate) store: Store<D>,
     pub(crate) is_new: bool,
 }
 
 /// The ledger in a file, which is made where the file is absent or empty, or a database without
 /// tables, as a making that was cut short leaves it.
-pub(crate) fn open_or_make(rt: &HostRuntime, path: &str) -> Result<Opened, Fault>
-    ensures { IfOk result (λ opened. IsUsable opened.store) }
+pub(crate) fn open_or_make<St: Start>(
+    rt: &HostRuntime,
+    path: &str,
+    start: St,
+) -> Result<Opened<FileFrom<St>>, Fault>
+    ensures usable { IfOk result (λ opened. IsUsable opened.store) }
+    ensures begun { IfOk result (λ opened.
+        IsBegun opened.is_new (image_at St.Start) opened.store) }
 {
     match look(rt, path).map_err(open_fault)? {
         Found::Absent => {
             make_file(rt, path)?;
-            make(rt, path)
+            make(rt, path, start)
         }
-        Found::Empty => make(rt, path),
-        Found::Filled => match open_file(rt, path) {
-            Ok(store) => Ok(Opened {
-                store,
-                is_new: false,
-            }),
-            Err(Fault::NotALedger) => make_over(rt, path),
-            Err(fault) => Err(fault),
-        },
+        Found::Empty => make(rt, path, start),
+        Found::Filled => open_or_make_in(rt, path, start),
     }
 }
 
 /// The ledger in a file that is there, which may have an older version.
-pub(crate) fn open_to_migrate(rt: &HostRuntime, path: &str) -> Result<LedgerOfVersion<File>, Fault>
+pub(crate) fn open_to_migrate<St: Start>(
+    rt: &HostRuntime,
+    path: &str,
+    start: St,
+) -> Result<LedgerOfVersion<FileFrom<St>>, Fault>
     ensures migratable { IfOk result IsMigratable }
+    ensures opened { IfOk result (IsOpenedToMigrate (image_at St.Start)) }
     ensures fault { IfErr result IsOpeningFault }
 {
-    match migratable_at(rt, path) {
+    let options = prepared(rt, path)?;
+    match LedgerOfVersion::open_for_migration_at(rt, path, start, options, &FullAudit) {
         Ok(ledger) => Ok(ledger),
-        Err(fault) => Err(open_fault(fault)),
+        Err((fault, _files)) => Err(open_fault(fault)),
     }
 }
 
-fn migratable_at(rt: &HostRuntime, path: &str) -> Result<LedgerOfVersion<File>, OpenFault>
-    ensures { IfOk result IsMigratable }
+/// What an audit of the ledger in a file has found.
+#[derive(Drop)]
+pub(crate) enum Audited<D: Disk> {
+    /// No damage: it is open.
+    Sound(Store<D>),
+    /// The first damage, and the files.
+    Damaged(Damage, Files<D>),
+}
+
+/// Audits the ledger in a file that is there.
+pub(crate) fn examine<St: Start>(
+    rt: &HostRuntime,
+    path: &str,
+    start: St,
+) -> Result<Audited<FileFrom<St>>, Fault>
+    ensures { IfOk result (IsFoundAs (image_at St.Start)) }
 {
-    find(rt, path)?;
-    let options = options(rt, PAGES)?;
-    match LedgerOfVersion::open_for_migration_at(rt, path, Unknown, options, &FullAudit) {
-        Ok(ledger) => Ok(ledger),
-        Err((fault, _files)) => Err(fault),
+    let options = prepared(rt, path)?;
+    match Store::open_at(rt, path, start, options, &FullAudit) {
+        Ok(store) => Ok(Audited::Sound(store)),
+        Err((OpenFault::Damaged(damage), Some(files))) => Ok(Audited::Damaged(damage, files)),
+        Err((fault, _files)) => Err(open_fault(fault)),
     }
 }
 
-/// Where the ledger in a file that is there is damaged.
-pub(crate) fn examine(rt: &HostRuntime, path: &str) -> Result<Option<Damage>, Fault> {
-    match open_at(rt, path, &FullAudit) {
-        Ok(_store) => Ok(None),
-        Err(OpenFault::Damaged(damage)) => Ok(Some(damage)),
-        Err(fault) => Err(open_fault(fault)),
-    }
-}
-
-fn open_at<A: Audit>(rt: &HostRuntime, path: &str, audit: &A) -> Result<Store<File>, OpenFault>
-    ensures usable { IfOk result IsUsable }
-    ensures ready { IfOk result IsReady }
+// How a file is opened that is there.
+fn prepared(rt: &HostRuntime, path: &str) -> Result<Options, Fault>
+    ensures { IfErr result IsOpeningFault }
 {
-    find(rt, path)?;
-    match Store::open_at(rt, path, Unknown, options(rt, PAGES)?, audit) {
-        Ok(store) => Ok(store),
-        Err((fault, _files)) => Err(fault),
+    match find(rt, path) {
+        Ok(()) => small_options(rt),
+        Err(fault) => Err(open_fault(fault)),
     }
 }
 
@@ -207,11 +225,13 @@ fn make_file(rt: &HostRuntime, path: &str) -> Result<(), Fault> {
     }
 }
 
-fn make(rt: &HostRuntime, path: &str) -> Result<Opened, Fault>
-    ensures { IfOk result (λ opened. IsUsable opened.store) }
+fn make<St: Start>(rt: &HostRuntime, path: &str, start: St) -> Result<Opened<FileFrom<St>>, Fault>
+    ensures usable { IfOk result (λ opened. IsUsable opened.store) }
+    ensures begun { IfOk result (λ opened.
+        IsBegun opened.is_new (image_at St.Start) opened.store) }
 {
-    let options = options(rt, PAGES).map_err(open_fault)?;
-    match Store::create_at(rt, path, Unknown, options) {
+    let options = small_options(rt)?;
+    match Store::create_at(rt, path, start, options) {
         Ok(store) => Ok(Opened {
             store,
             is_new: true,
@@ -220,13 +240,57 @@ fn make(rt: &HostRuntime, path: &str) -> Result<Opened, Fault>
     }
 }
 
-// The same in a database that is no ledger: tables of anything else stay as they are.
-fn make_over(rt: &HostRuntime, path: &str) -> Result<Opened, Fault>
-    ensures { IfOk result (λ opened. IsUsable opened.store) }
+// The ledger in a database that is there, or made in it where it is no ledger, with no second
+// opening of the path.
+fn open_or_make_in<St: Start>(
+    rt: &HostRuntime,
+    path: &str,
+    start: St,
+) -> Result<Opened<FileFrom<St>>, Fault>
+    ensures usable { IfOk result (λ opened. IsUsable opened.store) }
+    ensures begun { IfOk result (λ opened.
+        IsBegun opened.is_new (image_at St.Start) opened.store) }
 {
-    match make(rt, path) {
-        Err(Fault::Unreadable) => Err(Fault::NotALedger),
-        made => made,
+    let options = small_options(rt)?;
+    match Store::open_at(rt, path, start, options, &FullAudit) {
+        Ok(store) => Ok(Opened {
+            store,
+            is_new: false,
+        }),
+        Err((OpenFault::NotALedger, Some(files))) => Ok(Opened {
+            store: make_in(rt, files, options)?,
+            is_new: true,
+        }),
+        Err((fault, _files)) => Err(open_fault(fault)),
+    }
+}
+
+// Makes a ledger in the files of a database that is none: tables of anything else stay as they are.
+fn make_in<D: Disk + Drop>(
+    rt: &HostRuntime,
+    files: Files<D>,
+    options: Options,
+) -> Result<Store<D>, Fault>
+    ensures { IfOk result (λ store. (image : Image) → Yields D.Disk files (IsThere image)
+        → IsMade image store) }
+{
+    if !files.may_be_used() {
+        return Err(Fault::Unavailable);
+    }
+    match Store::create(rt.alloc(), files, options) {
+        Ok(store) => Ok(store),
+        Err((OpenFault::Unreadable, _files)) => Err(Fault::NotALedger),
+        Err((fault, _files)) => Err(open_fault(fault)),
+    }
+}
+
+// How a command opens a file.
+fn small_options(rt: &HostRuntime) -> Result<Options, Fault>
+    ensures { IfErr result IsOpeningFault }
+{
+    match options(rt, PAGES) {
+        Ok(options) => Ok(options),
+        Err(fault) => Err(open_fault(fault)),
     }
 }
 

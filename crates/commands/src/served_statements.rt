@@ -7,7 +7,7 @@ ghost use Rattle.statement.specs.Writer.{drain_of, has_refused};
 ghost use Rattle.commands.specs.Served.{first_asked, piece_behind};
 
 use crate::asked::Asked;
-use crate::calling::ask;
+use crate::calling::{Answer, ask};
 use crate::statements::statement_fault;
 use chain::{AccountEntry, ReadFault};
 use command_texts::Fault;
@@ -138,9 +138,13 @@ fn piece_behind(asked: PieceAsked, last: Option<u64>) -> Option<PieceAsked>
     }
 }
 
-fn ask_piece(rt: &HostRuntime, db: &str, piece: &PieceAsked) -> Result<Option<Entries>, Fault> {
+fn ask_piece(
+    rt: &HostRuntime,
+    db: &str,
+    piece: &PieceAsked,
+) -> Result<Option<(Entries, Answer)>, Fault> {
     match ask(rt, db, &Call::Statement { piece: *piece })? {
-        Some(body) => Ok(Some(entries_in(rt.alloc(), body.as_slice())?)),
+        Some(answer) => Ok(Some((entries_in(rt.alloc(), answer.body())?, answer))),
         None => Ok(None),
     }
 }
@@ -152,10 +156,12 @@ pub(crate) fn ask_first(
     tenant: &TenantName,
     account: u128,
     asked: &Asked,
-) -> Result<Option<First>, Fault> {
+) -> Result<Option<(First, Answer)>, Fault> {
     let asked = first_asked(tenant, account, asked);
-    let entries = ask_piece(rt, db, &asked)?;
-    Ok(entries.map(|entries| First { asked, entries }))
+    match ask_piece(rt, db, &asked)? {
+        Some((entries, answer)) => Ok(Some((First { asked, entries }, answer))),
+        None => Ok(None),
+    }
 }
 
 // Hands the entries of a piece to a sink, and tells the time of the last one.
@@ -193,7 +199,8 @@ fn hand_over<S: EntrySink>(
             return Ok(());
         };
         asked = next;
-        entries = ask_piece(rt, db, &asked)?.ok_or(Fault::Unavailable)?;
+        let (more, _answer) = ask_piece(rt, db, &asked)?.ok_or(Fault::Unavailable)?;
+        entries = more;
     }
     Err(Fault::Unavailable)
 }

@@ -1,18 +1,19 @@
 //! The program but for its sockets: words in, a text and a status out.
 ghost use Rattle.std.specs.Prelude.{◌≡◌, false, map};
+ghost use Rattle.sqlite_wal.specs.Files.{image_at};
 ghost use Rattle.command_line.specs.Values.{text_in};
 ghost use Rattle.commands.specs.Program.{Does, HasRun, IsMadeTold, IsRefusalTold, Tells};
 ghost use Rattle.commands.specs.Program.{TellsVersion, told};
 
-use crate::ended::Ended;
-use crate::over_files::{
-    run_add_tenant, run_change_key, run_check, run_copy, run_migrate, run_statement, run_status,
-    run_stop, run_tenants,
-};
+use crate::ended::{Ended, Held};
+use crate::over_files::{run_check, run_copy, run_migrate, run_statement, run_status, run_stop};
+use crate::over_tenants::{run_add_tenant, run_change_key, run_tenants};
 use crate::reasons::{Place, tell_file_fault};
 use command_line::{Command, LineFault, command, version_text};
 use command_texts::{Fault, put_text, tell_fault, tell_new_ledger};
 use records::{Drain, put_all};
+use sqlite_disk::{Disk, Start};
+use sqlite_std_file::FileFrom;
 use std::alloc::Global;
 use std::convert::AsStr;
 use std::fmt::Display;
@@ -22,28 +23,30 @@ use std::fmt::Display;
 /// and `clap`'s text there, where the words are refused; 4 where `check` has told of damage on
 /// `out`. Behind the line of an `unreadable` file the system's reason may stand. A file that
 /// `tenant-add` makes a new ledger is told on `err`, and `--version` is answered on `out`. For no
-/// words, and for `serve` and `lint`, it does nothing.
-pub fn program<S: AsStr, O: Drain + Drop, E: Drain>(
+/// words, and for `serve` and `lint`, it does nothing. `St` stands for what the file and its log
+/// hold; which one it is matters to the clauses on values alone.
+pub fn program<S: AsStr, St: Start, O: Drain + Drop, E: Drain>(
     rt: &HostRuntime,
     words: &[S],
+    start: St,
     out: O,
     err: &mut E,
 ) -> u8
     requires out { O.failed out ≡ false }
     requires err { E.failed err.old ≡ false }
-    ensures { HasRun O.written (map S.text words.now) out (told (E.written err.old)
-        (E.written err.new) (E.failed err.new)) result }
+    ensures { HasRun ⟦<FileFrom<St> as Disk>⟧ O.written (image_at St.Start) (map S.text words.now) out
+        (told (E.written err.old) (E.written err.new) (E.failed err.new)) result }
 {
     match command(rt.alloc(), words) {
-        Ok(asked) => tell(rt, err, run(rt, asked, out), Place::of(asked)),
-        Err(LineFault::Version) => tell(rt, err, write_version(out), None),
+        Ok(asked) => tell(rt, err, run(rt, asked, start, out), Place::of(asked)),
+        Err(LineFault::Version) => tell(rt, err, write_version::<O, FileFrom<St>>(out), None),
         Err(LineFault::Memory) => tell_fault(err, Fault::Unavailable),
         Err(LineFault::Refused(error)) => tell_refusal(rt.alloc(), err, &error),
     }
 }
 
 // What `version` and `--version` ask for.
-fn write_version<O: Drain + Drop>(mut out: O) -> Result<Ended<'static, O>, Fault>
+fn write_version<O: Drain + Drop, D: Disk>(mut out: O) -> Result<Ended<'static, O, D>, Fault>
     requires { O.failed out ≡ false }
     ensures { TellsVersion O.written out result }
 {
@@ -52,6 +55,7 @@ fn write_version<O: Drain + Drop>(mut out: O) -> Result<Ended<'static, O>, Fault
         out,
         is_damaged: false,
         made: None,
+        held: Held::Nothing,
     })
 }
 
@@ -67,10 +71,10 @@ fn tell_made<E: Drain>(err: &mut E, made: Option<&str>)
 }
 
 // The status of what a command has come to, whose fault is told.
-fn tell<O: Drop, E: Drain>(
+fn tell<O: Drop, D: Disk + Drop, E: Drain>(
     rt: &HostRuntime,
     err: &mut E,
-    ended: Result<Ended<'_, O>, Fault>,
+    ended: Result<Ended<'_, O, D>, Fault>,
     place: Option<Place<'_>>,
 ) -> u8
     requires { E.failed err.old ≡ false }
@@ -106,34 +110,48 @@ fn tell_refusal<T: Display, E: Drain>(alloc: Global, err: &mut E, error: &T) -> 
 }
 
 // Does what is asked for.
-fn run<'a, O: Drain + Drop>(
+fn run<'a, St: Start, O: Drain + Drop>(
     rt: &HostRuntime,
     asked: Command<'a>,
+    start: St,
     out: O,
-) -> Result<Ended<'a, O>, Fault>
+) -> Result<Ended<'a, O, FileFrom<St>>, Fault>
     requires { O.failed out ≡ false }
-    ensures { Does O.written asked.entry out result }
+    ensures { Does O.written (image_at St.Start) asked.entry out result }
 {
     match asked {
-        Command::Lists | Command::Serve { .. } | Command::Lint { .. } => Ok(Ended {
-            out,
-            is_damaged: false,
-            made: None,
-        }),
-        Command::AddTenant { db, name, key } => run_add_tenant(rt, db, name, key, out),
-        Command::ChangeKey { db, name, key } => run_change_key(rt, db, name, key, out),
+        Command::Lists | Command::Serve { .. } | Command::Lint { .. } => {
+            drop(start);
+            Ok(Ended {
+                out,
+                is_damaged: false,
+                made: None,
+                held: Held::Nothing,
+            })
+        }
+        Command::AddTenant { db, name, key } => run_add_tenant(rt, db, name, key, start, out),
+        Command::ChangeKey { db, name, key } => run_change_key(rt, db, name, key, start, out),
         Command::Statement {
             db,
             tenant,
             account,
             asked: words,
-        } => run_statement(rt, db, tenant, account, &words, out),
-        Command::Check { db } => run_check(rt, db, out),
-        Command::Migrate { db, to } => run_migrate(rt, db, to, out),
-        Command::Copy { db, to } => run_copy(rt, db, to, out),
-        Command::Tenants { db } => run_tenants(rt, db, out),
-        Command::Status { db, prometheus } => run_status(rt, db, prometheus, out),
-        Command::Stop { db } => run_stop(rt, db, out),
-        Command::Version => write_version(out),
+        } => run_statement(rt, db, tenant, account, &words, start, out),
+        Command::Check { db } => run_check(rt, db, start, out),
+        Command::Migrate { db, to } => run_migrate(rt, db, to, start, out),
+        Command::Copy { db, to } => run_copy(rt, db, to, start, out),
+        Command::Tenants { db } => run_tenants(rt, db, start, out),
+        Command::Status { db, prometheus } => {
+            drop(start);
+            run_status(rt, db, prometheus, out)
+        }
+        Command::Stop { db } => {
+            drop(start);
+            run_stop(rt, db, out)
+        }
+        Command::Version => {
+            drop(start);
+            write_version(out)
+        }
     }
 }

@@ -8,6 +8,7 @@ use command_line::{Command, command};
 use command_texts::{Fault, tell_fault};
 use commands::{Place, program, serve_file, tell_file_fault};
 use records::Streamed;
+use sqlite_disk::Unknown;
 use std::env;
 use std::io::{self, ErrorKind};
 use std::process::ExitCode;
@@ -52,7 +53,7 @@ fn status(rt: &HostRuntime, words: &[String]) -> u8 {
         }
         _ => {
             let (out, mut err) = (Streamed::new(rt.stdout()), Streamed::new(rt.stderr()));
-            program(rt, words, out, &mut err)
+            program(rt, words, Unknown, out, &mut err)
         }
     }
 }

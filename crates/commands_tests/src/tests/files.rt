@@ -138,7 +138,7 @@ pub fn run_program<O: Drain + Drop>(
 {
     let words: Vec<&str> = line.split_whitespace().collect(rt.alloc())?;
     let mut err = Streamed::new(Vec::new(rt.alloc()));
-    let status = program(rt, words.as_slice(), out, &mut err);
+    let status = program(rt, words.as_slice(), Unknown, out, &mut err);
     Ok((status, err.into_inner()))
 }
 

@@ -4,6 +4,7 @@ use super::files::{Step, remove, run_program, take_steps, tells};
 use super::firms::KEY;
 use commands::program;
 use records::Streamed;
+use sqlite_disk::Unknown;
 use std::test::Fail;
 
 // The words that add a tenant. Its key is eight digits, eight times.
@@ -351,7 +352,7 @@ fn tells_want_of_memory(rt: HostRuntime) {
     let mut err = Streamed::new(room.as_mut_slice());
     let words = ["tenant-add", "--db=memory.db", "--name=a", "--key", KEY];
     let written = Streamed::new(out.as_mut_slice());
-    let status = program(&rt, words.as_slice(), written, &mut err);
+    let status = program(&rt, words.as_slice(), Unknown, written, &mut err);
     if status == 0 {
         assert!(rt; out.starts_with(b"added a\n") && room.starts_with(b"new ledger memory.db\n"));
     } else {

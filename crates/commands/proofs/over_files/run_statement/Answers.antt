@@ -1,0 +1,30 @@
+use Rattle.std.proofs.Common.{List, ℕ, arith, refl, rules, subst}
+use Rattle.sqlite_wal.specs.Files.{image_at}
+use Rattle.commands.specs.Holding.{HasAskedOr, HasOpened}
+use Rattle.commands.specs.OverFiles.{HasWritten, IsWrittenFrom}
+use Rattle.commands.proofs.over_files.run_statement.Goals as goal
+
+pub returns : goal.returns
+returns g c = record {
+  name_first = λ none. absurd (none (c.in_ok-tenant.ensures.good.0 refl));
+  account_next = λ named none.
+      absurd (none (c.in_ok-account.account, first_of (search rules, omega arith), c.in_ok-account.ensures.ok));
+  period_next = λ named there none.
+      absurd (none c.in_ok-asked.asked.period c.in_ok-asked.ensures.ok.period);
+  form_last = λ period named there means none.
+      absurd (let e = c.in_ok-asked.ensures.ok.form in cc);
+  statement = record {
+    id = c.in_ok-account.account;
+    is = c.in_ok-account.ensures.ok;
+    asked = c.in_ok-asked.asked;
+    means = c.in_ok-asked.ensures.ok;
+    told =
+        subst
+        (λ (name : List ℕ). HasAskedOr (HasOpened (HasWritten (image_at g.St.Start)
+        (IsWrittenFrom g.O.Drain.written name c.in_ok-account.account c.in_ok-asked.asked c.args.out
+        c.in_ok-out.out)))
+        c.in_ok-out.held)
+        c.in_ok-tenant.ensures.same c.in_ok-out.ensures;
+  };
+  calm = (refl, refl);
+}

@@ -1,0 +1,46 @@
+use Rattle.std.proofs.Common.{List, ℕ, Ok, refl, subst}
+use Rattle.std.specs.Io.KnownBytes.{Appends}
+use Rattle.sqlite_wal.specs.Files.{image_at}
+use Rattle.tenants.specs.KeyText.{key_of}
+use Rattle.command_line.specs.Values.{text_in}
+use Rattle.command_texts.specs.Lines.{added_line}
+use Rattle.command_texts.specs.Words.{IsDigestOfKey}
+use Rattle.commands.specs.Holding.{HasAskedOr, HasOpened}
+use Rattle.commands.specs.OverFiles.{HasAdded}
+use Rattle.commands.proofs.HeldLemmas.{is_key, lines_told}
+use Rattle.commands.proofs.over_tenants.run_add_tenant.Goals as goal
+
+pub returns : goal.returns
+returns g c =
+    let given = c.in_ok-key.ensures.given in
+    let hashed = subst
+    (λ (text : List ℕ). IsDigestOfKey (key_of text) (Ok c.in_ok-digest.digest))
+    c.as_str.ensures c.in_ok-digest.ensures in
+    let same = c.in_ok-tenant.ensures.same in
+    record {
+      name_first = λ none. absurd (none (c.in_ok-tenant.ensures.good.0 refl));
+      key_next = λ named none. absurd (is_key _ c.in_ok-key.key c.in_ok-digest.digest given hashed none);
+      added = record {
+        given = c.in_ok-key.key;
+        line = (
+          given,
+          lines_told _ _ _ (added_line c.args.tenant.now) c.in_ok-key.key
+              (subst
+              (λ (name : List ℕ). Appends (g.O.Drain.written c.args.out)
+              (g.O.Drain.written c.put_added.new.out) (added_line name))
+              same c.in_ok-put_added.ensures.ok)
+              c.in_ok-tell.ensures.told,
+        );
+        added = (
+          c.in_ok-digest.digest,
+          hashed,
+          subst
+              (λ (name : List ℕ). HasAskedOr
+              (HasOpened (HasAdded (image_at g.St.Start) (text_in c.in_ok-made.made) name c.in_ok-digest.digest))
+              c.in_ok-made.held)
+              same c.in_ok-made.ensures.added,
+        );
+      };
+      calm = refl;
+      made = c.in_ok-made.ensures.made;
+    }

@@ -1,0 +1,57 @@
+-- What a command has done with the ledger that it has opened, and told of it.
+use Rattle.std.specs.Prelude.{ℕ, List, ◌++◌, map, Option, is_some, Ok}
+use Rattle.std.specs.Io.KnownBytes.{Appends}
+use Rattle.serde_json.specs.Written.{compact_text}
+use Rattle.sqlite_disk.specs.declared.Disk as disk
+use Rattle.sqlite_trees.specs.Tree.{Trees}
+use Rattle.sqlite_wal.specs.Recovery.{Image}
+use Rattle.stored_ledgers.specs.Joining.{HasJoined}
+use Rattle.stored_ledgers.specs.Keying.{HasKeyed}
+use Rattle.stored_ledgers.specs.Listing.{AreListed}
+use Rattle.stored_ledgers.specs.declared.directory.ListedTenant.{ListedTenant}
+use Rattle.store.specs.declared.store.Store.{Store}
+use Rattle.command_texts.specs.Lines.{tenants_line}
+use Rattle.control.specs.Listing.{IsListed, rows_data}
+use Rattle.commands.specs.Extracts.{IsAskedTold}
+use Rattle.commands.specs.Holding.{Becomes, ComesOf, IsBegun, IsFrom}
+use Rattle.commands.specs.Listing.{row_of}
+use Rattle.commands.specs.Pieces.{machine_named}
+use Rattle.commands.specs.declared.asked.Asked.{Asked}
+
+-- a body lists these tenants
+abbrev pub ListsRows : List ListedTenant → List ℕ → Type 0
+ListsRows tenants lines = IsListed (compact_text (rows_data (map row_of tenants))) lines
+
+-- the tenants of a database are listed, as CSV
+pub record AreTold (trees : Trees) (old new : Option (List ℕ)) : Type 0 where
+  pub tenants : List ListedTenant
+  pub theirs : AreListed trees tenants
+  pub lines : List ℕ
+  pub listed : ListsRows tenants lines
+  pub told : Appends old new (tenants_line ++ lines)
+
+-- what is asked for of the account of the tenant with this name is written
+abbrev pub IsWrittenFrom :
+    {O : Type 0} → (O → Option (List ℕ)) → List ℕ → ℕ → Asked → O → O → Trees → Type 0
+IsWrittenFrom written name account asked old new trees =
+    IsAskedTold written (machine_named name trees) account asked old new (Ok tt)
+
+module _ {D : Type 0} {g : disk.Ghosts D} (image : Image) where
+  -- a tenant has joined the ledger that was opened on what the files held, or made where a path is
+  -- told as a new ledger's
+  abbrev pub HasAdded : Option (List ℕ) → List ℕ → List ℕ → Store D g → Type 0
+  HasAdded made name digest =
+      Becomes (IsBegun (is_some made) image) (λ old new. HasJoined name digest old new (Ok tt))
+
+  -- a tenant of the ledger that was opened has another key
+  abbrev pub HasChanged : List ℕ → List ℕ → Store D g → Type 0
+  HasChanged name digest =
+      Becomes (IsFrom image) (λ old new. HasKeyed name digest old new (Ok tt))
+
+  -- the tenants of the ledger that was opened are listed
+  abbrev pub HasListed : Option (List ℕ) → Option (List ℕ) → Store D g → Type 0
+  HasListed before behind = Becomes (IsFrom image) (λ old new. AreTold old.trees before behind)
+
+  -- a statement of the ledger that was opened is written
+  abbrev pub HasWritten : (Trees → Type 0) → Store D g → Type 0
+  HasWritten IsWritten = ComesOf (IsFrom image) (λ old new. IsWritten old.trees)

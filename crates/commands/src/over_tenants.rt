@@ -1,0 +1,214 @@
+//! Commands on the tenants of the ledger in a file.
+ghost use Rattle.std.specs.Prelude.{◌≡◌, false, is_some, IfOk};
+ghost use Rattle.sqlite_wal.specs.Files.{image_at};
+ghost use Rattle.command_line.specs.Values.{text_in};
+ghost use Rattle.commands.specs.Holding.{HasAskedOr, HasOpened};
+ghost use Rattle.commands.specs.OverFiles.{HasAdded, HasChanged, HasListed};
+ghost use Rattle.commands.specs.Program.{AddsTenant, ChangesKey, IsNoneOr, ListsTenants};
+
+use crate::adding::add_tenant;
+use crate::calling::ask;
+use crate::ended::{Ended, Held};
+use crate::given_key::GivenKey;
+use crate::keying::change_key;
+use crate::listing::listed;
+use crate::opening::{open_file, open_or_make};
+use command_texts::{Fault, key_digest, name, put_added, put_changed};
+use control::{Call, put_listed};
+use records::Drain;
+use sqlite_disk::Start;
+use sqlite_std_file::FileFrom;
+use store::Store;
+use tenants::TenantName;
+
+/// Adds a tenant to a file, which is made where there is none.
+pub(crate) fn run_add_tenant<'a, St: Start, O: Drain + Drop>(
+    rt: &HostRuntime,
+    db: &'a str,
+    tenant: &str,
+    key: Option<&str>,
+    start: St,
+    mut out: O,
+) -> Result<Ended<'a, O, FileFrom<St>>, Fault>
+    requires { O.failed out ≡ false }
+    ensures { AddsTenant O.written (image_at St.Start) db.now tenant.now (text_in key.entry) out
+        result }
+{
+    let tenant = name(tenant)?;
+    let key = GivenKey::read(rt, key)?;
+    let digest = key_digest(key.as_str())?;
+    let (made, held) = add(rt, db, &tenant, key.as_str(), &digest, start)?;
+    put_added(&mut out, &tenant)?;
+    key.tell(&mut out)?;
+    Ok(Ended {
+        out,
+        is_damaged: false,
+        made,
+        held,
+    })
+}
+
+// Has the service that has a file add a tenant, or adds it where nobody serves the file. Says which
+// file has become a new ledger.
+fn add<'a, St: Start>(
+    rt: &HostRuntime,
+    db: &'a str,
+    tenant: &TenantName,
+    key: &str,
+    digest: &[u8; 32],
+    start: St,
+) -> Result<(Option<&'a str>, Held<FileFrom<St>>), Fault>
+    ensures made { IfOk result (λ done. IsNoneOr db.now (text_in done.0)) }
+    ensures added { IfOk result (λ done. HasAskedOr
+        (HasOpened (HasAdded (image_at St.Start) (text_in done.0) tenant.now digest.now)) done.1) }
+{
+    let name = tenant.as_str();
+    match ask(rt, db, &Call::AddTenant { name, key })? {
+        Some(answer) => Ok((None, Held::Asked(answer))),
+        None => {
+            let (made, store) = add_to(rt, db, tenant, digest, start)?;
+            Ok((made, Held::Opened(store)))
+        }
+    }
+}
+
+fn add_to<'a, St: Start>(
+    rt: &HostRuntime,
+    db: &'a str,
+    tenant: &TenantName,
+    digest: &[u8; 32],
+    start: St,
+) -> Result<(Option<&'a str>, Store<FileFrom<St>>), Fault>
+    ensures made { IfOk result (λ done. IsNoneOr db.now (text_in done.0)) }
+    ensures added { IfOk result (λ done.
+        HasAdded (image_at St.Start) (text_in done.0) tenant.now digest.now done.1) }
+{
+    let mut opened = open_or_make(rt, db, start)?;
+    add_tenant(&mut opened.store, tenant, digest)?;
+    Ok((made_if(opened.is_new, db), opened.store))
+}
+
+// The file that has become a new ledger, if it has.
+fn made_if(is_new: bool, db: &str) -> Option<&str>
+    ensures made { IsNoneOr db.entry.now (text_in result) }
+    ensures new { is_some (text_in result) ≡ is_new }
+{
+    if is_new { Some(db) } else { None }
+}
+
+/// Changes a tenant's key in a file that is there.
+pub(crate) fn run_change_key<St: Start, O: Drain + Drop>(
+    rt: &HostRuntime,
+    db: &str,
+    tenant: &str,
+    key: Option<&str>,
+    start: St,
+    mut out: O,
+) -> Result<Ended<'static, O, FileFrom<St>>, Fault>
+    requires { O.failed out ≡ false }
+    ensures { ChangesKey O.written (image_at St.Start) tenant.now (text_in key.entry) out result }
+{
+    let tenant = name(tenant)?;
+    let key = GivenKey::read(rt, key)?;
+    let digest = key_digest(key.as_str())?;
+    let held = change(rt, db, &tenant, key.as_str(), &digest, start)?;
+    put_changed(&mut out, &tenant)?;
+    key.tell(&mut out)?;
+    Ok(Ended {
+        out,
+        is_damaged: false,
+        made: None,
+        held,
+    })
+}
+
+// Has the service that has a file change a tenant's key, or changes it where nobody serves the file.
+fn change<St: Start>(
+    rt: &HostRuntime,
+    db: &str,
+    tenant: &TenantName,
+    key: &str,
+    digest: &[u8; 32],
+    start: St,
+) -> Result<Held<FileFrom<St>>, Fault>
+    ensures { IfOk result (HasAskedOr
+        (HasOpened (HasChanged (image_at St.Start) tenant.now digest.now))) }
+{
+    let name = tenant.as_str();
+    match ask(rt, db, &Call::ChangeKey { name, key })? {
+        Some(answer) => Ok(Held::Asked(answer)),
+        None => Ok(Held::Opened(change_in(rt, db, tenant, digest, start)?)),
+    }
+}
+
+fn change_in<St: Start>(
+    rt: &HostRuntime,
+    db: &str,
+    tenant: &TenantName,
+    digest: &[u8; 32],
+    start: St,
+) -> Result<Store<FileFrom<St>>, Fault>
+    ensures { IfOk result (HasChanged (image_at St.Start) tenant.now digest.now) }
+{
+    let mut store = open_file(rt, db, start)?;
+    change_key(&mut store, tenant, digest)?;
+    Ok(store)
+}
+
+/// Lists the tenants.
+pub(crate) fn run_tenants<St: Start, O: Drain + Drop>(
+    rt: &HostRuntime,
+    db: &str,
+    start: St,
+    mut out: O,
+) -> Result<Ended<'static, O, FileFrom<St>>, Fault>
+    requires { O.failed out ≡ false }
+    ensures { ListsTenants O.written (image_at St.Start) out result }
+{
+    let held = list(rt, db, start, &mut out)?;
+    Ok(Ended {
+        out,
+        is_damaged: false,
+        made: None,
+        held,
+    })
+}
+
+// Lists those that the service which has a file tells, or those of a file that nobody serves.
+fn list<St: Start, O: Drain>(
+    rt: &HostRuntime,
+    db: &str,
+    start: St,
+    out: &mut O,
+) -> Result<Held<FileFrom<St>>, Fault>
+    requires { O.failed out.old ≡ false }
+    ensures { IfOk result (HasAskedOr
+        (HasOpened (HasListed (image_at St.Start) (O.written out.old) (O.written out.new)))) }
+{
+    match ask(rt, db, &Call::Tenants)? {
+        Some(answer) => {
+            put_listed(rt.alloc(), out, answer.body())?;
+            Ok(Held::Asked(answer))
+        }
+        None => Ok(Held::Opened(list_in(rt, db, start, out)?)),
+    }
+}
+
+fn list_in<St: Start, O: Drain>(
+    rt: &HostRuntime,
+    db: &str,
+    start: St,
+    out: &mut O,
+) -> Result<Store<FileFrom<St>>, Fault>
+    requires { O.failed out.old ≡ false }
+    ensures { IfOk result
+        (HasListed (image_at St.Start) (O.written out.old) (O.written out.new)) }
+{
+    let mut store = open_file(rt, db, start)?;
+    let Ok(tenants) = store.tenants() else {
+        return Err(Fault::Unavailable);
+    };
+    let body = listed(rt.alloc(), tenants.as_slice())?;
+    put_listed(rt.alloc(), out, body.as_slice())?;
+    Ok(store)
+}
