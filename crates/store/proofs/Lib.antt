@@ -1,5 +1,6 @@
 mod DeedLemmas
 mod FindsLemmas
+mod MemoryLemmas
 mod NamedRows
 mod ReadLemmas
 mod ReopenLemmas

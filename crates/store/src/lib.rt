@@ -3,6 +3,7 @@
 
 mod at_path;
 mod ledgers;
+mod memory;
 mod names;
 mod overdue;
 mod place;
