@@ -3,3 +3,4 @@ mod FillLemmas
 mod OlderLemmas
 mod UpgradeLemmas
 mod LedgerLemmas
+mod ToldLemmas

@@ -10,7 +10,9 @@ use Rattle.ledger_sql.specs.Frames.{Live}
 use Rattle.stored_ledgers.specs.Resting.{IsResting}
 use Rattle.openings.specs.Damage.{Hold, IfDamaged}
 use Rattle.openings.specs.Opened.{IsOpened, LeavesRefused}
+use Rattle.openings.specs.Told.{IsToldBy}
 use Rattle.openings.specs.declared.opening.OpenFault.{OpenFault}
+use Rattle.migrate.specs.Told.{TellsAny}
 use Rattle.migrate.specs.Upgrading.{IsDamaged, IsKnown, IsOlder, IsOlderLedger, older_schema}
 use Rattle.migrate.specs.declared.ledger.LedgerOfVersion.{LedgerOfVersion}
 
@@ -39,11 +41,13 @@ module _ {D : Type 0} {g : disk.Ghosts D} where
         → IsOlderLedger ledger.version (state_of ledger).now
     pub opened : HasCleanDisk (state_of ledger) → IsOpened image (state_of ledger)
 
--- an opening refuses the files: the damage that it tells, if it tells any, is the first in what they
--- held, and it leaves them as each opening does that is refused
+-- an opening refuses the files: the case that it tells is there, the damage that it tells, if it
+-- tells any, is the first in what they held, and it leaves them as each opening does that is refused
 pub record RefusesFiles {D : Type 0} (g : disk.Ghosts D) (files : Files D)
-    (told : OpenFault × Files D) : Type 0 where
+    (refused : OpenFault × Files D) : Type 0 where
   pub damaged :
-      AreClean g told.1.log told.1.db
-      → IfDamaged told.0 (λ damage. Hold g files (IsDamaged damage))
-  pub left : LeavesRefused g files told.1
+      AreClean g refused.1.log refused.1.db
+      → IfDamaged refused.0 (λ damage. Hold g files (IsDamaged damage))
+  pub told :
+      AreClean g refused.1.log refused.1.db → IsToldBy TellsAny g files refused.0 refused.1
+  pub left : LeavesRefused g files refused.1

@@ -5,6 +5,7 @@ pub mod Filling
 pub mod FillingLaws
 pub mod Upgrading
 pub mod UpgradingLaws
+pub mod Told
 pub mod Older
 pub mod Raising
 pub mod Ledgers

@@ -28,6 +28,7 @@ pub(crate) struct AnyVersion<'a, A: Audit> {
 impl<A: Audit> Inspection for AnyVersion<'_, A> {
     type Found = Examined;
 
+    ghost use Rattle.migrate.specs.Told.{TellsAny};
     ghost use Rattle.migrate.specs.Upgrading.{IsDamaged, IsFoundIn, IsKnown};
 
     ghost known = { λ found. IsKnown found.version };
@@ -35,6 +36,8 @@ impl<A: Audit> Inspection for AnyVersion<'_, A> {
     ghost finds = { λ found db. IsFoundIn found db };
 
     ghost tells = { λ damage trees. IsDamaged damage trees };
+
+    ghost refuses = { λ fault db. TellsAny fault db };
 
     fn inspect<S: Alter>(
         &self,

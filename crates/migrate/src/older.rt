@@ -8,6 +8,7 @@ ghost use Rattle.sqlite.specs.Held.{state};
 ghost use Rattle.openings.specs.Damage.{IfDamaged};
 ghost use Rattle.migrate.specs.Naming.{names_other};
 ghost use Rattle.migrate.specs.Older.{ExaminesOlder, LeavesExamined, RefusesUnless};
+ghost use Rattle.migrate.specs.Told.{TellsOfRows};
 ghost use Rattle.migrate.specs.Upgrading.{older_schema};
 
 use crate::naming::{names_no_balances, names_no_lists};
@@ -46,6 +47,7 @@ fn audit_older<A: Audit>(alloc: Global, rows: &AllRows, audit: &A) -> Result<(),
         (All (λ tenant. AreSound rows.now.version (lists_of tenant.rows)) rows.now.tenants.items) }
     ensures damaged { IfErr result (λ fault. IfDamaged fault
         (IsFirstDamage rows.now.version rows.now.tenants.items)) }
+    ensures told { IfErr result (λ fault. TellsOfRows fault rows.now) }
 {
     if !has_names(&rows.directory) {
         return Err(OpenFault::NotALedger);

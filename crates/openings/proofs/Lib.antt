@@ -15,5 +15,4 @@ mod KeptSets
 mod DamageLemmas
 mod RefusedLemmas
 mod ToldLemmas
-mod NameLemmas
 mod CaseLemmas

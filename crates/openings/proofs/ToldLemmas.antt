@@ -1,5 +1,5 @@
 -- In which case of a database a fault is told.
-use Rattle.std.proofs.Common.{◌≡◌, ℤ, pos, List, [], ◌∷◌, map, Result, Err, IfErr, refl, sym, subst, ◌∙◌}
+use Rattle.std.proofs.Common.{◌≡◌, ◌≢◌, ℤ, pos, List, [], ◌∷◌, map, Result, Err, IfErr, refl, sym, subst, ◌∙◌}
 use Rattle.std.specs.List.Sorted.{IsPermutation}
 use Rattle.std.proofs.lemmas.List.Sorted.{IsPermutation-sym}
 use Rattle.audit.specs.declared.damage.Damage.{Damage}
@@ -8,6 +8,7 @@ use Rattle.audit.specs.declared.damage.AuditFault.TheVariants as audit
 use Rattle.audit.specs.Damage.{IfDamaged as IfAuditDamaged}
 use Rattle.records.specs.declared.unavailable.Unavailable.{Unavailable}
 use Rattle.sqlite.specs.Effect.{Database}
+use Rattle.sqlite_schema.specs.declared.schema.Schema.{Schema}
 use Rattle.sqlite_value.specs.Order.{Row}
 use Rattle.ledger_sql.specs.Effects.{StartsAs}
 use Rattle.ledger_sql.specs.Schema.{after_schema}
@@ -82,6 +83,21 @@ told_by_call r cause db is = rw is (told_want cause db)
 pub told_by_want : {T : Type 0} (r : Result T OpenFault) (why : Unavailable) (db : Database)
     → r ≡ Err (fault.Unavailable why) → IfErr r (λ told. Tells told db)
 told_by_want r why db is = rw is tt
+
+-- that the ledger is an old one is told by neither, and by no such call
+pub not_old_versions : (told : OpenFault) (schema : Schema) → LacksVersions told schema → told ≢ fault.OldSchema
+not_old_versions told schema lacks is = subst (λ (t : OpenFault). LacksVersions t schema) is lacks
+
+pub not_old_version : (told : OpenFault) (versions : List ℤ) → LacksVersion told versions → told ≢ fault.OldSchema
+not_old_version told versions lacks is = subst (λ (t : OpenFault). LacksVersion t versions) is lacks
+
+not_old_want : (cause : TableFault) → open_fault_of cause ≢ fault.OldSchema
+not_old_want table.Missing is = cc
+not_old_want (table.Unavailable why) is = cc
+
+pub not_old_call : {T : Type 0} (r : Result T OpenFault) (cause : TableFault) → r ≡ Err (open_fault_of cause)
+    → IfErr r (λ told. told ≢ fault.OldSchema)
+not_old_call r cause is = rw is (not_old_want cause)
 
 -- so is an audit, unless it found damage
 told_audit : (cause : AuditFault) (db : Database) (P : Damage → Type 0)

@@ -9,4 +9,5 @@ pub mod RefusedLaws
 pub mod Damage
 pub mod DamageLaws
 pub mod Told
+pub mod NameLaws
 pub mod AtPath

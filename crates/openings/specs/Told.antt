@@ -17,10 +17,11 @@ use Rattle.sqlite_wal.specs.Recovery.{Image}
 use Rattle.sqlite.specs.Effect.{Database}
 use Rattle.sqlite.specs.Files.{HoldsDatabase, IsNothing, image_of}
 use Rattle.ledger_sql.specs.Effects.{StartsAs, IsLedger}
-use Rattle.ledger_sql.specs.Schema.{after_schema, ledger_schema}
+use Rattle.ledger_sql.specs.Schema.{after_schema, ledger_schema, no_schema}
 use Rattle.openings.specs.Damage.{IsDamagedIn, NamesVersion}
 use Rattle.openings.specs.Found.{FindsOne, IsUnavailable}
 use Rattle.openings.specs.Opened.{HasNames}
+use Rattle.openings.specs.Shape.{has_ours}
 use Rattle.openings.specs.Whole.{AreAllRows}
 use Rattle.openings.specs.declared.opening.OpenFault.{OpenFault}
 use Rattle.openings.specs.declared.opening.OpenFault.TheVariants as fault
@@ -71,9 +72,14 @@ pub data IsMadeOtherwise (db : Database) : Type 0 where
   Of_version : LacksVersions fault.Unreadable db.schema → IsMadeOtherwise db
   Of_ledger : IsCurrent db → LacksTables fault.Unreadable db.schema → IsMadeOtherwise db
 
--- each tenant in the directory, however it is read, has a name that a tenant may have
+-- each tenant in the directory, however it is read in this version, has a name that a tenant may
+-- have
+abbrev pub HasNamesIn : ℕ → Trees → Type 0
+HasNamesIn version trees =
+    (all : AllRows) → AreAllRows version trees all → HasNames all.directory.items
+
 abbrev pub HasGoodNames : Trees → Type 0
-HasGoodNames trees = (all : AllRows) → AreAllRows 3 trees all → HasNames all.directory.items
+HasGoodNames = HasNamesIn 3
 
 -- a table of a ledger's is missing, or no version is named, or a tenant has a name that none may
 -- have
@@ -146,3 +152,16 @@ IsToldBy Refuses g files told left =
 
 abbrev pub IsTold : {D : Type 0} → disk.Ghosts D → Files D → OpenFault → Files D → Type 0
 IsTold g files told left = IsToldBy Tells g files told left
+
+-- why no ledger is made behind these tables: one of a ledger's is there; or none such, but others,
+-- or indexes or views
+abbrev pub HindersMaking : OpenFault → Schema → Type 0
+HindersMaking fault.NotALedger schema = has_ours schema ≡ true
+HindersMaking fault.Unreadable schema = (has_ours schema ≡ false) × (¬ (schema ≡ no_schema))
+HindersMaking (fault.Unavailable why) schema = Unit {0}
+HindersMaking other schema = ⊥
+
+-- why a making is refused: as the database's own opening is; or by the tables that are there
+abbrev pub IsToldOfMaking : {D : Type 0} → disk.Ghosts D → Files D → OpenFault → Files D → Type 0
+IsToldOfMaking g files told left =
+    IsToldBy (λ fault db. HindersMaking fault db.schema) g files told left

@@ -13,6 +13,7 @@ ghost use Rattle.openings.specs.Found.{IsOfLedger, LeavesFilled, LeavesNew};
 ghost use Rattle.stored_ledgers.specs.Resting.{Rests, IsNewLedger, IsSame, Serves};
 ghost use Rattle.stored_ledgers.specs.DueSets.{DueSets};
 ghost use Rattle.openings.specs.Shape.{has_ours};
+ghost use Rattle.openings.specs.Told.{HindersMaking, IsToldOfMaking};
 ghost use Rattle.openings.specs.declared.opening.OpenFault.TheVariants.{NotALedger};
 
 use crate::closing::shut;
@@ -75,6 +76,7 @@ pub(crate) fn fill_new<D: Disk + Drop>(
         → IsBlankHere (file_state conn)) }
     ensures refused { IfErr result (λ e. (e.0 ≡ NotALedger) → HasCleanDisk (file_state conn)
         → IsTrue (has_ours (file_state conn).now.schema)) }
+    ensures told { IfErr result (λ e. HindersMaking e.0 (file_state conn).now.schema) }
     ensures honest { IfErr result (λ e. AreClean D.Disk e.1.log e.1.db
         → HasCleanDisk (file_state conn)) }
     ensures left { IfErr result (λ e. LeavesFilled D.Disk (file_state conn) e.0 e.1) }
@@ -106,6 +108,8 @@ pub fn create_ledger<D: Disk + Drop>(
         → AreClean D.Disk files.log files.db) }
     ensures refused { IfErr result (λ e. e.0 ≡ NotALedger → AreClean D.Disk e.1.log e.1.db
         → FindsOurs (image_of D.Disk files)) }
+    ensures told { IfErr result (λ e. AreClean D.Disk e.1.log e.1.db
+        → IsToldOfMaking D.Disk files e.0 e.1) }
     ensures left { IfErr result (λ e. LeavesNew D.Disk files e.0 e.1) }
     ensures stay { IfErr result (λ e. IsOfLedger e.0 → FilesStay D.Disk files e.1) }
 {

@@ -1,8 +1,9 @@
 //! What stands in a file that is to become a ledger.
 
-ghost use Rattle.std.specs.Prelude.{◌≡◌, ◌↔◌, None, Some, IsTrue};
+ghost use Rattle.std.specs.Prelude.{◌≡◌, ◌↔◌, None, Some, IfSome, IsTrue};
 ghost use Rattle.ledger_sql.specs.Schema.{no_schema};
 ghost use Rattle.openings.specs.Shape.{has_ours, is_ours};
+ghost use Rattle.openings.specs.Told.{HindersMaking};
 ghost use Rattle.openings.specs.declared.opening.OpenFault.TheVariants.{NotALedger};
 
 use crate::opening::OpenFault;
@@ -13,6 +14,7 @@ use sqlite_schema::schema::Schema;
 pub(crate) fn refusal(schema: &Schema) -> Option<OpenFault>
     ensures blank { result ≡ None → schema.now ≡ no_schema }
     ensures ours { (result ≡ Some NotALedger) ↔ IsTrue (has_ours schema.now) }
+    ensures hinders { IfSome result (λ fault. HindersMaking fault schema.now) }
 {
     if has_ours(schema) {
         return Some(OpenFault::NotALedger);

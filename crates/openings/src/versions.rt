@@ -1,6 +1,6 @@
 //! The version of the schema that a file names.
 
-ghost use Rattle.std.specs.Prelude.{◌≡◌, ◌≤◌, pos, [], ◌∷◌, IfOk, IfErr, OnOk};
+ghost use Rattle.std.specs.Prelude.{◌≡◌, ◌≢◌, ◌≤◌, pos, [], ◌∷◌, IfOk, IfErr, OnOk};
 ghost use Rattle.sqlite.specs.State.{HasCleanDisk, IsUnchanged};
 ghost use Rattle.sqlite.specs.Held.{state};
 ghost use Rattle.ledger_sql.specs.Effects.{StartsAs};
@@ -8,6 +8,7 @@ ghost use Rattle.ledger_sql.specs.Frames.{Live, Follows};
 ghost use Rattle.ledger_sql.specs.Schema.{after_schema};
 ghost use Rattle.openings.specs.Damage.{IsNoDamage, NamesVersion};
 ghost use Rattle.openings.specs.Told.{LacksVersion, Tells};
+ghost use Rattle.openings.specs.declared.opening.OpenFault.TheVariants.{OldSchema};
 ghost use Rattle.stored_ledgers.specs.Resting.{IsQuiet, IsSame};
 
 use crate::opening::OpenFault;
@@ -29,6 +30,7 @@ pub fn find_version<S: Alter>(alloc: Global, conn: &mut Connection<S>) -> Result
     ensures known { IfOk result (λ version. (1 ≤ version) × (version ≤ CURRENT_VERSION)) }
     ensures told { HasCleanDisk (state S.Store conn.new)
         → IfErr result (λ fault. Tells fault (state S.Store conn.old).now) }
+    ensures not_old { IfErr result (λ fault. fault ≢ OldSchema) }
     ensures undamaged { IfErr result IsNoDamage }
     ensures kept { HasCleanDisk (state S.Store conn.new) → OnOk result
         (IsUnchanged (state S.Store conn.old) (state S.Store conn.new)) }

@@ -15,7 +15,7 @@ ghost use Rattle.stored_ledgers.specs.Listing.{AreListed};
 ghost use Rattle.stored_ledgers.specs.Joining.{HasJoined, Joined};
 ghost use Rattle.stored_ledgers.specs.Keying.{HasKeyed, Keyed};
 ghost use Rattle.openings.specs.Opened.{LeavesRefused};
-ghost use Rattle.openings.specs.Told.{IsTold};
+ghost use Rattle.openings.specs.Told.{IsTold, IsToldOfMaking};
 ghost use Rattle.stored_ledgers.specs.Resting.{Serves};
 ghost use Rattle.stored_ledgers.specs.Rounds.{IsAfterRound};
 ghost use Rattle.service.specs.Courses.{Tried};
@@ -86,6 +86,8 @@ impl<D: Disk + Drop> Store<D> {
             → AreClean D.Disk files.log files.db) }
         ensures refused { IfErr result (λ e. e.0 ≡ NotALedger → AreClean D.Disk e.1.log e.1.db
             → FindsOurs (image_of D.Disk files)) }
+        ensures told { IfErr result (λ e. AreClean D.Disk e.1.log e.1.db
+            → IsToldOfMaking D.Disk files e.0 e.1) }
         ensures left { IfErr result (λ e. LeavesNew D.Disk files e.0 e.1) }
         ensures stay { IfErr result (λ e. IsOfLedger e.0 → FilesStay D.Disk files e.1) }
     {

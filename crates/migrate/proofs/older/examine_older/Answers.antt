@@ -10,7 +10,9 @@ use Rattle.openings.specs.Damage.{HasFirstDamage, IfDamaged}
 use Rattle.migrate.specs.Upgrading.{older_schema}
 use Rattle.openings.specs.declared.opening.OpenFault.{OpenFault}
 use Rattle.openings.specs.DamageLaws.{first_of_read, if_damaged_more}
+use Rattle.migrate.specs.Told.{TellsOfRows, TellsOlder}
 use Rattle.migrate.proofs.OlderLemmas.{older_tables}
+use Rattle.migrate.proofs.ToldLemmas.{both_err, told_rows}
 use Rattle.migrate.proofs.older.examine_older.Goals as goal
 
 pub returns-clause-examined : goal.returns-clause-examined
@@ -29,6 +31,15 @@ returns-clause-examined g c =
             read = read;
             sound = subst (λ (v : ℕ). All (λ (tenant : TenantOfDigest). AreSound v (lists_of tenant.rows)) rows.tenants.items) read.version_is sound;
           }) c.audit_older.ensures.sound;
+      told = λ clean.
+          let read = c.in_ok-rows.ensures.whole clean tables in
+          let P = λ (damage : Damage). IsFirstDamage rows.version rows.tenants.items damage in
+          let Q = λ (damage : Damage). HasFirstDamage version damage db.trees in
+          both_err c.audit_older.result (λ (told : OpenFault). TellsOfRows told rows)
+          (λ (told : OpenFault). IfDamaged told P) (λ (told : OpenFault). TellsOlder version told db)
+          (λ told of first. told_rows version told db rows schema read of
+          (if_damaged_more told P Q (λ damage is. first_of_read version rows.version db.trees rows damage read read.version_is is) first))
+          c.audit_older.ensures.told c.audit_older.ensures.damaged;
       damaged = λ clean.
           let read = c.in_ok-rows.ensures.whole clean tables in
           let P = λ (damage : Damage). IsFirstDamage rows.version rows.tenants.items damage in

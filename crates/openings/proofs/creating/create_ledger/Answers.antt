@@ -1,9 +1,10 @@
-use Rattle.std.proofs.Common.{◌≡◌, IsTrue, inl, Result, Ok, Err, IfErr}
+use Rattle.std.proofs.Common.{◌≡◌, IsTrue, inl, inr, Result, Ok, Err, IfErr}
 use Rattle.std.proofs.lemmas.Result.{err_from_is_err_and, IfOk-weaker}
 use Rattle.sqlite.specs.Effect.{Database}
 use Rattle.sqlite.specs.Files.{file_state, image_of}
 use Rattle.ledger_sql.specs.Schema.{no_schema}
 use Rattle.openings.specs.Shape.{has_ours}
+use Rattle.openings.specs.Told.{HindersMaking}
 use Rattle.openings.proofs.EmptyLemmas.{new_rests}
 use Rattle.openings.proofs.FilledLemmas.{filled_leaves, filled_stays}
 use Rattle.openings.proofs.ThereLemmas.{finds_now}
@@ -48,6 +49,18 @@ pub returns-in_err-conn-clause-stay : goal.returns-in_err-conn-clause-stay
 returns-in_err-conn-clause-stay g c =
     let p = err_from_is_err_and c.from_residual.result c.from_residual.ensures.1 in
     rw (p.1, p.2) (λ is. absurd (c.in_err-conn.ensures.fault is))
+
+pub returns-in_err-conn-clause-told : goal.returns-in_err-conn-clause-told
+returns-in_err-conn-clause-told g c =
+    let p = err_from_is_err_and c.from_residual.result c.from_residual.ensures.1 in
+    rw (p.1, p.2) (λ clean. inl (c.in_err-conn.ensures.told clean))
+
+pub returns-clause-told : goal.returns-clause-told
+returns-clause-told g c =
+    both_err c.fill_new.result _ _ _ (λ e told honest clean.
+    inr (finds_now (image_of g.D.Disk c.args.files) (file_state c.in_ok-conn.conn)
+    (c.in_ok-conn.ensures.opened (honest clean)) (λ (db : Database). HindersMaking e.0 db.schema) told))
+    c.fill_new.ensures.told c.fill_new.ensures.honest
 
 pub returns-clause-left : goal.returns-clause-left
 returns-clause-left g c =

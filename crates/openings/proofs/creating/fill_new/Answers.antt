@@ -1,11 +1,16 @@
 use Rattle.std.proofs.Common.{◌≡◌, refl, inl, inr, subst, arith}
 use Rattle.sqlite_schema.specs.declared.schema.Schema.{Schema}
 use Rattle.ledger_sql.specs.Schema.{no_schema}
+use Rattle.openings.specs.Told.{HindersMaking}
 use Rattle.openings.proofs.FileLemmas.{yields_more}
 use Rattle.openings.proofs.creating.fill_new.Goals as goal
 
 pub returns-in-Some-clause-left : goal.returns-in-Some-clause-left
 returns-in-Some-clause-left g c = inl c.shut.ensures.left
+
+pub returns-in-Some-clause-told : goal.returns-in-Some-clause-told
+returns-in-Some-clause-told g c =
+    subst (λ (s : Schema). HindersMaking c.in-Some.fault s) c.schema.ensures.value c.in-Some.ensures.hinders
 
 pub returns-in-Ok-clause-blank : goal.returns-in-Ok-clause-blank
 returns-in-Ok-clause-blank g c clean = (

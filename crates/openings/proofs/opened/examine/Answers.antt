@@ -16,7 +16,7 @@ use Rattle.openings.specs.Told.{IsCurrent, Tells}
 use Rattle.openings.proofs.OpenedLedger.{examined_holds, examined_covered}
 use Rattle.openings.specs.DamageLaws.{first_of_read}
 use Rattle.openings.proofs.DamageLemmas.{damage_by_audit}
-use Rattle.openings.proofs.NameLemmas.{good_names}
+use Rattle.openings.specs.NameLaws.{good_names}
 use Rattle.openings.proofs.ToldLemmas.{names_current, told_by_audit, told_by_want}
 use Rattle.openings.proofs.opened.examine.Goals as goal
 
@@ -85,7 +85,7 @@ returns-in_err-audit-clause-told g c clean =
     (p.1 ∙ ap Err p.2) (λ damage told. record {
       current = current;
       ledger = ledger;
-      names = good_names db.trees rows read c.in_ok-rows.ensures.names;
+      names = good_names 3 db.trees rows read c.in_ok-rows.ensures.names;
       damaged = record {
         named = names_current db current;
         damaged = first_of_read 3 rows.version db.trees rows damage read read.version_is told;

@@ -7,6 +7,7 @@ use Rattle.ledger_sql.specs.Schema.{after_schema}
 use Rattle.openings.specs.Told.{LacksVersion, LacksVersions}
 use Rattle.openings.proofs.OpenedLemmas.{named_version}
 use Rattle.openings.proofs.ToldLemmas.{told_by_call, told_version, told_versions}
+use Rattle.openings.proofs.ToldLemmas.{not_old_call, not_old_version, not_old_versions}
 use Rattle.openings.proofs.versions.find_version.Goals as goal
 
 on_ok : {T E P : Type 0} (r : Result T E) → P → OnOk r P
@@ -41,3 +42,16 @@ returns-clause-told g c clean =
     told_version told (state g.S.Store c.args.conn.now).now c.in_ok-versions.versions.items starts
     (c.in_ok-versions.ensures.whole clean starts)
     (subst (λ read. LacksVersion told read) c.as_slice.ensures.value lacks)) c.one_version.ensures.lacks
+
+pub returns-in-Some-clause-not_old : goal.returns-in-Some-clause-not_old
+returns-in-Some-clause-not_old g c = not_old_versions c.in-Some.fault _ c.in-Some.ensures.lacks
+
+pub returns-in_err-versions-clause-not_old : goal.returns-in_err-versions-clause-not_old
+returns-in_err-versions-clause-not_old g c =
+    let p = err_from_is_err_and c.from_residual.result c.from_residual.ensures.1 in
+    not_old_call c.from_residual.result _ (p.1 ∙ ap Err p.2)
+
+pub returns-clause-not_old : goal.returns-clause-not_old
+returns-clause-not_old g c =
+    IfErr-weaker c.one_version.result _ _ (λ told lacks.
+    not_old_version told c.as_slice.result.now lacks) c.one_version.ensures.lacks

@@ -31,4 +31,8 @@ returns-clause-opened g c =
 pub returns-in_err-conn-clause-refused : goal.returns-in_err-conn-clause-refused
 returns-in_err-conn-clause-refused g c =
     let p = err_from_is_err_and c.from_residual.result c.from_residual.ensures.1 in
-    rw (p.1, p.2) (record { damaged = c.in_err-conn.ensures.damaged; left = c.in_err-conn.ensures.left })
+    rw (p.1, p.2) (record {
+      damaged = c.in_err-conn.ensures.damaged;
+      told = c.in_err-conn.ensures.told;
+      left = c.in_err-conn.ensures.left;
+    })

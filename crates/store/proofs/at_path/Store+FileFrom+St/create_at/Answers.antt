@@ -12,6 +12,7 @@ returns-in-Err-create-clause-refused g c = (
   c.in-Ok.ensures.held,
   record {
     ours = c.in-Err-create.ensures.refused;
+    told = c.in-Err-create.ensures.told;
     left = c.in-Err-create.ensures.left;
     stay = c.in-Err-create.ensures.stay;
   },

@@ -21,6 +21,11 @@ returns-in_err-conn-clause-refused g c =
     let p = err_from_is_err_and c.from_residual.result c.from_residual.ensures.1 in
     rw (p.1, p.2) c.in_err-conn.ensures.refused
 
+pub returns-in_err-conn-clause-told : goal.returns-in_err-conn-clause-told
+returns-in_err-conn-clause-told g c =
+    let p = err_from_is_err_and c.from_residual.result c.from_residual.ensures.1 in
+    rw (p.1, p.2) c.in_err-conn.ensures.told
+
 pub returns-in_err-conn-clause-left : goal.returns-in_err-conn-clause-left
 returns-in_err-conn-clause-left g c =
     let p = err_from_is_err_and c.from_residual.result c.from_residual.ensures.1 in
