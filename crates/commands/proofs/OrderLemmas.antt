@@ -11,7 +11,7 @@ use Rattle.store.specs.StoreLaws.{store_meaning}
 use Rattle.store.specs.Stores.{FindsTenants, IsHonest, Reads, may_find}
 use Rattle.store.specs.declared.store.Store.{Store}
 use Rattle.command_texts.specs.declared.fault.Fault.{Fault}
-use Rattle.commands.specs.Kept.{kept_store, Renews, Tries, Looks}
+use Rattle.commands.specs.Kept.{kept_store, Attends, Tries, Looks}
 use Rattle.commands.specs.Endings.{ending_told}
 use Rattle.commands.specs.Orders.{CarriesOut}
 use Rattle.commands.specs.Pieces.{asked_for}
@@ -68,7 +68,7 @@ module _ {D : Type 0} {g : disk.Ghosts D} where
   -- what carrying out an order makes of a store that may not be there
   pub order_renews :
       (asked : Order) (old new : Store D g) (done : Result Done Fault) →
-      CarriesOut asked old done new → Renews (Open old) (Open new)
+      CarriesOut asked old done new → Attends (Open old) (Open new)
   order_renews order.Tenants old new done carried = Looks (rest_kept old new carried.1)
   order_renews (order.AddTenant name digest) old new done carried =
       Tries (Joined digest) (ending_told done)

@@ -1,6 +1,7 @@
 -- A store that is opened again, or anew in its place.
 use Rattle.std.proofs.Common.{◌≡◌, false, Result, Ok, Err, OnOk, OnErr, IsTrue, ap, sym, subst}
 use Rattle.sqlite_disk.specs.declared.Disk as disk
+use Rattle.chain.specs.Ledgers.{Tenants}
 use Rattle.openings.specs.declared.opening.OpenFault.{OpenFault}
 use Rattle.service.specs.Openings.{run_meaning, IsSettled, IsOpened}
 use Rattle.service.specs.OpeningLaws.{is_opened}
@@ -8,7 +9,9 @@ use Rattle.store.specs.StoreLaws.{store_meaning, finds_itself, opened_is_found, 
 use Rattle.store.specs.Stores.{IsHonest, IsSettledStore, Finds, may_find}
 use Rattle.store.specs.declared.store.Store.{Store}
 use Rattle.command_texts.specs.declared.fault.Fault.{Fault}
-use Rattle.commands.specs.Kept.{kept_store, IsLiveKept, IsUsableKept, answers, WasRefused, Renews, Anew, Refuses}
+use Rattle.commands.specs.Kept.{kept_store, IsLiveKept, IsUsableKept, answers, WasRefused}
+use Rattle.commands.specs.Kept.{Attends, tenants_kept}
+use Rattle.commands.specs.Kept.{Renews, Stays, Again, Anew, Refuses, Tries, Looks}
 use Rattle.commands.specs.declared.kept.Kept.{Kept}
 use Rattle.commands.specs.declared.kept.Kept.TheVariants.{Open, Closed}
 
@@ -26,15 +29,28 @@ module _ {D : Type 0} {g : disk.Ghosts D} where
 
   -- a store was opened anew where one was refused, or that was refused too
   pub anew_so :
-      (old left new : Kept (Store D g)) (result : Result (Unit {0}) Fault) → answers old ≡ false →
-      WasRefused old left → OnOk result (IsTrue (answers new)) →
-      OnOk result (IsSettled kept_store new) → OnErr result (new ≡ Closed) → Renews old new
-  anew_so old left new (Ok done) silent refused answering settled closed =
-      Anew left silent refused answering settled
-  anew_so old left new (Err fault) silent refused answering settled closed =
+      (opens : Tenants → Type 0) (old left new : Kept (Store D g))
+      (result : Result (Unit {0}) Fault) → answers old ≡ false → WasRefused old left →
+      OnOk result (opens (tenants_kept store_meaning new)) → OnOk result (IsTrue (answers new)) →
+      OnOk result (IsSettled kept_store new) → OnErr result (new ≡ Closed) → Renews opens old new
+  anew_so opens old left new (Ok done) silent refused anew answering settled closed =
+      Anew left silent refused anew answering settled
+  anew_so opens old left new (Err fault) silent refused anew answering settled closed =
       Refuses silent (ap (λ (kept : Kept (Store D g)). answers kept) closed)
       (subst (λ (kept : Kept (Store D g)). IsLiveKept store_meaning kept → ⊥) (sym closed)
       (λ live. live))
+
+  -- what is done where no store is opened anew is done where some may be
+  pub attends_so :
+      (opens : Tenants → Type 0) (old new : Kept (Store D g))
+      → Attends old new → Renews opens old new
+  attends_so opens old new (Stays same) = Stays same
+  attends_so opens old new (Again silent answering opened) = Again silent answering opened
+  attends_so opens old new (Anew left silent refused anew answering settled) =
+      absurd anew
+  attends_so opens old new (Refuses silent none dead) = Refuses silent none dead
+  attends_so opens old new (Tries deed ending moves) = Tries deed ending moves
+  attends_so opens old new (Looks rest) = Looks rest
 
   -- a store that is there is settled
   pub kept_settled :

@@ -13,7 +13,7 @@ use Rattle.service.specs.Served.{served_to}
 use Rattle.store.specs.StoreLaws.{store_meaning}
 use Rattle.store.specs.Stores.{FindsTenants, Follows, IsLive, tenants_of}
 use Rattle.store.specs.declared.store.Store.{Store}
-use Rattle.commands.specs.Kept.{Renews, Tries, Looks}
+use Rattle.commands.specs.Kept.{Attends, Tries, Looks}
 use Rattle.commands.specs.Settling.{GivesSettled, SettlesBy, batch_ending, settling}
 use Rattle.commands.specs.declared.kept.Kept.TheVariants.{Open}
 use Rattle.commands.proofs.OrderLemmas.{moves_kept, rest_kept}
@@ -85,7 +85,7 @@ module _ {D : Type 0} {g : disk.Ghosts D} where
 
   -- what it makes of a store that may not be there
   pub settling_renews :
-      (moment : ℕ) (old new : Store D g) → SettlesBy moment old new → Renews (Open old) (Open new)
+      (moment : ℕ) (old new : Store D g) → SettlesBy moment old new → Attends (Open old) (Open new)
   settling_renews moment old new settles =
       elim settles [
         | inl rest ↦ Looks (rest_kept old new rest)

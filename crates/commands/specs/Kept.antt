@@ -7,11 +7,12 @@ use Rattle.service.specs.Courses as course
 use Rattle.service.specs.Deeds.{Deed}
 use Rattle.service.specs.Openings.{RunMeaning, run_meaning, IsSettled, IsOpened, Moves}
 use Rattle.service.specs.Seen.{Seen, Whole, Within, seen}
-use Rattle.polling.specs.Courses.{IsAtRest, Renewed, Stayed, Opened, Refused, Tried, Rested, renewed_seen}
+use Rattle.polling.specs.Courses.{IsAtRest, Renewed, Stayed, Opened, Tried, Rested, renewed_seen}
 use Rattle.polling.specs.Courses as renewed
 use Rattle.polling.specs.Serving.{renews_seen}
 use Rattle.store.specs.StoreLaws.{store_meaning}
-use Rattle.store.specs.Stores.{IsLive}
+use Rattle.openings.specs.declared.refused.Refused.{Refused}
+use Rattle.store.specs.Stores.{IsLive, LeavesStore}
 use Rattle.store.specs.declared.store.Store.{Store}
 use Rattle.commands.specs.declared.kept.Kept.{Kept}
 use Rattle.commands.specs.declared.kept.Kept.TheVariants.{Open, Closed}
@@ -113,40 +114,57 @@ module _ {D : Type 0} {g : disk.Ghosts D} where
   kept_store = run_meaning (kept_meaning store_meaning)
 
   -- opening a store again over its own files was refused, and what is left of it answers no calls and
-  -- is not live; or there was none
+  -- is not live
+  pub record IsRefusedAgain (old left : Store D g) : Type 0 where
+    pub refused : Refused
+    pub leaves : LeavesStore refused old left
+    pub silent : left.ready ≡ false
+    pub shut : IsLive left → ⊥
+
+  -- so it was; or there was none
   abbrev pub WasRefused : (old left : Kept (Store D g)) → Type 0
-  WasRefused (Open old) (Open left) = (left.ready ≡ false) × (IsLive left → ⊥)
+  WasRefused (Open old) (Open left) = IsRefusedAgain old left
   WasRefused (Open old) Closed = ⊥
   WasRefused Closed (Open left) = ⊥
   WasRefused Closed Closed = Unit {0}
 
-  -- what is made of a store between turns: one that answers calls stays as it is; any other may stay,
-  -- or is opened again over its own files, and is what was to be found there; or that is refused, and
-  -- a store is opened anew in its place; or that is refused too, and none answers; or an operator has
-  -- asked for a deed, and this came of it; or for what is there, and nothing has changed
-  pub data Renews (old new : Kept (Store D g)) : Type 0 where
-    Stays : new ≡ old → Renews old new
+  -- what is made of a store between turns, where a home opens these: one that answers calls stays as it
+  -- is; any other may stay, or is opened again over its own files, and is what was to be found there; or
+  -- that is refused, and the home opens a store in its place; or that is refused too, and none answers;
+  -- or an operator has asked for a deed, and this came of it; or for what is there, and nothing has
+  -- changed
+  pub data Renews (opens : Tenants → Type 0) (old new : Kept (Store D g)) :
+      Type 0 where
+    Stays : new ≡ old → Renews opens old new
     Again :
-        answers old ≡ false → IsTrue (answers new) → IsOpened kept_store old new → Renews old new
+        answers old ≡ false → IsTrue (answers new) → IsOpened kept_store old new
+        → Renews opens old new
     Anew :
         (left : Kept (Store D g)) → answers old ≡ false → WasRefused old left →
-        IsTrue (answers new) → IsSettled kept_store new → Renews old new
+        opens (tenants_kept store_meaning new) → IsTrue (answers new) → IsSettled kept_store new
+        → Renews opens old new
     Refuses :
         answers old ≡ false → answers new ≡ false → (IsLiveKept store_meaning new → ⊥)
-        → Renews old new
+        → Renews opens old new
     Tries :
         (deed : Deed) (ending : course.Ending) → Moves kept_store old (course.Tried deed ending) new
-        → Renews old new
-    Looks : IsAtRest kept_store old new → Renews old new
+        → Renews opens old new
+    Looks : IsAtRest kept_store old new → Renews opens old new
+
+  -- the same where no store is opened in the place of another
+  abbrev pub Attends : (old new : Kept (Store D g)) → Type 0
+  Attends old new = Renews (λ tenants. ⊥) old new
 
   -- the same as it is told of any ledgers
-  abbrev pub renewal_of : (old new : Kept (Store D g)) → Renews old new → Renewed kept_store old new
-  renewal_of old new (Stays same) = Stayed same
-  renewal_of old new (Again silent answering opened) = Opened opened
-  renewal_of old new (Anew left silent refused answering settled) = renewed.Anew settled
-  renewal_of old new (Refuses silent none dead) = Refused dead
-  renewal_of old new (Tries deed ending moves) = Tried deed ending moves
-  renewal_of old new (Looks rest) = Rested rest
+  abbrev pub renewal_of :
+      (opens : Tenants → Type 0) (old new : Kept (Store D g))
+      → Renews opens old new → Renewed kept_store old new
+  renewal_of opens old new (Stays same) = Stayed same
+  renewal_of opens old new (Again silent answering opened) = Opened opened
+  renewal_of opens old new (Anew left silent refused anew answering settled) = renewed.Anew settled
+  renewal_of opens old new (Refuses silent none dead) = renewed.Refused dead
+  renewal_of opens old new (Tries deed ending moves) = Tried deed ending moves
+  renewal_of opens old new (Looks rest) = Rested rest
 
   -- the store, if it is there, may be called
   abbrev pub MayBeCalled : Kept (Store D g) → Type 0
@@ -154,9 +172,10 @@ module _ {D : Type 0} {g : disk.Ghosts D} where
 
   -- and as it is seen between messages: nothing is opened inside of a round
   abbrev pub renewal_seen :
-      (old new : Seen (Kept (Store D g))) → renews_seen Renews old new
+      (opens : Tenants → Type 0) (old new : Seen (Kept (Store D g)))
+      → renews_seen (Renews opens) old new
       → Renewed (run_meaning (seen (kept_meaning store_meaning))) old new
-  renewal_seen (Whole old) (Whole new) renews =
-      renewed_seen (kept_meaning store_meaning) (renewal_of old new renews)
-  renewal_seen (Whole old) (Within ledgers machines) renews = absurd renews
-  renewal_seen (Within ledgers machines) new renews = absurd renews
+  renewal_seen opens (Whole old) (Whole new) renews =
+      renewed_seen (kept_meaning store_meaning) (renewal_of opens old new renews)
+  renewal_seen opens (Whole old) (Within ledgers machines) renews = absurd renews
+  renewal_seen opens (Within ledgers machines) new renews = absurd renews

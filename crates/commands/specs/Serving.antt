@@ -55,12 +55,13 @@ pub record ServesClients {S C P : Type 0} (r : Rules S C P) (ledgers : S) (momen
   pub few : result ≢ Ok Enough → replies_in deeds < most
   pub asked : OnErr result (most_turns ≤ tellings served)
 
-module _ {D : Type 0} {g : disk.Ghosts D} {C P : Type 0} (gives : C → ℕ → C → Type 0)
+module _ {D : Type 0} {g : disk.Ghosts D} {C P : Type 0}
+    (opens : Tenants → Type 0) (gives : C → ℕ → C → Type 0)
     (does : P → Doing → P → Type 0) where
   -- messages are answered by a store, or by ledgers that are not there; a store that answers calls
   -- stays as it is
   abbrev pub store_rules : Rules (Seen (Kept (Store D g))) C P
-  store_rules = rules (kept_meaning store_meaning) gives Renews does
+  store_rules = rules (kept_meaning store_meaning) gives (Renews opens) does
 
   -- clients were served by a store, whenever it was opened again, or by what stood in its place; and
   -- if it was live when this began, all that was done is a course of what happened to it, begun anew
@@ -74,5 +75,5 @@ module _ {D : Type 0} {g : disk.Ghosts D} {C P : Type 0} (gives : C → ℕ → 
     pub course :
         IsLiveKept store_meaning first
         → HasLed kept_store
-        (IsSince renewal_seen (empty_hall (Whole first) moments peers) served.deeds
+        (IsSince (renewal_seen opens) (empty_hall (Whole first) moments peers) served.deeds
         served.last served.served) kept

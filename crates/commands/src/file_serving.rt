@@ -280,8 +280,8 @@ pub fn serve_store<D: Disk + Drop, P: Peers, H: Home<D>, C: Moments, K: Clock, O
     most: u64,
 ) -> (Result<Served, Fault>, O)
     requires { IfSome store IsUsable }
-    ensures served { ServesStore C.gives P.does (kept_of store) moments.old peers.old most moments.new
-        peers.new result.0 }
+    ensures served { ServesStore H.opens C.gives P.does (kept_of store) moments.old peers.old most
+        moments.new peers.new result.0 }
     ensures stopped { result.0 ≡ Ok Served.Stopped → IsTrue (O.stops result.1) }
     ensures fault { IfErr result.0 (λ fault. fault ≡ Fault.Socket) }
 {

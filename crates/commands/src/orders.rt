@@ -2,7 +2,7 @@
 ghost use Rattle.std.specs.Prelude.{◌≡◌, Bool};
 ghost use Rattle.store.specs.Stores.{IsUsable};
 ghost use Rattle.store.specs.StoreLaws.{store_meaning};
-ghost use Rattle.commands.specs.Kept.{MayBeCalled, Renews};
+ghost use Rattle.commands.specs.Kept.{Attends, MayBeCalled};
 ghost use Rattle.commands.specs.Orders.{CarriesOut};
 
 use crate::adding::add_tenant;
@@ -107,7 +107,7 @@ pub(crate) fn carry_out<D: Disk + Drop, O: Orders>(
     order: &Order,
 )
     requires { MayBeCalled kept.old }
-    ensures renews { Renews kept.old kept.new }
+    ensures renews { Attends kept.old kept.new }
     ensures usable { MayBeCalled kept.new }
 {
     match kept {

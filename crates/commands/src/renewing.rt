@@ -4,7 +4,8 @@ ghost use Rattle.std.specs.Prelude.{◌≡◌, ◌≤◌, ◌*◌, min, false, I
 ghost use Rattle.service.specs.Openings.{run_meaning, IsSettled, IsOpened};
 ghost use Rattle.store.specs.Stores.{IsLive, IsReady, IsUsable};
 ghost use Rattle.store.specs.StoreLaws.{store_meaning};
-ghost use Rattle.commands.specs.Kept.{answers, kept_store, IsLiveKept, MayBeCalled, Renews};
+ghost use Rattle.commands.specs.Kept.{answers, kept_store, IsLiveKept, MayBeCalled};
+ghost use Rattle.commands.specs.Kept.{Attends, IsRefusedAgain, Renews, tenants_kept};
 ghost use Rattle.commands.specs.Openings.{IsOpeningFault};
 
 use crate::kept::Kept;
@@ -28,8 +29,17 @@ const LONGEST_PAUSE: u64 = 60;
 
 /// Where a store is opened anew.
 pub trait Home<D: Disk + Drop> {
+    ghost use Rattle.std.specs.Prelude.{IfErr, IfOk};
+    ghost use Rattle.chain.specs.Ledgers.{Tenants};
+    ghost use Rattle.store.specs.Stores.{IsReady, IsUsable, tenants_of};
+    ghost use Rattle.commands.specs.Openings.{IsOpeningFault};
+
+    // Which tenants a store may have that it opens.
+    ghost opens: { Tenants → Type 0 } = { λ _. Unit {0} };
+
     /// Opens the store. The one before has let go of its files.
     fn open_store(&self) -> Result<Store<D>, Fault>
+        ensures opens { IfOk result (λ store. opens (tenants_of store)) }
         ensures usable { IfOk result IsUsable }
         ensures ready { IfOk result IsReady }
         ensures fault { IfErr result IsOpeningFault };
@@ -117,7 +127,7 @@ impl<H, K: Clock, O: Orders> Stops for Renewing<'_, H, K, O> {
 
 impl<D: Disk + Drop, H: Home<D>, K: Clock, O: Orders> Steward<Kept<Store<D>>>
     for Renewing<'_, H, K, O> {
-    ghost renews = { λ old new. Renews old new };
+    ghost renews = { λ old new. Renews H.opens old new };
 
     fn is_settled(kept: &Kept<Store<D>>) {
         match kept {
@@ -153,7 +163,7 @@ fn settle<D: Disk + Drop, H: Home<D>, K: Clock>(
     kept: &mut Kept<Store<D>>,
 )
     requires { MayBeCalled kept.old }
-    ensures renews { Renews kept.old kept.new }
+    ensures renews { Attends kept.old kept.new }
     ensures usable { MayBeCalled kept.new }
 {
     if settler.rests(clock) {
@@ -174,7 +184,7 @@ fn renew<D: Disk + Drop, H: Home<D>, K: Clock>(
 )
     requires usable { MayBeCalled kept.old }
     requires silent { answers kept.old ≡ false }
-    ensures renews { Renews kept.old kept.new }
+    ensures renews { Renews H.opens kept.old kept.new }
     ensures usable { MayBeCalled kept.new }
 {
     if !is_time(clock, *pause) {
@@ -241,8 +251,7 @@ fn reopened<D: Disk + Drop>(store: &mut Store<D>) -> Result<(), OpenFault>
     ensures usable { IsUsable store.new }
     ensures ready { OnOk result (IsReady store.new) }
     ensures opened { OnOk result (IsOpened (run_meaning store_meaning) store.old store.new) }
-    ensures refused { OnErr result (store.new.ready ≡ false) }
-    ensures shut { OnErr result (IsLive store.new → ⊥) }
+    ensures refused { OnErr result (IsRefusedAgain store.old store.new) }
 {
     let opened = store.reopen(&FullAudit);
     store.is_settled();
@@ -257,6 +266,7 @@ fn open_anew<D: Disk + Drop, H: Home<D>>(home: &H, kept: &mut Kept<Store<D>>) ->
     requires { IsLiveKept store_meaning kept.old → ⊥ }
     ensures usable { MayBeCalled kept.new }
     ensures answers { OnOk result (IsTrue (answers kept.new)) }
+    ensures anew { OnOk result (H.opens (tenants_kept store_meaning kept.new)) }
     ensures settled { OnOk result (IsSettled kept_store kept.new) }
     ensures refused { OnErr result (kept.new ≡ Kept.Closed) }
     ensures fault { IfErr result IsOpeningFault }
@@ -282,7 +292,7 @@ fn opened_again<D: Disk + Drop, H: Home<D>>(
     requires silent { answers kept.old ≡ false }
     ensures usable { MayBeCalled kept.new }
     ensures answers { OnOk result (IsTrue (answers kept.new)) }
-    ensures renews { Renews kept.old kept.new }
+    ensures renews { Renews H.opens kept.old kept.new }
     ensures fault { IfErr result IsOpeningFault }
 {
     match kept {

@@ -14,7 +14,7 @@ pub returns-clause-served : goal.returns-clause-served
 returns-clause-served g c =
     let served = c.serve_clients-served.ensures.served in
     subst
-    (λ (first : Kept (Store _ _)). ServesStore g.C.Moments.gives g.P.Peers.does first c.args.moments.now
+    (λ (first : Kept (Store _ _)). ServesStore g.H.Home.opens g.C.Moments.gives g.P.Peers.does first c.args.moments.now
     c.args.peers.now c.args.most c.serve_clients-served.new.moments c.serve_clients-served.new.peers
     c.serve_clients-served.result)
     c.of-kept.ensures
@@ -25,9 +25,9 @@ returns-clause-served g c =
           let led =
           subst
           (HasLed (run_meaning (seen (kept_meaning store_meaning)))
-          (IsSince renewal_seen
+          (IsSince (renewal_seen g.H.Home.opens)
           (empty_hall (Whole c.of-kept.result) c.args.moments.now c.args.peers.now) served.deeds
           served.last served.served))
-          served.ledgers_left (served.course renewal_seen live) in
+          served.ledgers_left (served.course (renewal_seen g.H.Home.opens) live) in
           record { here = led.here; found = led.found };
     })

@@ -1,6 +1,6 @@
 use Rattle.std.proofs.Common.{sym, subst}
 use Rattle.store.specs.declared.store.Store.{Store}
-use Rattle.commands.specs.Kept.{Renews}
+use Rattle.commands.specs.Kept.{Attends}
 use Rattle.commands.specs.declared.kept.Kept.{Kept}
 use Rattle.commands.specs.declared.kept.Kept.TheVariants.{Open}
 use Rattle.commands.proofs.SettleLemmas.{settling_renews}
@@ -8,5 +8,5 @@ use Rattle.commands.proofs.renewing.settle.Goals as goal
 
 pub returns-in-Open-clause-renews : goal.returns-in-Open-clause-renews
 returns-in-Open-clause-renews g c =
-    subst (λ (was : Kept (Store _ _)). Renews was (Open c.settle.new.store)) (sym c.in-Open.is)
+    subst (λ (was : Kept (Store _ _)). Attends was (Open c.settle.new.store)) (sym c.in-Open.is)
     (settling_renews c.settle.ensures.settles.0 _ c.settle.new.store c.settle.ensures.settles.1)
