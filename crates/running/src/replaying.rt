@@ -65,8 +65,9 @@ pub fn replay_from<S: EntrySource>(alloc: Global, source: &S) -> Result<Running,
         (λ place. (entries : List Entry) →
         S.has source.now entries → IsFirstRefused new_machine entries place)) }
 {
-    let mut running = Running::new(alloc);
-    for place in 0..source.len() {
+    let len = source.len();
+    let mut running = Running::with_room(alloc, len)?;
+    for place in 0..len {
         let accepted = running.apply(&source.entry(place))?;
         if !accepted {
             return Err(ReplayFault::Refused(place));

@@ -1,4 +1,4 @@
-ghost use Rattle.std.specs.Prelude.{◌≡◌, ◌++◌, OnOk};
+ghost use Rattle.std.specs.Prelude.{◌≡◌, ◌++◌, IfOk, OnOk};
 ghost use Rattle.records.specs.Machine.{Machine, new_machine};
 ghost use Rattle.records.specs.Accepted.{IsAccepted};
 ghost use Rattle.records.specs.Valid.{IsNextAccount, with_account, with_transfer};
@@ -30,18 +30,21 @@ pub struct Running {
 }
 
 impl Running {
-    /// A new tenant.
-    pub fn new(alloc: Global) -> Running
-        ensures { IsRunning new_machine result }
+    /// A new tenant, with room for so many transfers and for two rows of history of each. A list that
+    /// grows leaves each block that it has outgrown to others, who may have no use for it.
+    pub fn with_room(alloc: Global, transfers: usize) -> Result<Running, AllocError>
+        ensures { IfOk result (IsRunning new_machine) }
     {
-        Running {
+        let kept = Transfers::with_room(alloc, transfers)?;
+        let history = Vec::with_capacity(alloc, transfers.saturating_mul(2))?;
+        Ok(Running {
             clock: 0,
             last: 0,
             accounts: BTreeMap::new(alloc),
-            transfers: Transfers::new(alloc),
+            transfers: kept,
             statuses: Statuses::new(alloc),
-            history: Vec::new(alloc),
-        }
+            history,
+        })
     }
 
     /// The clock, in nanoseconds.

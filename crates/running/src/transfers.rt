@@ -1,7 +1,7 @@
 //! The transfers of a tenant, found by id. They stand close in a list, and a map tells their places,
 //! since a map's nodes leave much of what they take unused.
 
-ghost use Rattle.std.specs.Prelude.{◌≡◌, List, [], ◌∷◌, ◌++◌, None, OnOk};
+ghost use Rattle.std.specs.Prelude.{◌≡◌, List, [], ◌∷◌, ◌++◌, None, IfOk, OnOk};
 ghost use Rattle.records.specs.declared.transfer.Transfer.{Transfer};
 ghost use Rattle.records.specs.Machine.{transfer_with};
 ghost use Rattle.running.specs.Holds.{HoldsTransfers};
@@ -18,13 +18,14 @@ pub(crate) struct Transfers {
 }
 
 impl Transfers {
-    pub(crate) fn new(alloc: Global) -> Transfers
-        ensures { HoldsTransfers [] result }
+    // None yet, with room for so many.
+    pub(crate) fn with_room(alloc: Global, transfers: usize) -> Result<Transfers, AllocError>
+        ensures { IfOk result (HoldsTransfers []) }
     {
-        Transfers {
-            list: Vec::new(alloc),
+        Ok(Transfers {
+            list: Vec::with_capacity(alloc, transfers)?,
             places: BTreeMap::new(alloc),
-        }
+        })
     }
 
     pub(crate) fn get(&self, id: u128) -> Option<Transfer>
