@@ -26,6 +26,7 @@ use polling::{Batch, Peers};
 use records::Streamed;
 use service::Moments;
 use sockets::{Counts, Operator, Sockets};
+use sqlite::Files;
 use sqlite_disk::Disk;
 use std::alloc::Global;
 use std::cell::Cell;
@@ -109,7 +110,11 @@ struct HostFile<'a> {
 }
 
 impl<'a> Home<ServedFile<'a>> for HostFile<'a> {
-    fn open_store(&self) -> Result<Store<ServedFile<'a>>, Fault> {
+    fn open_store(
+        &self,
+        left: &mut Option<Files<ServedFile<'a>>>,
+    ) -> Result<Store<ServedFile<'a>>, Fault> {
+        *left = None;
         self.began.set(self.now());
         open_served(self.rt, self.path, &self.audit, self.meter)
     }
@@ -169,7 +174,7 @@ impl<'a> HostFile<'a> {
         ensures usable { IfOk result (λ store. IfSome store IsUsable) }
         ensures fault { IfErr result IsOpeningFault }
     {
-        match self.open_store() {
+        match self.open_store(&mut None) {
             Ok(store) => Ok(Some(store)),
             Err(Fault::InUse) if standby => Ok(None),
             Err(fault) => Err(fault),
