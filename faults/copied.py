@@ -206,10 +206,8 @@ def look_at_copy(house, clients, copy, span, is_last):
     want((status, errors) == (0, ""), f"tenants of a copy: {status} {errors}")
     clocks = dict(row.split(",")[::2] for row in text.splitlines()[1:])
     want(set(clocks) == set(house.names), f"tenants of a copy: {text}")
-    service = Service(house.program, copy)
-    clients[0].copy.connect(service)
-    clients[0].copy.until_well()
     look_at_moment([client.follow(int(clocks[client.name])) for client in clients], span)
+    service = Service(house.program, copy)
     for client in clients:
         client.compare(service, is_last)
     service.kill()
