@@ -25,6 +25,8 @@ IDLE, KEPT, PAUSE = 15, 5, 0.1
 SILENT, ACCOUNTS = 20, 200
 # What a tenant does, and how often of a hundred times.
 STEPS = {"whole": 60, "ahead": 6, "cut": 3, "unread": 3, "gone": 2, "read": 24, "opened": 2}
+# Of these, those behind which it has to be found done.
+UNHEARD = {"unread", "gone"}
 # The most events of a batch, and how often.
 SIZES = {2: 20, 4: 20, 12: 30, 100: 4, 1000: 1}
 # A statement is asked for of accounts with no more entries: the plain one sums anew for each line.
@@ -128,18 +130,20 @@ class Tenant(Player, Client):
         elif name == "read":
             self.once(name, [])
         else:
-            self.keep(self.batch(), True, name)
+            self.keep(self.batch(name in UNHEARD), True, name)
 
     # What is sent.
 
-    def batch(self):
-        """A new batch, or where it has as much as it may have by now a batch of retries, which leave
-        nothing."""
+    def batch(self, is_unheard):
+        """A new batch, or where it has as much as it may have by now a batch of retries. These leave
+        nothing, so where no reply is heard to the end they come behind a transfer that is accepted."""
         ledger = self.desk.ledger
         if len(ledger.transfers) < self.soak.allowed() or not self.requests.sent:
             return self.requests.marked(drawn(self.random, SIZES))
         again = [self.requests.again() for _ in range(self.random.randint(1, 6))]
-        return [each for each in again if each["id"] in ledger.transfers or each["id"] in ledger.failed]
+        mark = self.requests.mark() if is_unheard else []
+        return mark + [each for each in again
+                       if each["id"] in ledger.transfers or each["id"] in ledger.failed]
 
     def opened(self):
         """Some accounts, of which some may be there."""
