@@ -52,9 +52,8 @@ use stored_ledgers::probe::is_disk_fault;
 use stored_ledgers::rounds::in_round;
 use tenants::TenantName;
 
-/// The ledgers of many tenants in one database, in two files: a log and the database file.
-///
-/// From a fault of the disk on each call but `schema` and `close` answers that the disk failed.
+/// The ledgers of many tenants in one database, in two files: a log and the database file. From a
+/// fault of the disk on each call but `schema`, `is_ready`, `reopen` and `close` answers so.
 #[derive(Drop)]
 pub struct Store<D: Disk> {
     pub(crate) place: Place<D>,
@@ -95,8 +94,7 @@ impl<D: Disk + Drop> Store<D> {
         Ok(Store::over(alloc, conn, BTreeMap::new(alloc), options))
     }
 
-    /// Opens the ledger in two files, once all of it was looked at. They are given back where it is
-    /// refused.
+    /// Opens the ledger in two files, once all of it was looked at. Refused, they are given back.
     pub fn open<A: Audit>(
         alloc: Global,
         files: Files<D>,
@@ -342,8 +340,7 @@ impl<D: Disk + Drop> Store<D> {
         keying_answer(keyed)
     }
 
-    /// Runs a batch of work on the tables of the tenant with this digest, and keeps all of it or
-    /// nothing.
+    /// Runs a batch of work on the tables of the tenant with this digest, and keeps all or nothing.
     pub fn in_batch<W: Work + Drop>(
         &mut self,
         digest: &[u8; 32],

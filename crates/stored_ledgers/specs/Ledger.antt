@@ -23,7 +23,7 @@ pub record HasNoRows (number : ℤ) (trees : Trees) : Type 0 where
   pub failed : failed_rows number trees ≡ []
 
 -- the tables are those of the current version, the tenants are distinct, each has the rows of a
--- valid machine, and there are no other rows
+-- valid machine, and there are no rows under any other number
 pub record HoldsLedgers (db : Database) : Type 0 where
   pub schema : IsLedger db.schema
   pub version : version_rows db.trees ≡ version_values current_version ∷ []
