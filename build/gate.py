@@ -16,9 +16,9 @@ Such a check is asked for these functions alone (`--only`), and proves them and 
 the crate was proved from nothing before, in the same run. At the end the functions are proved as they
 stand, over what these checks kept: what was refused was refused for its body.
 
-All else is the toolchain's own, from the library beside `rt`; where that has not the parts that are
-called here, each wrong body is tried as `rt ci` does. There are as many lanes as `build/lanes.py`
-tells."""
+All else is the toolchain's own, from the library beside `rt`, in the two forms that its kits have; where
+that has not the parts that are called here, each wrong body is tried as `rt ci` does. There are as
+many lanes as `build/lanes.py` tells."""
 
 import importlib.machinery
 import importlib.util
@@ -29,6 +29,7 @@ import re
 import shutil
 import sys
 import tempfile
+import threading
 
 import lanes
 
@@ -222,24 +223,78 @@ def try_together(rt):
     return all_of
 
 
-# What is called here, and the names of what it takes.
-CALLED = {"must_fail_all": ["crate", "edits", "flags"], "unread": ["line", "changed"],
-          "must_fail": ["crate", "edit", "flags", "kept"],
+class Group:
+    """Wrong bodies that one check tries, and what it told of those that it refused, once it has run."""
+
+    def __init__(self, edits, texts):
+        self.edits, self.texts, self.told, self.lock = edits, texts, None, threading.Lock()
+
+    def refusal(self, rt, crate, path, flags, kept):
+        """What is to be said of one of them where the check of all refused it, else None."""
+        with self.lock:
+            if self.told is None:
+                self.told = try_group(rt, crate, self.edits, self.texts, flags, kept)
+        return self.told.get(path)
+
+
+class Shared:
+    """For a kit whose `rt ci` has a task for each wrong body, over what the crate's own check proved:
+    the first task of a group tries all of it, the others wait for that one and take what it told. What
+    was not refused so is tried alone, over the same and then from nothing, as `rt ci` does."""
+
+    def __init__(self, rt):
+        self.rt, self.groups = rt, {}
+        self.edits_of, self.add_edits, self.must_fail = rt.edits_of, rt.add_edits, rt.must_fail
+        rt.edits_of, rt.add_edits, rt.must_fail = self.ordered, self.added, self.tried
+
+    def ordered(self, crate):
+        """`edits_of` of `rt`, with the first of each group in front."""
+        good, bad = self.edits_of(crate)
+        found = [Group(*it) for it in groups(crate, good)]
+        self.groups[crate.folder] = {it.path: group for group in found for it in group.edits}
+        firsts = [group.edits[0].path for group in found]
+        return [*firsts, *[it for it in good if it not in firsts]], bad
+
+    def added(self, tasks, crate, edits, *given, **named):
+        """`add_edits` of `rt`, in which the tasks of a group wait for its first."""
+        results = self.add_edits(tasks, crate, edits, *given, **named)
+        firsts = {}
+        for number, path in enumerate(edits):
+            key, group = (crate.name, "edits", number), self.groups[crate.folder].get(path)
+            first = firsts.setdefault(group, key) if group else key
+            if first != key:
+                waits, *rest = tasks[key]
+                tasks[key] = ([*waits, first], *rest)
+        return results
+
+    def tried(self, crate, edit, flags, kept=None):
+        """`must_fail` of `rt`: with kept work a group is tried in one check, and without alone."""
+        group = self.groups.get(crate.folder, {}).get(edit) if kept else None
+        text = group and group.refusal(self.rt, crate, edit, flags, kept)
+        return (self.rt.REFUSED, text) if text else self.must_fail(crate, edit, flags, kept)
+
+
+# What is called here, and the names of what it takes; and beside these, in either form of `rt`.
+CALLED = {"unread": ["line", "changed"], "must_fail": ["crate", "edit", "flags", "kept"],
           "checked": ["crate", "texts", "flags", "kept"]}
+AT_ONCE = {"must_fail_all": ["crate", "edits", "flags"]}
+ONE_BY_ONE = {"edits_of": ["crate"], "add_edits": ["tasks", "crate", "edits"]}
 
 
-def is_known(rt):
+def has(rt, called):
     """Whether the toolchain has these."""
     return hasattr(rt.rtlib, "STALE") and all(
         hasattr(rt, name) and [*inspect.signature(getattr(rt, name)).parameters][: len(takes)] == takes
-        for name, takes in CALLED.items())
+        for name, takes in called.items())
 
 
 def main(words):
     rt = toolchain()
     os.environ.setdefault("RT_JOBS", str(lanes.lanes() or ""))
-    if is_known(rt):
+    if has(rt, {**CALLED, **AT_ONCE}):
         rt.must_fail_all = try_together(rt)
+    elif has(rt, {**CALLED, **ONE_BY_ONE}):
+        Shared(rt)
     return rt.main(words or ["ci"])
 
 
