@@ -73,7 +73,8 @@ faults: ledgerd
 	python3 faults/campaign.py $(LEDGERD) $(if $(SEED),--seed $(SEED)) $(if $(JOBS),--jobs $(JOBS))
 
 faults-long: ledgerd
-	python3 faults/campaign.py $(LEDGERD) --long $(if $(SEED),--seed $(SEED))
+	python3 faults/campaign.py $(LEDGERD) --long $(if $(SEED),--seed $(SEED)) \
+	    --jobs $(or $(JOBS),$(shell nproc)) $(if $(MINUTES),--minutes $(MINUTES))
 
 soak: ledgerd
 	python3 faults/soak.py $(LEDGERD) --minutes $(or $(MINUTES),60) $(if $(SEED),--seed $(SEED))

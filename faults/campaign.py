@@ -1,13 +1,17 @@
 """Tries on purpose what may go wrong with a served ledger, and ends with 1 at the first surprise.
 
-    python3 faults/campaign.py LEDGERD [--long] [--seed N] [--only TRIAL..] [--folder FOLDER]
-        [--jobs N]
+    python3 faults/campaign.py LEDGERD [--long [--minutes N]] [--seed N] [--only TRIAL..]
+        [--folder FOLDER] [--jobs N]
 
 LEDGERD is the program. Without `--long` it samples, in a few minutes; with it each case is tried.
-The seed is told, and can be given again. With `--jobs` as many trials are tried side by side, each by
-a process of its own. docs/TESTING.md tells what each trial does."""
+With `--minutes` a command whose calls are refused one by one has no more than so many for them: it
+is told how many of how many were tried. The seed is told, and can be given again. With `--jobs` as
+many trials are tried side by side, each by a process of its own, and one more that only waits.
+Those in SHARED come last, and as many processes try the places of one. docs/TESTING.md tells what
+each trial does."""
 
 import argparse
+import math
 import secrets
 import shutil
 import subprocess
@@ -77,6 +81,13 @@ TRIALS = {
     "damaged": damaged.damaged,
     "soak": soak.sample,
 }
+# Those whose places several processes can share.
+SHARED = {"commands"}
+# Those that wait nearly all of their time, for limits and pauses of the service.
+WAITING = {"limits", "paused", "due", "desk", "standby", "disk"}
+# What comes first where several are tried side by side: the plain ledger itself, and what takes
+# longest.
+LONGEST = ("model", "soak", "damaged", "memory", "rounds", "many", "disk")
 
 
 def options_given():
@@ -87,13 +98,18 @@ def options_given():
     parser.add_argument("--only", nargs="+", choices=TRIALS, default=list(TRIALS))
     parser.add_argument("--folder")
     parser.add_argument("--jobs", type=int, default=1)
-    return parser.parse_args()
+    parser.add_argument("--minutes", type=float, default=math.inf)
+    options = parser.parse_args()
+    if options.minutes < math.inf and not options.long:
+        parser.error("--minutes is for --long alone: a sample has its own")
+    return options
 
 
 def try_one(name, options):
     """A trial, and the line that tells of it."""
     start = time.monotonic()
     trial = Trial(name, options, options.long)
+    trial.jobs, trial.minutes = options.jobs, options.minutes
     told = trial.tried(TRIALS[name], f"{options.ledgerd}{' --long' if options.long else ''} "
                                      f"--seed {options.seed} --only {name}")
     line = f"{name:9} {told} ({time.monotonic() - start:.0f} s)"
@@ -102,10 +118,11 @@ def try_one(name, options):
     return line
 
 
-def try_apart(name, options):
+def try_apart(name, options, jobs=1):
     """The same by a process of its own. None where it was surprised."""
-    words = [sys.executable, sys.argv[0], options.ledgerd, "--seed", str(options.seed),
-             *["--long"] * options.long, *(["--folder", options.folder] if options.folder else [])]
+    words = [sys.executable, sys.argv[0], options.ledgerd, "--seed", str(options.seed), "--jobs",
+             str(jobs), *["--long", "--minutes", str(options.minutes)] * options.long,
+             *(["--folder", options.folder] if options.folder else [])]
     ran = subprocess.run([*words, "--only", name], stdout=subprocess.PIPE,
                          stderr=subprocess.STDOUT, text=True)
     lines = ran.stdout.rstrip().split("\n")
@@ -113,12 +130,29 @@ def try_apart(name, options):
     return None if ran.returncode else lines[-1]
 
 
+def try_side_by_side(options):
+    """As many trials at once as there are jobs, and beside them those that wait, one after the
+    other. Then those that share the jobs. Their lines in the order in which they were asked for."""
+    alone = sorted(set(options.only) - SHARED, key=turn)
+    with ThreadPoolExecutor(options.jobs) as jobs, ThreadPoolExecutor(1) as waiting:
+        told = {name: (waiting if name in WAITING else jobs).submit(try_apart, name, options)
+                for name in alone}
+    lines = {name: each.result() for name, each in told.items()}
+    for name in sorted(SHARED & set(options.only)):
+        lines[name] = try_apart(name, options, options.jobs)
+    return [lines[name] for name in options.only]
+
+
+def turn(name):
+    """Those that take longest come first, so that no job has one left when others are done."""
+    return LONGEST.index(name) if name in LONGEST else len(LONGEST) + list(TRIALS).index(name)
+
+
 def main():
     options = options_given()
     print(f"seed {options.seed}, {'all' if options.long else 'a sample'}", flush=True)
-    if options.jobs > 1:
-        with ThreadPoolExecutor(options.jobs) as pool:
-            summary = [*pool.map(lambda name: try_apart(name, options), options.only)]
+    if options.jobs > 1 and len(options.only) > 1:
+        summary = try_side_by_side(options)
         if None in summary:
             sys.exit(1)
     else:

@@ -1,85 +1,128 @@
 """Each command with one call refused: it says what it says else, or a fault."""
 
+import contextlib
+import functools
 import os
+from typing import NamedTuple
 
 from beginnings import refused_rows
-from control import DISK, MEMORY, Control, places
+from control import DISK, MEMORY, Control
 from copies import copy, remove
 from migrations import refused_migrations
 from runs import House
 from service import NAME_TAKEN, UNAVAILABLE, UNREADABLE, check, run, want
+from shared import of_how_many, try_places
 
 KEY = "5" * 64
 ADDED, CHANGED = "added more\n", "changed north-desk\n"
+STATEMENT = ("statement", "--tenant", "north-desk", "--account", "1")
+KINDS = {MEMORY: "allocations", DISK: "calls of the disk"}
+NAMES = ("check", "statement", "tenant-key", "tenant-add", "tenant-add to a new file")
 
 
 def refused_commands(trial):
     """Each allocation and each call of the disk refused in turn, over a small file and none."""
     house = House(trial.fresh())
-    control = Control(trial.folder)
+    library = Control(trial.folder).library
     house.begin()
     for place, events in (house.draw() for _ in range(6)):
         want(house.take_turn(place).batch(events), "unavailable, with all at hand")
     house.stop()
-    scratch = os.path.join(trial.folder, "scratch.db")
-    add = ("tenant-add", "--db", scratch, "--name", "more", "--key", KEY)
-    rekey = ("tenant-key", "--db", scratch, "--name", "north-desk", "--key", KEY)
-    statement = ("statement", "--db", house.db, "--tenant", "north-desk", "--account", "1")
-    made = (0, ADDED, f"new ledger {scratch}\n")
-    cases = ((("check", "--db", house.db), (0, "ok\n", ""), None),
-             (statement, run(house.program, *statement), None),
-             (rekey, (0, CHANGED, ""), lambda: copy(house.db, scratch)),
-             (add, (0, ADDED, ""), lambda: copy(house.db, scratch)),
-             (add, made, lambda: remove(scratch)))
-    refused = [refuse_in_turn(trial, control, kind, cases) for kind in (MEMORY, DISK)]
-    return (f"{refused[MEMORY]} allocations and {refused[DISK]} calls of the disk refused: "
-            f"answered as ever, or a fault and nothing half done; {refused_rows(trial)}; "
-            f"{refused_migrations(trial, control)}")
+    refused = [refuse_each(trial, house, library, kind) for kind in KINDS]
+    return (f"refused were of the {' and of the '.join(refused)}: answered as ever, or a fault and "
+            f"nothing half done; {refused_rows(trial, library)}; "
+            f"{refused_migrations(trial, library)}")
 
 
-def refuse_in_turn(trial, control, kind, cases):
-    """How many calls of a kind were refused."""
-    refused = 0
-    for case in cases:
-        for place in places(trial):
-            if not refuse(trial.program, control, (kind, place), case):
-                break
-            refused += 1
-            trial.progress(f"{case[0][0]}: {place}")
-    return refused
+def refuse_each(trial, house, library, kind):
+    """How many calls of a kind were refused to each command, and of how many."""
+    tried = []
+    for name in NAMES:
+        at = functools.partial(begun_in, house, library, name, kind)
+        tried.append(of_how_many(name, *try_places(trial, f"{KINDS[kind]} of {name}", at)))
+    return f"{KINDS[kind]} {', '.join(tried)}"
 
 
-def refuse(program, control, refusal, case):
-    """Whether a call was refused. The command again says what it says else; where a failing disk
-    has refused it, it may have been done."""
-    words, ample, begin = case
-    if begin:
-        begin()
-    control.refuse(*refusal)
-    told = run(program, *words, env=control.env)
-    was_refused = control.end(refusal[0])
-    what = f"{words[0]} with call {refusal[1]} refused"
-    faults = (UNAVAILABLE,) if refusal[0] == MEMORY else (UNAVAILABLE, UNREADABLE)
-    is_told = told == ample or (was_refused and unbegun(words, told, ample) in faults)
-    want(is_told, f"{what}: {told}")
-    again = run(program, *words)
-    if begin is None:
-        want(again == ample, f"{what}, and again: {again}")
-        return was_refused
-    if words[0] == "tenant-key":
-        want(again == ample, f"{what}, and again: {again}")
-    elif told == ample:
-        want(again == NAME_TAKEN, f"{what}, and again: {again}")
-    else:
-        done = () if refusal[0] == MEMORY else (NAME_TAKEN,)
+class Case(NamedTuple):
+    """A command, what it tells with all at hand (None where that is not known by itself), and what
+    is done before it."""
+    words: tuple
+    ample: object
+    begin: object = None
+
+
+def cases(house, db):
+    """The commands, on a copy of a house's file."""
+    at, add = ("--db", db), ("tenant-add", "--name", "more", "--key", KEY)
+    key = ("tenant-key", "--name", "north-desk", "--key", KEY)
+    again, anew = functools.partial(copy, house.db, db), functools.partial(remove, db)
+    again()
+    told = (Case(("check", *at), (0, "ok\n", "")), Case((*STATEMENT, *at), None),
+            Case((*key, *at), (0, CHANGED, ""), again), Case((*add, *at), (0, ADDED, ""), again),
+            Case((*add, *at), (0, ADDED, f"new ledger {db}\n"), anew))
+    return dict(zip(NAMES, told))
+
+
+@contextlib.contextmanager
+def begun_in(house, library, name, kind, folder):
+    db = os.path.join(folder, "ledger.db")
+    case = cases(house, db)[name]
+    if case.ample is None:
+        case = case._replace(ample=run(house.program, *case.words))
+    yield Refused(house.program, db, case, Control(folder, library), kind)
+
+
+class Refused:
+    """A command on a file with calls of a kind refused."""
+
+    def __init__(self, program, db, case, control, kind):
+        self.program, self.db, self.case = program, db, case
+        self.control, self.kind = control, kind
+
+    def run(self):
+        """What it tells with calls refused, as they are by now."""
+        return run(self.program, *self.case.words, env=self.control.env)
+
+    def begin(self):
+        if self.case.begin:
+            self.case.begin()
+
+    def count(self):
+        """How many calls there are."""
+        self.begin()
+        return self.control.count(self.kind, self.run)
+
+    def refuse(self, place):
+        """Whether a call was refused."""
+        self.begin()
+        self.control.refuse(self.kind, place)
+        heard = self.run()
+        was_refused = self.control.end(self.kind)
+        what = f"{self.case.words[0]} with call {place} of the {KINDS[self.kind]} refused"
+        faults = (UNAVAILABLE,) if self.kind == MEMORY else (UNAVAILABLE, UNREADABLE)
+        want(heard == self.case.ample or (was_refused and unbegun(self.case, heard) in faults),
+             f"{what}: {heard}")
+        again = run(self.program, *self.case.words)
+        want(again in self.again(heard), f"{what}, and again: {again}")
+        if self.case.begin:
+            check(self.program, self.db)
+        return {"refused": was_refused}
+
+    def again(self, heard):
+        """What the command may tell again: what it tells else. Where a failing disk has refused it,
+        it may have been done."""
+        ample, done = self.case.ample, (NAME_TAKEN,)
+        if self.case.words[0] != "tenant-add":
+            return (ample,)
+        if heard == ample:
+            return done
         # A ledger that was made by then is new no more.
-        want(again in (ample, (0, ADDED, ""), *done), f"{what}, and again: {again}")
-    check(program, words[2])
-    return was_refused
+        return (ample, (0, ADDED, ""), *(done if self.kind == DISK else ()))
 
 
-def unbegun(words, told, ample):
+def unbegun(case, heard):
     """What was told, less the beginning of a statement: its rows go out as they are read."""
-    status, out, err = told
-    is_begun = words[0] == "statement" and out != ample[1] and ample[1].startswith(out)
+    status, out, err = heard
+    whole = case.ample[1]
+    is_begun = case.words[0] == "statement" and out != whole and whole.startswith(out)
     return (status, "" if is_begun else out, err)

@@ -16,17 +16,15 @@ WHOLE = 3 * SIZE + 8
 
 
 class Control:
-    """What the library is told, and tells."""
+    """What the library is told, and tells. It is made in the folder, unless it is there."""
 
-    def __init__(self, folder):
-        source = pathlib.Path(__file__).with_name("refuse.c")
-        library, path = os.path.join(folder, "refuse.so"), os.path.join(folder, "control")
-        subprocess.run(["cc", "-O2", "-shared", "-fPIC", "-o", library, source, "-ldl"], check=True)
+    def __init__(self, folder, library=None):
+        path, self.library = os.path.join(folder, "control"), library or made_in(folder)
         with open(path, "wb") as file:
             file.write(bytes(WHOLE))
         with open(path, "r+b") as file:
             self.shared = mmap.mmap(file.fileno(), WHOLE)
-        self.env = {**os.environ, "LD_PRELOAD": library, "CONTROL": path}
+        self.env = {**os.environ, "LD_PRELOAD": self.library, "CONTROL": path}
 
     def refuse(self, kind, skip, many=1):
         """Lets so many calls pass, and refuses so many then, or kills the process."""
@@ -54,18 +52,17 @@ class Control:
         return struct.unpack_from("q", self.shared, SIZE * kind + 16)[0]
 
 
+def made_in(folder):
+    """The library, made in a folder."""
+    source = pathlib.Path(__file__).with_name("refuse.c")
+    library = os.path.join(folder, "refuse.so")
+    subprocess.run(["cc", "-O2", "-shared", "-fPIC", "-o", library, source, "-ldl"], check=True)
+    return library
+
+
 def places(trial):
     """The calls to be refused: each, or a sample that grows thinner."""
     place = 0
     while True:
         yield place
         place += 1 if trial.is_long or place < 8 else trial.random.randint(1, 2 + place // 2)
-
-
-def sampled(trial, count):
-    """Of so many calls those to be refused: each, or the first, the last and some between."""
-    if trial.is_long:
-        return range(count)
-    ends = {place for place in range(8) if place < count}
-    between = trial.random.sample(range(count), min(count, 24))
-    return sorted({*ends, *between, *(count - 1 - place for place in ends)})

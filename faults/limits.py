@@ -28,19 +28,20 @@ def limits(trial):
     """Clients that are slow, silent, too many, or do not read."""
     soft, hard = resource.getrlimit(resource.RLIMIT_NOFILE)
     resource.setrlimit(resource.RLIMIT_NOFILE, (min(hard, 4096), hard))
-    other_limits(trial)
+    others = House(trial.fresh(), 1, [word for option in FEW.items() for word in option])
+    others.begin()
     house = House(trial.fresh(), 3)
     house.begin()
     fill(house)
     waits = [slow_message, unread_replies, unread_statements, *([idle] if trial.is_long else [])]
     told = [Limit(wait, house) for wait in waits]
-    beside = Beside(house)
-    for each in (*told, beside):
+    set_by_options, beside = Limit(other_limits, others), Beside(house)
+    for each in (*told, set_by_options, beside):
         each.start()
-    for each in told:
+    for each in (*told, set_by_options):
         each.join()
     worst = beside.end()
-    for each in (*told, beside):
+    for each in (*told, set_by_options, beside):
         if each.surprise:
             raise each.surprise
     too_many(house)
@@ -168,10 +169,8 @@ def is_let_go(connection, asked, pause, most):
     return read < most
 
 
-def other_limits(trial):
+def other_limits(house):
     """The limits that options set, met in a service of its own."""
-    house = House(trial.fresh(), 1, [word for option in FEW.items() for word in option])
-    house.begin()
     many_bodies(house)
     few_clients(house)
     house.compare()

@@ -1,9 +1,11 @@
 """Runs under load: random requests with stops between, the process killed at a random time, a disk
 that is full. After each the file is ok, and all that tenants see is what the plain ledgers say."""
 
+import copy
 import os
 import threading
 
+import copies
 from drawn import Requests
 from service import Desk, Lost, Service, add_tenant, change_key, check, want
 
@@ -21,6 +23,14 @@ class House:
         self.names = []
         for name in NAMES[:tenants]:
             self.add(name)
+
+    def elsewhere(self, folder):
+        """The same tenants of a copy of the file in another folder, which nobody serves yet."""
+        other = copy.copy(self)
+        other.db, other.service = os.path.join(folder, "ledger.db"), None
+        other.desks = [Desk(desk.key) for desk in self.desks]
+        copies.copy(self.db, other.db)
+        return other
 
     def key(self):
         return f"{self.random.getrandbits(256):064x}"

@@ -87,6 +87,12 @@ def free_port():
         return probe.getsockname()[1]
 
 
+def state(pid):
+    """The letter of a process's state (proc(5))."""
+    told = pathlib.Path(f"/proc/{pid}/stat").read_text()
+    return told.rpartition(")")[2].split()[0]
+
+
 class Service:
     """A running service over a file, with options beside those that it must have."""
 
@@ -123,14 +129,9 @@ class Service:
         """Stops the process, which reads nothing from then on until it is continued."""
         self.served.send_signal(signal.SIGSTOP)
         end = time.monotonic() + PATIENCE
-        while self.state() != "T":
-            want(time.monotonic() < end, f"told to stop, its state is {self.state()}")
+        while state(self.served.pid) != "T":
+            want(time.monotonic() < end, f"told to stop, it is {state(self.served.pid)}")
             time.sleep(0.001)
-
-    def state(self):
-        """The letter of the process's state (proc(5))."""
-        told = pathlib.Path(f"/proc/{self.served.pid}/stat").read_text()
-        return told.rpartition(")")[2].split()[0]
 
     def limit_files(self, most):
         """No file grows beyond so many bytes from now on."""

@@ -1,8 +1,10 @@
 """Statements of a file that is served, beside clients that write: each is that of a copy which nobody
 serves, and of who writes it is what the plain ledger had at one clock."""
 
+import fcntl
 import itertools
-import select
+import struct
+import termios
 import time
 
 from asking import (Writer, asked, be_there, both, call, drawn_key, end_writers, listed, named,
@@ -13,7 +15,7 @@ from indexed import Indexed
 from model import MAX, PENDING, POST
 from rounds import start_again
 from runs import House
-from service import PATIENCE, UNAVAILABLE, body_of, check, run, want
+from service import PATIENCE, UNAVAILABLE, body_of, check, run, state, want
 from stops import IN_USE, STOPPED, begun, heard
 from use import OUTPUT, read_some
 
@@ -21,8 +23,12 @@ from use import OUTPUT, read_some
 WRITERS, STILL = (0, 1), 2
 # Who writes sends up to so many transfers, and says nothing for so many seconds then.
 MOST, PAUSE = 4, 0.05
-# So many seconds behind its first bytes a statement that nobody reads has filled its pipe.
-FULL = 0.2
+# A command waits for its reader once it sleeps for so many seconds, with half of its pipe full.
+CALM = 0.02
+# The seconds within which the service ends beside one that is read.
+SOON = 0.1
+# How much room a pipe has, told and asked (fcntl(2), F_SETPIPE_SZ and F_GETPIPE_SZ).
+SET_ROOM, GET_ROOM = 1031, 1032
 # A file is asked for so many entries at a time.
 PIECE = 1000
 # One of each way to be made: row by row from either end, and in memory with a look-up.
@@ -247,9 +253,22 @@ def judge(ledger, told):
 
 
 def wait_until_full(command):
-    """Until a command's output has begun, and its pipe takes no more."""
-    want(select.select([command.stdout], [], [], PATIENCE)[0], "a statement does not begin")
-    time.sleep(FULL)
+    """Until a command sleeps, with its pipe nearly full: it can write no more."""
+    room = fcntl.fcntl(command.stdout, GET_ROOM)
+    end, before, since = time.monotonic() + PATIENCE, None, 0.0
+    while True:
+        many, now = waiting_bytes(command), time.monotonic()
+        want(now < end and command.poll() is None, f"a statement ends or hangs at {many} bytes")
+        if many < room / 2 or state(command.pid) != "S" or many != before:
+            before, since = many, now
+        elif now - since >= CALM:
+            return
+        time.sleep(CALM / 10)
+
+
+def waiting_bytes(command):
+    """How many bytes of a command's output nobody has read yet."""
+    return struct.unpack("i", fcntl.ioctl(command.stdout, termios.FIONREAD, bytes(4)))[0]
 
 
 def begin_unread(house):
@@ -300,7 +319,7 @@ def end_meanwhile(trial, house, copy):
             if waits:
                 wait_until_full(running)
             else:
-                time.sleep(house.random.uniform(0, FULL / 2))
+                time.sleep(house.random.uniform(0, SOON))
             ends(house)
             told = heard(running)
         status, text, errors = told

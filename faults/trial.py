@@ -1,5 +1,6 @@
 """What a trial may use, and how all of it ends at a surprise."""
 
+import math
 import os
 import random
 import sys
@@ -27,13 +28,20 @@ class Trial:
         self.random = random.Random(f"{options.seed} {name}")
         self.parent = self.folder = folder_for(name, options)
         self.count, self.told = 0, 0.0
+        # How many processes may share its places, and the minutes of each command's.
+        self.jobs, self.minutes = 1, math.inf
 
     def fresh(self):
         """Itself, with a new folder."""
-        self.count += 1
-        self.folder = os.path.join(self.parent, str(self.count))
-        os.mkdir(self.folder)
+        self.folder = self.inner()
         return self
+
+    def inner(self):
+        """A new folder."""
+        self.count += 1
+        folder = os.path.join(self.parent, str(self.count))
+        os.mkdir(folder)
+        return folder
 
     def progress(self, text):
         """A line now and then."""
