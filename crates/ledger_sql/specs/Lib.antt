@@ -12,6 +12,8 @@ pub mod Rowids
 pub mod Schema
 pub mod Spans
 pub mod Stages
+pub mod Strangers
+pub mod StrangerLaws
 pub mod TableFaults
 pub mod TableRows
 pub mod Values

@@ -11,15 +11,17 @@ use Rattle.sqlite_trees.specs.Tree.{Trees}
 use Rattle.chain.specs.declared.ledgers.BatchFault.{BatchFault}
 use Rattle.chain.specs.declared.ledgers.BatchFault.TheVariants as batch_fault
 use Rattle.chain.specs.Ledgers.{Tenants, Finds, IsAnswered, LeadsBy, LeadsByRound}
+use Rattle.ledger_sql.specs.Strangers.{strangers_in}
 use Rattle.ledger_sql.specs.TableRows.{directory_rows}
-use Rattle.stored_ledgers.specs.Directory.{tenants_in, KeepsDirectory}
+use Rattle.stored_ledgers.specs.Directory.{tenants_in}
 use Rattle.stored_ledgers.specs.DueSets.{DueSets}
-use Rattle.stored_ledgers.specs.Outcomes.{IsAfterBatch}
+use Rattle.stored_ledgers.specs.Outcomes.{IsAfterBatch, KeepsTables}
 use Rattle.stored_ledgers.specs.Rounds.{IsAfterRound}
 use Rattle.store.specs.StoreLaws.{store_meaning}
 use Rattle.store.specs.Stores.{IsUsable, IsUsableAt, IsLive, IsLiveAt, IsHonest, IsHonestAt, tenants_of, tenants_at}
 use Rattle.store.specs.Stores.{FindsTenants, Follows, Goes, OfDatabase, OfDatabaseAt, Answers, Reads, may_find}
 use Rattle.store.specs.Stores.{IsSettledAt, IsSettledStore, MayHold, may_find_at}
+use Rattle.store.specs.Stores.{AreKeptAt, StaysFound}
 use Rattle.store.specs.declared.place.Place.{Place}
 use Rattle.store.specs.declared.place.Place.TheVariants as at
 use Rattle.store.specs.declared.store.Store.{Store}
@@ -73,12 +75,15 @@ module _ {D : Type 0} {g : disk.Ghosts D} where
       )
   round_at gives (at.Shut files) db found agrees after = absurd after
 
-  -- where the database is as before, so is the directory
+  -- where the database is as before, so are the directory and the tables of strangers
   pub still_keeps : (old new : Place D g)
       → OfDatabaseAt (λ before. OfDatabaseAt (λ after. after ≡ before) new) old
-      → OfDatabaseAt (λ before. OfDatabaseAt (λ after. KeepsDirectory before.trees after.trees) new) old
-  still_keeps (at.Open conn) (at.Open conn') same =
-      ap (λ (db : Database). directory_rows db.trees) same
+      → OfDatabaseAt (λ before. OfDatabaseAt (KeepsTables before) new) old
+  still_keeps (at.Open conn) (at.Open conn') same = record {
+    schema = ap (λ (db : Database). db.schema) same;
+    directory = ap (λ (db : Database). directory_rows db.trees) same;
+    strangers = ap strangers_in same;
+  }
   still_keeps (at.Open conn) (at.Shut files) same = absurd same
   still_keeps (at.Shut files) new same = absurd same
 
@@ -123,35 +128,40 @@ module _ {D : Type 0} {g : disk.Ghosts D} where
   stays_at ready sets (at.Shut files) settled usable live = absurd live
 
   kept_in :
-      (Kept : Trees → Type 0) (After : Database → Type 0)
-      (keeps : (was : Database) → After was → Kept was.trees) (place found : Place D g) →
-      OfDatabaseAt (λ db. may_find_at found db.trees) place → OfDatabaseAt After place →
-      (was : Trees) × may_find_at found was × Kept was
-  kept_in Kept After keeps (at.Open conn) found stays after =
+      (After : Database → Trees → Type 0) (db : Trees)
+      (keeps : (was : Database) → After was db
+      → KeepsTables was (record { schema = was.schema; trees = db }))
+      (place found : Place D g) → OfDatabaseAt (λ now. may_find_at found now.trees) place
+      → OfDatabaseAt (λ was. After was db) place
+      → (was : Trees) × may_find_at found was × AreKeptAt place was db
+  kept_in After db keeps (at.Open conn) found stays after =
       ((file_state conn).now.trees, stays, keeps (file_state conn).now after)
-  kept_in Kept After keeps (at.Shut files) found stays after = absurd after
+  kept_in After db keeps (at.Shut files) found stays after = absurd after
 
-  -- what a call may leave in the files has a directory that might have been found before
+  -- what a call may leave in the files has the directory and the tables of strangers of what might
+  -- have been found before
   module _ (old new : Store D g) (settled : IsSettledStore old) (usable : IsUsable old)
       (follows : Follows old new) (unready : old.ready ≡ false → new ≡ old)
       (After : Database → Trees → Type 0)
-      (keeps : (was : Database) (db : Trees) → After was db → KeepsDirectory was.trees db)
+      (keeps : (was : Database) (db : Trees) → After was db
+      → KeepsTables was (record { schema = was.schema; trees = db }))
       (goes : Goes old new (λ db. OfDatabase (λ was. After was db) old)) where
     kept_after :
         (db : Trees) → old.ready ≡ true → IsHonest old →
         may_find old db ⊎ OfDatabase (λ was. After was db) old →
-        MayHold old (λ was. KeepsDirectory was db)
-    kept_after db ready honest (inl before) = ∣ (db, before, refl) ∣₁
+        MayHold old (λ was. StaysFound old was db)
+    kept_after db ready honest (inl before) = ∣ (db, before, inl refl) ∣₁
     kept_after db ready honest (inr after) =
         let live = live_at old.ready old.due old.place ready usable honest in
-        ∣ kept_in (λ was. KeepsDirectory was db) (λ was. After was db) (λ was. keeps was db)
-        old.place old.place (stays_at old.ready old.due old.place settled usable live) after ∣₁
+        let kept = kept_in After db (λ was. keeps was db) old.place old.place
+        (stays_at old.ready old.due old.place settled usable live) after in
+        ∣ (kept.0, kept.1, inr (live, kept.2)) ∣₁
 
-    pub found_directory :
-        IsHonest new → (db : Trees) → may_find new db → MayHold old (λ was. KeepsDirectory was db)
-    found_directory honest db may = elim (cases_Bool old.ready) [
+    pub found_tables :
+        IsHonest new → (db : Trees) → may_find new db → MayHold old (λ was. StaysFound old was db)
+    found_tables honest db may = elim (cases_Bool old.ready) [
       | inl ready ↦ kept_after db ready (follows.honest honest) (goes honest db may)
-      | inr shut ↦ ∣ (db, subst (λ (s : Store D g). may_find s db) (unready shut) may, refl) ∣₁
+      | inr shut ↦ ∣ (db, subst (λ (s : Store D g). may_find s db) (unready shut) may, inl refl) ∣₁
     ]
 
   -- after a batch
@@ -183,9 +193,9 @@ module _ {D : Type 0} {g : disk.Ghosts D} where
   -- a call that only reads leaves what might have been found before
   pub found_unchanged :
       {T : Type 0} (old new : Store D g) (result : Result T Unavailable) → Reads old new result →
-      IsHonest new → (db : Trees) → may_find new db → MayHold old (λ was. KeepsDirectory was db)
+      IsHonest new → (db : Trees) → may_find new db → MayHold old (λ was. StaysFound old was db)
   found_unchanged old new result reads honest db may = elim (reads.finds honest db may) [
-    | inl before ↦ ∣ (db, before, refl) ∣₁
+    | inl before ↦ ∣ (db, before, inl refl) ∣₁
     | inr none ↦ absurd none
   ]
 

@@ -1,17 +1,22 @@
 -- What every run of calls on a store keeps, what a live one holds, and what an opening finds.
-use Rattle.std.proofs.Common.{◌≡◌, Bool, true, false, not, IsTrue, List, ℕ, refl, sym, ap, ◌∙◌}
+use Rattle.std.proofs.Common.{◌≡◌, inl, inr, Bool, true, false, not, IsTrue, List, ℕ}
+use Rattle.std.proofs.Common.{refl, sym, ap, subst, ◌∙◌}
 use Rattle.std.proofs.Math.Logic.{∥∥₁_elim, ∥∥₁_map}
 use Rattle.sqlite_disk.specs.declared.Disk as disk
 use Rattle.chain.specs.Ledgers.{LedgersMeaning, Tenants, KeepsAll, AreValid}
 use Rattle.sqlite_trees.specs.Tree.{Trees}
+use Rattle.sqlite_schema.specs.declared.schema.Schema.{Schema}
 use Rattle.sqlite.specs.Effect.{Database}
 use Rattle.sqlite.specs.Files.{file_state}
+use Rattle.ledger_sql.specs.TableRows.{directory_rows}
 use Rattle.stored_ledgers.specs.Directory.{tenants_in, KeepsDirectory}
 use Rattle.stored_ledgers.specs.DueSets.{DueSets}
+use Rattle.stored_ledgers.specs.Outcomes.{KeepsTables}
 use Rattle.stored_ledgers.specs.RoundLaws.{valid_in}
 use Rattle.store.specs.Stores.{IsUsable, IsUsableAt, IsLive, IsLiveAt, IsHonest, IsHonestAt, Follows}
 use Rattle.store.specs.Stores.{tenants_of, tenants_at, may_find, may_find_at, FindsTenants, Finds}
 use Rattle.store.specs.Stores.{FindsAt, IsSettledStore, IsSettledAt, Continues, OfDatabaseAt}
+use Rattle.store.specs.Stores.{AreKeptAt, StaysFound}
 use Rattle.store.specs.declared.place.Place.{Place}
 use Rattle.store.specs.declared.place.Place.TheVariants as at
 use Rattle.store.specs.declared.store.Store.{Store}
@@ -21,6 +26,13 @@ silent_at :
 silent_at false false ready failed = refl
 silent_at false true ready failed = absurd (let e = ready refl in cc)
 silent_at true new ready failed = absurd (cc)
+
+kept_then : (a b c : Database) → KeepsTables a b → KeepsTables b c → KeepsTables a c
+kept_then a b c first second = record {
+  schema = second.schema ∙ first.schema;
+  directory = second.directory ∙ first.directory;
+  strangers = second.strangers ∙ first.strangers;
+}
 
 module _ {D : Type 0} {g : disk.Ghosts D} where
   -- what a store means as ledgers
@@ -50,38 +62,83 @@ module _ {D : Type 0} {g : disk.Ghosts D} where
     unready = λ ready. first.unready (second.unready ready);
   }
 
-  -- two open places have one directory
+  -- two open places have one schema, one directory, and the same tables of strangers
   abbrev AreAlike : Place D g → Place D g → Type 0
-  AreAlike old new =
-      OfDatabaseAt (λ before. OfDatabaseAt (λ after. KeepsDirectory before.trees after.trees) new) old
+  AreAlike old new = OfDatabaseAt (λ before. OfDatabaseAt (KeepsTables before) new) old
 
   alike_itself : (place : Place D g) → IsLiveAt place → AreAlike place place
-  alike_itself (at.Open conn) live = refl
+  alike_itself (at.Open conn) live = record { schema = refl; directory = refl; strangers = refl }
   alike_itself (at.Shut files) live = absurd live
 
   alike_then : (a b c : Place D g) → AreAlike a b → AreAlike b c → AreAlike a c
-  alike_then (at.Open a) (at.Open b) (at.Open c) first second = second ∙ first
+  alike_then (at.Open a) (at.Open b) (at.Open c) first second =
+      kept_then (file_state a).now (file_state b).now (file_state c).now first second
   alike_then (at.Open a) (at.Open b) (at.Shut files) first second = absurd second
   alike_then (at.Open a) (at.Shut files) c first second = absurd first
   alike_then (at.Shut files) b c first second = absurd first
+
+  kept_back : (a b : Place D g) (was db : Trees) → AreAlike a b → AreKeptAt b was db
+      → AreKeptAt a was db
+  kept_back (at.Open a) (at.Open b) was db alike kept =
+      subst (λ (s : Schema). KeepsTables (record { schema = s; trees = was })
+      (record { schema = s; trees = db })) alike.schema kept
+  kept_back (at.Open a) (at.Shut files) was db alike kept = absurd alike
+  kept_back (at.Shut files) b was db alike kept = absurd alike
+
+  kept_both : (a : Place D g) (was mid db : Trees) → AreKeptAt a was mid → AreKeptAt a mid db
+      → AreKeptAt a was db
+  kept_both (at.Open a) was mid db first second =
+      kept_then (record { schema = (file_state a).now.schema; trees = was })
+      (record { schema = (file_state a).now.schema; trees = mid })
+      (record { schema = (file_state a).now.schema; trees = db }) first second
+  kept_both (at.Shut files) was mid db first second = absurd first
+
+  stays_then : (a b : Store D g) (was mid db : Trees) → Continues a b → StaysFound a was mid
+      → StaysFound b mid db → StaysFound a was db
+  stays_then a b was mid db f first (inl same) = subst (StaysFound a was) (sym same) first
+  stays_then a b was mid db f (inl same) (inr kept) =
+      let alike = f.tables kept.0 in
+      inr (
+        f.follows.lived kept.0,
+        kept_back a.place b.place was db alike
+            (subst (λ (t : Trees). AreKeptAt b.place t db) same kept.1),
+      )
+  stays_then a b was mid db f (inr first) (inr second) =
+      let alike = f.tables second.0 in
+      inr (
+        first.0,
+        kept_both a.place was mid db first.1
+            (kept_back a.place b.place mid db alike second.1),
+      )
+
+  directory_at : (place : Place D g) (was db : Trees) → AreKeptAt place was db
+      → KeepsDirectory was db
+  directory_at (at.Open conn) was db kept = kept.directory
+  directory_at (at.Shut files) was db kept = absurd kept
+
+  -- what stays so has the same directory
+  pub found_directory : (old : Store D g) (was db : Trees) → StaysFound old was db
+      → KeepsDirectory was db
+  found_directory old was db (inl same) = ap directory_rows same
+  found_directory old was db (inr kept) = directory_at old.place was db kept.1
 
   -- no message at all is a run of messages
   pub continues_itself : (a : Store D g) → Continues a a
   continues_itself a = record {
     follows = follows_itself a;
-    directory = λ live. alike_itself a.place live;
-    found = λ honest db may. ∣ (db, may, refl) ∣₁;
+    tables = λ live. alike_itself a.place live;
+    found = λ honest db may. ∣ (db, may, inl refl) ∣₁;
   }
 
   -- a run of messages behind another is one
   pub continues_then : (a b c : Store D g) → Continues a b → Continues b c → Continues a c
   continues_then a b c first second = record {
     follows = follows_then a b c first.follows second.follows;
-    directory = λ live. alike_then a.place b.place c.place
-        (first.directory (second.follows.lived live)) (second.directory live);
+    tables = λ live. alike_then a.place b.place c.place
+        (first.tables (second.follows.lived live)) (second.tables live);
     found = λ honest db may. ∥∥₁_elim (second.found honest db may) squash₁ (λ mid.
         ∥∥₁_map (first.found (second.follows.honest honest) mid.0 mid.1)
-        (λ was. (was.0, was.1, mid.2 ∙ was.2)));
+        (λ was. (was.0, was.1, stays_then a b was.0 mid.0 db first was.2 mid.2)));
   }
 
   -- a store that answers no calls stays so

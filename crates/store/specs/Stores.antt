@@ -15,8 +15,9 @@ use Rattle.records.specs.declared.unavailable.Unavailable.{Unavailable}
 use Rattle.records.specs.declared.unavailable.Unavailable.TheVariants.{Disk as DiskFailed}
 use Rattle.chain.specs.Ledgers.{Tenants, KeepsAll}
 use Rattle.ledger_sql.specs.Frames.{Live}
-use Rattle.stored_ledgers.specs.Directory.{tenants_in, KeepsDirectory}
+use Rattle.stored_ledgers.specs.Directory.{tenants_in}
 use Rattle.stored_ledgers.specs.DueSets.{DueSets}
+use Rattle.stored_ledgers.specs.Outcomes.{KeepsTables}
 use Rattle.openings.specs.Found.{IsOfLedger, IsSettled, LeavesUnopened, Yields}
 use Rattle.openings.specs.Opened.{IsOpened}
 use Rattle.openings.specs.Told.{IsTold}
@@ -123,14 +124,24 @@ module _ {D : Type 0} {g : disk.Ghosts D} where
   abbrev pub MayHold : Store D g → (Trees → Type 0) → Type 0
   MayHold store P = ∥ ((trees : Trees) × may_find store trees × P trees) ∥₁
 
-  -- what every run of batches and reads keeps: that, and the number, name and digest of each tenant,
-  -- also in whatever an opening may find
+  -- over the open schema, the directory and the tables of strangers are in these rows what they are
+  -- in those
+  abbrev pub AreKeptAt : Place D g → Trees → Trees → Type 0
+  AreKeptAt place was db =
+      OfDatabaseAt (λ now. KeepsTables (record { schema = now.schema; trees = was })
+      (record { schema = now.schema; trees = db })) place
+
+  -- all is as it was, or the store is open, and the directory and the tables of strangers are
+  abbrev pub StaysFound : Store D g → Trees → Trees → Type 0
+  StaysFound old was db = (db ≡ was) ⊎ (IsLive old × AreKeptAt old.place was db)
+
+  -- what every run of batches and reads keeps: that, the schema, the number, name and digest of each
+  -- tenant, and the tables of strangers, also in whatever an opening may find
   pub record Continues (old new : Store D g) : Type 0 where
     pub follows : Follows old new
-    pub directory : IsLive new
-        → OfDatabases (λ before after. KeepsDirectory before.trees after.trees) old new
+    pub tables : IsLive new → OfDatabases KeepsTables old new
     pub found : IsHonest new → (db : Trees) → may_find new db
-        → MayHold old (λ was. KeepsDirectory was db)
+        → MayHold old (λ was. StaysFound old was db)
 
   -- a crash leaves what is there, and nothing else
   abbrev pub IsSettledAt : Place D g → Type 0

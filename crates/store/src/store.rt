@@ -5,11 +5,11 @@ ghost use Rattle.records.specs.declared.unavailable.Unavailable.TheVariants.{Dis
 ghost use Rattle.chain.specs.Ledgers.{IsRun, KeepsAll};
 ghost use Rattle.chain.specs.declared.ledgers.BatchFault.TheVariants.{Unavailable as AreUnavailable};
 ghost use Rattle.sqlite.specs.Files.{file_state, image_of};
-ghost use Rattle.stored_ledgers.specs.Outcomes.{IsAfterBatch};
+ghost use Rattle.stored_ledgers.specs.Outcomes.{IsAfterBatch, KeepsTables};
 ghost use Rattle.sqlite_wal.specs.Reads.{AreClean};
 ghost use Rattle.ledger_sql.specs.Creating.{IsEmptyLedger};
 ghost use Rattle.openings.specs.Damage.{Hold, IfDamaged, IsDamagedIn};
-ghost use Rattle.stored_ledgers.specs.Directory.{digest_in, KeepsDirectory};
+ghost use Rattle.stored_ledgers.specs.Directory.{digest_in};
 ghost use Rattle.openings.specs.Found.{FilesStay, FindsNone, FindsOurs, IsOfLedger, LeavesNew};
 ghost use Rattle.stored_ledgers.specs.Listing.{AreListed};
 ghost use Rattle.stored_ledgers.specs.Joining.{HasJoined, Joined};
@@ -349,8 +349,7 @@ impl<D: Disk + Drop> Store<D> {
         requires { IsUsable self.old }
         ensures run { IsLive self.new → IsRun (W.gives work) digest.now (tenants_of self.old)
             (tenants_of self.new) result }
-        ensures directory { IsLive self.new → OfDatabases
-            (λ old new. KeepsDirectory old.trees new.trees) self.old self.new }
+        ensures tables { IsLive self.new → OfDatabases KeepsTables self.old self.new }
         ensures usable { IsUsable self.new }
         ensures follows { Follows self.old self.new }
         ensures open { IsHonest self.new → result ≢ Err (AreUnavailable DiskFailed)
@@ -379,8 +378,7 @@ impl<D: Disk + Drop> Store<D> {
             (tenants_of self.old) output (tenants_of self.new)) }
         ensures same { IsLive self.new → OnErr result
             (KeepsAll (tenants_of self.old) (tenants_of self.new)) }
-        ensures directory { IsLive self.new → OfDatabases
-            (λ old new. KeepsDirectory old.trees new.trees) self.old self.new }
+        ensures tables { IsLive self.new → OfDatabases KeepsTables self.old self.new }
         ensures finds { Goes self.old self.new (λ db. OfDatabase
             (λ old. IsAfterRound (W.gives work) old db) self.old) }
         ensures answers { Answers self.old self.new result }

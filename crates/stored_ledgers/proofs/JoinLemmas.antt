@@ -15,6 +15,8 @@ use Rattle.sqlite.specs.State.{State}
 use Rattle.ledger_sql.specs.Effects.{IsLedger, StartsAs, OthersStay, AddsFileRow, AddsRows}
 use Rattle.ledger_sql.specs.Rowids.{IsNumbered}
 use Rattle.ledger_sql.specs.Schema.{ledger_schema, after_tenant, tenant_tree, clock_tree}
+use Rattle.ledger_sql.specs.Strangers.{strangers_in}
+use Rattle.ledger_sql.specs.StrangerLaws.{strangers_stay}
 use Rattle.ledger_sql.specs.TableRows.{directory_rows, clock_rows, is_own, is_int, cells_from, account_rows, transfer_rows, balance_rows, status_rows, history_rows, failed_rows}
 use Rattle.ledger_sql.specs.Values.{directory_values, clock_values}
 use Rattle.stored_tables.specs.Frames.{KeepsRows}
@@ -214,6 +216,8 @@ joined_rows number name digest s0 s1 s2 s3 same ledgers entry clock =
           (own 3 (pos number) _ _ all.statuses ∙ none.statuses)
           (own 6 (pos number) _ _ all.history ∙ none.history)
           (own 1 (pos number) _ _ all.failed ∙ none.failed);
+      strangers = strangers_stay 4 s2 s3 refl clock.inside.schema clock.tables
+          ∙ strangers_stay 1 s1 s2 refl entry.inside.schema entry.tables ∙ ap strangers_in same;
     }
 
 -- the same, told of the trees alone
@@ -221,14 +225,9 @@ pub joined_trees : (number : ℕ) (name digest : List ℕ) (old new : Database) 
     → trees ≡ new.trees → Joins number name digest old new
     → Joins number name digest old (record { schema = old.schema; trees = trees })
 joined_trees number name digest old new trees same joins =
-    subst (λ t. Joins number name digest old (record { schema = old.schema; trees = t })) (sym same) (record {
-      schema = refl;
-      version = joins.version;
-      numbered = joins.numbered;
-      directory = joins.directory;
-      others = joins.others;
-      holds = joins.holds;
-    })
+    let told : new ≡ record { schema = old.schema; trees = trees } =
+    λ i. record { schema = joins.schema i; trees = sym same i } in
+    subst (Joins number name digest old) told joins
 
 -- our tables begin with the directory
 pub starts_as_ours : (schema : Schema) → IsLedger schema → StartsAs after_tenant.tables schema

@@ -10,6 +10,7 @@ use Rattle.sqlite.specs.Effect.{Database}
 use Rattle.sqlite.specs.State.{State}
 use Rattle.ledger_sql.specs.Effects.{Picks, SetsDigest}
 use Rattle.ledger_sql.specs.Rowids.{IsNumbered}
+use Rattle.ledger_sql.specs.StrangerLaws.{strangers_stay}
 use Rattle.ledger_sql.specs.TableRows.{directory_rows, is_int, is_text}
 use Rattle.ledger_sql.specs.Values.{directory_values}
 use Rattle.stored_ledgers.specs.Directory.{with_name, with_digest, first_digest, digest_in}
@@ -61,6 +62,7 @@ same_key name digest db number was ledgers named same = record {
     history = refl;
     failed = refl;
   };
+  strangers = refl;
 }
 
 -- another one, that nobody has
@@ -124,6 +126,7 @@ set_key name digest old new number was ledgers named differs none sets =
       directory = has.directory;
       rows = λ tenant. kept tenant old.now.trees new.now.trees rest
           (clock_kept tenant old.now.trees new.now.trees clocks);
+      strangers = strangers_stay 1 old new refl sets.inside.schema has.tables;
     }
 
 -- the same, behind calls that only read

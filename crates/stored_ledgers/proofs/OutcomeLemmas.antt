@@ -10,14 +10,15 @@ use Rattle.sqlite_trees.specs.Tree.{Trees}
 use Rattle.chain.specs.Ledgers.{IsDone, KeepsAll}
 use Rattle.sqlite_value.specs.declared.value.Value.TheVariants.{Int}
 use Rattle.ledger_sql.specs.Effects.{Picks}
+use Rattle.ledger_sql.specs.Strangers.{strangers_in}
 use Rattle.ledger_sql.specs.TableRows.{directory_rows, numbers_with_digest}
 use Rattle.stored_tables.specs.MachineOf.{machine_of}
-use Rattle.stored_ledgers.specs.Directory.{IsTenant, number_of, tenants_in, KeepsDirectory}
+use Rattle.stored_ledgers.specs.Directory.{IsTenant, number_of, tenants_in}
 use Rattle.stored_ledgers.specs.DirectoryLaws.{found_number}
 use Rattle.stored_ledgers.specs.DueSetLaws.{same_number, other_key}
 use Rattle.stored_ledgers.specs.DueSets.{DueSet, DueSets, AreCovered, CoversMachine}
 use Rattle.stored_ledgers.specs.Ledger.{HoldsLedgers}
-use Rattle.stored_ledgers.specs.Outcomes.{CanWork, HasWorked, IsBatchDone, IsBatchTimed, IsAfterBatch, KeepsTime}
+use Rattle.stored_ledgers.specs.Outcomes.{CanWork, HasWorked, IsBatchDone, IsBatchTimed, IsAfterBatch, KeepsTables, KeepsTime}
 use Rattle.stored_ledgers.specs.Resting.{CanServe, IsSame}
 use Rattle.stored_ledgers.specs.Transactions.{MayLeave}
 use Rattle.stored_ledgers.specs.declared.working.Worked.{Worked}
@@ -101,8 +102,11 @@ module _ (sets sets' : DueSets) (number : ℤ) (set : DueSet) (found : get int_c
     -- the work was done for the tenant's digest
     pub batch_done : IsBatchDone gives digest old new output
     batch_done = record {
-      schema = worked.batch.schema;
-      directory = same_directory old.trees new.trees worked.batch.others.directory;
+      keeps = record {
+        schema = worked.batch.schema;
+        directory = same_directory old.trees new.trees worked.batch.others.directory;
+        strangers = worked.batch.strangers;
+      };
       done = record {
         before = machine_of number old.trees;
         after = machine_of number new.trees;
@@ -131,10 +135,13 @@ pub keeps_all : (old new : State) → IsSame old new
     → KeepsAll (tenants_in old.now.trees) (tenants_in new.now.trees)
 keeps_all old new same other = ap (λ (db : Database). tenants_in db.trees other) same.now
 
--- and the directory
-pub keeps_directory : (old new : State) → IsSame old new
-    → KeepsDirectory old.now.trees new.now.trees
-keeps_directory old new same = ap (λ (db : Database). directory_rows db.trees) same.now
+-- and so are the directory and the tables of strangers
+pub keeps_tables : (old new : State) → IsSame old new → KeepsTables old.now new.now
+keeps_tables old new same = record {
+  schema = ap (λ (db : Database). db.schema) same.now;
+  directory = ap (λ (db : Database). directory_rows db.trees) same.now;
+  strangers = ap strangers_in same.now;
+}
 
 -- what a batch may leave in the files is the database after the whole of it
 pub left_after : {O : Type 0} (gives : Machine → O → Machine → Type 0) (digest : List ℕ)
@@ -145,9 +152,9 @@ pub left_after : {O : Type 0} (gives : Machine → O → Machine → Type 0) (di
 left_after gives digest old trees left =
     let done = left.done.0.batch in
     let same : left.after ≡ record { schema = old.schema; trees = trees } =
-    λ i. record { schema = done.schema i; trees = sym left.is i } in record {
+    λ i. record { schema = done.keeps.schema i; trees = sym left.is i } in record {
       ledgers = subst HoldsLedgers same left.done.1.ledgers;
-      directory = subst (KeepsDirectory old.trees) (sym left.is) done.directory;
+      keeps = subst (KeepsTables old) same done.keeps;
       output = left.output.output;
       done = subst (λ t. IsDone gives digest (tenants_in old.trees) (tenants_in t) left.output.output)
           (sym left.is) done.done;

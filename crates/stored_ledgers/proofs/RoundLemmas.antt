@@ -4,10 +4,10 @@ use Rattle.chain.specs.Ledgers.{Tenants}
 use Rattle.sqlite.specs.Effect.{Database}
 use Rattle.sqlite.specs.State.{State}
 use Rattle.sqlite_trees.specs.Tree.{Trees}
-use Rattle.stored_ledgers.specs.Directory.{tenants_in, KeepsDirectory}
+use Rattle.stored_ledgers.specs.Directory.{tenants_in}
 use Rattle.stored_ledgers.specs.DueSets.{DueSets}
 use Rattle.stored_ledgers.specs.Ledger.{HoldsLedgers}
-use Rattle.stored_ledgers.specs.Outcomes.{ArePast}
+use Rattle.stored_ledgers.specs.Outcomes.{ArePast, KeepsTables}
 use Rattle.stored_ledgers.specs.Resting.{CanServe}
 use Rattle.stored_ledgers.specs.Rounds.{GrowsSets, IsInRound, IsRoundDone, IsAfterRound}
 use Rattle.stored_ledgers.specs.Transactions.{HasOnlyBegun, MayLeave}
@@ -44,7 +44,7 @@ left_round gives old trees left =
     let same : left.after ≡ record { schema = old.schema; trees = trees } =
     λ i. record { schema = done.keeps.schema i; trees = sym left.is i } in record {
       ledgers = subst HoldsLedgers same left.done.1.ledgers;
-      directory = subst (KeepsDirectory old.trees) (sym left.is) done.keeps.directory;
+      keeps = subst (KeepsTables old) same done.keeps;
       output = left.output.output;
       done = subst (λ t. gives (tenants_in old.trees) left.output.output (tenants_in t))
           (sym left.is) done.done;

@@ -4,6 +4,7 @@ use Rattle.records.specs.Machine.{new_machine}
 use Rattle.sqlite.specs.Effect.{Database}
 use Rattle.sqlite_trees.specs.Tree.{Trees}
 use Rattle.ledger_sql.specs.Schema.{schema_tree}
+use Rattle.ledger_sql.specs.Strangers.{KeepsStrangers}
 use Rattle.ledger_sql.specs.TableRows.{directory_rows}
 use Rattle.ledger_sql.specs.Values.{directory_values}
 use Rattle.stored_tables.specs.Frames.{KeepsRows, AreNumbered}
@@ -27,6 +28,7 @@ pub record Joins (number : ℕ) (name digest : List ℕ) (old new : Database) : 
       (directory_rows new.trees)
   pub others : (other : ℤ) → other ≢ pos number → KeepsRows other old.trees new.trees
   pub holds : HasNoRows (pos number) old.trees → HoldsMachine (pos number) new_machine new.trees
+  pub strangers : KeepsStrangers old new
 
 -- what another tenant has of these two
 abbrev pub AreTaken : List ℕ → List ℕ → Trees → Option Taken → Type 0

@@ -5,6 +5,7 @@ use Rattle.sqlite.specs.Effect.{Database}
 use Rattle.sqlite_value.specs.Order.{Row, column}
 use Rattle.sqlite_trees.specs.Tree.{Trees}
 use Rattle.ledger_sql.specs.Schema.{schema_tree}
+use Rattle.ledger_sql.specs.Strangers.{KeepsStrangers}
 use Rattle.ledger_sql.specs.TableRows.{directory_rows, is_int}
 use Rattle.ledger_sql.specs.Values.{directory_values}
 use Rattle.stored_tables.specs.Frames.{KeepsRows, AreNumbered}
@@ -30,7 +31,8 @@ without_number number trees =
     filter (λ row. not (is_int number (column row 0))) (directory_rows trees)
 
 -- the tenant with this name has this digest, which it had before or nobody had; its number, the rest
--- of the directory, and all tenants' rows stay; and nothing has changed where it had it before
+-- of the directory, all tenants' rows and the tables of strangers stay; and nothing has changed where
+-- it had it before
 pub record IsKeyed (name digest : List ℕ) (old new : Database) : Type 0 where
   pub number : ℤ
   pub was : List ℕ
@@ -44,6 +46,7 @@ pub record IsKeyed (name digest : List ℕ) (old new : Database) : Type 0 where
       (directory_values number name digest ∷ without_number number old.trees)
       (directory_rows new.trees)
   pub rows : (tenant : ℤ) → KeepsRows tenant old.trees new.trees
+  pub strangers : KeepsStrangers old new
 
 -- so a crash may leave it
 abbrev pub Keyed : List ℕ → List ℕ → Database → Trees → Type 0

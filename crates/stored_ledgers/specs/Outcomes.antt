@@ -8,6 +8,7 @@ use Rattle.sqlite.specs.Effect.{Database}
 use Rattle.sqlite.specs.State.{State}
 use Rattle.sqlite_trees.specs.Tree.{Trees}
 use Rattle.ledger_sql.specs.Effects.{IsLedger}
+use Rattle.ledger_sql.specs.Strangers.{KeepsStrangers}
 use Rattle.stored_tables.specs.Frames.{AreNumbered}
 use Rattle.stored_tables.specs.Holds.{HoldsMachine}
 use Rattle.stored_tables.specs.InBatch.{IsBatchOf}
@@ -24,6 +25,12 @@ abbrev pub batch_answer : {O : Type 0} → Answer O UnknownKey → Result O Batc
 batch_answer (Ok (Ok output)) = Ok output
 batch_answer (Ok (Err unknown)) = Err IsUnknown
 batch_answer (Err why) = Err (AreUnavailable why)
+
+-- the schema, the directory, and the tables of strangers are as they were
+pub record KeepsTables (old new : Database) : Type 0 where
+  pub schema : new.schema ≡ old.schema
+  pub directory : KeepsDirectory old.trees new.trees
+  pub strangers : KeepsStrangers old new
 
 -- the tenant has the rows of its machine, which the set covers
 pub record CanWork (tenant : ℤ) (set : DueSet) (db : Database) : Type 0 where
@@ -68,11 +75,11 @@ pub record HasWorkedHere {O : Type 0} (gives : Machine → O → Machine → Typ
   pub was : past.clock ≡ (machine_of tenant old.now.trees).clock
   pub later : past.clock ≤ (machine_of tenant new.now.trees).clock
 
--- a tenant's batch was done, and the directory and each other machine are as before
+-- a tenant's batch was done, and the directory, each other machine and the tables of strangers are
+-- as before
 pub record IsBatchDone {O : Type 0} (gives : Machine → O → Machine → Type 0) (digest : List ℕ)
     (old new : Database) (output : O) : Type 0 where
-  pub schema : new.schema ≡ old.schema
-  pub directory : KeepsDirectory old.trees new.trees
+  pub keeps : KeepsTables old new
   pub done : IsDone gives digest (tenants_in old.trees) (tenants_in new.trees) output
 
 -- so it was, and no clock has gone back, the tenant's not behind this moment
@@ -86,6 +93,6 @@ pub record IsBatchTimed {O : Type 0} (gives : Machine → O → Machine → Type
 pub record IsAfterBatch {O : Type 0} (gives : Machine → O → Machine → Type 0) (digest : List ℕ)
     (old : Database) (trees : Trees) : Type 0 where
   pub ledgers : HoldsLedgers (record { schema = old.schema; trees = trees })
-  pub directory : KeepsDirectory old.trees trees
+  pub keeps : KeepsTables old (record { schema = old.schema; trees = trees })
   pub output : O
   pub done : IsDone gives digest (tenants_in old.trees) (tenants_in trees) output

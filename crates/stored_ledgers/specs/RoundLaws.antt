@@ -35,7 +35,7 @@ valid_here failure sets pasts s live goes =
 pub here_itself : (a : State) → FollowsHere a a
 here_itself a = record {
   calls = follows_itself a;
-  inside = λ live mode. (mode, record { schema = refl; directory = refl });
+  inside = λ live mode. (mode, record { schema = refl; directory = refl; strangers = refl });
 }
 
 -- and a run of calls behind another is one
@@ -49,6 +49,7 @@ here_then a b c f g = record {
         record {
           schema = last.1.schema ∙ first.1.schema;
           directory = last.1.directory ∙ first.1.directory;
+          strangers = last.1.strangers ∙ first.1.strangers;
         },
       );
 }

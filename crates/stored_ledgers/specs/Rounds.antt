@@ -7,10 +7,10 @@ use Rattle.sqlite.specs.Effect.{Database}
 use Rattle.sqlite.specs.State.{State, HasCleanDisk}
 use Rattle.sqlite_trees.specs.Tree.{Trees}
 use Rattle.ledger_sql.specs.Frames.{Live, Follows}
-use Rattle.stored_ledgers.specs.Directory.{tenants_in, KeepsDirectory}
+use Rattle.stored_ledgers.specs.Directory.{tenants_in}
 use Rattle.stored_ledgers.specs.DueSets.{DueSets, AreCovered}
 use Rattle.stored_ledgers.specs.Ledger.{HoldsLedgers}
-use Rattle.stored_ledgers.specs.Outcomes.{ArePast}
+use Rattle.stored_ledgers.specs.Outcomes.{ArePast, KeepsTables}
 use Rattle.stored_ledgers.specs.Resting.{CanServe}
 use Rattle.stored_ledgers.specs.declared.working.Past.{Past}
 
@@ -21,17 +21,12 @@ pub record IsInRound (sets : DueSets) (s : State) : Type 0 where
   pub unmarked : s.marks ≡ []
   pub serves : CanServe sets s.now
 
--- the tables and the directory are as they were
-pub record KeepsTables (old new : Database) : Type 0 where
-  pub schema : new.schema ≡ old.schema
-  pub directory : KeepsDirectory old.trees new.trees
-
 -- what the sets covered is still covered, so they serve what a rollback leads back to
 abbrev pub GrowsSets : DueSets → DueSets → Type 0
 GrowsSets old new = (trees : Trees) → AreCovered old trees → AreCovered new trees
 
 -- what every run of calls in a round keeps: nothing is committed, and as long as the transaction
--- goes on the tables and the directory stay
+-- goes on the directory and the tables of strangers stay
 pub record FollowsHere (old new : State) : Type 0 where
   pub calls : Follows old new
   pub inside :
@@ -75,6 +70,6 @@ pub record IsRoundDone {O : Type 0} (gives : Tenants → O → Tenants → Type 
 pub record IsAfterRound {O : Type 0} (gives : Tenants → O → Tenants → Type 0) (old : Database)
     (trees : Trees) : Type 0 where
   pub ledgers : HoldsLedgers (record { schema = old.schema; trees = trees })
-  pub directory : KeepsDirectory old.trees trees
+  pub keeps : KeepsTables old (record { schema = old.schema; trees = trees })
   pub output : O
   pub done : gives (tenants_in old.trees) output (tenants_in trees)

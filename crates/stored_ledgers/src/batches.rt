@@ -6,8 +6,8 @@ ghost use Rattle.sqlite.specs.Held.{state};
 ghost use Rattle.records.specs.declared.unavailable.Unavailable.TheVariants.{Disk};
 ghost use Rattle.chain.specs.Ledgers.{IsRun};
 ghost use Rattle.ledger_sql.specs.Frames.{Live};
-ghost use Rattle.stored_ledgers.specs.Directory.{tenants_in, KeepsDirectory};
-ghost use Rattle.stored_ledgers.specs.Outcomes.{batch_answer, IsAfterBatch, IsBatchTimed};
+ghost use Rattle.stored_ledgers.specs.Directory.{tenants_in};
+ghost use Rattle.stored_ledgers.specs.Outcomes.{batch_answer, IsAfterBatch, IsBatchTimed, KeepsTables};
 ghost use Rattle.stored_ledgers.specs.Resting.{IsResting, Serves, CanServe};
 
 use crate::transactions::{Change, in_transaction};
@@ -36,8 +36,8 @@ pub fn in_batch<S: Alter, W: Work + Drop>(
     ensures run { Live (state S.Store conn.new) → IsRun (W.gives work) digest.now
         (tenants_in (state S.Store conn.old).now.trees)
         (tenants_in (state S.Store conn.new).now.trees) (batch_answer result) }
-    ensures directory { Live (state S.Store conn.new) → KeepsDirectory
-        (state S.Store conn.old).now.trees (state S.Store conn.new).now.trees }
+    ensures tables { Live (state S.Store conn.new)
+        → KeepsTables (state S.Store conn.old).now (state S.Store conn.new).now }
     ensures resting { Live (state S.Store conn.new)
         → IsResting due.new (state S.Store conn.new) }
     ensures open { HasCleanDisk (state S.Store conn.new) → result ≢ Err Disk

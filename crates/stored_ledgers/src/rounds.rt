@@ -6,9 +6,9 @@ ghost use Rattle.sqlite.specs.Held.{state};
 ghost use Rattle.sqlite_trees.specs.Tree.{Trees};
 ghost use Rattle.records.specs.declared.unavailable.Unavailable.TheVariants.{Disk};
 ghost use Rattle.ledger_sql.specs.Frames.{Live};
-ghost use Rattle.stored_ledgers.specs.Directory.{tenants_in, KeepsDirectory};
+ghost use Rattle.stored_ledgers.specs.Directory.{tenants_in};
 ghost use Rattle.stored_ledgers.specs.DueSets.{AreCovered};
-ghost use Rattle.stored_ledgers.specs.Outcomes.{ArePast};
+ghost use Rattle.stored_ledgers.specs.Outcomes.{ArePast, KeepsTables};
 ghost use Rattle.stored_ledgers.specs.Resting.{IsResting, IsSame, Serves, CanServe};
 ghost use Rattle.stored_ledgers.specs.Rounds.{CanGoOn, FollowsHere, GrowsSets, IsAfterRound, IsRoundDone};
 
@@ -33,8 +33,8 @@ pub fn in_round<S: Alter, W: RoundWork + Drop>(
     ensures run { Live (state S.Store conn.new) → IfOk result (λ output. W.gives work
         (tenants_in (state S.Store conn.old).now.trees) output
         (tenants_in (state S.Store conn.new).now.trees)) }
-    ensures directory { Live (state S.Store conn.new) → KeepsDirectory
-        (state S.Store conn.old).now.trees (state S.Store conn.new).now.trees }
+    ensures tables { Live (state S.Store conn.new)
+        → KeepsTables (state S.Store conn.old).now (state S.Store conn.new).now }
     ensures resting { Live (state S.Store conn.new)
         → IsResting due.new (state S.Store conn.new) }
     ensures open { HasCleanDisk (state S.Store conn.new) → result ≢ Err Disk

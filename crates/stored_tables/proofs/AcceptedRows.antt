@@ -70,5 +70,5 @@ failed_written anywhere tenant id s0 s1 inside adds =
       inside = added.inside;
       moves = λ rows unknown num held.
           let m = added.moves rows tt num held in
-          record { numbered = m.numbered; others = m.others; rows = held_same tenant (with_failed_id id rows) (record rows { failed = rows.failed ++ id ∷ [] }) s1.now.trees (anywhere id rows rows unknown (same_itself rows)) m.rows };
+          record { numbered = m.numbered; others = m.others; strangers = m.strangers; rows = held_same tenant (with_failed_id id rows) (record rows { failed = rows.failed ++ id ∷ [] }) s1.now.trees (anywhere id rows rows unknown (same_itself rows)) m.rows };
     }

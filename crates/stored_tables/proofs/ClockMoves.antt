@@ -1,5 +1,5 @@
 -- A tenant's clock is set behind the releases.
-use Rattle.std.proofs.Common.{◌≡◌, ℕ, ◌≤◌, ℤ, pos, true, List, Result, OnOk, sym, subst}
+use Rattle.std.proofs.Common.{◌≡◌, ℕ, ◌≤◌, ℤ, pos, true, List, Result, OnOk, sym, subst, ◌∙◌}
 use Rattle.std.specs.List.Sorted.{IsPermutation}
 use Rattle.std.proofs.lemmas.Result.{on_ok_weaker}
 use Rattle.sqlite.specs.State.{State}
@@ -38,6 +38,7 @@ clock_moved later tenant past clock has s0 s1 s2 r inside due sets =
           record {
             numbered = second.numbered;
             others = others_then tenant s0.now.trees s1.now.trees s2.now.trees first.others second.others;
+            strangers = second.strangers ∙ first.strangers;
             rows = subst (λ (rows : TypedRows). HoldsRows tenant rows s2.now.trees) (sym (later m clock released.0 valid le released.1)) second.rows;
           };
     })

@@ -64,7 +64,7 @@ module _ (tenant : ℤ) (id : ℕ) (e : Expiry) (s0 s1 s2 : State) (is : IsExpir
           inside = all.inside;
           moves = λ rows can num held.
               let equal = is t debit credit rows can same_id held in
-              subst (λ (e : Expiry). MovesRows tenant (with_expiry e rows) s0.now.trees s2.now.trees) equal
+              subst (λ (e : Expiry). MovesRows tenant (with_expiry e rows) s0.now s2.now) equal
               (all.moves rows (subst (λ (e : Expiry). HasExpiring e.transfer rows) (sym equal) (has_expiring t debit credit rows can)) num held);
         };
       }

@@ -119,7 +119,7 @@ module _ (tenant : ℤ) (clock id : ℕ) (found : Option StatusRow) (s0 s1 : Sta
           done,
           was,
           record { gone = not_due clock id (rows_released m done).statuses (was.apart.statuses id) (λ row there. due_none clock found row not (is ∙ there)); fewer = λ other lacks. lacks },
-          subst (λ (db : Database). MovesRows tenant (rows_released m done) s0.now.trees db.trees) (sym same.0.now_is) (record { numbered = num; others = keeps_itself tenant s0.now.trees; rows = held }),
+          subst (MovesRows tenant (rows_released m done) s0.now) (sym same.0.now_is) (record { numbered = num; others = keeps_itself tenant s0.now.trees; strangers = refl; rows = held }),
         );
   }
 
@@ -136,7 +136,7 @@ module _ (tenant : ℤ) (clock id : ℕ) (found : Option StatusRow) (s0 s1 : Sta
             done ++ id ∷ [],
             released next clock id m done valid was row.0 there row.2 it.0 it.1 it.2 it.3,
             less next clock id m done valid was row.0 there row.2 it.0 it.1 it.2 it.3,
-            subst (λ (rows : TypedRows). MovesRows tenant rows s0.now.trees s2.now.trees) (sym it.3.leaves)
+            subst (λ (rows : TypedRows). MovesRows tenant rows s0.now s2.now) (sym it.3.leaves)
                 (all.moves (rows_released m done) (can next clock id m done valid was row.0 there row.2 it.0 it.1 it.2 it.3) num held),
           );
     }

@@ -42,7 +42,7 @@ pub record ReleasesSeen (tenant : ℤ) (clock : ℕ) (seen : List (ℕ × ℕ)) 
       (m : Machine) → IsValid m → AreNumbered old.now.trees → HoldsRows tenant (rows_for 3 m) old.now.trees → (done : List ℕ)
       × AreReleased clock m done
       × AllByRecursion (λ key. has_id key.1 (due_ids clock (rows_released m done)) ≡ false) seen
-      × MovesRows tenant (rows_released m done) old.now.trees new.now.trees
+      × MovesRows tenant (rows_released m done) old.now new.now
 
 abbrev pub NoneReleased : Type 0
 NoneReleased = (m : Machine) → rows_released m [] ≡ rows_for 3 m
@@ -79,7 +79,7 @@ module _ (tenant : ℤ) (clock : ℕ) where
         apart = subst AreApart (sym (first m)) (apart_for fit keyed m valid);
       },
       tt,
-      record { numbered = num; others = keeps_itself tenant s.now.trees; rows = subst (λ (rows : TypedRows). HoldsRows tenant rows s.now.trees) (sym (first m)) held },
+      record { numbered = num; others = keeps_itself tenant s.now.trees; strangers = refl; rows = subst (λ (rows : TypedRows). HoldsRows tenant rows s.now.trees) (sym (first m)) held },
     );
   }
 
@@ -99,7 +99,7 @@ module _ (tenant : ℤ) (clock : ℕ) where
           then.0,
           then.1,
           none_back key.1 m was.0 then.0 then.2 seen key refl was.2,
-          record { numbered = then.3.numbered; others = others_then tenant s0.now.trees s1.now.trees s2.now.trees was.3.others then.3.others; rows = then.3.rows },
+          record { numbered = then.3.numbered; others = others_then tenant s0.now.trees s1.now.trees s2.now.trees was.3.others then.3.others; strangers = then.3.strangers ∙ was.3.strangers; rows = then.3.rows },
         );
   }
 

@@ -23,6 +23,8 @@ use Rattle.rows.specs.Widths.{IsStorableStatus}
 use Rattle.rows.specs.Tables.{HasDistinctKeys, without_key}
 use Rattle.ledger_sql.specs.Effects.{IsLedger, AddsRows, SetsRow, SetsOne, Picks}
 use Rattle.ledger_sql.specs.Rowids.{IsNumbered}
+use Rattle.ledger_sql.specs.Strangers.{is_ours}
+use Rattle.ledger_sql.specs.StrangerLaws.{strangers_stay}
 use Rattle.ledger_sql.specs.TableRows.{clock_rows, account_rows, transfer_rows, balance_rows, status_rows, history_rows, failed_rows, has_id, with_id}
 use Rattle.ledger_sql.specs.Values.{clock_values, account_values, transfer_values, balance_values, status_values, history_values, id_values}
 use Rattle.stored_tables.specs.Moves.{ChangesRows, Any, IsThere, HasStatus, IsStatusOf}
@@ -44,14 +46,14 @@ module _ (tenant : ℤ) (old new : State) (ledger : IsLedger old.now.schema) whe
   abbrev is : Trees
   is = new.now.trees
 
-  added_aside : (rows : ℤ → Trees → List Row) (tree : ℕ) (added : List Row) → AddsRows rows tree tenant added old new → IsNumbered (was tree) → StaysAside rows tree tenant old new
-  added_aside rows tree added adds num = record { tables = adds.tables; others = adds.others; numbered = adds.numbered num }
+  added_aside : (rows : ℤ → Trees → List Row) (tree : ℕ) (added : List Row) → is_ours tree ≡ true → AddsRows rows tree tenant added old new → IsNumbered (was tree) → StaysAside rows tree tenant old new
+  added_aside rows tree added ours adds num = record { tables = adds.tables; others = adds.others; strangers = strangers_stay tree old new ours adds.inside.schema adds.tables; numbered = adds.numbered num }
 
   pub account_added : (a : Account) → AddsRows account_rows 5 tenant (account_values (account_cells a) ∷ []) old new → ChangesRows tenant Any (λ rows. record rows { accounts = rows.accounts ++ a ∷ [] }) old new
   account_added a adds = record {
     inside = adds.inside;
     moves = λ rows can num held.
-        account_moved tenant rows old new ledger num held (rows.accounts ++ a ∷ []) (added_aside account_rows 5 _ adds num.1.1.1.0)
+        account_moved tenant rows old new ledger num held (rows.accounts ++ a ∷ []) (added_aside account_rows 5 _ refl adds num.1.1.1.0)
         (with_more (λ row. account_values (account_cells row)) rows.accounts (a ∷ []) (account_rows tenant was) (account_rows tenant is) held.accounts adds.own);
   }
 
@@ -59,7 +61,7 @@ module _ (tenant : ℤ) (old new : State) (ledger : IsLedger old.now.schema) whe
   transfer_added t adds = record {
     inside = adds.inside;
     moves = λ rows can num held.
-        transfer_moved tenant rows old new ledger num held (rows.transfers ++ t ∷ []) (added_aside transfer_rows 8 _ adds num.1.1.1.1.0)
+        transfer_moved tenant rows old new ledger num held (rows.transfers ++ t ∷ []) (added_aside transfer_rows 8 _ refl adds num.1.1.1.1.0)
         (with_more (λ row. transfer_values (transfer_cells row)) rows.transfers (t ∷ []) (transfer_rows tenant was) (transfer_rows tenant is) held.transfers adds.own);
   }
 
@@ -67,7 +69,7 @@ module _ (tenant : ℤ) (old new : State) (ledger : IsLedger old.now.schema) whe
   balance_added b adds = record {
     inside = adds.inside;
     moves = λ rows can num held.
-        balance_moved tenant rows old new ledger num held (rows.balances ++ b ∷ []) (added_aside balance_rows 11 _ adds num.1.1.1.1.1.0)
+        balance_moved tenant rows old new ledger num held (rows.balances ++ b ∷ []) (added_aside balance_rows 11 _ refl adds num.1.1.1.1.1.0)
         (with_more (λ row. balance_values (balance_cells row)) rows.balances (b ∷ []) (balance_rows tenant was) (balance_rows tenant is) held.balances adds.own);
   }
 
@@ -75,7 +77,7 @@ module _ (tenant : ℤ) (old new : State) (ledger : IsLedger old.now.schema) whe
   status_added s adds = record {
     inside = adds.inside;
     moves = λ rows can num held.
-        status_moved tenant rows old new ledger num held (rows.statuses ++ s ∷ []) (added_aside status_rows 13 _ adds num.1.1.1.1.1.1.0)
+        status_moved tenant rows old new ledger num held (rows.statuses ++ s ∷ []) (added_aside status_rows 13 _ refl adds num.1.1.1.1.1.1.0)
         (with_more (λ row. status_values (status_cells row)) rows.statuses (s ∷ []) (status_rows tenant was) (status_rows tenant is) held.statuses adds.own);
   }
 
@@ -83,7 +85,7 @@ module _ (tenant : ℤ) (old new : State) (ledger : IsLedger old.now.schema) whe
   history_added d c adds = record {
     inside = adds.inside;
     moves = λ rows can num held.
-        history_moved tenant rows old new ledger num held (rows.history ++ d ∷ c ∷ []) (added_aside history_rows 15 _ adds num.1.1.1.1.1.1.1.0)
+        history_moved tenant rows old new ledger num held (rows.history ++ d ∷ c ∷ []) (added_aside history_rows 15 _ refl adds num.1.1.1.1.1.1.1.0)
         (with_more (λ row. history_values (history_cells row)) rows.history (d ∷ c ∷ []) (history_rows tenant was) (history_rows tenant is) held.history adds.own);
   }
 
@@ -91,12 +93,12 @@ module _ (tenant : ℤ) (old new : State) (ledger : IsLedger old.now.schema) whe
   failed_added id adds = record {
     inside = adds.inside;
     moves = λ rows can num held.
-        failed_moved tenant rows old new ledger num held (rows.failed ++ id ∷ []) (added_aside failed_rows 17 _ adds num.1.1.1.1.1.1.1.1.0)
+        failed_moved tenant rows old new ledger num held (rows.failed ++ id ∷ []) (added_aside failed_rows 17 _ refl adds num.1.1.1.1.1.1.1.1.0)
         (with_more (λ (other : ℕ). id_values (column_of other)) rows.failed (id ∷ []) (failed_rows tenant was) (failed_rows tenant is) held.failed adds.own);
   }
 
-  set_aside : (rows : ℤ → Trees → List Row) (tree : ℕ) (test : Row → Bool) (values : Row) → SetsRow rows tree tenant test values old new → StaysAside rows tree tenant old new
-  set_aside rows tree test values sets = record { tables = sets.tables; others = sets.others; numbered = sets.numbered }
+  set_aside : (rows : ℤ → Trees → List Row) (tree : ℕ) (test : Row → Bool) (values : Row) → is_ours tree ≡ true → SetsRow rows tree tenant test values old new → StaysAside rows tree tenant old new
+  set_aside rows tree test values ours sets = record { tables = sets.tables; others = sets.others; strangers = strangers_stay tree old new ours sets.inside.schema sets.tables; numbered = sets.numbered }
 
   pub clock_set : (clock : ℕ) → SetsOne clock_rows 4 tenant (λ r. true) (clock_values (pos clock)) old new → ChangesRows tenant Any (λ rows. record rows { clock = clock }) old new
   clock_set clock sets = record {
@@ -104,7 +106,7 @@ module _ (tenant : ℤ) (old new : State) (ledger : IsLedger old.now.schema) whe
     moves = λ rows can num held.
         let row = clock_values (pos rows.clock) in
         let set = sets.one row (ap (filter (λ r. true)) held.clock) num.1.1.0 in
-        clock_moved tenant rows old new ledger num held clock (set_aside clock_rows 4 _ _ set)
+        clock_moved tenant rows old new ledger num held clock (set_aside clock_rows 4 _ _ refl set)
         (one_permutation (clock_values (pos clock)) (clock_rows tenant is) (subst (λ rs. IsPermutation (clock_values (pos clock) ∷ filter (λ r. not true) rs) (clock_rows tenant is)) held.clock set.own));
   }
 
@@ -129,7 +131,7 @@ module _ (tenant : ℤ) (old new : State) (ledger : IsLedger old.now.schema) whe
           let single = one values key row.account (has_id (column_of row.account)) rows.balances told (balance_rows tenant was) held.balances (alone key row.account rows.balances can.distinct) r there.1 in
           let set = sets.one (values r) single num.1.1.1.1.1.0 in
           let same : values (change r) ≡ values row = λ i. values (record { account = is_key i; balances = row.balances }) in
-          balance_moved tenant rows old new ledger num held (set_balances row.account row.balances rows.balances) (set_aside balance_rows 11 _ _ set)
+          balance_moved tenant rows old new ledger num held (set_balances row.account row.balances rows.balances) (set_aside balance_rows 11 _ _ refl set)
           (with_changed values key row.account (has_id (column_of row.account)) rows.balances told (balance_rows tenant was) held.balances change r (balance_rows tenant is)
           (replaced key row.account change rows.balances r can.distinct there.1)
           (subst (λ front. IsPermutation (front ∷ filter (λ x. not (has_id (column_of row.account) x)) (balance_rows tenant was)) (balance_rows tenant is)) (sym same) set.own));
@@ -152,7 +154,7 @@ module _ (tenant : ℤ) (old new : State) (ledger : IsLedger old.now.schema) whe
           let single = one values key id (has_id (column_of id)) rows.statuses told (status_rows tenant was) held.statuses (alone key id rows.statuses can.there.distinct) row there in
           let own_set : SetsOne status_rows 13 tenant (has_id (column_of id)) (values (change row)) old new = subst (λ n. SetsOne status_rows 13 tenant (has_id (column_of n)) (values (change row)) old new) is_key sets in
           let set = own_set.one (values row) single num.1.1.1.1.1.1.0 in
-          status_moved tenant rows old new ledger num held (set_state id state rows.statuses) (set_aside status_rows 13 _ _ set)
+          status_moved tenant rows old new ledger num held (set_state id state rows.statuses) (set_aside status_rows 13 _ _ refl set)
           (with_changed values key id (has_id (column_of id)) rows.statuses told (status_rows tenant was) held.statuses change row (status_rows tenant is)
           (replaced key id change rows.statuses row can.there.distinct there) set.own);
     }

@@ -35,7 +35,7 @@ writes_then tenant can next both change more a b c f g leads = record {
       let ready = leads rows may in
       let first = f.moves rows ready.0 num held in
       let second = g.moves (change rows) ready.1 first.numbered first.rows in
-      record { numbered = second.numbered; others = others_then tenant a.now.trees b.now.trees c.now.trees first.others second.others; rows = second.rows };
+      record { numbered = second.numbered; others = others_then tenant a.now.trees b.now.trees c.now.trees first.others second.others; strangers = second.strangers ∙ first.strangers; rows = second.rows };
 }
 
 -- a write behind a call that changed nothing
@@ -47,7 +47,7 @@ writes_after_same tenant can change a b c same w = record {
     marks = w.inside.marks ∙ same.2;
   };
   moves = λ rows may num held.
-      subst (λ (db : Database). MovesRows tenant (change rows) db.trees c.now.trees) same.0.now_is
+      subst (λ (db : Database). MovesRows tenant (change rows) db c.now) same.0.now_is
       (w.moves rows may (subst (λ (db : Database). AreNumbered db.trees) (sym same.0.now_is) num) (subst (λ (db : Database). HoldsRows tenant rows db.trees) (sym same.0.now_is) held));
 }
 
@@ -73,7 +73,7 @@ marks_kept tenant old new rest marks (inl none) = inl none
 marks_kept tenant old new rest marks (inr one) = inr (one.0, one.1, one.2, rest_then tenant new old one.0 (rest_back tenant old new rest) one.3)
 
 module _ (held_machines : HeldMachines) (tenant : ℤ) (can : TypedRows → Type 0) (change : TypedRows → TypedRows) (step : Machine → Machine) (old new : State) (batch : IsInBatchOf tenant old) (w : ChangesRows tenant can change old new) (is : IsChange can change step (machine_of tenant old.now.trees)) where
-  moved : MovesRows tenant (change (rows_for 3 (machine_of tenant old.now.trees))) old.now.trees new.now.trees
+  moved : MovesRows tenant (change (rows_for 3 (machine_of tenant old.now.trees))) old.now new.now
   moved = w.moves (rows_for 3 (machine_of tenant old.now.trees)) is.may batch.now.numbered batch.now.holds.rows
 
   holds : HoldsMachine tenant (step (machine_of tenant old.now.trees)) new.now.trees
@@ -83,7 +83,7 @@ module _ (held_machines : HeldMachines) (tenant : ℤ) (can : TypedRows → Type
   machine_after = held_machines tenant (step (machine_of tenant old.now.trees)) new.now.trees holds
 
   pub rest_after : KeepsRest tenant old.now new.now
-  rest_after = record { schema = w.inside.schema; others = moved.others }
+  rest_after = record { schema = w.inside.schema; others = moved.others; strangers = moved.strangers }
 
   pub batch_after : IsInBatchOf tenant new
   batch_after = record {

@@ -93,6 +93,7 @@ rest_itself tenant db = record {
       failed = refl;
     };
   };
+  strangers = refl;
 }
 
 pub rest_then :
@@ -101,6 +102,7 @@ pub rest_then :
 rest_then tenant a b c f g = record {
   schema = g.schema ∙ f.schema;
   others = others_then tenant a.trees b.trees c.trees f.others g.others;
+  strangers = g.strangers ∙ f.strangers;
 }
 
 pub rest_back : (tenant : ℤ) (a b : Database) → KeepsRest tenant a b → KeepsRest tenant b a
@@ -111,6 +113,7 @@ rest_back tenant a b f = record {
     directory = sym f.others.directory;
     others = λ u ne. keeps_back u a.trees b.trees (f.others.others u ne);
   };
+  strangers = sym f.strangers;
 }
 
 -- what the tenant has, and all else as it was, is what a batch has made
@@ -123,6 +126,7 @@ batch_of tenant begun now own rest = record {
   numbered = own.numbered;
   holds = own.holds;
   others = rest.others;
+  strangers = rest.strangers;
 }
 
 -- no call at all is a run of calls in a batch

@@ -7,6 +7,7 @@ use Rattle.sqlite.specs.State.{State, Savepoint, HasCleanDisk}
 use Rattle.ledger_sql.specs.Effects.{IsLedger}
 use Rattle.ledger_sql.specs.Frames.{Live, Follows}
 use Rattle.ledger_sql.specs.Stages.{the_mark}
+use Rattle.ledger_sql.specs.Strangers.{KeepsStrangers}
 use Rattle.stored_tables.specs.Frames.{KeepsOtherTenants, AreNumbered}
 use Rattle.stored_tables.specs.Holds.{HoldsMachine}
 use Rattle.stored_tables.specs.MachineOf.{machine_of}
@@ -21,6 +22,7 @@ pub record HoldsOwn (tenant : ℤ) (now : Database) : Type 0 where
 pub record KeepsRest (tenant : ℤ) (old now : Database) : Type 0 where
   pub schema : now.schema ≡ old.schema
   pub others : KeepsOtherTenants tenant old.trees now.trees
+  pub strangers : KeepsStrangers old now
 
 -- what a tenant's batch has made of a database: both of these
 pub record IsBatchOf (tenant : ℤ) (begun now : Database) : Type 0 where
@@ -29,6 +31,7 @@ pub record IsBatchOf (tenant : ℤ) (begun now : Database) : Type 0 where
   pub numbered : AreNumbered now.trees
   pub holds : HoldsMachine tenant (machine_of tenant now.trees) now.trees
   pub others : KeepsOtherTenants tenant begun.trees now.trees
+  pub strangers : KeepsStrangers begun now
 
 -- one mark is open, of such a database that differs in the tenant's rows alone, or none is
 abbrev pub AreMarks : ℤ → Database → List Savepoint → Type 0

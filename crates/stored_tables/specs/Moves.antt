@@ -2,6 +2,7 @@
 use Rattle.std.specs.Prelude.{ℕ, ℤ, ◌<◌, ◌≤◌, ◌^◌, ◌≡◌, List, All, IsTrue}
 use Rattle.std.specs.Prelude.{Option, Some, None, IsSome}
 use Rattle.sqlite_trees.specs.Tree.{Trees}
+use Rattle.sqlite.specs.Effect.{Database}
 use Rattle.sqlite.specs.State.{State}
 use Rattle.records.specs.declared.accepted.Accepted.{Accepted}
 use Rattle.records.specs.declared.accepted.Ending.{Ending}
@@ -15,6 +16,7 @@ use Rattle.rows.specs.Keyed.{row_with}
 use Rattle.rows.specs.Tables.{HasDistinctKeys}
 use Rattle.rows.specs.TypedRows.{TypedRows}
 use Rattle.ledger_sql.specs.Effects.{IsInside, WritesInside}
+use Rattle.ledger_sql.specs.Strangers.{KeepsStrangers}
 use Rattle.stored_tables.specs.Frames.{KeepsOtherTenants, AreNumbered}
 use Rattle.stored_tables.specs.Holds.{HoldsRows}
 
@@ -24,10 +26,11 @@ pub record CanWrite (s : State) : Type 0 where
   pub is_open : IsTrue s.is_open
 
 -- the tenant has these rows now, and all else is as it was
-pub record MovesRows (tenant : ℤ) (moved : TypedRows) (old new : Trees) : Type 0 where
-  pub numbered : AreNumbered new
-  pub others : KeepsOtherTenants tenant old new
-  pub rows : HoldsRows tenant moved new
+pub record MovesRows (tenant : ℤ) (moved : TypedRows) (old new : Database) : Type 0 where
+  pub numbered : AreNumbered new.trees
+  pub others : KeepsOtherTenants tenant old.trees new.trees
+  pub strangers : KeepsStrangers old new
+  pub rows : HoldsRows tenant moved new.trees
 
 -- the transaction goes on, and where the tenant's rows are such, they have changed so
 pub record ChangesRows (tenant : ℤ) (can : TypedRows → Type 0) (change : TypedRows → TypedRows)
@@ -36,7 +39,7 @@ pub record ChangesRows (tenant : ℤ) (can : TypedRows → Type 0) (change : Typ
   pub moves :
       (rows : TypedRows) → can rows → AreNumbered old.now.trees →
       HoldsRows tenant rows old.now.trees →
-      MovesRows tenant (change rows) old.now.trees new.now.trees
+      MovesRows tenant (change rows) old.now new.now
 
 -- any rows
 abbrev pub Any : TypedRows → Type 0

@@ -114,7 +114,7 @@ pub record ReleasesOne (tenant : ℤ) (clock id : ℕ) (old new : State) : Type 
       (more : List ℕ)
       × AreReleased clock m more
       × IsLess clock id m done more
-      × MovesRows tenant (rows_released m more) old.now.trees new.now.trees
+      × MovesRows tenant (rows_released m more) old.now new.now
 
 -- all that is due is released, where the set has it and the tenant's clock is at the past moment or
 -- later
@@ -126,7 +126,7 @@ pub record ReleasesDue (tenant : ℤ) (past clock : ℕ) (has : DueTest) (old ne
       HoldsRows tenant (rows_for 3 m) old.now.trees →
       (done : List ℕ)
       × IsPermutation (due_ids clock (rows_for 3 m)) done
-      × MovesRows tenant (rows_released m done) old.now.trees new.now.trees
+      × MovesRows tenant (rows_released m done) old.now new.now
 
 -- the clock is later, and what was due at it has expired
 abbrev pub MovesClock : ℤ → ℕ → ℕ → DueTest → State → State → Type 0

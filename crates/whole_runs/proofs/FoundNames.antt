@@ -16,7 +16,7 @@ use Rattle.stored_ledgers.specs.DueSets.{DueSets}
 use Rattle.stored_ledgers.specs.Ledger.{HoldsLedgers}
 use Rattle.stored_ledgers.specs.Names.{Names, KeepsNames, first_named, names_in}
 use Rattle.store.specs.Names.{FindsNames, names_at, names_of}
-use Rattle.store.specs.StoreLaws.{store_meaning}
+use Rattle.store.specs.StoreLaws.{store_meaning, found_directory}
 use Rattle.store.specs.Stores.{Continues, Finds, FindsAt, Follows, Goes, IsHonest, IsHonestAt, IsLive}
 use Rattle.store.specs.Stores.{IsLiveAt, IsSettledAt, IsSettledStore, IsUsable, IsUsableAt, LeavesStore}
 use Rattle.store.specs.Stores.{OfDatabase, OfDatabaseAt, may_find, may_find_at}
@@ -81,7 +81,9 @@ module _ {D : Type 0} {g : disk.Ghosts D} where
       db = was.0;
       may = was.1;
       agrees = λ name.
-          f.agrees name ∙ ap (λ (rows : List Row). first_named (rows_with_name name rows)) was.2;
+          f.agrees name
+          ∙ ap (λ (rows : List Row). first_named (rows_with_name name rows))
+          (found_directory old was.0 f.db was.2);
     });
   }
 

@@ -6,13 +6,14 @@ use Rattle.sqlite_value.specs.Order.{Row}
 use Rattle.sqlite.specs.Effect.{Database}
 use Rattle.sqlite.specs.Files.{file_state}
 use Rattle.ledger_sql.specs.TableRows.{with_name as rows_with_name}
-use Rattle.stored_ledgers.specs.Directory.{digest_in, first_digest, with_name, KeepsDirectory}
+use Rattle.stored_ledgers.specs.Directory.{digest_in, first_digest, with_name}
 use Rattle.stored_ledgers.specs.DueSets.{DueSets}
 use Rattle.stored_ledgers.specs.Joining.{HasJoined}
 use Rattle.stored_ledgers.specs.Keying.{HasKeyed}
 use Rattle.stored_ledgers.specs.Ledger.{HoldsLedgers}
 use Rattle.stored_ledgers.specs.Names.{Names, KeepsNames, first_named, names_in}
 use Rattle.stored_ledgers.specs.Names.{JoiningGivesName, KeyingGivesName}
+use Rattle.stored_ledgers.specs.Outcomes.{KeepsTables}
 use Rattle.stored_ledgers.specs.declared.joining.AddTenant.{AddTenant}
 use Rattle.stored_ledgers.specs.declared.joining.AddTenant.TheVariants as add
 use Rattle.stored_ledgers.specs.declared.keying.ChangeKey.{ChangeKey}
@@ -86,17 +87,17 @@ keys_in law name digest before after (Err (key.Unavailable why)) ledgers told =
 
 module _ {D : Type 0} {g : disk.Ghosts D} where
   kept_at : (old new : Place D g)
-      → OfDatabaseAt (λ before. OfDatabaseAt (λ after. KeepsDirectory before.trees after.trees) new) old
+      → OfDatabaseAt (λ before. OfDatabaseAt (KeepsTables before) new) old
       → KeepsNames (names_at old) (names_at new)
   kept_at (at.Open conn) (at.Open conn') same name =
-      ap (λ (rows : List Row). first_named (rows_with_name name rows)) same
+      ap (λ (rows : List Row). first_named (rows_with_name name rows)) same.directory
   kept_at (at.Open conn) (at.Shut files) same name = absurd same
   kept_at (at.Shut files) new same name = absurd same
 
   -- messages
   pub names_stay : (old new : Store D g) → Continues old new → IsLive new
       → KeepsNames (names_of old) (names_of new)
-  names_stay old new continues live = kept_at old.place new.place (continues.directory live)
+  names_stay old new continues live = kept_at old.place new.place (continues.tables live)
 
   -- what is so of two open databases that hold ledgers is so of their names
   named_at : (P : Names → Names → Type 0) (Told : Database → Database → Type 0)

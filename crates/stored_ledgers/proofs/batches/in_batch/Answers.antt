@@ -1,6 +1,6 @@
 use Rattle.std.proofs.Common.{◌≡◌, Ok, Err, ap, ◌∙◌}
 use Rattle.sqlite.proofs.StateLemmas.{survives_weaker}
-use Rattle.stored_ledgers.proofs.OutcomeLemmas.{keeps_all, keeps_directory, left_after}
+use Rattle.stored_ledgers.proofs.OutcomeLemmas.{keeps_all, keeps_tables, left_after}
 use Rattle.stored_ledgers.proofs.ServingLemmas.{rests_still, told_made, told_refused, unless_refused, no_fault, other_fault}
 use Rattle.stored_ledgers.proofs.batches.in_batch.Goals as goal
 
@@ -10,11 +10,11 @@ returns-in-Ok-Ok-clause-run g c live =
     c.in-Ok-Ok.is ∙ ap Ok c.in-Ok-Ok.field-0-is in
     (told_made c.in_transaction.result _ _ _ is (c.in_transaction.ensures.told live)).0.batch.done
 
-pub returns-in-Ok-Ok-clause-directory : goal.returns-in-Ok-Ok-clause-directory
-returns-in-Ok-Ok-clause-directory g c live =
+pub returns-in-Ok-Ok-clause-tables : goal.returns-in-Ok-Ok-clause-tables
+returns-in-Ok-Ok-clause-tables g c live =
     let is : c.in_transaction.result ≡ Ok (Ok c.in-Ok-Ok.worked) =
     c.in-Ok-Ok.is ∙ ap Ok c.in-Ok-Ok.field-0-is in
-    (told_made c.in_transaction.result _ _ _ is (c.in_transaction.ensures.told live)).0.batch.directory
+    (told_made c.in_transaction.result _ _ _ is (c.in_transaction.ensures.told live)).0.batch.keeps
 
 pub returns-in-Ok-Ok-clause-resting : goal.returns-in-Ok-Ok-clause-resting
 returns-in-Ok-Ok-clause-resting g c live =
@@ -44,11 +44,11 @@ returns-in-Ok-Err-clause-run g c live =
       keeps_all _ _ (unless_refused c.in_transaction.result _ _ is (c.in_transaction.ensures.same live)),
     )
 
-pub returns-in-Ok-Err-clause-directory : goal.returns-in-Ok-Err-clause-directory
-returns-in-Ok-Err-clause-directory g c live =
+pub returns-in-Ok-Err-clause-tables : goal.returns-in-Ok-Err-clause-tables
+returns-in-Ok-Err-clause-tables g c live =
     let is : c.in_transaction.result ≡ Ok (Err c.in-Ok-Err.unknown) =
     c.in-Ok-Err.is ∙ ap Ok c.in-Ok-Err.field-0-is in
-    keeps_directory _ _ (unless_refused c.in_transaction.result _ _ is (c.in_transaction.ensures.same live))
+    keeps_tables _ _ (unless_refused c.in_transaction.result _ _ is (c.in_transaction.ensures.same live))
 
 pub returns-in-Ok-Err-clause-resting : goal.returns-in-Ok-Err-clause-resting
 returns-in-Ok-Err-clause-resting g c live =
@@ -71,8 +71,8 @@ returns-in-Ok-Err-clause-survives g c =
 pub returns-in-Err-clause-run : goal.returns-in-Err-clause-run
 returns-in-Err-clause-run g c live = keeps_all _ _ (c.in-Err.ensures.same live)
 
-pub returns-in-Err-clause-directory : goal.returns-in-Err-clause-directory
-returns-in-Err-clause-directory g c live = keeps_directory _ _ (c.in-Err.ensures.same live)
+pub returns-in-Err-clause-tables : goal.returns-in-Err-clause-tables
+returns-in-Err-clause-tables g c live = keeps_tables _ _ (c.in-Err.ensures.same live)
 
 pub returns-in-Err-clause-resting : goal.returns-in-Err-clause-resting
 returns-in-Err-clause-resting g c live =

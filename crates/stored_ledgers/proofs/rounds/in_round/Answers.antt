@@ -2,7 +2,7 @@ use Rattle.std.proofs.Common.{◌≡◌, Ok, ap, sym, subst, ◌∙◌}
 use Rattle.sqlite.specs.Held.{state}
 use Rattle.sqlite.proofs.StateLemmas.{survives_weaker}
 use Rattle.stored_ledgers.specs.Outcomes.{ArePast}
-use Rattle.stored_ledgers.proofs.OutcomeLemmas.{keeps_directory}
+use Rattle.stored_ledgers.proofs.OutcomeLemmas.{keeps_tables}
 use Rattle.stored_ledgers.proofs.RoundLemmas.{left_round}
 use Rattle.stored_ledgers.proofs.ServingLemmas.{rests_still, told_made, no_fault, other_fault}
 use Rattle.stored_ledgers.proofs.rounds.in_round.Goals as goal
@@ -13,11 +13,11 @@ returns-in-Ok-Ok-clause-run g c live =
     c.in-Ok-Ok.is ∙ ap Ok c.in-Ok-Ok.field-0-is in
     (told_made c.in_transaction.result _ _ _ is (c.in_transaction.ensures.told live)).0.done
 
-pub returns-in-Ok-Ok-clause-directory : goal.returns-in-Ok-Ok-clause-directory
-returns-in-Ok-Ok-clause-directory g c live =
+pub returns-in-Ok-Ok-clause-tables : goal.returns-in-Ok-Ok-clause-tables
+returns-in-Ok-Ok-clause-tables g c live =
     let is : c.in_transaction.result ≡ Ok (Ok c.in-Ok-Ok.done) =
     c.in-Ok-Ok.is ∙ ap Ok c.in-Ok-Ok.field-0-is in
-    (told_made c.in_transaction.result _ _ _ is (c.in_transaction.ensures.told live)).0.keeps.directory
+    (told_made c.in_transaction.result _ _ _ is (c.in_transaction.ensures.told live)).0.keeps
 
 pub returns-in-Ok-Ok-clause-resting : goal.returns-in-Ok-Ok-clause-resting
 returns-in-Ok-Ok-clause-resting g c live =
@@ -41,8 +41,8 @@ returns-in-Ok-Ok-clause-survives g c =
     (λ clean trees left. left_round (g.W.RoundWork.gives c.args.work) _ trees left)
     c.in_transaction.ensures.survives
 
-pub returns-in-Err-clause-directory : goal.returns-in-Err-clause-directory
-returns-in-Err-clause-directory g c live = keeps_directory _ _ (c.in-Err.ensures.same live)
+pub returns-in-Err-clause-tables : goal.returns-in-Err-clause-tables
+returns-in-Err-clause-tables g c live = keeps_tables _ _ (c.in-Err.ensures.same live)
 
 pub returns-in-Err-clause-resting : goal.returns-in-Err-clause-resting
 returns-in-Err-clause-resting g c live =

@@ -1,6 +1,6 @@
 use Rattle.std.proofs.lemmas.Bool.{not-true}
 use Rattle.stored_ledgers.specs.Outcomes.{IsAfterBatch}
-use Rattle.store.proofs.FindsLemmas.{finds_batch, found_directory}
+use Rattle.store.proofs.FindsLemmas.{finds_batch, found_tables}
 use Rattle.store.proofs.ledgers.StoreLedgers.in_batch.Goals as goal
 
 pub returns-clause-finds : goal.returns-clause-finds
@@ -15,9 +15,9 @@ returns-clause-failed g c failed = (c.in_batch.ensures.refuses (not-true _ faile
 pub returns-clause-follows : goal.returns-clause-follows
 returns-clause-follows g c = record {
   follows = c.in_batch.ensures.follows;
-  directory = c.in_batch.ensures.directory;
-  found = found_directory c.args.self.now c.in_batch.new.self c.is_settled.ensures c.requires
+  tables = c.in_batch.ensures.tables;
+  found = found_tables c.args.self.now c.in_batch.new.self c.is_settled.ensures c.requires
       c.in_batch.ensures.follows (λ shut. (c.in_batch.ensures.refuses shut).1)
-      (IsAfterBatch (g.W.Work.gives c.args.work) c.args.digest.now) (λ was db after. after.directory)
+      (IsAfterBatch (g.W.Work.gives c.args.work) c.args.digest.now) (λ was db after. after.keeps)
       c.in_batch.ensures.finds;
 }

@@ -13,7 +13,7 @@ returns-clause-failed g c failed = (c.knows.ensures.reads.answers.refuses (not-t
 pub returns-clause-follows : goal.returns-clause-follows
 returns-clause-follows g c = record {
   follows = c.knows.ensures.reads.answers.follows;
-  directory = λ live. still_keeps c.args.self.now.place c.knows.new.self.place
+  tables = λ live. still_keeps c.args.self.now.place c.knows.new.self.place
       (c.knows.ensures.reads.unchanged live);
   found = found_unchanged c.args.self.now c.knows.new.self c.knows.result c.knows.ensures.reads;
 }

@@ -1,6 +1,6 @@
 use Rattle.std.proofs.lemmas.Bool.{not-true}
 use Rattle.stored_ledgers.specs.Rounds.{IsAfterRound}
-use Rattle.store.proofs.FindsLemmas.{finds_round, found_directory}
+use Rattle.store.proofs.FindsLemmas.{finds_round, found_tables}
 use Rattle.store.proofs.ledgers.StoreRounds.in_round.Goals as goal
 
 pub returns-clause-finds : goal.returns-clause-finds
@@ -14,9 +14,9 @@ returns-clause-failed g c failed = (c.in_round.ensures.answers.refuses (not-true
 pub returns-clause-follows : goal.returns-clause-follows
 returns-clause-follows g c = record {
   follows = c.in_round.ensures.answers.follows;
-  directory = c.in_round.ensures.directory;
-  found = found_directory c.args.self.now c.in_round.new.self c.is_settled.ensures c.requires
+  tables = c.in_round.ensures.tables;
+  found = found_tables c.args.self.now c.in_round.new.self c.is_settled.ensures c.requires
       c.in_round.ensures.answers.follows (λ shut. (c.in_round.ensures.answers.refuses shut).1)
-      (IsAfterRound (g.W.RoundWork.gives c.args.work)) (λ was db after. after.directory)
+      (IsAfterRound (g.W.RoundWork.gives c.args.work)) (λ was db after. after.keeps)
       c.in_round.ensures.finds;
 }
