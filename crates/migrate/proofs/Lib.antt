@@ -4,3 +4,4 @@ mod OlderLemmas
 mod UpgradeLemmas
 mod LedgerLemmas
 mod ToldLemmas
+mod CaseLemmas

@@ -3,10 +3,8 @@ use Rattle.std.proofs.Common.{◌≡◌, ◌≤◌, ℕ, ℤ, pos, ◌<ℤ◌, R
 use Rattle.std.proofs.lemmas.Int.{ints}
 use Rattle.rows.specs.declared.all_rows.AllRows.{AllRows}
 use Rattle.sqlite.specs.Effect.{Database}
-use Rattle.ledger_sql.specs.declared.table_fault.TableFault.{TableFault}
-use Rattle.ledger_sql.specs.declared.table_fault.TableFault.TheVariants as table
+use Rattle.records.specs.declared.unavailable.Unavailable.{Unavailable}
 use Rattle.openings.specs.Damage.{HasFirstDamage, IfDamaged, NamesVersion}
-use Rattle.openings.specs.Faults.{open_fault_of}
 use Rattle.openings.specs.NameLaws.{good_names}
 use Rattle.openings.specs.Told.{HasVersion, Tells}
 use Rattle.openings.specs.Whole.{AreAllRows}
@@ -35,13 +33,9 @@ told_lacks version (fault.Damaged damage) db lacks = absurd lacks
 told_lacks version (fault.Unavailable why) db lacks = absurd lacks
 
 -- a call that was in want of something is told as that
-told_want : (version : ℕ) (cause : TableFault) (db : Database) → TellsOlder version (open_fault_of cause) db
-told_want version table.Missing db = tt
-told_want version (table.Unavailable why) db = tt
-
-pub told_by_call : {T : Type 0} (version : ℕ) (r : Result T OpenFault) (cause : TableFault) (db : Database)
-    → r ≡ Err (open_fault_of cause) → IfErr r (λ told. TellsOlder version told db)
-told_by_call version r cause db is = rw is (told_want version cause db)
+pub told_by_want : {T : Type 0} (version : ℕ) (r : Result T OpenFault) (why : Unavailable) (db : Database)
+    → r ≡ Err (fault.Unavailable why) → IfErr r (λ told. TellsOlder version told db)
+told_by_want version r why db is = rw is tt
 
 -- by the rows that were read
 pub told_rows : (version : ℕ) (told : OpenFault) (db : Database) (rows : AllRows)

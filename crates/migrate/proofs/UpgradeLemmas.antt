@@ -152,7 +152,12 @@ module _ (to : ℕ) (sets : DueSets) (s0 s1 s2 s3 : State) (has : HasBalanceTabl
   lifted_now less =
       let made = makes.balanced less in
       subst (IsLifted s0.now) (sym same) (record {
-        ledger = record { schema = made.schema; named = made.version; sound = seen.older less };
+        ledger = record {
+          schema = made.schema;
+          named = made.version;
+          names = (seen.older less).0;
+          sound = (seen.older less).1;
+        };
         ordered = subst (λ (schema : Schema). AllByRecursion (λ (t : Table). IsNumbered (s2.now.trees t.tree)) schema.tables) (sym made.schema) made.numbered;
         kept = machines_kept s0.now.trees s2.now.trees (entries_then s0.now.trees s1.now.trees s2.now.trees has.entries made.entries);
       })

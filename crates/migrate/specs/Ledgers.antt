@@ -8,12 +8,12 @@ use Rattle.sqlite.specs.Files.{file_state}
 use Rattle.sqlite.specs.State.{State, HasCleanDisk}
 use Rattle.ledger_sql.specs.Frames.{Live}
 use Rattle.stored_ledgers.specs.Resting.{IsResting}
-use Rattle.openings.specs.Damage.{Hold, IfDamaged}
+use Rattle.openings.specs.Found.{FilesStay, IsOfLedger}
 use Rattle.openings.specs.Opened.{IsOpened, LeavesRefused}
 use Rattle.openings.specs.Told.{IsToldBy}
 use Rattle.openings.specs.declared.opening.OpenFault.{OpenFault}
 use Rattle.migrate.specs.Told.{TellsAny}
-use Rattle.migrate.specs.Upgrading.{IsDamaged, IsKnown, IsOlder, IsOlderLedger, older_schema}
+use Rattle.migrate.specs.Upgrading.{IsKnown, IsLedgerOf, IsOlder, older_schema}
 use Rattle.migrate.specs.declared.ledger.LedgerOfVersion.{LedgerOfVersion}
 
 module _ {D : Type 0} {g : disk.Ghosts D} where
@@ -32,22 +32,19 @@ module _ {D : Type 0} {g : disk.Ghosts D} where
     pub is_open : IsTrue ledger.ready → HasCleanDisk (state_of ledger)
         → IsTrue (state_of ledger).is_open
 
-  -- it was opened on what the files held, and answers calls; one of an older version has the tables
-  -- of that version, and sound rows
+  -- it was opened on what the files held, and answers calls; it has the tables of its version,
+  -- tenants with names, and sound rows
   pub record IsOpenedToMigrate (image : Image) (ledger : LedgerOfVersion D g) : Type 0 where
     pub ready : IsTrue ledger.ready
     pub known : IsKnown ledger.version
-    pub older : ledger.version < 3 → HasCleanDisk (state_of ledger)
-        → IsOlderLedger ledger.version (state_of ledger).now
+    pub sound : HasCleanDisk (state_of ledger) → IsLedgerOf ledger.version (state_of ledger).now
     pub opened : HasCleanDisk (state_of ledger) → IsOpened image (state_of ledger)
 
--- an opening refuses the files: the case that it tells is there, the damage that it tells, if it
--- tells any, is the first in what they held, and it leaves them as each opening does that is refused
+-- an opening refuses the files: the case that it tells is there, and it leaves them as each opening
+-- does that is refused
 pub record RefusesFiles {D : Type 0} (g : disk.Ghosts D) (files : Files D)
     (refused : OpenFault × Files D) : Type 0 where
-  pub damaged :
-      AreClean g refused.1.log refused.1.db
-      → IfDamaged refused.0 (λ damage. Hold g files (IsDamaged damage))
   pub told :
       AreClean g refused.1.log refused.1.db → IsToldBy TellsAny g files refused.0 refused.1
   pub left : LeavesRefused g files refused.1
+  pub stay : IsOfLedger refused.0 → FilesStay g files refused.1

@@ -7,7 +7,8 @@ use Rattle.ledger_sql.specs.Frames.{Live}
 use Rattle.openings.specs.Damage.{HasFirstDamage}
 use Rattle.migrate.specs.Faults.{IfDamaged}
 use Rattle.migrate.specs.Ledgers.{state_of}
-use Rattle.migrate.specs.Upgrading.{HasRisen, IsSoundIn, KeepsMachines, Raised}
+use Rattle.openings.specs.Opened.{IsSoundIn}
+use Rattle.migrate.specs.Upgrading.{HasRisen, KeepsMachines, Raised}
 use Rattle.migrate.specs.declared.fault.MigrateFault.{MigrateFault}
 use Rattle.migrate.specs.declared.fault.MigrateFault.TheVariants.{NewerSchema, Unavailable}
 use Rattle.migrate.specs.declared.ledger.LedgerOfVersion.{LedgerOfVersion}

@@ -6,19 +6,20 @@ use Rattle.ledger_sql.specs.Frames.{Live, IsUnmarked, Follows}
 use Rattle.ledger_sql.specs.Schema.{ledger_schema}
 use Rattle.stored_ledgers.specs.DueSets.{DueSets}
 use Rattle.stored_ledgers.specs.Resting.{IsQuiet, IsSame}
-use Rattle.openings.specs.Opened.{CanServe}
+use Rattle.openings.specs.Opened.{CanServe, IsSoundIn}
+use Rattle.openings.specs.Told.{HasNamesIn}
 use Rattle.migrate.specs.Filling.{CanSetVersion, KeepsEntries}
-use Rattle.migrate.specs.Upgrading.{IsRaised, IsSoundIn, Raised}
+use Rattle.migrate.specs.Upgrading.{IsRaised, Raised}
 
 -- in a transaction the tables of balances are there, beside what was there
 pub record HasBalanceTables (old new : State) : Type 0 where
   pub can_set : CanSetVersion new
   pub entries : KeepsEntries old.now.trees new.now.trees
 
--- what was written can be served, or is a sound ledger of the balance schema
+-- what was written can be served, or has tenants with names and sound rows of the balance schema
 pub record IsSeen (to : ℕ) (sets : DueSets) (db : Database) : Type 0 where
   pub current : 3 ≤ to → CanServe sets db
-  pub older : to < 3 → IsSoundIn 2 db.trees
+  pub older : to < 3 → HasNamesIn 2 db.trees × IsSoundIn 2 db.trees
 
 -- a ledger of the newer version stands in the transaction, to be committed
 pub record IsPrepared (to : ℕ) (sets : DueSets) (old new : State) : Type 0 where

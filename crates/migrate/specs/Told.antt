@@ -5,11 +5,11 @@ use Rattle.audit.specs.declared.damage.Damage.{Damage}
 use Rattle.sqlite.specs.Effect.{Database}
 use Rattle.openings.specs.Damage.{HasFirstDamage}
 use Rattle.openings.specs.Opened.{HasNames}
-use Rattle.openings.specs.Told.{HasNamesIn, HasVersion, Tells}
+use Rattle.openings.specs.Told.{AreApart, HasNamesIn, HasVersion, IsNoneTold, Tells}
 use Rattle.openings.specs.declared.opening.OpenFault.{OpenFault}
 use Rattle.openings.specs.declared.opening.OpenFault.TheVariants as fault
 use Rattle.migrate.specs.Naming.{names_other}
-use Rattle.migrate.specs.Upgrading.{older_schema}
+use Rattle.migrate.specs.Upgrading.{IsKnown, IsLedgerOf, older_schema}
 
 -- a table of the version is missing by name, or one of a newer version is there; or the names are
 -- right, and the tables are made otherwise, or there are others
@@ -61,3 +61,12 @@ pub record TellsOfOlder (told : OpenFault) (db : Database) : Type 0 where
 -- each opening does, which never tells here that a ledger is an old one
 abbrev pub TellsAny : OpenFault → Database → Type 0
 TellsAny told db = ((told ≢ fault.OldSchema) × Tells told db) ⊎ TellsOfOlder told db
+
+-- of a database at most one fault is told so, and of a sound ledger of any version none
+abbrev pub CasesAreApart : Type 0
+CasesAreApart = (db : Database) → AreApart (λ told. TellsAny told db)
+
+abbrev pub SoundIsNotRefused : Type 0
+SoundIsNotRefused =
+    (db : Database) (version : ℕ) → IsKnown version → IsLedgerOf version db
+    → IsNoneTold (λ told. TellsAny told db)

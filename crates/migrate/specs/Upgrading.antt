@@ -1,7 +1,5 @@
 -- What an upgrade makes of a database.
-use Rattle.std.specs.Prelude.{◌≡◌, ℕ, ◌<◌, ◌≤◌, ℤ, pos, ◌==◌, [], ◌∷◌, All, if◌then◌else◌}
-use Rattle.rows.specs.declared.all_rows.AllRows.{AllRows}
-use Rattle.rows.specs.TypedRows.{lists_of}
+use Rattle.std.specs.Prelude.{◌≡◌, ℕ, ◌<◌, ◌≤◌, ℤ, pos, ◌==◌, [], ◌∷◌, if◌then◌else◌}
 use Rattle.sqlite_schema.specs.declared.schema.Schema.{Schema}
 use Rattle.sqlite_value.specs.Order.{Row}
 use Rattle.sqlite_trees.specs.Tree.{Trees}
@@ -10,17 +8,14 @@ use Rattle.sqlite.specs.State.{State}
 use Rattle.ledger_sql.specs.Schema.{list_schema, balance_schema, ledger_schema}
 use Rattle.ledger_sql.specs.Schema.{tenant_tree}
 use Rattle.ledger_sql.specs.TableRows.{version_rows}
-use Rattle.audit.specs.declared.damage.Damage.{Damage}
 use Rattle.audit.specs.Newer.{none_failed}
-use Rattle.audit.specs.Sound.{AreSound}
 use Rattle.stored_tables.specs.MachineOf.{machine_of}
 use Rattle.stored_ledgers.specs.DueSets.{DueSets, AreCovered}
 use Rattle.openings.specs.Found.{HasOrderedTables}
 use Rattle.stored_ledgers.specs.Ledger.{HoldsLedgers}
 use Rattle.stored_ledgers.specs.Resting.{Rests}
-use Rattle.openings.specs.Damage.{IsDamagedIn}
-use Rattle.openings.specs.Opened.{CanServe}
-use Rattle.openings.specs.Whole.{AreAllRows}
+use Rattle.openings.specs.Opened.{CanServe, IsSoundIn}
+use Rattle.openings.specs.Told.{HasNamesIn, IsSoundLedger}
 use Rattle.migrate.specs.declared.any_version.Examined.{Examined}
 use Rattle.openings.specs.Damage.{NamesVersion}
 
@@ -42,30 +37,26 @@ pub record IsUpgraded (sets : DueSets) (old new : Database) : Type 0 where
 abbrev pub older_schema : ℕ → Schema
 older_schema version = if version == 1 then list_schema else balance_schema
 
--- all rows of the database, in this version, are those of valid machines
-pub record IsSoundIn (version : ℕ) (trees : Trees) : Type 0 where
-  pub all : AllRows
-  pub read : AreAllRows version trees all
-  pub sound : All (λ tenant. AreSound version (lists_of tenant.rows)) all.tenants.items
-
--- a ledger of this older version, and of sound rows
+-- a ledger of this older version, whose tenants have names, and of sound rows
 pub record IsOlderLedger (version : ℕ) (db : Database) : Type 0 where
   pub schema : db.schema ≡ older_schema version
   pub named : NamesVersion (pos version) db.trees
+  pub names : HasNamesIn version db.trees
   pub sound : IsSoundIn version db.trees
-
--- so it is in the version that the file names
-abbrev pub IsDamaged : Damage → Trees → Type 0
-IsDamaged damage trees = (version : ℕ) × IsDamagedIn version damage trees
 
 -- there is such a version
 abbrev pub IsKnown : ℕ → Type 0
 IsKnown version = (1 ≤ version) × (version ≤ 3)
 
+-- a sound ledger of this version
+pub record IsLedgerOf (version : ℕ) (db : Database) : Type 0 where
+  pub older : version < 3 → IsOlderLedger version db
+  pub current : 3 ≤ version → IsSoundLedger db
+
 -- a ledger of the version that was found, which can be served where that is the current one
 pub record IsFoundIn (found : Examined) (db : Database) : Type 0 where
-  pub current : 3 ≤ found.version → CanServe found.due db
-  pub older : found.version < 3 → IsOlderLedger found.version db
+  pub ledger : IsLedgerOf found.version db
+  pub serves : 3 ≤ found.version → CanServe found.due db
 
 -- a ledger of the balance schema has come of one of the list schema
 pub record IsLifted (old new : Database) : Type 0 where

@@ -29,13 +29,11 @@ impl<A: Audit> Inspection for AnyVersion<'_, A> {
     type Found = Examined;
 
     ghost use Rattle.migrate.specs.Told.{TellsAny};
-    ghost use Rattle.migrate.specs.Upgrading.{IsDamaged, IsFoundIn, IsKnown};
+    ghost use Rattle.migrate.specs.Upgrading.{IsFoundIn, IsKnown};
 
     ghost known = { λ found. IsKnown found.version };
 
     ghost finds = { λ found db. IsFoundIn found db };
-
-    ghost tells = { λ damage trees. IsDamaged damage trees };
 
     ghost refuses = { λ fault db. TellsAny fault db };
 

@@ -13,7 +13,7 @@ ghost use Rattle.migrate.specs.Ledgers.{IsMigratable, IsOpenedToMigrate, Refuses
 use crate::any_version::AnyVersion;
 use openings::auditing::Audit;
 use openings::closing::{is_settled, shut};
-use openings::inspecting::open_inspected;
+use openings::inspecting::open_telling;
 use openings::opening::{OpenFault, files_at};
 use openings::versions::CURRENT_VERSION;
 use sqlite::{Connection, FileStore, Files, Options};
@@ -53,13 +53,15 @@ impl<D: Disk + Drop> LedgerOfVersion<D> {
             → AreClean D.Disk files.log files.db) }
         ensures refused { IfErr result (RefusesFiles D.Disk files) }
     {
-        let (conn, found) = open_inspected(alloc, files, options, &AnyVersion { audit })?;
-        Ok(LedgerOfVersion {
-            conn,
-            ready: true,
-            version: found.version,
-            due: found.due,
-        })
+        match open_telling(alloc, files, options, &AnyVersion { audit }) {
+            Ok((conn, found)) => Ok(LedgerOfVersion {
+                conn,
+                ready: true,
+                version: found.version,
+                due: found.due,
+            }),
+            Err((refused, left)) => Err((refused.fault, left)),
+        }
     }
 
     /// The version of the schema that the opening found or the last migration set.

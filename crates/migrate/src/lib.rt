@@ -5,6 +5,7 @@
 mod any_version;
 mod fault;
 mod filling;
+pub mod laws;
 mod ledger;
 mod migrating;
 mod naming;

@@ -6,6 +6,7 @@ ghost use Rattle.audit.specs.Sound.{AreSound};
 ghost use Rattle.rows.specs.TypedRows.{lists_of};
 ghost use Rattle.sqlite.specs.Held.{state};
 ghost use Rattle.openings.specs.Damage.{IfDamaged};
+ghost use Rattle.openings.specs.Opened.{HasNames};
 ghost use Rattle.migrate.specs.Naming.{names_other};
 ghost use Rattle.migrate.specs.Older.{ExaminesOlder, LeavesExamined, RefusesUnless};
 ghost use Rattle.migrate.specs.Told.{TellsOfRows};
@@ -45,6 +46,7 @@ pub(crate) fn examine_older<S: Alter, A: Audit>(
 fn audit_older<A: Audit>(alloc: Global, rows: &AllRows, audit: &A) -> Result<(), OpenFault>
     ensures sound { OnOk result
         (All (λ tenant. AreSound rows.now.version (lists_of tenant.rows)) rows.now.tenants.items) }
+    ensures names { OnOk result (HasNames rows.now.directory.items) }
     ensures damaged { IfErr result (λ fault. IfDamaged fault
         (IsFirstDamage rows.now.version rows.now.tenants.items)) }
     ensures told { IfErr result (λ fault. TellsOfRows fault rows.now) }

@@ -6,27 +6,26 @@ use Rattle.sqlite_schema.specs.Names.{same_name}
 use Rattle.sqlite_schema.specs.declared.schema.Schema.{Schema}
 use Rattle.sqlite.specs.Effect.{Database}
 use Rattle.ledger_sql.specs.Effects.{StartsAs, IsLedger}
-use Rattle.ledger_sql.specs.Schema.{after_schema, ledger_schema}
+use Rattle.ledger_sql.specs.Schema.{after_schema, ledger_schema, no_schema}
 use Rattle.ledger_sql.specs.Values.{version_values}
 use Rattle.openings.specs.Damage.{NamesVersion}
 use Rattle.openings.specs.Found.{IsUnavailable}
-use Rattle.openings.specs.Told.{CasesAreApart, HasGoodNames, HasVersion, IsCurrent, IsMadeOtherwise, IsNoLedger}
+use Rattle.openings.specs.Opened.{IsSoundIn}
+use Rattle.openings.specs.Shape.{has_ours}
+use Rattle.openings.specs.Told.{AreApart, HasGoodNames, HasVersion, HindersMaking, IsCurrent, IsMadeOtherwise, IsNoLedger}
+use Rattle.openings.specs.Told.{IsNoneTold, IsSoundLedger, SoundHasNoDamage}
 use Rattle.openings.specs.Told.{Tells, case_of, has_all, has_table}
 use Rattle.openings.specs.Told.{No_name, No_table, No_version, No_versions, Of_ledger, Of_version}
+use Rattle.openings.specs.CaseLaws.{level, no_case_7, unless_available}
 use Rattle.openings.specs.declared.opening.OpenFault.{OpenFault}
 use Rattle.openings.specs.declared.opening.OpenFault.TheVariants as fault
 
--- two cases that part at one question have one number, if those behind it have
-level : {A B : Type 0} (X : ℕ → Type 0) (n m k : ℕ) → (A → B → ⊥) → (X n → X m → n ≡ m)
-    → (A × (n ≡ k)) ⊎ (B × X n) → (A × (m ≡ k)) ⊎ (B × X m) → n ≡ m
-level X n m k apart more (inl x) (inl y) = x.1 ∙ sym y.1
-level X n m k apart more (inl x) (inr y) = absurd (apart x.0 y.0)
-level X n m k apart more (inr x) (inl y) = absurd (apart y.0 x.0)
-level X n m k apart more (inr x) (inr y) = more x.1 y.1
+-- the questions, the last one first, and the number of the case; 7 is that of a sound ledger
+abbrev X9 : Database → ℕ → Type 0
+X9 db n = ((¬ IsSoundIn 3 db.trees) × (n ≡ 5)) ⊎ (IsSoundIn 3 db.trees × (n ≡ 7))
 
--- the questions, the last one first, and the number of the case
 abbrev X8 : Database → ℕ → Type 0
-X8 db n = ((¬ HasGoodNames db.trees) × (n ≡ 2)) ⊎ (HasGoodNames db.trees × (n ≡ 5))
+X8 db n = ((¬ HasGoodNames db.trees) × (n ≡ 2)) ⊎ (HasGoodNames db.trees × X9 db n)
 
 abbrev X7 : Database → ℕ → Type 0
 X7 db n = ((¬ IsLedger db.schema) × (n ≡ 1)) ⊎ (IsLedger db.schema × X8 db n)
@@ -84,8 +83,11 @@ is_above v is = omega (arith, ints, is)
 is_above_0 : (v : ℤ) → v ≡ pos 3 → pos 0 <ℤ v
 is_above_0 v is = omega (arith, ints, is)
 
+same_x9 : (db : Database) (n m : ℕ) → X9 db n → X9 db m → n ≡ m
+same_x9 db n m = level (λ n. n ≡ 7) n m 5 (λ bad good. bad good) (λ x y. x ∙ sym y)
+
 same_x8 : (db : Database) (n m : ℕ) → X8 db n → X8 db m → n ≡ m
-same_x8 db n m = level (λ n. n ≡ 5) n m 2 (λ bad good. bad good) (λ x y. x ∙ sym y)
+same_x8 db n m = level (X9 db) n m 2 (λ bad good. bad good) (same_x9 db n m)
 
 same_x7 : (db : Database) (n m : ℕ) → X7 db n → X7 db m → n ≡ m
 same_x7 db n m = level (X8 db) n m 1 (λ other is. other is) (same_x8 db n m)
@@ -143,25 +145,69 @@ of_none db (No_table current lacks) = current_x db 2 current (inl (lacks, refl))
 of_none db (No_name current ledger bad) =
     current_x db 2 current (inr (there_all db.schema ledger, inr (ledger, inl (bad, refl))))
 
-answered : (db : Database) (told : OpenFault) → ¬ IsUnavailable told → Tells told db → X1 db (case_of told)
-answered db fault.InUse not told = absurd told
-answered db fault.Unreadable not told = of_otherwise db told
-answered db fault.NotALedger not told = of_none db told
-answered db fault.OldSchema not told =
-    started db 3 told.starts (inr (
-      more_version db (λ v. (pos 0 <ℤ v) × (v <ℤ pos 3)) (λ v. pos 0 <ℤ v) (λ v is. is.0) told,
-      inl (more_version db (λ v. (pos 0 <ℤ v) × (v <ℤ pos 3)) (λ v. v <ℤ pos 3) (λ v is. is.1) told, refl),
-    ))
-answered db fault.NewerSchema not told =
-    started db 4 told.starts (inr (
-      more_version db (λ v. pos 3 <ℤ v) (λ v. pos 0 <ℤ v) above_0 told,
-      inr (more_version db (λ v. pos 3 <ℤ v) (λ v. pos 3 ≤ℤ v) above told, inl (told, refl)),
-    ))
-answered db (fault.Damaged damage) not told =
-    current_x db 5 told.current
-    (inr (there_all db.schema told.ledger, inr (told.ledger, inr (told.names, refl))))
-answered db (fault.Unavailable why) not told = absurd (not (why, refl))
+module _ (no_damage : SoundHasNoDamage) (db : Database) where
+  answered : (told : OpenFault) → ¬ IsUnavailable told → Tells told db → X1 db (case_of told)
+  answered fault.InUse not told = absurd told
+  answered fault.Unreadable not told = of_otherwise db told
+  answered fault.NotALedger not told = of_none db told
+  answered fault.OldSchema not told =
+      started db 3 told.starts (inr (
+        more_version db (λ v. (pos 0 <ℤ v) × (v <ℤ pos 3)) (λ v. pos 0 <ℤ v) (λ v is. is.0) told,
+        inl (more_version db (λ v. (pos 0 <ℤ v) × (v <ℤ pos 3)) (λ v. v <ℤ pos 3) (λ v is. is.1) told, refl),
+      ))
+  answered fault.NewerSchema not told =
+      started db 4 told.starts (inr (
+        more_version db (λ v. pos 3 <ℤ v) (λ v. pos 0 <ℤ v) above_0 told,
+        inr (more_version db (λ v. pos 3 <ℤ v) (λ v. pos 3 ≤ℤ v) above told, inl (told, refl)),
+      ))
+  answered (fault.Damaged damage) not told =
+      current_x db 5 told.current (inr (
+        there_all db.schema told.ledger,
+        inr (
+          told.ledger,
+          inr (told.names, inl (λ sound. no_damage 3 damage db.trees sound told.damaged.damaged, refl)),
+        ),
+      ))
+  answered (fault.Unavailable why) not told = absurd (not (why, refl))
 
-pub cases_apart : CasesAreApart
-cases_apart db a b one other first second =
-    same_x1 db (case_of a) (case_of b) (answered db a one first) (answered db b other second)
+  answered_sound : IsSoundLedger db → X1 db 7
+  answered_sound is =
+      current_x db 7 is.current
+      (inr (there_all db.schema is.ledger, inr (is.ledger, inr (is.names, inr (is.sound, refl)))))
+
+  pub cases_apart : AreApart (λ fault. Tells fault db)
+  cases_apart a b one other first second =
+      same_x1 db (case_of a) (case_of b) (answered a one first) (answered b other second)
+
+  pub sound_not_refused : IsSoundLedger db → IsNoneTold (λ fault. Tells fault db)
+  sound_not_refused is = unless_available (λ fault. Tells fault db) (λ told not tells.
+      no_case_7 told (same_x1 db (case_of told) 7 (answered told not tells) (answered_sound is)))
+
+-- of what is there to a making
+module _ (schema : Schema) where
+  hindered : (told : OpenFault) → ¬ IsUnavailable told → HindersMaking told schema
+      → ((has_ours schema ≡ true) × (case_of told ≡ 2)) ⊎ ((has_ours schema ≡ false) × (case_of told ≡ 1))
+  hindered fault.InUse not told = absurd told
+  hindered fault.Unreadable not told = inr (told.0, refl)
+  hindered fault.NotALedger not told = inl (told, refl)
+  hindered fault.OldSchema not told = absurd told
+  hindered fault.NewerSchema not told = absurd told
+  hindered (fault.Damaged damage) not told = absurd told
+  hindered (fault.Unavailable why) not told = absurd (not (why, refl))
+
+  pub making_apart : AreApart (λ fault. HindersMaking fault schema)
+  making_apart a b one other first second =
+      level (λ n. n ≡ 1) (case_of a) (case_of b) 2 (λ ours none. both_ways _ none ours) (λ x y. x ∙ sym y)
+      (hindered a one first) (hindered b other second)
+
+nothing_hinders : (told : OpenFault) → ¬ IsUnavailable told → HindersMaking told no_schema → ⊥
+nothing_hinders fault.InUse not told = told
+nothing_hinders fault.Unreadable not told = told.1 refl
+nothing_hinders fault.NotALedger not told = cc
+nothing_hinders fault.OldSchema not told = told
+nothing_hinders fault.NewerSchema not told = told
+nothing_hinders (fault.Damaged damage) not told = told
+nothing_hinders (fault.Unavailable why) not told = not (why, refl)
+
+pub nothing_hindered : IsNoneTold (λ fault. HindersMaking fault no_schema)
+nothing_hindered = unless_available (λ fault. HindersMaking fault no_schema) nothing_hinders

@@ -103,7 +103,7 @@ module _ (number : ℤ) (trees : Trees) (own : FileRows) (read : AreTenantRows 3
             (IsPermutation-sym (rows_for 3 told).statuses typed sound.2.same.statuses) there);
       }
 
-module _ (trees : Trees) (all : AllRows) (read : AreAllRows 3 trees all) where
+module _ {version : ℕ} (trees : Trees) (all : AllRows) (read : AreAllRows version trees all) where
   abbrev values : DirectoryRow → Row
   values row = directory_values row.number (string_bytes row.name) row.digest
 
@@ -128,3 +128,16 @@ module _ (trees : Trees) (all : AllRows) (read : AreAllRows 3 trees all) where
       let found = found_row digest number trees is in
       all_among (λ row. (number : ℤ) → column row 0 ≡ Int number → P number) (directory_rows trees) found.row
       (of_numbers P each) found.among number found.has_number
+
+-- what holds of the number of each tenant in one reading does so in another
+pub same_numbers : {version : ℕ} (trees : Trees) (all other : AllRows) → AreAllRows version trees all
+    → AreAllRows version trees other → (P : ℤ → Type 0) → AllByRecursion (λ row. P row.number) all.directory.items
+    → AllByRecursion (λ row. P row.number) other.directory.items
+same_numbers trees all other read again P each =
+    let stored = λ (row : DirectoryRow). directory_values row.number (string_bytes row.name) row.digest in
+    let Q = λ (row : Row). (number : ℤ) → column row 0 ≡ Int number → P number in
+    all_weaker (λ row. Q (stored row)) (λ (row : DirectoryRow). P row.number) (λ row holds. holds row.number refl)
+    other.directory.items
+    (all_from_map Q stored other.directory.items
+    (all-permutation Q (directory_rows trees) (map stored other.directory.items) again.directory.all
+    (of_numbers trees all read P each)))

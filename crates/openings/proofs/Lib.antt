@@ -12,7 +12,8 @@ mod ThereLemmas
 mod FilledLemmas
 mod OpenedLemmas
 mod KeptSets
-mod DamageLemmas
 mod RefusedLemmas
 mod ToldLemmas
 mod CaseLemmas
+mod SoundAgain
+mod SoundLemmas

@@ -45,7 +45,7 @@ told_tables (fault.Damaged damage) db current lacks = absurd lacks
 told_tables (fault.Unavailable why) db current lacks = tt
 
 -- the versions that were read are the one that the file names
-read_named : (versions : List ℤ) (version : ℤ) → map version_values versions ≡ version_values version ∷ []
+pub read_named : (versions : List ℤ) (version : ℤ) → map version_values versions ≡ version_values version ∷ []
     → versions ≡ version ∷ []
 read_named [] version is = absurd (cc)
 read_named (first ∷ []) version is = cc

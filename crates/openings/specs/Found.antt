@@ -17,7 +17,6 @@ use Rattle.ledger_sql.specs.Creating.{IsEmptyLedger}
 use Rattle.ledger_sql.specs.Rowids.{IsNumbered}
 use Rattle.ledger_sql.specs.Schema.{no_schema}
 use Rattle.records.specs.declared.unavailable.Unavailable.{Unavailable}
-use Rattle.openings.specs.Shape.{has_ours}
 use Rattle.openings.specs.declared.opening.OpenFault.{OpenFault}
 use Rattle.openings.specs.declared.opening.OpenFault.TheVariants as fault
 
@@ -60,10 +59,6 @@ pub record FindsOne (P : Database → Type 0) (image : Image) : Type 0 where
 -- what the files hold has no table, index or view
 abbrev pub FindsNone : Image → Type 0
 FindsNone = FindsOne (λ db. db.schema ≡ no_schema)
-
--- what the files hold has a table of a ledger's
-abbrev pub FindsOurs : Image → Type 0
-FindsOurs = FindsOne (λ db. IsTrue (has_ours db.schema))
 
 -- what an opening that failed left in the files
 abbrev pub LeavesUnopened : {D : Type 0} → (g : disk.Ghosts D) → Files D → Files D → Type 0

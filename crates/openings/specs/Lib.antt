@@ -7,7 +7,8 @@ pub mod Opened
 pub mod Refused
 pub mod RefusedLaws
 pub mod Damage
-pub mod DamageLaws
 pub mod Told
+pub mod CaseLaws
+pub mod DamageLaws
 pub mod NameLaws
 pub mod AtPath

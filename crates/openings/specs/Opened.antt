@@ -74,6 +74,12 @@ pub record IsExamined (sets : DueSets) (db : Database) : Type 0 where
   pub sound : All (λ tenant. AreSound 3 (lists_of tenant.rows)) all.tenants.items
   pub kept : AreKept sets all.directory.items all.tenants.items
 
+-- all rows of the database, in this version, are those of valid machines
+pub record IsSoundIn (version : ℕ) (trees : Trees) : Type 0 where
+  pub all : AllRows
+  pub read : AreAllRows version trees all
+  pub sound : All (λ tenant. AreSound version (lists_of tenant.rows)) all.tenants.items
+
 -- sound tables in which the rowids rise hold ledgers, and the sets cover them
 abbrev pub CanServe : DueSets → Database → Type 0
 CanServe sets db =

@@ -18,9 +18,9 @@ use Rattle.sqlite.specs.Effect.{Database}
 use Rattle.sqlite.specs.Files.{HoldsDatabase, IsNothing, image_of}
 use Rattle.ledger_sql.specs.Effects.{StartsAs, IsLedger}
 use Rattle.ledger_sql.specs.Schema.{after_schema, ledger_schema, no_schema}
-use Rattle.openings.specs.Damage.{IsDamagedIn, NamesVersion}
+use Rattle.openings.specs.Damage.{HasFirstDamage, IsDamagedIn, NamesVersion}
 use Rattle.openings.specs.Found.{FindsOne, IsUnavailable}
-use Rattle.openings.specs.Opened.{HasNames}
+use Rattle.openings.specs.Opened.{HasNames, IsSoundIn}
 use Rattle.openings.specs.Shape.{has_ours}
 use Rattle.openings.specs.Whole.{AreAllRows}
 use Rattle.openings.specs.declared.opening.OpenFault.{OpenFault}
@@ -118,11 +118,35 @@ case_of fault.NewerSchema = 4
 case_of (fault.Damaged damage) = 5
 case_of (fault.Unavailable why) = 6
 
--- of a database one fault is told, unless something is unavailable
+-- of these faults one is told, unless something is unavailable
+abbrev pub AreApart : (OpenFault → Type 0) → Type 0
+AreApart Tells =
+    (a b : OpenFault) → ¬ IsUnavailable a → ¬ IsUnavailable b → Tells a → Tells b
+    → case_of a ≡ case_of b
+
+-- none of them is told, unless something is unavailable
+abbrev pub IsNoneTold : (OpenFault → Type 0) → Type 0
+IsNoneTold Tells = (told : OpenFault) → Tells told → IsUnavailable told
+
+-- rows that are sound, however they are read, have no damage, however they are read
+abbrev pub SoundHasNoDamage : Type 0
+SoundHasNoDamage =
+    (version : ℕ) (damage : Damage) (trees : Trees) → IsSoundIn version trees
+    → HasFirstDamage version damage trees → ⊥
+
+-- a ledger of the current version: its tables are there, tenants have names, and rows are sound
+pub record IsSoundLedger (db : Database) : Type 0 where
+  pub current : IsCurrent db
+  pub ledger : IsLedger db.schema
+  pub names : HasGoodNames db.trees
+  pub sound : IsSoundIn 3 db.trees
+
+-- of a database at most one fault is told, and of such a ledger none
 abbrev pub CasesAreApart : Type 0
-CasesAreApart =
-    (db : Database) (a b : OpenFault) → ¬ IsUnavailable a → ¬ IsUnavailable b → Tells a db
-    → Tells b db → case_of a ≡ case_of b
+CasesAreApart = (db : Database) → AreApart (λ fault. Tells fault db)
+
+abbrev pub SoundIsNotRefused : Type 0
+SoundIsNotRefused = (db : Database) → IsSoundLedger db → IsNoneTold (λ fault. Tells fault db)
 
 -- what the files hold is no database, and they are not empty
 abbrev pub HoldsNone : Image → Type 0
@@ -160,6 +184,13 @@ HindersMaking fault.NotALedger schema = has_ours schema ≡ true
 HindersMaking fault.Unreadable schema = (has_ours schema ≡ false) × (¬ (schema ≡ no_schema))
 HindersMaking (fault.Unavailable why) schema = Unit {0}
 HindersMaking other schema = ⊥
+
+-- of what is there at most one fault is told to a making, and where nothing is, none
+abbrev pub MakingCasesAreApart : Type 0
+MakingCasesAreApart = (schema : Schema) → AreApart (λ fault. HindersMaking fault schema)
+
+abbrev pub NothingHindersMaking : Type 0
+NothingHindersMaking = IsNoneTold (λ fault. HindersMaking fault no_schema)
 
 -- why a making is refused: as the database's own opening is; or by the tables that are there
 abbrev pub IsToldOfMaking : {D : Type 0} → disk.Ghosts D → Files D → OpenFault → Files D → Type 0

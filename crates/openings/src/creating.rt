@@ -8,13 +8,11 @@ ghost use Rattle.sqlite_wal.specs.Reads.{AreClean};
 ghost use Rattle.ledger_sql.specs.Creating.{IsEmptyLedger};
 ghost use Rattle.ledger_sql.specs.Frames.{Live, IsUnmarked};
 ghost use Rattle.ledger_sql.specs.Schema.{no_schema, ledger_schema};
-ghost use Rattle.openings.specs.Found.{FilesStay, FindsNone, FindsOurs, IsBlankHere};
-ghost use Rattle.openings.specs.Found.{IsOfLedger, LeavesFilled, LeavesNew};
+ghost use Rattle.openings.specs.Found.{FindsNone, IsBlankHere, LeavesFilled};
+ghost use Rattle.openings.specs.Refused.{RefusesToMake};
 ghost use Rattle.stored_ledgers.specs.Resting.{Rests, IsNewLedger, IsSame, Serves};
 ghost use Rattle.stored_ledgers.specs.DueSets.{DueSets};
-ghost use Rattle.openings.specs.Shape.{has_ours};
-ghost use Rattle.openings.specs.Told.{HindersMaking, IsToldOfMaking};
-ghost use Rattle.openings.specs.declared.opening.OpenFault.TheVariants.{NotALedger};
+ghost use Rattle.openings.specs.Told.{HindersMaking};
 
 use crate::closing::shut;
 use crate::opening::{OpenFault, open_on};
@@ -74,8 +72,6 @@ pub(crate) fn fill_new<D: Disk + Drop>(
         → IsNewLedger (file_state new)) }
     ensures blank { IfOk result (λ new. HasCleanDisk (file_state new)
         → IsBlankHere (file_state conn)) }
-    ensures refused { IfErr result (λ e. (e.0 ≡ NotALedger) → HasCleanDisk (file_state conn)
-        → IsTrue (has_ours (file_state conn).now.schema)) }
     ensures told { IfErr result (λ e. HindersMaking e.0 (file_state conn).now.schema) }
     ensures honest { IfErr result (λ e. AreClean D.Disk e.1.log e.1.db
         → HasCleanDisk (file_state conn)) }
@@ -106,12 +102,7 @@ pub fn create_ledger<D: Disk + Drop>(
         → FindsNone (image_of D.Disk files)) }
     ensures honest { IfOk result (λ conn. HasCleanDisk (file_state conn)
         → AreClean D.Disk files.log files.db) }
-    ensures refused { IfErr result (λ e. e.0 ≡ NotALedger → AreClean D.Disk e.1.log e.1.db
-        → FindsOurs (image_of D.Disk files)) }
-    ensures told { IfErr result (λ e. AreClean D.Disk e.1.log e.1.db
-        → IsToldOfMaking D.Disk files e.0 e.1) }
-    ensures left { IfErr result (λ e. LeavesNew D.Disk files e.0 e.1) }
-    ensures stay { IfErr result (λ e. IsOfLedger e.0 → FilesStay D.Disk files e.1) }
+    ensures refused { IfErr result (RefusesToMake D.Disk files) }
 {
     let conn = open_on(alloc, files, options)?;
     fill_new(conn)

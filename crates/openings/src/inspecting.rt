@@ -4,9 +4,7 @@ ghost use Rattle.std.specs.Prelude.{IfOk, IfErr, IsTrue};
 ghost use Rattle.sqlite.specs.State.{HasCleanDisk};
 ghost use Rattle.sqlite.specs.Files.{file_state, image_of};
 ghost use Rattle.sqlite_wal.specs.Reads.{AreClean};
-ghost use Rattle.openings.specs.Damage.{Hold, IfDamaged};
-ghost use Rattle.openings.specs.Found.{FilesStay, IsOfLedger};
-ghost use Rattle.openings.specs.Opened.{IsOpened, LeavesRefused};
+ghost use Rattle.openings.specs.Opened.{IsOpened};
 ghost use Rattle.openings.specs.Refused.{LeavesAsTold};
 ghost use Rattle.openings.specs.Told.{IsToldBy};
 
@@ -25,10 +23,7 @@ pub trait Inspection {
     ghost use Rattle.sqlite.specs.Effect.{Database};
     ghost use Rattle.sqlite.specs.Held.{state};
     ghost use Rattle.sqlite.specs.State.{HasCleanDisk, IsUnchanged};
-    ghost use Rattle.sqlite_trees.specs.Tree.{Trees};
-    ghost use Rattle.audit.specs.declared.damage.Damage.{Damage};
     ghost use Rattle.ledger_sql.specs.Frames.{Follows};
-    ghost use Rattle.openings.specs.Damage.{IfDamaged};
     ghost use Rattle.openings.specs.declared.opening.OpenFault.{OpenFault};
 
     // What is known of each answer, whatever the disk has done.
@@ -37,11 +32,8 @@ pub trait Inspection {
     // What an answer says of the database.
     ghost finds: { Self.Found → Database → Type 0 };
 
-    // Which damage is told of it.
-    ghost tells: { Damage → Trees → Type 0 };
-
     // In which case of the database a fault is told.
-    ghost refuses: { OpenFault → Database → Type 0 } = { λ _ _. Unit {0} };
+    ghost refuses: { OpenFault → Database → Type 0 };
 
     /// Looks at it, and answers what was found, or why it is refused.
     fn inspect<S: Alter>(
@@ -52,9 +44,6 @@ pub trait Inspection {
         ensures known { IfOk result known }
         ensures finds { HasCleanDisk (state S.Store conn.new) → IfOk result
             (λ found. finds found (state S.Store conn.old).now) }
-        ensures damaged { HasCleanDisk (state S.Store conn.new)
-            → IfErr result (λ fault. IfDamaged fault
-            (λ damage. tells damage (state S.Store conn.old).now.trees)) }
         ensures told { HasCleanDisk (state S.Store conn.new)
             → IfErr result (λ fault. refuses fault (state S.Store conn.old).now) }
         ensures kept { HasCleanDisk (state S.Store conn.new) → OnOk result
@@ -64,7 +53,7 @@ pub trait Inspection {
 
 /// Opens the database in two files, and looks at it. They are given back where it is refused, and it
 /// is told whether they hold what they held.
-pub(crate) fn open_telling<D: Disk + Drop, I: Inspection>(
+pub fn open_telling<D: Disk + Drop, I: Inspection>(
     alloc: Global,
     files: Files<D>,
     options: Options,
@@ -79,8 +68,6 @@ pub(crate) fn open_telling<D: Disk + Drop, I: Inspection>(
         → IsOpened (image_of D.Disk files) (file_state it.0)) }
     ensures honest { IfOk result (λ it. HasCleanDisk (file_state it.0)
         → AreClean D.Disk files.log files.db) }
-    ensures damaged { IfErr result (λ e. AreClean D.Disk e.1.log e.1.db
-        → IfDamaged e.0.fault (λ damage. Hold D.Disk files (I.tells damage))) }
     ensures told { IfErr result (λ e. AreClean D.Disk e.1.log e.1.db
         → IsToldBy I.refuses D.Disk files e.0.fault e.1) }
     ensures left { IfErr result (λ e. LeavesAsTold D.Disk files e.0 e.1) }
@@ -98,34 +85,5 @@ pub(crate) fn open_telling<D: Disk + Drop, I: Inspection>(
             let stands = true;
             Err((Refused { fault, stands }, shut(conn)))
         }
-    }
-}
-
-/// The same, where it is not asked whether the files hold what they held.
-pub fn open_inspected<D: Disk + Drop, I: Inspection>(
-    alloc: Global,
-    files: Files<D>,
-    options: Options,
-    inspection: &I,
-) -> Result<(Connection<FileStore<D>>, I::Found), (OpenFault, Files<D>)>
-    requires log { IsTrue (D.Disk.is_usable files.log) }
-    requires db { IsTrue (D.Disk.is_usable files.db) }
-    ensures known { IfOk result (λ it. I.known it.1) }
-    ensures finds { IfOk result (λ it. HasCleanDisk (file_state it.0)
-        → I.finds it.1 (file_state it.0).now) }
-    ensures opened { IfOk result (λ it. HasCleanDisk (file_state it.0)
-        → IsOpened (image_of D.Disk files) (file_state it.0)) }
-    ensures honest { IfOk result (λ it. HasCleanDisk (file_state it.0)
-        → AreClean D.Disk files.log files.db) }
-    ensures damaged { IfErr result (λ e. AreClean D.Disk e.1.log e.1.db
-        → IfDamaged e.0 (λ damage. Hold D.Disk files (I.tells damage))) }
-    ensures told { IfErr result (λ e. AreClean D.Disk e.1.log e.1.db
-        → IsToldBy I.refuses D.Disk files e.0 e.1) }
-    ensures left { IfErr result (λ e. LeavesRefused D.Disk files e.1) }
-    ensures stay { IfErr result (λ e. IsOfLedger e.0 → FilesStay D.Disk files e.1) }
-{
-    match open_telling(alloc, files, options, inspection) {
-        Ok(found) => Ok(found),
-        Err((refused, left)) => Err((refused.fault, left)),
     }
 }

@@ -5,17 +5,15 @@ ghost use Rattle.sqlite.specs.State.{HasCleanDisk};
 ghost use Rattle.sqlite.specs.Files.{file_state, image_of};
 ghost use Rattle.sqlite_wal.specs.Reads.{AreClean};
 ghost use Rattle.stored_ledgers.specs.Resting.{Serves};
-ghost use Rattle.openings.specs.Damage.{Hold, IfDamaged, IsDamagedIn};
 ghost use Rattle.openings.specs.Opened.{IsOpened};
 ghost use Rattle.openings.specs.Refused.{LeavesAsTold};
-ghost use Rattle.openings.specs.Told.{IsTold};
+ghost use Rattle.openings.specs.Told.{IsSoundLedger, IsTold};
 
 use crate::auditing::Audit;
 use crate::inspecting::{Inspection, open_telling};
 use crate::opened::examine;
 use crate::opening::OpenFault;
 use crate::refused::Refused;
-use crate::versions::CURRENT_VERSION;
 use sqlite::{Alter, Connection, FileStore, Files, Options};
 use sqlite_disk::Disk;
 use std::alloc::Global;
@@ -30,15 +28,12 @@ struct ServedInspection<'a, A: Audit> {
 impl<A: Audit> Inspection for ServedInspection<'_, A> {
     type Found = DueSets;
 
-    ghost use Rattle.openings.specs.Damage.{IsDamagedIn};
     ghost use Rattle.openings.specs.Opened.{CanServe};
-    ghost use Rattle.openings.specs.Told.{Tells};
+    ghost use Rattle.openings.specs.Told.{IsSoundLedger, Tells};
 
     ghost known = { λ _. Unit {0} };
 
-    ghost finds = { λ sets db. CanServe sets db };
-
-    ghost tells = { λ damage trees. IsDamagedIn 3 damage trees };
+    ghost finds = { λ sets db. CanServe sets db × IsSoundLedger db };
 
     ghost refuses = { λ fault db. Tells fault db };
 
@@ -64,10 +59,10 @@ pub fn open_ledger<D: Disk + Drop, A: Audit>(
     ensures serves { IfOk result (λ it. Serves it.1 (file_state it.0)) }
     ensures opened { IfOk result (λ it. HasCleanDisk (file_state it.0)
         → IsOpened (image_of D.Disk files) (file_state it.0)) }
+    ensures sound { IfOk result (λ it. HasCleanDisk (file_state it.0)
+        → IsSoundLedger (file_state it.0).now) }
     ensures honest { IfOk result (λ it. HasCleanDisk (file_state it.0)
         → AreClean D.Disk files.log files.db) }
-    ensures damaged { IfErr result (λ e. AreClean D.Disk e.1.log e.1.db
-        → IfDamaged e.0.fault (λ damage. Hold D.Disk files (IsDamagedIn CURRENT_VERSION damage))) }
     ensures told { IfErr result (λ e. AreClean D.Disk e.1.log e.1.db
         → IsTold D.Disk files e.0.fault e.1) }
     ensures left { IfErr result (λ e. LeavesAsTold D.Disk files e.0 e.1) }

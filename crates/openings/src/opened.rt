@@ -5,9 +5,8 @@ ghost use Rattle.sqlite.specs.State.{HasCleanDisk, IsUnchanged};
 ghost use Rattle.sqlite.specs.Held.{state};
 ghost use Rattle.ledger_sql.specs.Effects.{IsLedger};
 ghost use Rattle.ledger_sql.specs.Frames.{Live, Follows};
-ghost use Rattle.openings.specs.Damage.{IfDamaged, IsDamagedIn, IsNoDamage};
 ghost use Rattle.openings.specs.Opened.{CanServe, HasNames};
-ghost use Rattle.openings.specs.Told.{IsCurrent, Tells};
+ghost use Rattle.openings.specs.Told.{IsCurrent, IsSoundLedger, Tells};
 ghost use Rattle.stored_ledgers.specs.Resting.{IsQuiet, IsSame};
 ghost use Rattle.openings.specs.Whole.{AreAllRows};
 
@@ -33,9 +32,8 @@ pub fn examine<S: Alter, A: Audit>(
 ) -> Result<DueSets, OpenFault>
     ensures examined { HasCleanDisk (state S.Store conn.new)
         → IfOk result (λ sets. CanServe sets (state S.Store conn.old).now) }
-    ensures damaged { HasCleanDisk (state S.Store conn.new)
-        → IfErr result (λ fault. IfDamaged fault
-        (λ damage. IsDamagedIn 3 damage (state S.Store conn.old).now.trees)) }
+    ensures sound { HasCleanDisk (state S.Store conn.new)
+        → OnOk result (IsSoundLedger (state S.Store conn.old).now) }
     ensures told { HasCleanDisk (state S.Store conn.new)
         → IfErr result (λ fault. Tells fault (state S.Store conn.old).now) }
     ensures kept { HasCleanDisk (state S.Store conn.new) → OnOk result
@@ -58,7 +56,6 @@ fn find_current<S: Alter>(alloc: Global, conn: &mut Connection<S>) -> Result<(),
         → OnOk result (IsCurrent (state S.Store conn.old).now) }
     ensures told { HasCleanDisk (state S.Store conn.new)
         → IfErr result (λ fault. Tells fault (state S.Store conn.old).now) }
-    ensures undamaged { IfErr result IsNoDamage }
     ensures kept { HasCleanDisk (state S.Store conn.new) → OnOk result
         (IsUnchanged (state S.Store conn.old) (state S.Store conn.new)) }
     ensures same { Live (state S.Store conn.new) → IsQuiet (state S.Store conn.old)
@@ -80,7 +77,6 @@ fn read_ledger<S: Alter>(alloc: Global, conn: &mut Connection<S>) -> Result<AllR
         → IfOk result (AreAllRows CURRENT_VERSION (state S.Store conn.old).now.trees) }
     ensures told { HasCleanDisk (state S.Store conn.new) → IsCurrent (state S.Store conn.old).now
         → IfErr result (λ fault. Tells fault (state S.Store conn.old).now) }
-    ensures undamaged { IfErr result IsNoDamage }
     ensures names { IfOk result (λ rows. HasNames rows.directory.items) }
     ensures kept { HasCleanDisk (state S.Store conn.new) → OnOk result
         (IsUnchanged (state S.Store conn.old) (state S.Store conn.new)) }

@@ -7,7 +7,6 @@ ghost use Rattle.sqlite_std_file.specs.File.{file_is_usable, IsFresh};
 ghost use Rattle.sqlite_wal.specs.Files.{image_at};
 ghost use Rattle.sqlite_wal.specs.Reads.{AreClean};
 ghost use Rattle.openings.specs.AtPath.{HoldHonestly};
-ghost use Rattle.openings.specs.Damage.{IsNoDamage};
 ghost use Rattle.openings.specs.Faults.{open_fault_in};
 ghost use Rattle.openings.specs.Told.{IsUnopenedFor};
 ghost use Rattle.openings.specs.Found.{IsOfLedger, IsOpenAt, LeavesUnopened};
@@ -81,7 +80,6 @@ impl From<AuditFault> for OpenFault {
 fn open_fault(error: Error) -> OpenFault
     ensures means { result ≡ open_fault_in error }
     ensures ledger { IsOfLedger result → ⊥ }
-    ensures undamaged { IsNoDamage result }
 {
     match error {
         Error::SqliteFailure(ErrorCode::OutOfMemory) => OpenFault::Unavailable(Unavailable::Memory),
@@ -106,7 +104,6 @@ pub(crate) fn open_on<D: Disk + Drop>(
     ensures honest { IfOk result (λ conn. HasCleanDisk (file_state conn)
         → AreClean D.Disk files.log files.db) }
     ensures fault { IfErr result (λ e. IsOfLedger e.0 → ⊥) }
-    ensures undamaged { IfErr result (λ e. IsNoDamage e.0) }
     ensures told { IfErr result (λ e. AreClean D.Disk e.1.log e.1.db
         → IsUnopenedFor D.Disk files e.0 e.1) }
     ensures left { IfErr result (λ e. LeavesUnopened D.Disk files e.1) }

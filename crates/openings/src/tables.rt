@@ -10,11 +10,11 @@ ghost use Rattle.rows.specs.TypedRows.{lists_of};
 ghost use Rattle.stored_ledgers.specs.Resting.{IsQuiet, IsSame};
 ghost use Rattle.openings.specs.Tables.{AreTenantRows, HasTables};
 
-use ledger_sql::TableFault;
 use ledger_sql::listing::{
     list_accounts, list_balances, list_clocks, list_failed, list_history, list_statuses,
     list_transfers,
 };
+use records::Unavailable;
 use rows::TenantRows;
 use sqlite::{Alter, Connection};
 use std::alloc::Global;
@@ -25,7 +25,7 @@ pub fn read_tenant<S: Alter>(
     conn: &mut Connection<S>,
     version: u32,
     tenant: i64,
-) -> Result<TenantRows, TableFault>
+) -> Result<TenantRows, Unavailable>
     ensures whole { HasCleanDisk (state S.Store conn.new)
         → HasTables version (state S.Store conn.old).now.schema
         → IfOk result
@@ -50,7 +50,7 @@ fn read_entries<S: Alter>(
     alloc: Global,
     conn: &mut Connection<S>,
     tenant: i64,
-) -> Result<TenantRows, TableFault>
+) -> Result<TenantRows, Unavailable>
     ensures whole { HasCleanDisk (state S.Store conn.new)
         → StartsAs list_schema.tables (state S.Store conn.old).now.schema
         → IfOk result
@@ -80,7 +80,7 @@ fn read_with_derived<S: Alter>(
     alloc: Global,
     conn: &mut Connection<S>,
     tenant: i64,
-) -> Result<TenantRows, TableFault>
+) -> Result<TenantRows, Unavailable>
     ensures whole { HasCleanDisk (state S.Store conn.new)
         → StartsAs balance_schema.tables (state S.Store conn.old).now.schema
         → IfOk result
@@ -108,7 +108,7 @@ fn read_with_failed<S: Alter>(
     alloc: Global,
     conn: &mut Connection<S>,
     tenant: i64,
-) -> Result<TenantRows, TableFault>
+) -> Result<TenantRows, Unavailable>
     ensures whole { HasCleanDisk (state S.Store conn.new)
         → StartsAs ledger_schema.tables (state S.Store conn.old).now.schema
         → IfOk result

@@ -3,11 +3,9 @@
 ghost use Rattle.std.specs.Prelude.{◌≡◌, ◌≢◌, ◌≤◌, pos, [], ◌∷◌, IfOk, IfErr, OnOk};
 ghost use Rattle.sqlite.specs.State.{HasCleanDisk, IsUnchanged};
 ghost use Rattle.sqlite.specs.Held.{state};
-ghost use Rattle.ledger_sql.specs.Effects.{StartsAs};
 ghost use Rattle.ledger_sql.specs.Frames.{Live, Follows};
-ghost use Rattle.ledger_sql.specs.Schema.{after_schema};
-ghost use Rattle.openings.specs.Damage.{IsNoDamage, NamesVersion};
-ghost use Rattle.openings.specs.Told.{LacksVersion, Tells};
+ghost use Rattle.openings.specs.Damage.{IsNoDamage};
+ghost use Rattle.openings.specs.Told.{HasVersion, LacksVersion, Tells};
 ghost use Rattle.openings.specs.declared.opening.OpenFault.TheVariants.{OldSchema};
 ghost use Rattle.stored_ledgers.specs.Resting.{IsQuiet, IsSame};
 
@@ -22,11 +20,8 @@ pub const CURRENT_VERSION: u32 = 3;
 
 /// The version that a file names. It only reads.
 pub fn find_version<S: Alter>(alloc: Global, conn: &mut Connection<S>) -> Result<u32, OpenFault>
-    ensures named { HasCleanDisk (state S.Store conn.new)
-        → StartsAs after_schema.tables (state S.Store conn.old).now.schema
-        → IfOk result (λ version. NamesVersion (pos version) (state S.Store conn.old).now.trees) }
-    ensures starts { HasCleanDisk (state S.Store conn.new) → OnOk result
-        (StartsAs after_schema.tables (state S.Store conn.old).now.schema) }
+    ensures found { HasCleanDisk (state S.Store conn.new) → IfOk result
+        (λ version. HasVersion (λ number. number ≡ pos version) (state S.Store conn.old).now) }
     ensures known { IfOk result (λ version. (1 ≤ version) × (version ≤ CURRENT_VERSION)) }
     ensures told { HasCleanDisk (state S.Store conn.new)
         → IfErr result (λ fault. Tells fault (state S.Store conn.old).now) }

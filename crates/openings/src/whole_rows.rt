@@ -11,7 +11,6 @@ ghost use Rattle.openings.specs.Whole.{CanBeRead, AreRowsOf, AreAllRows, IsReadF
 ghost use Rattle.openings.specs.Tables.{HasTables};
 
 use crate::tables::read_tenant;
-use ledger_sql::TableFault;
 use ledger_sql::finding::find_tenant;
 use ledger_sql::listing::directory;
 use records::Unavailable;
@@ -54,7 +53,7 @@ pub fn rows_in<S: Alter>(
         → IsTrue (state S.Store conn.new).is_open }
     ensures follows { Follows (state S.Store conn.old) (state S.Store conn.new) }
 {
-    let rows = try_all_rows(alloc, conn, version);
+    let rows = read_all(alloc, conn, version);
     judged(conn, rows)
 }
 
@@ -79,25 +78,6 @@ pub fn rows_of<S: Alter>(
 }
 
 /// The same, where a failure may have shut the database unnoticed.
-fn try_all_rows<S: Alter>(
-    alloc: Global,
-    conn: &mut Connection<S>,
-    version: u32,
-) -> Result<AllRows, Unavailable>
-    ensures version { IfOk result (λ rows. rows.version ≡ version) }
-    ensures whole { HasCleanDisk (state S.Store conn.new)
-        → HasTables version (state S.Store conn.old).now.schema
-        → IfOk result (AreAllRows version (state S.Store conn.old).now.trees) }
-    ensures kept { HasCleanDisk (state S.Store conn.new) → OnOk result
-        (IsUnchanged (state S.Store conn.old) (state S.Store conn.new)) }
-    ensures same { Live (state S.Store conn.new) → IsQuiet (state S.Store conn.old)
-        → IsSame (state S.Store conn.old) (state S.Store conn.new) }
-    ensures follows { Follows (state S.Store conn.old) (state S.Store conn.new) }
-{
-    Ok(read_all(alloc, conn, version)?)
-}
-
-/// The same, where a failure may have shut the database unnoticed.
 fn try_rows_of<S: Alter>(
     alloc: Global,
     conn: &mut Connection<S>,
@@ -119,12 +99,12 @@ fn try_rows_of<S: Alter>(
     Ok(Some(read_tenant(alloc, conn, version, number)?))
 }
 
-/// All rows of a file of this version, or that it lacks a table.
+/// All rows of a file of this version. A failure may have shut the database unnoticed.
 pub fn read_all<S: Alter>(
     alloc: Global,
     conn: &mut Connection<S>,
     version: u32,
-) -> Result<AllRows, TableFault>
+) -> Result<AllRows, Unavailable>
     ensures version { IfOk result (λ rows. rows.version ≡ version) }
     ensures whole { HasCleanDisk (state S.Store conn.new)
         → HasTables version (state S.Store conn.old).now.schema
@@ -150,7 +130,7 @@ fn read_tenants<S: Alter>(
     conn: &mut Connection<S>,
     version: u32,
     directory: &[DirectoryRow],
-) -> Result<Vec<TenantOfDigest>, TableFault>
+) -> Result<Vec<TenantOfDigest>, Unavailable>
     ensures whole { HasCleanDisk (state S.Store conn.new)
         → HasTables version (state S.Store conn.old).now.schema
         → IfOk result (λ tenants.

@@ -41,10 +41,10 @@ module _ {D : Type 0} (g : disk.Ghosts D) (stays : (file : D) → g.may_leave fi
   pub finds_again : (old new : Place D g) → GivesBackAt old files → IsOpenedAt (image_of g files) new
       → FindsAt (may_find_at old) new
   finds_again old (at.Open conn) back opened = (
-    opened.is_open,
-    subst (λ (db : Database). ∥ may_find_at old db.trees ∥₁) (sym opened.quiet.settled)
+    opened.0.is_open,
+    subst (λ (db : Database). ∥ may_find_at old db.trees ∥₁) (sym opened.0.quiet.settled)
         (found_of old (file_state conn).committed.trees back
-        (record { reads = opened.found.reads; holds = opened.found.holds })),
+        (record { reads = opened.0.found.reads; holds = opened.0.found.holds })),
   )
   finds_again old (at.Shut left) back opened = absurd opened
 

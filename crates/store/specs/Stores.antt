@@ -20,7 +20,7 @@ use Rattle.stored_ledgers.specs.DueSets.{DueSets}
 use Rattle.stored_ledgers.specs.Outcomes.{KeepsTables}
 use Rattle.openings.specs.Found.{IsOfLedger, IsSettled, LeavesUnopened, Yields}
 use Rattle.openings.specs.Opened.{IsOpened}
-use Rattle.openings.specs.Told.{IsTold}
+use Rattle.openings.specs.Told.{IsSoundLedger, IsTold}
 use Rattle.openings.specs.declared.opening.OpenFault.{OpenFault}
 use Rattle.openings.specs.declared.refused.Refused.{Refused}
 use Rattle.stored_ledgers.specs.Resting.{IsResting}
@@ -189,9 +189,10 @@ module _ {D : Type 0} {g : disk.Ghosts D} where
     pub same : IsLive new → KeepsAll (tenants_of old) (tenants_of new)
     pub finds : Goes old new (λ db. ⊥)
 
-  -- a store was opened on what the files held
+  -- a store was opened on what the files held, which was a sound ledger
   abbrev pub IsOpenedAt : Image → Place D g → Type 0
-  IsOpenedAt image (at.Open conn) = IsOpened image (file_state conn)
+  IsOpenedAt image (at.Open conn) =
+      IsOpened image (file_state conn) × IsSoundLedger (file_state conn).now
   IsOpenedAt image (at.Shut files) = ⊥
 
   abbrev pub IsOpenedOn : Image → Store D g → Type 0

@@ -5,7 +5,8 @@ ghost use Rattle.sqlite_wal.specs.Files.{image_at};
 ghost use Rattle.ledger_sql.specs.Creating.{IsEmptyLedger};
 ghost use Rattle.openings.specs.AtPath.{LeavesPath};
 ghost use Rattle.openings.specs.Found.{FindsNone};
-ghost use Rattle.store.specs.Refused.{RefusesToMake, RefusesToOpen};
+ghost use Rattle.openings.specs.Refused.{RefusesToMake};
+ghost use Rattle.store.specs.Refused.{RefusesToOpen};
 ghost use Rattle.store.specs.Stores.{IsHonest, IsLive, IsOpenedOn, IsReady, IsUsable, OfDatabase};
 
 use crate::Store;

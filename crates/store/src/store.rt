@@ -8,14 +8,12 @@ ghost use Rattle.sqlite.specs.Files.{file_state, image_of};
 ghost use Rattle.stored_ledgers.specs.Outcomes.{IsAfterBatch, KeepsTables};
 ghost use Rattle.sqlite_wal.specs.Reads.{AreClean};
 ghost use Rattle.ledger_sql.specs.Creating.{IsEmptyLedger};
-ghost use Rattle.openings.specs.Damage.{Hold, IfDamaged, IsDamagedIn};
 ghost use Rattle.stored_ledgers.specs.Directory.{digest_in};
-ghost use Rattle.openings.specs.Found.{FilesStay, FindsNone, FindsOurs, IsOfLedger, LeavesNew};
+ghost use Rattle.openings.specs.Found.{FindsNone};
 ghost use Rattle.stored_ledgers.specs.Listing.{AreListed};
 ghost use Rattle.stored_ledgers.specs.Joining.{HasJoined, Joined};
 ghost use Rattle.stored_ledgers.specs.Keying.{HasKeyed, Keyed};
-ghost use Rattle.openings.specs.Opened.{LeavesRefused};
-ghost use Rattle.openings.specs.Told.{IsTold, IsToldOfMaking};
+ghost use Rattle.openings.specs.Refused.{RefusesToMake};
 ghost use Rattle.stored_ledgers.specs.Resting.{Serves};
 ghost use Rattle.stored_ledgers.specs.Rounds.{IsAfterRound};
 ghost use Rattle.service.specs.Courses.{Tried};
@@ -23,10 +21,10 @@ ghost use Rattle.service.specs.Deeds.{Joined as DeedJoined, Keyed as DeedKeyed};
 ghost use Rattle.service.specs.Openings.{Moves, run_meaning};
 ghost use Rattle.store.specs.Deeds.{IsKeyTried, ending_of, key_ending};
 ghost use Rattle.store.specs.Names.{digest_named};
+ghost use Rattle.store.specs.Refused.{RefusesToOpen};
 ghost use Rattle.store.specs.StoreLaws.{store_meaning};
 ghost use Rattle.store.specs.Stores.{IsLive, IsHonest, IsOpenedOn, IsReady, IsStoreOver, tenants_of, GivesBack, IsUsable, Follows, Goes, OfDatabase, OfDatabases, IsSettledStore, Answers, Reads, RefusesUnready};
 ghost use Rattle.openings.specs.Whole.{AreAllRows, AreRowsOf};
-ghost use Rattle.openings.specs.declared.opening.OpenFault.TheVariants.{NotALedger};
 
 use crate::place::Place;
 use chain::{BatchFault, RoundWork, Work};
@@ -83,12 +81,7 @@ impl<D: Disk + Drop> Store<D> {
             → FindsNone (image_of D.Disk files)) }
         ensures honest { IfOk result (λ store. IsHonest store
             → AreClean D.Disk files.log files.db) }
-        ensures refused { IfErr result (λ e. e.0 ≡ NotALedger → AreClean D.Disk e.1.log e.1.db
-            → FindsOurs (image_of D.Disk files)) }
-        ensures told { IfErr result (λ e. AreClean D.Disk e.1.log e.1.db
-            → IsToldOfMaking D.Disk files e.0 e.1) }
-        ensures left { IfErr result (λ e. LeavesNew D.Disk files e.0 e.1) }
-        ensures stay { IfErr result (λ e. IsOfLedger e.0 → FilesStay D.Disk files e.1) }
+        ensures refused { IfErr result (RefusesToMake D.Disk files) }
     {
         let conn = create_ledger(alloc, files, options)?;
         Ok(Store::over(alloc, conn, BTreeMap::new(alloc), options))
@@ -109,12 +102,7 @@ impl<D: Disk + Drop> Store<D> {
             → IsOpenedOn (image_of D.Disk files) store) }
         ensures honest { IfOk result (λ store. IsHonest store
             → AreClean D.Disk files.log files.db) }
-        ensures damaged { IfErr result (λ e. AreClean D.Disk e.1.log e.1.db
-            → IfDamaged e.0 (λ damage. Hold D.Disk files (IsDamagedIn CURRENT_VERSION damage))) }
-        ensures told { IfErr result (λ e. AreClean D.Disk e.1.log e.1.db
-            → IsTold D.Disk files e.0 e.1) }
-        ensures left { IfErr result (λ e. LeavesRefused D.Disk files e.1) }
-        ensures stay { IfErr result (λ e. IsOfLedger e.0 → FilesStay D.Disk files e.1) }
+        ensures refused { IfErr result (RefusesToOpen D.Disk files) }
     {
         match open_ledger(alloc, files, options, audit) {
             Ok((conn, due)) => Ok(Store::over(alloc, conn, due, options)),
@@ -289,7 +277,6 @@ impl<D: Disk + Drop> Store<D> {
         ensures disk { result ≡ Err (AddTenant.Unavailable DiskFailed)
             → self.new.ready ≡ false }
         ensures refuses { RefusesUnready (AddTenant.Unavailable DiskFailed) self.old self.new result }
-        ensures unready { self.old.ready ≡ false → self.new ≡ self.old }
         ensures moves { Moves (run_meaning store_meaning) self.old
             (Tried (DeedJoined digest.now) (ending_of result)) self.new }
     {
@@ -321,7 +308,6 @@ impl<D: Disk + Drop> Store<D> {
         ensures disk { result ≡ Err (ChangeKey.Unavailable DiskFailed)
             → self.new.ready ≡ false }
         ensures refuses { RefusesUnready (ChangeKey.Unavailable DiskFailed) self.old self.new result }
-        ensures unready { self.old.ready ≡ false → self.new ≡ self.old }
         ensures moves { IsKeyTried (run_meaning store_meaning) self.old digest.now result self.new }
         ensures whose { Moves (run_meaning store_meaning) self.old
             (Tried (DeedKeyed (digest_named self.old name.now) digest.now) (key_ending result))

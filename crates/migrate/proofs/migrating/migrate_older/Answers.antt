@@ -3,7 +3,8 @@ use Rattle.sqlite.specs.Files.{file_state}
 use Rattle.openings.specs.Damage.{HasFirstDamage}
 use Rattle.stored_ledgers.specs.Resting.{IsQuiet, IsSame}
 use Rattle.migrate.specs.Faults.{IfDamaged}
-use Rattle.migrate.specs.Upgrading.{IsRaised, IsSoundIn}
+use Rattle.openings.specs.Opened.{IsSoundIn}
+use Rattle.migrate.specs.Upgrading.{IsRaised}
 use Rattle.migrate.specs.UpgradingLaws.{raised_kept}
 use Rattle.migrate.proofs.LedgerLemmas.{answers_live, no_fault, older_open, other_answer, raised_migratable, still_migratable}
 use Rattle.migrate.proofs.LedgerLemmas.{still_ready, unless_fault}

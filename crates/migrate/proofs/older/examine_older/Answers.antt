@@ -1,5 +1,5 @@
-use Rattle.std.proofs.Common.{◌≡◌, ℕ, All, sym, subst, ◌∙◌}
-use Rattle.std.proofs.lemmas.Result.{on_ok_weaker, IfErr-weaker}
+use Rattle.std.proofs.Common.{ℕ, All, sym, subst, ◌∙◌}
+use Rattle.std.proofs.lemmas.Result.{on_ok_weaker}
 use Rattle.rows.specs.declared.all_rows.TenantOfDigest.{TenantOfDigest}
 use Rattle.rows.specs.TypedRows.{lists_of}
 use Rattle.audit.specs.Damage.{IsFirstDamage}
@@ -7,9 +7,9 @@ use Rattle.audit.specs.declared.damage.Damage.{Damage}
 use Rattle.audit.specs.Sound.{AreSound}
 use Rattle.sqlite.specs.Held.{state}
 use Rattle.openings.specs.Damage.{HasFirstDamage, IfDamaged}
-use Rattle.migrate.specs.Upgrading.{older_schema}
 use Rattle.openings.specs.declared.opening.OpenFault.{OpenFault}
 use Rattle.openings.specs.DamageLaws.{first_of_read, if_damaged_more}
+use Rattle.openings.specs.NameLaws.{good_names}
 use Rattle.migrate.specs.Told.{TellsOfRows, TellsOlder}
 use Rattle.migrate.proofs.OlderLemmas.{older_tables}
 use Rattle.migrate.proofs.ToldLemmas.{both_err, told_rows}
@@ -31,6 +31,10 @@ returns-clause-examined g c =
             read = read;
             sound = subst (λ (v : ℕ). All (λ (tenant : TenantOfDigest). AreSound v (lists_of tenant.rows)) rows.tenants.items) read.version_is sound;
           }) c.audit_older.ensures.sound;
+      names = λ clean.
+          let read = c.in_ok-rows.ensures.whole clean tables in
+          on_ok_weaker c.audit_older.result (λ names. good_names version db.trees rows read names)
+          c.audit_older.ensures.names;
       told = λ clean.
           let read = c.in_ok-rows.ensures.whole clean tables in
           let P = λ (damage : Damage). IsFirstDamage rows.version rows.tenants.items damage in
@@ -40,12 +44,4 @@ returns-clause-examined g c =
           (λ told of first. told_rows version told db rows schema read of
           (if_damaged_more told P Q (λ damage is. first_of_read version rows.version db.trees rows damage read read.version_is is) first))
           c.audit_older.ensures.told c.audit_older.ensures.damaged;
-      damaged = λ clean.
-          let read = c.in_ok-rows.ensures.whole clean tables in
-          let P = λ (damage : Damage). IsFirstDamage rows.version rows.tenants.items damage in
-          let Q = λ (damage : Damage). (db.schema ≡ older_schema version) × HasFirstDamage version damage db.trees in
-          IfErr-weaker c.audit_older.result (λ (told : OpenFault). IfDamaged told P) (λ (told : OpenFault). IfDamaged told Q)
-          (λ told. if_damaged_more told P Q (λ damage first.
-          (schema, first_of_read version rows.version db.trees rows damage read read.version_is first)))
-          c.audit_older.ensures.damaged;
     }

@@ -4,7 +4,8 @@ use Rattle.migrate.proofs.raising.look_at.Goals as goal
 pub returns-then-version-lt-CURRENT_VERSION-clause-seen : goal.returns-then-version-lt-CURRENT_VERSION-clause-seen
 returns-then-version-lt-CURRENT_VERSION-clause-seen g c clean = record {
   current = λ three. absurd (let less = c.if-version-lt-CURRENT_VERSION.true in omega (arith, three, less));
-  older = λ _. c.in_ok-examine_older.ensures.examined.sound clean;
+  older = λ _.
+      let examined = c.in_ok-examine_older.ensures.examined in (examined.names clean, examined.sound clean);
 }
 
 pub returns-clause-seen : goal.returns-clause-seen

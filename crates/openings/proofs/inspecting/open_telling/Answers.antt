@@ -2,7 +2,6 @@ use Rattle.std.proofs.Common.{inr, inl, refl, sym, subst, arith}
 use Rattle.sqlite.specs.Effect.{Database}
 use Rattle.sqlite.specs.Files.{file_state, image_of}
 use Rattle.sqlite.specs.State.{HasCleanDisk}
-use Rattle.openings.proofs.DamageLemmas.{damage_held}
 use Rattle.openings.proofs.ThereLemmas.{finds_now}
 use Rattle.openings.proofs.OpenedLemmas.{opened_on, refused_stay}
 use Rattle.openings.proofs.inspecting.open_telling.Goals as goal
@@ -40,14 +39,6 @@ returns-in-Err-inspect-clause-left g c = record {
   unopened = λ is. absurd (cc);
   of_ledger = λ is. refl;
 }
-
-pub returns-in-Err-inspect-clause-damaged : goal.returns-in-Err-inspect-clause-damaged
-returns-in-Err-inspect-clause-damaged g c clean =
-    let last = c.shut.ensures.honest clean in
-    let first : HasCleanDisk (file_state c.in-Ok.conn) =
-    omega (arith, c.in-Err-inspect.ensures.follows.survives.clean, last) in
-    damage_held g.D.Disk c.args.files (file_state c.in-Ok.conn) c.in-Err-inspect.fault g.I.Inspection.tells
-    (c.in-Ok.ensures.honest first) (c.in-Ok.ensures.opened first) (c.in-Err-inspect.ensures.damaged last)
 
 pub returns-in-Err-inspect-clause-told : goal.returns-in-Err-inspect-clause-told
 returns-in-Err-inspect-clause-told g c clean =

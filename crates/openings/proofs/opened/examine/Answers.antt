@@ -3,19 +3,16 @@ use Rattle.std.proofs.lemmas.Result.{err_from_is_err_and}
 use Rattle.rows.specs.declared.all_rows.TenantOfDigest.{TenantOfDigest}
 use Rattle.rows.specs.TypedRows.{lists_of}
 use Rattle.audit.specs.Damage.{IsFirstDamage}
-use Rattle.audit.specs.declared.damage.Damage.{Damage}
 use Rattle.audit.specs.Sound.{AreSound}
 use Rattle.sqlite.specs.Effect.{Database}
 use Rattle.sqlite.specs.Held.{state}
 use Rattle.sqlite.specs.State.{HasCleanDisk}
 use Rattle.ledger_sql.specs.Effects.{IsLedger}
-use Rattle.openings.specs.Damage.{IsDamagedIn}
 use Rattle.openings.specs.Whole.{AreAllRows}
 use Rattle.openings.specs.Opened.{IsExamined}
 use Rattle.openings.specs.Told.{IsCurrent, Tells}
 use Rattle.openings.proofs.OpenedLedger.{examined_holds, examined_covered}
 use Rattle.openings.specs.DamageLaws.{first_of_read}
-use Rattle.openings.proofs.DamageLemmas.{damage_by_audit}
 use Rattle.openings.specs.NameLaws.{good_names}
 use Rattle.openings.proofs.ToldLemmas.{names_current, told_by_audit, told_by_want}
 use Rattle.openings.proofs.opened.examine.Goals as goal
@@ -44,21 +41,25 @@ returns-clause-examined g c clean sound ordered =
       examined_covered sets db sound ordered examined c.rows_fit.ensures c.held_machines.ensures,
     )
 
-pub returns-in_err-audit-clause-damaged : goal.returns-in_err-audit-clause-damaged
-returns-in_err-audit-clause-damaged g c clean =
-    let p = err_from_is_err_and c.from_residual-in_err-audit.result c.from_residual-in_err-audit.ensures.1 in
+pub returns-clause-sound : goal.returns-clause-sound
+returns-clause-sound g c clean =
+    let db = (state g.S.Store c.args.conn.now).now in
     let first : HasCleanDisk (state g.S.Store c.find_current.new.conn) =
     omega (arith, c.in_ok-rows.ensures.follows.survives.clean, clean) in
     let kept = c.in_ok-find_current.ensures.kept first in
     let rows = c.in_ok-rows.rows in
-    let trees = (state g.S.Store c.args.conn.now).now.trees in
     let read = subst (λ (db : Database). AreAllRows 3 db.trees rows) kept.0.now_is (c.in_ok-rows.ensures.read clean) in
-    damage_by_audit c.from_residual-in_err-audit.result _ (IsFirstDamage rows.version rows.tenants.items)
-    (λ (damage : Damage). IsDamagedIn 3 damage trees) (p.1 ∙ ap Err p.2)
-    (λ damage told. record {
-      named = names_current (state g.S.Store c.args.conn.now).now (c.in_ok-find_current.ensures.current first);
-      damaged = first_of_read 3 rows.version trees rows damage read read.version_is told;
-    }) c.in_err-audit.ensures.damaged
+    record {
+      current = c.in_ok-find_current.ensures.current first;
+      ledger = subst (λ (db : Database). IsLedger db.schema) kept.0.now_is (c.in_ok-rows.ensures.ledger clean);
+      names = good_names 3 db.trees rows read c.in_ok-rows.ensures.names;
+      sound = record {
+        all = rows;
+        read = read;
+        sound = subst (λ (v : ℕ). All (λ (tenant : TenantOfDigest). AreSound v (lists_of tenant.rows)) rows.tenants.items)
+            read.version_is c.in_ok-audit.ensures.sound;
+      };
+    }
 
 pub returns-in_err-rows-clause-told : goal.returns-in_err-rows-clause-told
 returns-in_err-rows-clause-told g c clean =

@@ -5,7 +5,7 @@ use Rattle.sqlite_schema.specs.declared.schema.Schema.{Schema}
 use Rattle.sqlite.specs.Held.{state}
 use Rattle.openings.specs.Opened.{HasNames}
 use Rattle.openings.specs.Told.{LacksTables, No_name}
-use Rattle.openings.proofs.ToldLemmas.{told_by_call, told_tables}
+use Rattle.openings.proofs.ToldLemmas.{told_by_want, told_tables}
 use Rattle.ledger_sql.specs.Effects.{IsLedger}
 use Rattle.openings.proofs.WholeLemmas.{has_tables}
 use Rattle.openings.proofs.opened.read_ledger.Goals as goal
@@ -26,7 +26,7 @@ returns-in-Some-clause-told g c clean current =
 pub returns-in_err-rows-clause-told : goal.returns-in_err-rows-clause-told
 returns-in_err-rows-clause-told g c clean current =
     let p = err_from_is_err_and c.from_residual.result c.from_residual.ensures.1 in
-    told_by_call c.from_residual.result _ (state g.S.Store c.args.conn.now).now (p.1 ∙ ap Err p.2)
+    told_by_want c.from_residual.result _ (state g.S.Store c.args.conn.now).now (p.1 ∙ ap Err p.2)
 
 pub returns-then-not-has_names-clause-told : goal.returns-then-not-has_names-clause-told
 returns-then-not-has_names-clause-told g c clean current =

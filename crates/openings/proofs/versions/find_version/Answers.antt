@@ -1,5 +1,5 @@
-use Rattle.std.proofs.Common.{Result, Ok, Err, OnOk, refl, subst, ap, ◌∙◌}
-use Rattle.std.proofs.lemmas.Result.{err_from_is_err_and, IfErr-weaker}
+use Rattle.std.proofs.Common.{Err, pos, refl, subst, ap, ◌∙◌}
+use Rattle.std.proofs.lemmas.Result.{err_from_is_err_and, IfErr-weaker, IfOk-weaker}
 use Rattle.sqlite_schema.specs.declared.schema.Schema.{Schema}
 use Rattle.sqlite.specs.Held.{state}
 use Rattle.ledger_sql.specs.Effects.{StartsAs}
@@ -10,14 +10,17 @@ use Rattle.openings.proofs.ToldLemmas.{told_by_call, told_version, told_versions
 use Rattle.openings.proofs.ToldLemmas.{not_old_call, not_old_version, not_old_versions}
 use Rattle.openings.proofs.versions.find_version.Goals as goal
 
-on_ok : {T E P : Type 0} (r : Result T E) → P → OnOk r P
-on_ok (Ok value) is = is
-on_ok (Err why) is = tt
-
-pub returns-clause-named : goal.returns-clause-named
-returns-clause-named g c clean starts =
-    named_version c.one_version.result _ c.as_slice.result.now c.in_ok-versions.versions.items
-    (c.in_ok-versions.ensures.whole clean starts) c.as_slice.ensures.value c.one_version.ensures.named
+pub returns-clause-found : goal.returns-clause-found
+returns-clause-found g c clean =
+    let starts = subst (λ (s : Schema). StartsAs after_schema.tables s) c.schema.ensures.value
+    (c.in_default.ensures.starts refl) in
+    IfOk-weaker c.one_version.result _ _ (λ version named. record {
+      starts = starts;
+      version = pos version;
+      is = refl;
+      named = named;
+    }) (named_version c.one_version.result _ c.as_slice.result.now c.in_ok-versions.versions.items
+    (c.in_ok-versions.ensures.whole clean starts) c.as_slice.ensures.value c.one_version.ensures.named)
 
 pub returns-in-Some-clause-told : goal.returns-in-Some-clause-told
 returns-in-Some-clause-told g c clean =
@@ -28,11 +31,6 @@ pub returns-in_err-versions-clause-told : goal.returns-in_err-versions-clause-to
 returns-in_err-versions-clause-told g c clean =
     let p = err_from_is_err_and c.from_residual.result c.from_residual.ensures.1 in
     told_by_call c.from_residual.result _ (state g.S.Store c.args.conn.now).now (p.1 ∙ ap Err p.2)
-
-pub returns-clause-starts : goal.returns-clause-starts
-returns-clause-starts g c clean =
-    on_ok c.one_version.result
-    (subst (λ (s : Schema). StartsAs after_schema.tables s) c.schema.ensures.value (c.in_default.ensures.starts refl))
 
 pub returns-clause-told : goal.returns-clause-told
 returns-clause-told g c clean =

@@ -5,7 +5,8 @@ use Rattle.sqlite.specs.Files.{image_of}
 use Rattle.openings.specs.Damage.{IsDamagedIn, Hold}
 use Rattle.store.specs.Stores.{MayHold}
 use Rattle.store.specs.Stores.{IsHonestAt, IsOpenedAt}
-use Rattle.openings.specs.DamageLaws.{if_damaged_more}
+use Rattle.openings.specs.DamageLaws.{held_damage, if_damaged_more}
+use Rattle.openings.specs.RefusedLaws.{files_stay}
 use Rattle.store.proofs.ReopenLemmas.{finds_again, held_again, keeps_left, keeps_same}
 use Rattle.store.proofs.reopening.reopened.Goals as goal
 
@@ -15,7 +16,7 @@ returns-in-Ok-clause-found g c honest =
     finds_again g.D.Disk g.met.D.Disk.seen_may_stay c.close-files.result (c.in-Ok.ensures.honest clean)
     c.args.store.place c.over.result.place c.close-files.ensures.back
     (subst (λ place. IsOpenedAt {g = g.D.Disk} (image_of g.D.Disk c.close-files.result) place)
-    (sym c.over.ensures.over) (c.in-Ok.ensures.opened clean))
+    (sym c.over.ensures.over) (c.in-Ok.ensures.opened clean, c.in-Ok.ensures.sound clean))
 
 pub returns-in-Ok-clause-honest : goal.returns-in-Ok-clause-honest
 returns-in-Ok-clause-honest g c honest =
@@ -28,7 +29,9 @@ returns-in-Err-clause-damaged g c honest =
     (λ (damage : Damage). MayHold c.args.store (IsDamagedIn 3 damage))
     (λ damage held. held_again g.D.Disk g.met.D.Disk.seen_may_stay c.close-files.result held.honest
     c.args.store.place (IsDamagedIn 3 damage) c.close-files.ensures.back held)
-    (c.in-Err.ensures.damaged (subst (λ place. IsHonestAt {g = g.D.Disk} place) c.unopened-in-Err.ensures.place honest))
+    (let clean = subst (λ place. IsHonestAt {g = g.D.Disk} place) c.unopened-in-Err.ensures.place honest in
+    held_damage g.D.Disk c.close-files.result c.in-Err.left c.in-Err.refused.fault clean (c.in-Err.ensures.told clean)
+    (files_stay g.D.Disk c.close-files.result c.in-Err.refused c.in-Err.left c.in-Err.ensures.left))
 
 -- files that may not be used are kept as they are
 pub returns-then-not-may_be_used-clause-left : goal.returns-then-not-may_be_used-clause-left

@@ -7,13 +7,5 @@ returns-in-Ok-create-clause-blank g c honest =
     subst FindsNone c.in-Ok.ensures.held.holds (c.in-Ok-create.ensures.blank honest)
 
 pub returns-in-Err-create-clause-refused : goal.returns-in-Err-create-clause-refused
-returns-in-Err-create-clause-refused g c = (
-  c.in-Ok.files,
-  c.in-Ok.ensures.held,
-  record {
-    ours = c.in-Err-create.ensures.refused;
-    told = c.in-Err-create.ensures.told;
-    left = c.in-Err-create.ensures.left;
-    stay = c.in-Err-create.ensures.stay;
-  },
-)
+returns-in-Err-create-clause-refused g c =
+    (c.in-Ok.files, c.in-Ok.ensures.held, c.in-Err-create.ensures.refused)

@@ -9,13 +9,5 @@ returns-in-Ok-open-clause-opened g c honest =
     (c.in-Ok-open.ensures.opened honest)
 
 pub returns-in-Err-open-clause-refused : goal.returns-in-Err-open-clause-refused
-returns-in-Err-open-clause-refused g c = (
-  c.in-Ok.files,
-  c.in-Ok.ensures.held,
-  record {
-    damaged = c.in-Err-open.ensures.damaged;
-    told = c.in-Err-open.ensures.told;
-    left = c.in-Err-open.ensures.left;
-    stay = c.in-Err-open.ensures.stay;
-  },
-)
+returns-in-Err-open-clause-refused g c =
+    (c.in-Ok.files, c.in-Ok.ensures.held, c.in-Err-open.ensures.refused)

@@ -21,21 +21,6 @@ returns-in_err-conn-clause-refused g c =
     let p = err_from_is_err_and c.from_residual.result c.from_residual.ensures.1 in
     rw (p.1, p.2) c.in_err-conn.ensures.refused
 
-pub returns-in_err-conn-clause-told : goal.returns-in_err-conn-clause-told
-returns-in_err-conn-clause-told g c =
-    let p = err_from_is_err_and c.from_residual.result c.from_residual.ensures.1 in
-    rw (p.1, p.2) c.in_err-conn.ensures.told
-
-pub returns-in_err-conn-clause-left : goal.returns-in_err-conn-clause-left
-returns-in_err-conn-clause-left g c =
-    let p = err_from_is_err_and c.from_residual.result c.from_residual.ensures.1 in
-    rw (p.1, p.2) c.in_err-conn.ensures.left
-
-pub returns-in_err-conn-clause-stay : goal.returns-in_err-conn-clause-stay
-returns-in_err-conn-clause-stay g c =
-    let p = err_from_is_err_and c.from_residual.result c.from_residual.ensures.1 in
-    rw (p.1, p.2) c.in_err-conn.ensures.stay
-
 pub returns-clause-blank : goal.returns-clause-blank
 returns-clause-blank g c honest =
     c.in_ok-conn.ensures.blank (subst (λ place. IsHonestAt {g = g.D.Disk} place) c.over.ensures.over honest)

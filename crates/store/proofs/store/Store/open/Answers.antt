@@ -7,16 +7,16 @@ use Rattle.store.proofs.store.Store.open.Goals as goal
 pub returns-in-Ok-clause-opened : goal.returns-in-Ok-clause-opened
 returns-in-Ok-clause-opened g c honest =
     subst (λ place. IsOpenedAt {g = g.D.Disk} (image_of g.D.Disk c.args.files) place) (sym c.over.ensures.over)
-    (c.in-Ok.ensures.opened (subst (λ place. IsHonestAt {g = g.D.Disk} place) c.over.ensures.over honest))
+    (let clean = subst (λ place. IsHonestAt {g = g.D.Disk} place) c.over.ensures.over honest in
+    (c.in-Ok.ensures.opened clean, c.in-Ok.ensures.sound clean))
 
 pub returns-in-Ok-clause-honest : goal.returns-in-Ok-clause-honest
 returns-in-Ok-clause-honest g c honest =
     c.in-Ok.ensures.honest (subst (λ place. IsHonestAt {g = g.D.Disk} place) c.over.ensures.over honest)
 
-pub returns-in-Err-clause-left : goal.returns-in-Err-clause-left
-returns-in-Err-clause-left g c =
-    leaves_refused g.D.Disk c.args.files c.in-Err.refused c.in-Err.left c.in-Err.ensures.left
-
-pub returns-in-Err-clause-stay : goal.returns-in-Err-clause-stay
-returns-in-Err-clause-stay g c =
-    files_stay g.D.Disk c.args.files c.in-Err.refused c.in-Err.left c.in-Err.ensures.left
+pub returns-in-Err-clause-refused : goal.returns-in-Err-clause-refused
+returns-in-Err-clause-refused g c = record {
+  told = c.in-Err.ensures.told;
+  left = leaves_refused g.D.Disk c.args.files c.in-Err.refused c.in-Err.left c.in-Err.ensures.left;
+  stay = files_stay g.D.Disk c.args.files c.in-Err.refused c.in-Err.left c.in-Err.ensures.left;
+}

@@ -39,7 +39,7 @@ returns-clause-moves g c =
           (record { schema = before.schema; trees = db }) ledgers keyed in
           (some_named (names_in before.trees c.args.name.now) keyed.was given.0, given.1))
           c.args.self.now c.change_key-keyed.new.self c.is_settled.ensures c.requires
-          c.change_key-keyed.ensures.follows c.change_key-keyed.ensures.unready
+          c.change_key-keyed.ensures.follows (λ unready. (c.change_key-keyed.ensures.refuses unready).1)
           c.change_key-keyed.ensures.finds c.is_settled-2.ensures c.change_key-keyed.ensures.usable
           (key_ending c.change_key-keyed.result)
           (λ live.

@@ -34,7 +34,7 @@ returns-clause-named g c =
           c.names_are_given.ensures.joining c.args.name.now c.args.digest.now before
           (record { schema = before.schema; trees = db }) ledgers joined.0 joined.1)
           c.args.self.now c.add_tenant-joined.new.self c.is_settled.ensures c.requires
-          c.add_tenant-joined.ensures.follows c.add_tenant-joined.ensures.unready
+          c.add_tenant-joined.ensures.follows (λ unready. (c.add_tenant-joined.ensures.refuses unready).1)
           c.add_tenant-joined.ensures.finds c.is_settled-2.ensures c.add_tenant-joined.ensures.usable
           (ending_of c.add_tenant-joined.result)
           (λ live. joins_go c.args.name.now c.args.digest.now _ _ c.add_tenant-joined.result (told live))
