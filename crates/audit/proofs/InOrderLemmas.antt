@@ -60,7 +60,7 @@ none_counted key id (x ∷ xs) none =
     zero_plus : (n : ℕ) → 0 + n ≡ n
     zero_plus n = omega arith
 
-first_alone : {A : Type 0} (key : A → ℕ) (x : A) (xs : List A) → HasDistinctKeys key (x ∷ xs) → All (λ y. key y ≢ key x) xs
+pub first_alone : {A : Type 0} (key : A → ℕ) (x : A) (xs : List A) → HasDistinctKeys key (x ∷ xs) → All (λ y. key y ≢ key x) xs
 first_alone key x xs once =
     none_counted key (key x) xs (only (count_by (λ row. eqb (key row) (key x)) xs) (eqb_tells (key x) (key x)) (once (key x)) (sum_by-cons (λ row. cond {A = ℕ} (eqb (key row) (key x)) 1 0) x xs))
   where
@@ -68,7 +68,7 @@ first_alone key x xs once =
     only n (inl is) le sums = let e = ap (λ (b : Bool). cond b 1 0 + n) is.0 in omega (arith, le, sums ∙ e)
     only n (inr away) le sums = absurd (away.1 refl)
 
-rest_alone : {A : Type 0} (key : A → ℕ) (x : A) (xs : List A) → HasDistinctKeys key (x ∷ xs) → HasDistinctKeys key xs
+pub rest_alone : {A : Type 0} (key : A → ℕ) (x : A) (xs : List A) → HasDistinctKeys key (x ∷ xs) → HasDistinctKeys key xs
 rest_alone key x xs once id = let sums = sum_by-cons (λ row. cond {A = ℕ} (eqb (key row) id) 1 0) x xs in omega (arith, sums, once id)
 
 pub in_order_up : {A : Type 0} (key : A → ℕ) (xs : List A) → HasDistinctKeys key xs → IsAscendingBy key (in_order key xs)

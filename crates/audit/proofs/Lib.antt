@@ -15,6 +15,8 @@ pub mod PassedFailed
 pub mod PassedRows
 pub mod WorkedDamage
 pub mod NewerRows
+pub mod MetRows
+pub mod ToldRows
 pub mod EntryPlaces
 pub mod ShapedRows
 pub mod BehindEntries

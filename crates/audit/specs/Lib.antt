@@ -8,3 +8,4 @@ pub mod Sound
 pub mod Stages
 pub mod Replayed
 pub mod Newer
+pub mod Meeting

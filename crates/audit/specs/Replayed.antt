@@ -15,3 +15,8 @@ IsReplayed told (Accepted running) =
     ((place : ℕ) → IsRefusedRow told place → ⊥)
     × IsRunning (machine_of (entries_told told)) running
 IsReplayed told (Refused place) = IsFirstPlace (IsRefusedRow told) (Some place)
+
+-- a fact, if all entries are accepted
+abbrev pub IfAccepted : Replayed → Type 0 → Type 0
+IfAccepted (Accepted running) P = P
+IfAccepted (Refused place) P = Unit {0}

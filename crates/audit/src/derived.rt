@@ -5,7 +5,8 @@ ghost use Rattle.std.specs.Bool.{Decides};
 ghost use Rattle.std.specs.Ordering.{nat_cmp};
 ghost use Rattle.std.specs.List.Sorted.{IsSortedByKey};
 ghost use Rattle.records.specs.Machine.{Machine};
-ghost use Rattle.rows.specs.Prescribed.{rows_for};
+ghost use Rattle.records.specs.Valid.{IsValid};
+ghost use Rattle.rows.specs.Prescribed.{history_rows, rows_for};
 ghost use Rattle.rows.specs.Tables.{history_key};
 ghost use Rattle.rows.specs.Widths.{IsStorableBalance, IsStorableStatus, IsStorableHistory};
 ghost use Rattle.running.specs.Entries.{CanCome};
@@ -79,17 +80,17 @@ pub(crate) fn status_rows(
     running.status_rows(alloc)
 }
 
-/// The history rows in order of account and timestamp. The tenant's other rows are let go.
+/// The history rows that a replay has told, in order of account and timestamp.
 pub(crate) fn history_rows(
     alloc: Global,
     version: u32,
-    running: Running,
+    told: Vec<HistoryRow>,
 ) -> Result<Vec<HistoryRow>, AllocError>
-    requires { (m : Machine) × IsRunning m running }
+    requires { (m : Machine) × IsValid m × (told.items ≡ history_rows m) }
     ensures fit { IfOk result (λ rows. All IsStorableHistory rows.items) }
     ensures all { IfOk result
         (λ rows. (m : Machine) →
-        IsRunning m running →
+        IsValid m → told.items ≡ history_rows m →
         rows.items ≡ in_order history_key (rows_for version m).history) }
 {
     rows_fit();
@@ -98,7 +99,7 @@ pub(crate) fn history_rows(
     if version < 2 {
         return Ok(Vec::new(alloc));
     }
-    let mut rows = running.into_history_rows();
+    let mut rows = told;
     sort(&mut rows);
     Ok(rows)
 }

@@ -10,6 +10,7 @@ mod entries;
 mod failed;
 mod in_time;
 mod law;
+mod meeting;
 mod newer;
 mod replayed;
 mod shape;

@@ -4,7 +4,7 @@ ghost use Rattle.std.specs.Prelude.{◌≡◌, ◌<◌, List, All, map, IfOk};
 ghost use Rattle.records.specs.Machine.{Machine, new_machine};
 ghost use Rattle.records.specs.Valid.{IsValid};
 ghost use Rattle.rows.specs.Cells.{balance_cells, status_cells, history_cells};
-ghost use Rattle.rows.specs.Prescribed.{rows_for};
+ghost use Rattle.rows.specs.Prescribed.{history_rows, rows_for};
 ghost use Rattle.rows.specs.Tables.{history_key};
 ghost use Rattle.rows.specs.TypedRows.{lists_of};
 ghost use Rattle.rows.specs.Widths.{IsStorableStatus, IsStorableHistory};
@@ -44,10 +44,10 @@ pub fn rows_in_version(
     ensures sound { IfOk result (λ newer. AreSound to (lists_of newer)) }
 {
     sound_rows_lead();
-    let running = sound_machine(alloc, version, &rows)?;
+    let (running, told) = sound_machine(alloc, version, &rows)?;
     let balances = balance_list(alloc, to, &running)?;
     let statuses = status_list(alloc, to, &running)?;
-    let history = history_list(alloc, to, running)?;
+    let history = history_list(alloc, to, told)?;
     Ok(TenantRows {
         balances,
         statuses,
@@ -56,33 +56,40 @@ pub fn rows_in_version(
     })
 }
 
-// The machine of sound rows, but for failed ids.
-fn sound_machine(alloc: Global, version: u32, rows: &TenantRows) -> Result<Running, AllocError>
+// The machine of sound rows, but for failed ids, and its history in order of entry.
+fn sound_machine(
+    alloc: Global,
+    version: u32,
+    rows: &TenantRows,
+) -> Result<(Running, Vec<HistoryRow>), AllocError>
     requires { AreSound version (lists_of rows.now) }
-    ensures { IfOk result (λ running. (m : Machine) →
+    ensures { IfOk result (λ made. (m : Machine) →
         IsValid m → AreRowsOf version m (lists_of rows.now) →
-        IsRunning (none_failed m) running) }
+        IsRunning (none_failed m) made.0 × (made.1.items ≡ history_rows (none_failed m))) }
 {
     sound_rows_lead();
     let told = Told::read(alloc, rows)?;
     let places = places(alloc, &told)?;
-    let mut running = replay_sound(alloc, &InTime { rows, places })?;
+    let (running, history) = replay_sound(alloc, &InTime { rows, places })?;
+    let mut running = running;
     running.settle_to(told.clock)?;
-    Ok(running)
+    Ok((running, history))
 }
 
 // Entries that are all accepted.
-fn replay_sound(alloc: Global, source: &InTime) -> Result<Running, AllocError>
+fn replay_sound(alloc: Global, source: &InTime) -> Result<(Running, Vec<HistoryRow>), AllocError>
     requires { (entries : List Entry)
         × AreEntriesIn (lists_of source.now.rows.now) source.now.places.items entries
         × AreNext new_machine entries }
     ensures { IfOk result
-        (λ running. (entries : List Entry) →
+        (λ made. (entries : List Entry) →
         AreEntriesIn (lists_of source.now.rows.now) source.now.places.items entries →
-        IsRunning (machine_of entries) running) }
+        IsRunning (machine_of entries) made.0
+        × (made.1.items ≡ history_rows (machine_of entries))) }
 {
-    match replay_from(alloc, source) {
-        Ok(running) => Ok(running),
+    let mut history = Vec::new(alloc);
+    match replay_from(alloc, source, &mut history) {
+        Ok(running) => Ok((running, history)),
         Err(ReplayFault::Refused(_)) => unreachable!(),
         Err(ReplayFault::Memory) => Err(AllocError),
     }
@@ -127,13 +134,17 @@ fn statuses_in_cells(alloc: Global, rows: &[StatusRow]) -> Result<Vec<StatusCell
     Ok(list)
 }
 
-fn history_list(alloc: Global, to: u32, running: Running) -> Result<Vec<HistoryCells>, AllocError>
-    requires { (m : Machine) × IsRunning m running }
+fn history_list(
+    alloc: Global,
+    to: u32,
+    told: Vec<HistoryRow>,
+) -> Result<Vec<HistoryCells>, AllocError>
+    requires { (m : Machine) × IsValid m × (told.items ≡ history_rows m) }
     ensures { IfOk result (λ list. (m : Machine) →
-        IsRunning m running →
+        IsValid m → told.items ≡ history_rows m →
         list.items ≡ map history_cells (in_order history_key (rows_for to m).history)) }
 {
-    let rows = history_rows(alloc, to, running)?;
+    let rows = history_rows(alloc, to, told)?;
     history_in_cells(alloc, &rows)
 }
 

@@ -1,21 +1,23 @@
 //! The entries of a tenant, replayed.
 
-ghost use Rattle.std.specs.Prelude.{ℕ, Some, IfOk};
+ghost use Rattle.std.specs.Prelude.{◌≡◌, ℕ, Some, IfOk};
 ghost use Rattle.records.specs.Machine.{new_machine};
+ghost use Rattle.rows.specs.Prescribed.{history_rows};
 ghost use Rattle.rows.specs.TypedRows.{TypedRows, lists_of};
-ghost use Rattle.running.specs.Entries.{IsFirstRefused};
+ghost use Rattle.running.specs.Entries.{IsFirstRefused, machine_of};
+ghost use Rattle.running.specs.History.{IsToldMore};
 ghost use Rattle.audit.specs.Order.{IsFirstPlace};
 ghost use Rattle.audit.specs.Held.{Holds, ArePlacesOf};
 ghost use Rattle.audit.specs.Told.{Tells, entries_told};
 ghost use Rattle.audit.specs.Table.{IsBadTime, IsRowOf, IsRefusedRow};
-ghost use Rattle.audit.specs.Replayed.{IsReplayed};
+ghost use Rattle.audit.specs.Replayed.{IfAccepted, IsReplayed};
 
 use crate::cells::first_same;
 use crate::entries::places;
 use crate::in_time::InTime;
 use crate::told::Told;
-use rows::TenantRows;
-use running::{Entry, EntrySource, ReplayFault, Running, replay_from};
+use rows::{HistoryRow, TenantRows};
+use running::{Entry, EntrySource, HistoryTaker, ReplayFault, Running, replay_from};
 use std::alloc::{AllocError, Global};
 
 /// What a replay comes to.
@@ -27,27 +29,58 @@ pub(crate) enum Replayed {
     Refused(usize),
 }
 
-/// The entries in order of time, replayed from nothing.
-pub(crate) fn replay_told(
+/// The entries in order of time, replayed from nothing. Their history is told to the taker.
+pub(crate) fn replay_told<H: HistoryTaker>(
     alloc: Global,
     rows: &TenantRows,
     told: &Told,
+    history: &mut H,
 ) -> Result<Replayed, AllocError>
     requires { (typed : TypedRows)
         × Tells (lists_of rows.now) typed
         × Holds told.now typed
         × ((place : ℕ) → IsBadTime typed place → ⊥) }
-    ensures { IfOk result
+    ensures replayed { IfOk result
         (λ replayed. (typed : TypedRows) →
         Tells (lists_of rows.now) typed → Holds told.now typed →
         ((place : ℕ) → IsBadTime typed place → ⊥) → IsReplayed typed replayed) }
+    ensures told { IfOk result
+        (λ replayed. (typed : TypedRows) →
+        Tells (lists_of rows.now) typed → Holds told.now typed →
+        ((place : ℕ) → IsBadTime typed place → ⊥) →
+        IfAccepted replayed
+        (IsToldMore H.told history.old history.new new_machine (machine_of (entries_told typed)))) }
 {
     let places = places(alloc, told)?;
     let source = InTime { rows, places };
-    match replay_from(alloc, &source) {
+    match replay_from(alloc, &source, history) {
         Ok(running) => Ok(Replayed::Accepted(running)),
         Err(ReplayFault::Refused(n)) => Ok(Replayed::Refused(refused_place(&source, n))),
         Err(ReplayFault::Memory) => Err(AllocError),
+    }
+}
+
+/// The history of a tenant's entries, which are all accepted, in order of entry.
+pub(crate) fn history_told(
+    alloc: Global,
+    rows: &TenantRows,
+    told: &Told,
+) -> Result<Vec<HistoryRow>, AllocError>
+    requires { (typed : TypedRows)
+        × Tells (lists_of rows.now) typed
+        × Holds told.now typed
+        × ((place : ℕ) → IsBadTime typed place → ⊥)
+        × ((place : ℕ) → IsRefusedRow typed place → ⊥) }
+    ensures { IfOk result
+        (λ list. (typed : TypedRows) →
+        Tells (lists_of rows.now) typed → Holds told.now typed →
+        ((place : ℕ) → IsBadTime typed place → ⊥) →
+        list.items ≡ history_rows (machine_of (entries_told typed))) }
+{
+    let mut history = Vec::new(alloc);
+    match replay_told(alloc, rows, told, &mut history)? {
+        Replayed::Accepted(_) => Ok(history),
+        Replayed::Refused(_) => unreachable!(),
     }
 }
 

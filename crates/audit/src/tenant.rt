@@ -6,6 +6,7 @@ ghost use Rattle.running.specs.Entries.{machine_of};
 ghost use Rattle.running.specs.Running.{IsRunning};
 ghost use Rattle.audit.specs.Damage.{Finds};
 ghost use Rattle.audit.specs.Held.{Holds, IsHeld};
+ghost use Rattle.audit.specs.Meeting.{HasMet};
 ghost use Rattle.audit.specs.Sound.{AreSound};
 ghost use Rattle.audit.specs.Stages.{IsClearBelow, FindsBelow};
 ghost use Rattle.audit.specs.Told.{Tells, entries_told, machine_told};
@@ -13,6 +14,7 @@ ghost use Rattle.audit.specs.Told.{Tells, entries_told, machine_told};
 use crate::DamageKind;
 use crate::derived::settle_if_it_can;
 use crate::failed::first_bad_failed;
+use crate::meeting::Meeting;
 use crate::replayed::{Replayed, replay_told};
 use crate::shape::first_misshapen;
 use crate::tables::{first_bad_balance, first_bad_history, first_bad_status};
@@ -68,9 +70,10 @@ fn find_in_entries(
     ensures sound { IfOk result (λ found. IfNone found (AreSound version (lists_of rows.now))) }
 {
     cells_tell_rows();
-    match replay_told(alloc, rows, told)? {
+    let mut meeting = Meeting::of(&rows.history);
+    match replay_told(alloc, rows, told, &mut meeting)? {
         Replayed::Refused(place) => Ok(damage_at(DamageKind::Entry, place)),
-        Replayed::Accepted(running) => find_behind(alloc, version, rows, told, running),
+        Replayed::Accepted(running) => find_behind(alloc, version, rows, told, running, &meeting),
     }
 }
 
@@ -81,11 +84,13 @@ fn find_behind(
     rows: &TenantRows,
     told: &Told,
     running: Running,
+    meeting: &Meeting,
 ) -> Result<Option<Found>, AllocError>
     requires running { (typed : TypedRows)
         × Tells (lists_of rows.now) typed
         × Holds told.now typed
-        × IsRunning (machine_of (entries_told typed)) running }
+        × IsRunning (machine_of (entries_told typed)) running
+        × HasMet (lists_of rows.now) typed meeting.now }
     requires clear { IsClearBelow version (lists_of rows.now) 4 }
     ensures first { IfOk result (Finds version (lists_of rows.now)) }
     ensures sound { IfOk result (λ found. IfNone found (AreSound version (lists_of rows.now))) }
@@ -96,7 +101,7 @@ fn find_behind(
     let mut running = running;
     let came = settle_if_it_can(&mut running, told.clock)?;
     let bad_failed = first_bad_failed(version, &told.failed, &running);
-    let in_tables = find_in_tables(alloc, version, rows, running)?;
+    let in_tables = find_in_tables(alloc, version, rows, told, running, meeting)?;
     if let Some(found) = in_tables {
         return Ok(Some(found));
     }
@@ -114,24 +119,48 @@ fn find_in_tables(
     alloc: Global,
     version: u32,
     rows: &TenantRows,
+    told: &Told,
+    running: Running,
+    meeting: &Meeting,
+) -> Result<Option<Found>, AllocError>
+    requires running { (typed : TypedRows)
+        × Tells (lists_of rows.now) typed
+        × Holds told.now typed
+        × IsRunning (machine_told typed) running
+        × HasMet (lists_of rows.now) typed meeting.now }
+    requires clear { IsClearBelow version (lists_of rows.now) 4 }
+    ensures { IfOk result (FindsBelow version (lists_of rows.now) 7) }
+{
+    let in_sums = find_in_sums(alloc, version, rows, running)?;
+    if let Some(found) = in_sums {
+        return Ok(Some(found));
+    }
+    let history = first_bad_history(alloc, version, rows, told, meeting)?;
+    match history {
+        Some(place) => Ok(damage_at(DamageKind::History, place)),
+        None => Ok(None),
+    }
+}
+
+// In those of balances and of statuses. The machine is let go.
+fn find_in_sums(
+    alloc: Global,
+    version: u32,
+    rows: &TenantRows,
     running: Running,
 ) -> Result<Option<Found>, AllocError>
     requires running { (typed : TypedRows)
         × Tells (lists_of rows.now) typed × IsRunning (machine_told typed) running }
     requires clear { IsClearBelow version (lists_of rows.now) 4 }
-    ensures { IfOk result (FindsBelow version (lists_of rows.now) 7) }
+    ensures { IfOk result (FindsBelow version (lists_of rows.now) 6) }
 {
     let balance = first_bad_balance(alloc, version, rows, &running)?;
     if let Some(place) = balance {
         return Ok(damage_at(DamageKind::Balance, place));
     }
     let status = first_bad_status(alloc, version, rows, &running)?;
-    if let Some(place) = status {
-        return Ok(damage_at(DamageKind::Status, place));
-    }
-    let history = first_bad_history(alloc, version, rows, running)?;
-    match history {
-        Some(place) => Ok(damage_at(DamageKind::History, place)),
+    match status {
+        Some(place) => Ok(damage_at(DamageKind::Status, place)),
         None => Ok(None),
     }
 }

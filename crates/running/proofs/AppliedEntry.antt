@@ -14,11 +14,14 @@ use Rattle.records.specs.Facts.{account_in, with_balances}
 use Rattle.records.specs.Step.{account_verdict_in, at_clock}
 use Rattle.records.specs.Valid.{IsNextTimestamp, IsNextAccount, event_of_account, with_account}
 use Rattle.records.specs.Widths.{IsAccountInWidth}
+use Rattle.rows.specs.declared.history_row.HistoryRow.{HistoryRow}
+use Rattle.rows.specs.Prescribed.{rows_for, history_rows}
 use Rattle.running.specs.declared.entry.Entry.{Entry}
 use Rattle.running.specs.declared.entry.Entry.TheVariants.{Opened}
 use Rattle.running.specs.declared.running.Running.{Running}
 use Rattle.running.specs.Entries.{CanCome, IsNext, with_entry, after, machine_of, AreNext, IsFirstRefused, clock_for}
 use Rattle.running.specs.Running.{IsRunning}
+use Rattle.running.specs.History.{IsToldMore}
 use Rattle.running.proofs.EntriesPush.{after_push, next_push}
 
 -- a next timestamp is behind the last
@@ -74,6 +77,13 @@ one_replayed es i entry old new so_far within is step =
       subst (λ (xs : List Entry). AreNext new_machine xs) more (next_push new_machine (take i es) entry so_far.0 got.0),
       subst (λ (xs : List Entry). IsRunning (machine_of xs) new) more (subst (λ (m : Machine). IsRunning m new) (sym (after_push new_machine (take i es) entry)) got.1),
     )
+
+-- and whoever is told their history
+pub one_told : {H : Type 0} (told : H → H → List HistoryRow → Type 0) (es : List Entry) (i : ℕ) (entry : Entry) (initial old new : H) → i < length es → entry ≡ get_or es i entry → IsToldMore told initial old new_machine (machine_of (take i es)) → IsToldMore told old new (machine_of (take i es)) (with_entry (machine_of (take i es)) entry) → IsToldMore told initial new new_machine (machine_of (take (i + 1) es))
+one_told told es i entry initial old new within is so_far step first none =
+    let more : take i es ++ entry ∷ [] ≡ take (i + 1) es = ap (λ (e : Entry). take i es ++ e ∷ []) is ∙ sym (take_more es i entry within) in
+    subst (λ (xs : List Entry). told first new (history_rows (machine_of xs))) more
+    (subst (λ (m : Machine). told first new (history_rows m)) (sym (after_push new_machine (take i es) entry)) (step first (so_far first none)))
 
 pub one_refused : (es : List Entry) (i : ℕ) (entry : Entry) (old : Running) → AreReplayed es i old → i < length es → entry ≡ get_or es i entry → ((m : Machine) → IsRunning m old → IsNext m entry → ⊥) → IsFirstRefused new_machine es i
 one_refused es i entry old so_far within is refuses = record {

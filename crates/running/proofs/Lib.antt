@@ -9,6 +9,7 @@ pub mod ReplayedValid
 pub mod EntriesPush
 pub mod ReplaysOfValid
 pub mod AppliedEntry
+pub mod ToldHistory
 pub mod GivenTransfer
 pub mod SameByKey
 pub mod ToldRows

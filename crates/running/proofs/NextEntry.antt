@@ -22,7 +22,7 @@ use Rattle.rows.specs.declared.status_row.StatusRow.{StatusRow}
 use Rattle.rows.specs.TypedRows.{TypedRows}
 use Rattle.rows.specs.Prescribed.{rows_for, balance_row, status_row, status_rows}
 use Rattle.rows.specs.SameRows.{AreSameRows}
-use Rattle.rows.specs.Changes.{with_opened, with_accepted, new_balance, set_both, ended, new_statuses, new_history}
+use Rattle.rows.specs.Changes.{with_opened, with_accepted, new_balance, set_both, ended, new_statuses}
 use Rattle.engine.proofs.ValidMachineLemmas.{account_unknown, next_entry_of, clock_bound}
 use Rattle.running.specs.declared.running.Running.{Running}
 use Rattle.running.specs.declared.statuses.Statuses.{Statuses}
@@ -72,10 +72,10 @@ same_itself rows = record {
 pub opened : (m : Machine) (a : Account) (old new : Running) → IsRunning m old → IsNextAccount m a
     → rows_for 3 (with_account m a) ≡ with_opened a (rows_for 3 m)
     → ((accounts : List Account) (balances : List BalanceRow) → HoldsAccounts accounts balances old.accounts → account_with a.id accounts ≡ None → balance_with a.id balances ≡ None → HoldsAccounts (accounts ++ a ∷ []) (balances ++ new_balance a ∷ []) new.accounts)
-    → new.clock ≡ old.clock → new.last ≡ a.timestamp → new.transfers ≡ old.transfers → new.statuses ≡ old.statuses → new.history.items ≡ old.history.items
+    → new.clock ≡ old.clock → new.last ≡ a.timestamp → new.transfers ≡ old.transfers → new.statuses ≡ old.statuses
     → IsRunning (with_account m a) new
 unfolding rows_for with_opened
-opened m a old new is next law step clock last transfers statuses history =
+opened m a old new is next law step clock last transfers statuses =
     let unknown = account_unknown m a next in
     let none = none_mapped (λ (x : Account). x.id) (λ (x : BalanceRow). x.account) (balance_row m) (λ x. refl) a.id m.accounts unknown in
     let rows = rows_for 3 m in
@@ -88,7 +88,6 @@ opened m a old new is next law step clock last transfers statuses history =
         accounts = step rows.accounts rows.balances is.agrees.accounts unknown none;
         transfers = subst (λ (x : Transfers). HoldsTransfers rows.transfers x) (sym transfers) is.agrees.transfers;
         statuses = subst (λ (x : Statuses). HoldsStatuses rows.statuses x) (sym statuses) is.agrees.statuses;
-        history = history ∙ is.agrees.history;
       });
     }
 
@@ -110,11 +109,10 @@ pub kept : (m : Machine) (a : Accepted) (old new : Running) (ended_statuses : St
     → ((rows : List StatusRow) → HoldsStatuses rows ended_statuses → status_with a.stored.id rows ≡ None → HoldsStatuses (rows ++ new_statuses a.stored) new.statuses)
     → ((transfers : List Transfer) → HoldsTransfers transfers old.transfers → transfer_with a.stored.id transfers ≡ None → HoldsTransfers (transfers ++ a.stored ∷ []) new.transfers)
     → ((accounts : List Account) (rows : List BalanceRow) → HoldsAccounts accounts rows old.accounts → HoldsAccounts accounts (set_both a.stored a.debit_after a.credit_after rows) new.accounts)
-    → new.history.items ≡ old.history.items ++ new_history a
     → new.clock ≡ old.clock → new.last ≡ a.stored.timestamp
     → IsRunning (with_transfer m a.stored) new
 unfolding rows_for with_accepted
-kept m a old new ended_statuses is accepted law end add keep set history clock last =
+kept m a old new ended_statuses is accepted law end add keep set clock last =
     let unknown = (next_entry_of m a.stored accepted.next).unknown in
     let none = none_ended a.ends a.stored.id (status_rows m) (no_status m a.stored.id unknown) in
     let rows = rows_for 3 m in
@@ -127,7 +125,6 @@ kept m a old new ended_statuses is accepted law end add keep set history clock l
         accounts = set rows.accounts rows.balances is.agrees.accounts;
         transfers = keep rows.transfers is.agrees.transfers unknown;
         statuses = add (ended a.ends rows.statuses) (end rows.statuses is.agrees.statuses) none;
-        history = history ∙ ap (λ xs. xs ++ new_history a) is.agrees.history;
       });
     }
 
@@ -136,9 +133,9 @@ pub by_the_end : (m : Machine) (a : Accepted) → IsValid m → IsAccepted m a �
 by_the_end m a valid is = omega (arith, clock_bound m valid, is.next.timestamp.by_clock)
 
 -- without entries
-pub new_tenant : (r : Running) → r.clock ≡ 0 → r.last ≡ 0 → tree.IsEmpty r.accounts → HoldsTransfers [] r.transfers → HoldsStatuses [] r.statuses → r.history.items ≡ [] → IsRunning new_machine r
+pub new_tenant : (r : Running) → r.clock ≡ 0 → r.last ≡ 0 → tree.IsEmpty r.accounts → HoldsTransfers [] r.transfers → HoldsStatuses [] r.statuses → IsRunning new_machine r
 unfolding rows_for
-new_tenant r clock last accounts transfers statuses history = record {
+new_tenant r clock last accounts transfers statuses = record {
   valid = IsValid.new_tenant;
   none_failed = refl;
   clock = clock;
@@ -150,6 +147,5 @@ new_tenant r clock last accounts transfers statuses history = record {
     accounts = λ q. ap (lookup (is_at (nat_cmp q))) accounts;
     transfers = transfers;
     statuses = statuses;
-    history = history;
   };
 }

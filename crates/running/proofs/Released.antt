@@ -106,10 +106,10 @@ release_of law m clock done id r t is d found =
 pub one_released : (m : Machine) (clock : ℕ) (done : List ℕ) (id : ℕ) (t : Transfer) (old new : Running) → IsReleasing m clock done old → IsDueNow m clock done id → (n : ReleaseOf m done id old t)
     → HoldsStatuses (set_state id Expired (rows_released m done).statuses) new.statuses
     → HoldsAccounts (rows_released m done).accounts (set_both t (balances_released Debit n.debit t.amount) (balances_released Credit n.credit t.amount) (rows_released m done).balances) new.accounts
-    → new.last ≡ old.last → new.transfers ≡ old.transfers → new.history.items ≡ old.history.items
+    → new.last ≡ old.last → new.transfers ≡ old.transfers
     → IsReleasing m clock (done ++ id ∷ []) new
 unfolding with_expired
-one_released m clock done id t old new is d n statuses accounts last transfers history =
+one_released m clock done id t old new is d n statuses accounts last transfers =
     let rows = rows_released m done in
     let leaves = n.next.leaves in
     let same = n.next.id_is in
@@ -122,7 +122,6 @@ one_released m clock done id t old new is d n statuses accounts last transfers h
         accounts = accounts;
         transfers = subst (λ (x : Transfers). HoldsTransfers rows.transfers x) (sym transfers) is.agrees.transfers;
         statuses = subst (λ (k : ℕ). HoldsStatuses (set_state k Expired rows.statuses) new.statuses) (sym same) statuses;
-        history = history ∙ is.agrees.history;
       });
       left =
           let whole = left_with m clock done id old is d in
@@ -132,9 +131,9 @@ one_released m clock done id t old new is d n statuses accounts last transfers h
 
 -- nothing changes where the statuses hold the same rows
 pub still_releasing : (m : Machine) (clock : ℕ) (done : List ℕ) (old new : Running) → IsReleasing m clock done old → HoldsStatuses (rows_released m done).statuses new.statuses
-    → new.last ≡ old.last → new.accounts ≡ old.accounts → new.transfers ≡ old.transfers → new.history.items ≡ old.history.items
+    → new.last ≡ old.last → new.accounts ≡ old.accounts → new.transfers ≡ old.transfers
     → IsReleasing m clock done new
-still_releasing m clock done old new is statuses last accounts transfers history = record {
+still_releasing m clock done old new is statuses last accounts transfers = record {
   valid = is.valid;
   none_failed = is.none_failed;
   later = is.later;
@@ -143,7 +142,6 @@ still_releasing m clock done old new is statuses last accounts transfers history
     accounts = λ q. ap (λ (x : tree.BTreeMap ℕ AccountWithBalances). tree.get nat_cmp x q) accounts ∙ is.agrees.accounts q;
     transfers = subst (λ (x : Transfers). HoldsTransfers (rows_released m done).transfers x) (sym transfers) is.agrees.transfers;
     statuses = statuses;
-    history = history ∙ is.agrees.history;
   };
   left = is.left;
 }
@@ -157,9 +155,9 @@ abbrev pub LastLaw : Type 0
 LastLaw = (m : Machine) (clock : ℕ) (ids : List ℕ) → IsValid m → m.clock ≤ clock → IsPermutation (due_ids clock (rows_for 3 m)) ids → rows_for 3 (at_clock m clock) ≡ record (rows_released m ids) { clock = clock }
 
 pub settled : LastLaw → (m : Machine) (clock : ℕ) (done : List ℕ) (old new : Running) → IsReleasing m clock done old → due_ids clock (rows_released m done) ≡ [] → clock ≤ max_clock
-    → new.clock ≡ clock → new.last ≡ old.last → new.accounts ≡ old.accounts → new.transfers ≡ old.transfers → new.statuses ≡ old.statuses → new.history.items ≡ old.history.items
+    → new.clock ≡ clock → new.last ≡ old.last → new.accounts ≡ old.accounts → new.transfers ≡ old.transfers → new.statuses ≡ old.statuses
     → IsRunning (at_clock m clock) new
-settled law m clock done old new is none fits time last accounts transfers statuses history =
+settled law m clock done old new is none fits time last accounts transfers statuses =
     let all = subst (λ (ids : List ℕ). IsPermutation (due_ids clock (rows_for 3 m)) ids) (ap (λ (ids : List ℕ). done ++ ids) none ∙ append-nil done) is.left in
     let is_last = subst (λ (x : ℕ). IsLast m x) (sym last) is.last in
     record {
@@ -174,6 +172,5 @@ settled law m clock done old new is none fits time last accounts transfers statu
         accounts = λ q. ap (λ (x : tree.BTreeMap ℕ AccountWithBalances). tree.get nat_cmp x q) accounts ∙ is.agrees.accounts q;
         transfers = subst (λ (x : Transfers). HoldsTransfers (rows_released m done).transfers x) (sym transfers) is.agrees.transfers;
         statuses = subst (λ (x : Statuses). HoldsStatuses (rows_released m done).statuses x) (sym statuses) is.agrees.statuses;
-        history = history ∙ is.agrees.history;
       });
     }

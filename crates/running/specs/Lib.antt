@@ -3,3 +3,4 @@ pub mod Running
 pub mod Releasing
 pub mod Entries
 pub mod Refused
+pub mod History

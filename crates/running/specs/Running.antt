@@ -7,12 +7,11 @@ use Rattle.rows.specs.Prescribed.{rows_for}
 use Rattle.running.specs.declared.running.Running.{Running}
 use Rattle.running.specs.Holds.{HoldsAccounts, HoldsTransfers, HoldsStatuses}
 
--- it holds these rows, but for the clock and failed ids
+-- it holds these rows, but for the clock, history and failed ids
 pub record Agrees (rows : TypedRows) (r : Running) : Type 0 where
   pub accounts : HoldsAccounts rows.accounts rows.balances r.accounts
   pub transfers : HoldsTransfers rows.transfers r.transfers
   pub statuses : HoldsStatuses rows.statuses r.statuses
-  pub history : r.history.items ≡ rows.history
 
 -- a timestamp behind those of all entries
 pub record IsAfter (m : Machine) (timestamp : ℕ) : Type 0 where

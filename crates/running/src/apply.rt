@@ -8,11 +8,14 @@ ghost use Rattle.records.specs.Valid.{IsNextTimestamp, IsNextTransfer, event_of_
 ghost use Rattle.running.specs.declared.entry.Entry.TheVariants.{Opened, Moved};
 ghost use Rattle.running.specs.Entries.{CanCome, IsNext, with_entry};
 ghost use Rattle.running.specs.Running.{IsRunning};
+ghost use Rattle.running.specs.History.{IsToldMore};
 
 use crate::events::{event_of_account, event_of_transfer};
-use crate::{Entry, Running};
+use crate::history::tell;
+use crate::{Entry, HistoryTaker, Running};
 use engine::{AccountDecision, Decision, decide_account, decide_transfer};
 use records::{Accepted, Account, AccountWithBalances, Transfer};
+use rows::transfer_rows;
 use std::alloc::AllocError;
 
 // The latest clock: 2^62 nanoseconds, so that every due time fits 64 bits.
@@ -22,22 +25,31 @@ const MAX_CLOCK: u64 = 1 << 62;
 const BATCH: u64 = 1000;
 
 impl Running {
-    /// One entry more, at its own clock: whether it is accepted behind those before it. After a
-    /// refusal the ledger is of no more use.
-    pub fn apply(&mut self, entry: &Entry) -> Result<bool, AllocError>
+    /// One entry more, at its own clock: whether it is accepted behind those before it. Its history
+    /// is told to the taker. After a refusal the ledger is of no more use.
+    pub fn apply<H: HistoryTaker>(
+        &mut self,
+        entry: &Entry,
+        history: &mut H,
+    ) -> Result<bool, AllocError>
         requires { (m : Machine) × IsRunning m self.old }
         ensures accepted { IfOk result
             (λ took. OnTrue took
             ((m : Machine) →
             IsRunning m self.old →
             IsNext m entry.now × IsRunning (with_entry m entry.now) self.new)) }
+        ensures told { IfOk result
+            (λ took. OnTrue took
+            ((m : Machine) →
+            IsRunning m self.old →
+            IsToldMore H.told history.old history.new m (with_entry m entry.now))) }
         ensures refused { IfOk result
             (λ took. OnFalse took
             ((m : Machine) → IsRunning m self.old → IsNext m entry.now → ⊥)) }
     {
         match entry {
             Entry::Opened(account) => self.open_next(account),
-            Entry::Moved(transfer) => self.move_next(transfer),
+            Entry::Moved(transfer) => self.move_next(transfer, history),
         }
     }
 
@@ -66,7 +78,11 @@ impl Running {
         Ok(true)
     }
 
-    fn move_next(&mut self, transfer: &Transfer) -> Result<bool, AllocError>
+    fn move_next<H: HistoryTaker>(
+        &mut self,
+        transfer: &Transfer,
+        history: &mut H,
+    ) -> Result<bool, AllocError>
         requires { (m : Machine) × IsRunning m self.old }
         ensures accepted { IfOk result
             (λ took. OnTrue took
@@ -74,10 +90,16 @@ impl Running {
             IsRunning m self.old →
             IsNext m (Moved transfer.now)
             × IsRunning (with_entry m (Moved transfer.now)) self.new)) }
+        ensures told { IfOk result
+            (λ took. OnTrue took
+            ((m : Machine) →
+            IsRunning m self.old →
+            IsToldMore H.told history.old history.new m (with_entry m (Moved transfer.now)))) }
         ensures refused { IfOk result
             (λ took. OnFalse took
             ((m : Machine) → IsRunning m self.old → IsNext m (Moved transfer.now) → ⊥)) }
     {
+        transfer_rows();
         if !self.can_come(transfer.at) || !self.is_next(transfer.timestamp, transfer.at) {
             return Ok(false);
         }
@@ -86,6 +108,7 @@ impl Running {
             return Ok(false);
         };
         self.keep_transfer(&accepted)?;
+        tell(history, &accepted)?;
         Ok(true)
     }
 

@@ -8,6 +8,7 @@ mod apply;
 mod entry;
 mod events;
 mod facts;
+mod history;
 mod replaying;
 mod running;
 mod settle;
@@ -17,6 +18,7 @@ mod tables;
 mod transfers;
 
 pub use entry::Entry;
+pub use history::HistoryTaker;
 pub use replaying::{
     ReplayFault, failed_ids_stand_apart, replay, replay_from, replayed_is_valid, valid_replays,
 };

@@ -1,21 +1,20 @@
-ghost use Rattle.std.specs.Prelude.{◌≡◌, ◌++◌, OnOk};
+ghost use Rattle.std.specs.Prelude.{◌≡◌, OnOk};
 ghost use Rattle.records.specs.Machine.{Machine, new_machine};
 ghost use Rattle.records.specs.Accepted.{IsAccepted};
 ghost use Rattle.records.specs.Valid.{IsNextAccount, with_account, with_transfer};
-ghost use Rattle.rows.specs.Changes.{new_history};
 ghost use Rattle.running.specs.Running.{IsRunning};
 
 use crate::accounts::{open, set_both};
 use crate::statuses::Statuses;
 use crate::transfers::Transfers;
 use records::{Accepted, Account, AccountWithBalances};
-use rows::{HistoryRow, account_rows, transfer_rows};
+use rows::{account_rows, transfer_rows};
 use std::alloc::{AllocError, Global};
 use std::collections::BTreeMap;
 
 /// One tenant's ledger at its clock, with what is found by a search: accounts with their balances,
-/// transfers, and the states of pending transfers. No id has failed in it. After an error it is of
-/// no more use.
+/// transfers, and the states of pending transfers. No id has failed in it, and its history is told
+/// to others as it comes (`HistoryTaker`). After an error it is of no more use.
 #[derive(Debug, Drop)]
 pub struct Running {
     // The clock, in nanoseconds.
@@ -25,8 +24,6 @@ pub struct Running {
     pub(crate) accounts: BTreeMap<u128, AccountWithBalances>,
     pub(crate) transfers: Transfers,
     pub(crate) statuses: Statuses,
-    // In order of entry.
-    pub(crate) history: Vec<HistoryRow>,
 }
 
 impl Running {
@@ -40,7 +37,6 @@ impl Running {
             accounts: BTreeMap::new(alloc),
             transfers: Transfers::new(alloc),
             statuses: Statuses::new(alloc),
-            history: Vec::new(alloc),
         }
     }
 
@@ -80,26 +76,7 @@ impl Running {
         let debit = accepted.debit_after;
         let credit = accepted.credit_after;
         set_both(&mut self.accounts, &stored, debit, credit)?;
-        tell(&mut self.history, accepted)?;
         self.last = stored.timestamp;
         Ok(())
     }
-}
-
-// The two history rows of an accepted transfer.
-fn tell(history: &mut Vec<HistoryRow>, accepted: &Accepted) -> Result<(), AllocError>
-    ensures { OnOk result (history.new.items ≡ history.old.items ++ new_history accepted.now) }
-{
-    let stored = accepted.stored;
-    history.push(HistoryRow {
-        account: stored.debit_account_id,
-        timestamp: stored.timestamp,
-        balances: accepted.debit_after,
-    })?;
-    history.push(HistoryRow {
-        account: stored.credit_account_id,
-        timestamp: stored.timestamp,
-        balances: accepted.credit_after,
-    })?;
-    Ok(())
 }

@@ -4,13 +4,13 @@ ghost use Rattle.std.specs.Prelude.{◌≡◌, map, IfOk, IsPermutation};
 ghost use Rattle.std.specs.BTreeMap as tree;
 ghost use Rattle.std.specs.Ordering.{nat_cmp};
 ghost use Rattle.records.specs.Machine.{Machine};
-ghost use Rattle.rows.specs.Prescribed.{balance_rows, status_rows, history_rows};
+ghost use Rattle.rows.specs.Prescribed.{balance_rows, status_rows};
 ghost use Rattle.rows.specs.Tables.{IsAscendingBy};
 ghost use Rattle.running.specs.Running.{IsRunning};
 
 use crate::Running;
 use records::AccountWithBalances;
-use rows::{BalanceRow, HistoryRow, StatusRow};
+use rows::{BalanceRow, StatusRow};
 use std::alloc::{AllocError, Global};
 use std::collections::BTreeMap;
 
@@ -33,20 +33,6 @@ impl Running {
             IsRunning m self.now → IsPermutation (status_rows m) rows.items) }
     {
         self.statuses.all(alloc)
-    }
-
-    /// The history rows, two of each transfer, in order of entry.
-    pub fn history_rows(&self) -> &[HistoryRow]
-        ensures { (m : Machine) → IsRunning m self.now → result.now ≡ history_rows m }
-    {
-        &self.history
-    }
-
-    /// The same rows, where the tenant is of no more use.
-    pub fn into_history_rows(self) -> Vec<HistoryRow>
-        ensures { (m : Machine) → IsRunning m self → result.items ≡ history_rows m }
-    {
-        self.history
     }
 }
 

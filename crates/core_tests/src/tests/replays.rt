@@ -84,26 +84,28 @@ struct Rows {
     history: Vec<HistoryRow>,
 }
 
-fn rows_of(alloc: Global, running: &Running) -> Result<Rows, AllocError> {
+fn rows_of(alloc: Global, running: &Running, history: Vec<HistoryRow>) -> Result<Rows, AllocError> {
     Ok(Rows {
         balances: running.balance_rows(alloc)?,
         statuses: running.status_rows(alloc)?,
-        history: running.history_rows().to_vec(alloc)?,
+        history,
     })
 }
 
 // The rows right after the last entry.
 fn replayed(alloc: Global, entries: &[Entry]) -> Result<Rows, ReplayFault> {
-    let running = replay(alloc, entries)?;
-    Ok(rows_of(alloc, &running)?)
+    let mut history = Vec::new(alloc);
+    let running = replay(alloc, entries, &mut history)?;
+    Ok(rows_of(alloc, &running, history)?)
 }
 
 // The rows once a second is over.
 fn settled(rt: &impl Abort, alloc: Global, entries: &[Entry]) -> Result<Rows, ReplayFault> {
-    let mut running = replay(alloc, entries)?;
+    let mut history = Vec::new(alloc);
+    let mut running = replay(alloc, entries, &mut history)?;
     assert!(rt; running.clock() <= A_SECOND_LATER);
     running.settle_to(A_SECOND_LATER)?;
-    Ok(rows_of(alloc, &running)?)
+    Ok(rows_of(alloc, &running, history)?)
 }
 
 // 40 of 100 are posted: nothing is pending any more, and the history has both entries twice.
@@ -214,7 +216,7 @@ fn told(account: u128, timestamp: u64, balances: Balances) -> HistoryRow {
 }
 
 fn refused_at(alloc: Global, entries: &[Entry]) -> Option<usize> {
-    match replay(alloc, entries) {
+    match replay(alloc, entries, &mut Vec::new(alloc)) {
         Err(ReplayFault::Refused(place)) => Some(place),
         _ => None,
     }

@@ -12,35 +12,37 @@ use Rattle.audit.proofs.DerivedRows.{whole, has_derived, lacks_derived, themselv
 use Rattle.audit.proofs.derived.history_rows.Goals as goal
 
 pub returns-then-version-lt2-clause-all : goal.returns-then-version-lt2-clause-all
-returns-then-version-lt2-clause-all c m is =
+returns-then-version-lt2-clause-all c m valid same =
     c.new.ensures.items ∙ ap (in_order history_key) (sym (lacks_derived c.args.version m c.if-version-lt2.true).history)
 
 pub sort-requires : goal.sort-requires
 sort-requires c =
     let m = c.requires.0 in
-    let is = c.requires.1 in
-    let rows : c.deref_mut.result.now ≡ history_rows m = c.deref_mut.ensures.value ∙ c.into_history_rows-rows.ensures m is in
-    let fits = subst (All IsStorableHistory) ((has_derived c.args.version m c.if-version-lt2.false).history ∙ sym rows) (c.rows_fit.ensures c.args.version m is.valid).history in
+    let valid = c.requires.1 in
+    let same = c.requires.2 in
+    let rows : c.deref_mut.result.now ≡ history_rows m = c.deref_mut.ensures.value ∙ same in
+    let fits = subst (All IsStorableHistory) ((has_derived c.args.version m c.if-version-lt2.false).history ∙ sym rows) (c.rows_fit.ensures c.args.version m valid).history in
     All-weaker IsStorableHistory (λ (row : HistoryRow). row.timestamp < 2 ^ 64) (λ row fit. let short = fit.timestamp in omega (arith, short)) c.deref_mut.result.now fits
 
 pub returns-clause-fit : goal.returns-clause-fit
 returns-clause-fit c =
     let m = c.requires.0 in
-    let is = c.requires.1 in
+    let valid = c.requires.1 in
+    let same = c.requires.2 in
     let ys = c.sort.new.rows in
-    let had = c.into_history_rows-rows.result in
-    let rows : c.deref_mut.result.now ≡ history_rows m = c.deref_mut.ensures.value ∙ c.into_history_rows-rows.ensures m is in
-    let fits = subst (All IsStorableHistory) ((has_derived c.args.version m c.if-version-lt2.false).history ∙ sym rows) (c.rows_fit.ensures c.args.version m is.valid).history in
+    let had = c.args.told in
+    let rows : c.deref_mut.result.now ≡ history_rows m = c.deref_mut.ensures.value ∙ same in
+    let fits = subst (All IsStorableHistory) ((has_derived c.args.version m c.if-version-lt2.false).history ∙ sym rows) (c.rows_fit.ensures c.args.version m valid).history in
     subst (All IsStorableHistory) (sym (whole ys (drop (length ys) had.items) had.len (sym (length_permutation c.deref_mut.result.now ys c.sort.ensures.same ∙ c.deref_mut.ensures.len))))
     (All-permutation IsStorableHistory c.deref_mut.result.now ys c.sort.ensures.same fits)
 
 pub returns-clause-all : goal.returns-clause-all
 unfolding rows_for
-returns-clause-all c m is =
+returns-clause-all c m valid same =
     let ys = c.sort.new.rows in
-    let had = c.into_history_rows-rows.result in
-    let rows : c.deref_mut.result.now ≡ history_rows m = c.deref_mut.ensures.value ∙ c.into_history_rows-rows.ensures m is in
+    let had = c.args.told in
+    let rows : c.deref_mut.result.now ≡ history_rows m = c.deref_mut.ensures.value ∙ same in
     whole ys (drop (length ys) had.items) had.len (sym (length_permutation c.deref_mut.result.now ys c.sort.ensures.same ∙ c.deref_mut.ensures.len))
-    ∙ ordered c.read_in_order.ensures.ascending history_key (history_rows m) ys (c.keys_are_distinct.ensures m (rows_for 3 m) is.valid (themselves (rows_for 3 m))).history
+    ∙ ordered c.read_in_order.ensures.ascending history_key (history_rows m) ys (c.keys_are_distinct.ensures m (rows_for 3 m) valid (themselves (rows_for 3 m))).history
     (subst (λ (xs : List HistoryRow). IsPermutation xs ys) rows c.sort.ensures.same) c.sort.ensures.sorted
     ∙ ap (in_order history_key) (sym (has_derived c.args.version m c.if-version-lt2.false).history)

@@ -26,18 +26,26 @@ module _ (theirs : DerivedRowsAreTheirs) (version to : ℕ) (rows : FileRows) (l
 
 pub returns-clause-same : goal.returns-clause-same
 returns-clause-same c m valid are =
-    let running = c.in_ok-running.ensures m valid are in
+    let made = c.in_ok-running.ensures m valid are in
+    let running = made.0 in
     theirs_too c.sound_rows_lead.ensures.derived c.args.version c.args.to (lists_of c.args.rows) c.requires.older m valid are c.in_ok-balances.balances.items c.in_ok-statuses.statuses.items c.in_ok-history.history.items
-    (c.in_ok-balances.ensures (none_failed m) running) (c.in_ok-statuses.ensures (none_failed m) running) (c.in_ok-history.ensures (none_failed m) running)
+    (c.in_ok-balances.ensures (none_failed m) running) (c.in_ok-statuses.ensures (none_failed m) running) (c.in_ok-history.ensures (none_failed m) running.valid made.1)
 
 pub returns-clause-sound : goal.returns-clause-sound
 returns-clause-sound c =
     let m = c.requires.sound.0 in
     let valid = c.requires.sound.1 in
     let are = c.requires.sound.2 in
-    let running = c.in_ok-running.ensures m valid are in (
+    let made = c.in_ok-running.ensures m valid are in
+    let running = made.0 in (
       none_failed m,
       c.sound_rows_lead.ensures.valid m valid,
       theirs_too c.sound_rows_lead.ensures.derived c.args.version c.args.to (lists_of c.args.rows) c.requires.older m valid are c.in_ok-balances.balances.items c.in_ok-statuses.statuses.items c.in_ok-history.history.items
-          (c.in_ok-balances.ensures (none_failed m) running) (c.in_ok-statuses.ensures (none_failed m) running) (c.in_ok-history.ensures (none_failed m) running),
+          (c.in_ok-balances.ensures (none_failed m) running) (c.in_ok-statuses.ensures (none_failed m) running) (c.in_ok-history.ensures (none_failed m) running.valid made.1),
     )
+
+pub history_list-requires : goal.history_list-requires
+history_list-requires c =
+    let r = c.requires.sound in
+    let made = c.in_ok-running.ensures r.0 r.1 r.2 in
+    (none_failed r.0, made.0.valid, made.1)

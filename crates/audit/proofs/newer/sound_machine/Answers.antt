@@ -1,6 +1,7 @@
-use Rattle.std.proofs.Common.{◌≤◌, ℕ, sym, subst}
+use Rattle.std.proofs.Common.{◌≤◌, ℕ, sym, ap, ◌∙◌, subst}
 use Rattle.records.specs.Machine.{Machine}
 use Rattle.records.specs.Step.{at_clock, max_clock}
+use Rattle.rows.specs.Prescribed.{history_rows}
 use Rattle.rows.specs.TypedRows.{lists_of}
 use Rattle.running.specs.Entries.{machine_of}
 use Rattle.running.specs.Running.{IsRunning}
@@ -26,7 +27,7 @@ settle_to-requires c =
     let leads = c.sound_rows_lead.ensures.lead c.args.version rows held.0 c.requires.0 c.requires.1 c.requires.2 held.1 in
     let m = machine_of (entries_told held.0) in (
       m,
-      c.in_ok-running.ensures (entries_told held.0) (held.0, held.1, c.in_ok-places.ensures held.0 held.2 times),
+      (c.in_ok-running.ensures (entries_told held.0) (held.0, held.1, c.in_ok-places.ensures held.0 held.2 times)).0,
       subst (λ (n : ℕ). m.clock ≤ n) (sym held.2.clock) leads.can_come.later,
       subst (λ (n : ℕ). n ≤ max_clock) (sym held.2.clock) leads.can_come.bounded,
     )
@@ -38,6 +39,8 @@ returns c m valid are =
     let times = c.sound_rows_lead.ensures.times c.args.version rows held.0 m valid are held.1 in
     let leads = c.sound_rows_lead.ensures.lead c.args.version rows held.0 m valid are held.1 in
     let all = machine_of (entries_told held.0) in
-    let running = c.in_ok-running.ensures (entries_told held.0) (held.0, held.1, c.in_ok-places.ensures held.0 held.2 times) in
-    let settled = c.in_ok-settle_to.ensures all running in
-    subst (λ (x : Machine). IsRunning x c.settle_to.new.self) leads.same (subst (λ (n : ℕ). IsRunning (at_clock all n) c.settle_to.new.self) held.2.clock settled)
+    let made = c.in_ok-running.ensures (entries_told held.0) (held.0, held.1, c.in_ok-places.ensures held.0 held.2 times) in
+    let settled = c.in_ok-settle_to.ensures all made.0 in (
+      subst (λ (x : Machine). IsRunning x c.settle_to.new.self) leads.same (subst (λ (n : ℕ). IsRunning (at_clock all n) c.settle_to.new.self) held.2.clock settled),
+      made.1 ∙ ap history_rows leads.same,
+    )

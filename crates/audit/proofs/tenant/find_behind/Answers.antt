@@ -13,7 +13,7 @@ use Rattle.audit.proofs.tenant.find_behind.Goals as goal
 pub find_in_tables-requires-clause-running : goal.find_in_tables-requires-clause-running
 find_in_tables-requires-clause-running c =
     let held = c.requires.running in
-    (held.0, held.1, settled held.0 c.args.told.now c.settle_if_it_can.new.running held.2 (c.in_ok-came.ensures.settled (machine_of (entries_told held.0)) held.3))
+    (held.0, held.1, held.2, settled held.0 c.args.told.now c.settle_if_it_can.new.running held.2 (c.in_ok-came.ensures.settled (machine_of (entries_told held.0)) held.3), held.4)
 
 pub returns-in-Some-clause-first : goal.returns-in-Some-clause-first
 returns-in-Some-clause-first c = subst (FindsBelow c.args.version (lists_of c.args.rows.now) 7) c.in-Some.is c.in_ok-in_tables.ensures

@@ -8,7 +8,7 @@ pub returns-in_default-clause-all : goal.returns-in_default-clause-all
 returns-in_default-clause-all c m done is =
     let none = rw c.in_default.is at c.in_ok-id.ensures.none in
     let got = none (rows_released m done).statuses is.agrees.statuses in
-    (still_releasing m c.args.clock done c.args.self.now _ is got.0 refl refl refl refl, none_due m c.args.clock done c.args.self.now is got.1)
+    (still_releasing m c.args.clock done c.args.self.now _ is got.0 refl refl refl, none_due m c.args.clock done c.args.self.now is got.1)
 
 pub unwrap-transfer-requires : goal.unwrap-transfer-requires
 unwrap-transfer-requires c =
@@ -40,4 +40,4 @@ returns-clause-more c m done is =
     let found = sym (c.get.ensures rows.transfers is.agrees.transfers) ∙ c.unwrap-transfer.ensures in
     let r = release_of c.clock_rows.ensures.next m c.args.clock done id c.args.self.now t is (record { row = got.0; found = got.1; due = got.2 }) found in
     let accounts = c.in_ok-release_from.ensures rows.accounts rows.balances r.debit r.credit is.agrees.accounts r.has_debit r.has_credit in
-    (id, one_released m c.args.clock done id t c.args.self.now _ is (record { row = got.0; found = got.1; due = got.2 }) r got.3 accounts refl refl refl)
+    (id, one_released m c.args.clock done id t c.args.self.now _ is (record { row = got.0; found = got.1; due = got.2 }) r got.3 accounts refl refl)

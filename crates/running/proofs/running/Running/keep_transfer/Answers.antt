@@ -7,4 +7,4 @@ add_new-requires c = by_the_end c.requires.0 c.args.accepted.now c.requires.1.va
 
 pub returns : goal.returns
 returns c m is accepted =
-    kept m c.args.accepted.now c.args.self.now _ _ is accepted (c.transfer_rows.ensures m c.args.accepted.now is.valid accepted) c.in_ok-end_by.ensures c.in_ok-add_new.ensures c.in_ok-keep.ensures c.in_ok-set_both.ensures c.in_ok-tell.ensures refl refl
+    kept m c.args.accepted.now c.args.self.now _ _ is accepted (c.transfer_rows.ensures m c.args.accepted.now is.valid accepted) c.in_ok-end_by.ensures c.in_ok-add_new.ensures c.in_ok-keep.ensures c.in_ok-set_both.ensures refl refl

@@ -3,4 +3,4 @@ use Rattle.running.proofs.NextEntry.{new_tenant}
 use Rattle.running.proofs.running.Running.new.Goals as goal
 
 pub returns : goal.returns
-returns c = new_tenant _ refl refl c.new.ensures.empty c.new-2.ensures c.new-3.ensures c.new-4.ensures.items
+returns c = new_tenant _ refl refl c.new.ensures.empty c.new-2.ensures c.new-3.ensures

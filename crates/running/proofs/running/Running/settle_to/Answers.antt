@@ -11,4 +11,4 @@ returns c m is =
     let inv = c.loop.invariant m is later in
     let all = on_false c.in_ok-expire_next.field-0 _ c.if-branch.false c.in_ok-expire_next.ensures.all in
     let got = all m inv.0 inv.1 in
-    settled c.clock_rows.ensures.last m c.args.clock inv.0 c.expire_next.new.self _ got.0 got.1 c.requires.3 refl refl refl refl refl refl
+    settled c.clock_rows.ensures.last m c.args.clock inv.0 c.expire_next.new.self _ got.0 got.1 c.requires.3 refl refl refl refl refl
