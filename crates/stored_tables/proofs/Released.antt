@@ -1,7 +1,6 @@
 -- One transfer after the other is released.
 use Rattle.std.proofs.Common.{◌≡◌, ℕ, ℤ, true, false, List, [], ◌∷◌, ◌++◌, append_assoc, Option, Some, None, Result, OnOk, IsSome, refl, sym, ap, subst, ◌∙◌}
 use Rattle.std.specs.List.Sorted.{IsPermutation}
-use Rattle.std.specs.Option.{option_map_or}
 use Rattle.std.proofs.lemmas.List.Sorted.{IsPermutation-trans, IsPermutation-append_right}
 use Rattle.std.proofs.lemmas.Result.{on_ok_weaker}
 use Rattle.sqlite_trees.specs.Tree.{Trees}
@@ -24,6 +23,7 @@ use Rattle.stored_tables.specs.Frames.{KeepsOtherTenants}
 use Rattle.stored_tables.specs.Moves.{MovesRows, IsStatusOf}
 use Rattle.stored_tables.specs.Releasing.{AreApart, CanExpire, Expires, AreReleased, IsLess, ReleasesOne}
 use Rattle.stored_tables.proofs.Apart.{apart_expired}
+use Rattle.stored_tables.proofs.RowMoves.{found_key}
 use Rattle.stored_tables.proofs.DueRows.{due_in, expires, gone, not_due, not_in_fewer}
 use Rattle.stored_tables.proofs.Writing.{writes_after_same}
 
@@ -97,17 +97,9 @@ keeps_itself tenant trees = record {
   others = λ other away. record { clock = refl; accounts = refl; transfers = refl; balances = refl; statuses = refl; history = refl; failed = refl };
 }
 
--- whether something is due
-due_some : (clock : ℕ) (found : Option StatusRow) → option_map_or (is_due_row clock) found false ≡ true → (row : StatusRow) × (found ≡ Some row) × (is_due_row clock row ≡ true)
-due_some clock None due = absurd (cc)
-due_some clock (Some row) due = (row, refl, due)
-
-due_none : (clock : ℕ) (found : Option StatusRow) (row : StatusRow) → option_map_or (is_due_row clock) found false ≡ false → found ≡ Some row → is_due_row clock row ≡ false
-due_none clock found row not is = sym (ap (λ o. option_map_or (is_due_row clock) o false) is) ∙ not
-
 module _ (tenant : ℤ) (clock id : ℕ) (found : Option StatusRow) (s0 s1 : State) (told : IsStatusOf tenant id s0.now.trees found) (same : IsUnchanged s0 s1) where
   -- nothing is due, and nothing changes
-  pub passes : IsInside s0 → option_map_or (is_due_row clock) found false ≡ false → ReleasesOne tenant clock id s0 s1
+  pub passes : IsInside s0 → ((row : StatusRow) → found ≡ Some row → is_due_row clock row ≡ false) → ReleasesOne tenant clock id s0 s1
   passes inside not = record {
     inside = record {
       schema = ap (λ (db : Database). db.schema) same.0.now_is;
@@ -118,28 +110,28 @@ module _ (tenant : ℤ) (clock id : ℕ) (found : Option StatusRow) (s0 s1 : Sta
         let is = told (rows_released m done) held was.apart.statuses_fit was.apart.statuses in (
           done,
           was,
-          record { gone = not_due clock id (rows_released m done).statuses (was.apart.statuses id) (λ row there. due_none clock found row not (is ∙ there)); fewer = λ other lacks. lacks },
+          record { gone = not_due clock id (rows_released m done).statuses (was.apart.statuses id) (λ row there. not row (is ∙ there)); fewer = λ other lacks. lacks },
           subst (MovesRows tenant (rows_released m done) s0.now) (sym same.0.now_is) (record { numbered = num; others = keeps_itself tenant s0.now.trees; strangers = refl; rows = held }),
         );
   }
 
   -- the transfer is due, and expires
-  module _ (next : NextReleases) (s2 : State) (due : option_map_or (is_due_row clock) found false ≡ true) where
-    lets_expire : Expires tenant id s1 s2 → ReleasesOne tenant clock id s0 s2
+  module _ (next : NextReleases) (s2 : State) (row : StatusRow) (is : found ≡ Some row) (due : is_due_row clock row ≡ true) where
+    lets_expire : Expires tenant row.transfer s1 s2 → ReleasesOne tenant clock id s0 s2
     lets_expire expiry = record {
       inside = (writes_after_same tenant (λ rows. ⊥) (λ rows. rows) s0 s1 s2 same (record { inside = expiry.inside; moves = λ rows can. absurd can })).inside;
       step = λ m done valid was num held.
-          let row = due_some clock found due in
-          let there = sym (told (rows_released m done) held was.apart.statuses_fit was.apart.statuses) ∙ row.1 in
-          let it = the_next next clock id m done valid was row.0 there row.2 in
-          let all = writes_after_same tenant (CanExpire it.0 it.1 it.2) (with_expired it.0 it.1 it.2) s0 s1 s2 same (expiry.writes it.0 it.1 it.2 it.3.id_is) in (
+          let there = sym (told (rows_released m done) held was.apart.statuses_fit was.apart.statuses) ∙ is in
+          let it = the_next next clock id m done valid was row there due in
+          let own = found_key (λ (r : StatusRow). r.transfer) id (rows_released m done).statuses row there in
+          let all = writes_after_same tenant (CanExpire it.0 it.1 it.2) (with_expired it.0 it.1 it.2) s0 s1 s2 same (expiry.writes it.0 it.1 it.2 (it.3.id_is ∙ sym own)) in (
             done ++ id ∷ [],
-            released next clock id m done valid was row.0 there row.2 it.0 it.1 it.2 it.3,
-            less next clock id m done valid was row.0 there row.2 it.0 it.1 it.2 it.3,
+            released next clock id m done valid was row there due it.0 it.1 it.2 it.3,
+            less next clock id m done valid was row there due it.0 it.1 it.2 it.3,
             subst (λ (rows : TypedRows). MovesRows tenant rows s0.now s2.now) (sym it.3.leaves)
-                (all.moves (rows_released m done) (can next clock id m done valid was row.0 there row.2 it.0 it.1 it.2 it.3) num held),
+                (all.moves (rows_released m done) (can next clock id m done valid was row there due it.0 it.1 it.2 it.3) num held),
           );
     }
 
-    pub releases : (r : Result (Unit {0}) Unavailable) → OnOk r (Expires tenant id s1 s2) → OnOk r (ReleasesOne tenant clock id s0 s2)
+    pub releases : (r : Result (Unit {0}) Unavailable) → OnOk r (Expires tenant row.transfer s1 s2) → OnOk r (ReleasesOne tenant clock id s0 s2)
     releases r expiry = on_ok_weaker r lets_expire expiry

@@ -10,6 +10,7 @@ use Rattle.records.specs.Machine.{Machine, has_id, transfer_with}
 use Rattle.records.specs.Step.{at_clock}
 use Rattle.records.specs.Valid.{IsValid}
 use Rattle.engine.specs.After.{balances_released}
+use Rattle.rows.specs.declared.status_row.StatusRow.{StatusRow}
 use Rattle.rows.specs.TypedRows.{TypedRows}
 use Rattle.rows.specs.Changes.{set_both, set_state, with_expired}
 use Rattle.rows.specs.Keyed.{row_with}
@@ -21,7 +22,7 @@ use Rattle.ledger_sql.specs.Effects.{WritesInside}
 use Rattle.stored_tables.specs.Covers.{DueTest, Covers}
 use Rattle.stored_tables.specs.Frames.{AreNumbered}
 use Rattle.stored_tables.specs.Holds.{HoldsRows}
-use Rattle.stored_tables.specs.Moves.{MovesRows, ChangesRows, HasBoth, HasStatus}
+use Rattle.stored_tables.specs.Moves.{MovesRows, ChangesRows, HasBoth, HasStatus, IsStatusOf}
 use Rattle.stored_tables.specs.declared.expiry.Expiry.{Expiry}
 
 -- rows that fit a file and are told apart by their keys
@@ -72,16 +73,20 @@ IsExpiry tenant id trees expiry =
     CanExpire t debit credit rows → t.id ≡ id → HoldsRows tenant rows trees →
     expiry ≡ expiry_of t debit credit
 
--- what it changes is there
-pub record HasExpiring (t : Transfer) (rows : TypedRows) : Type 0 where
-  pub both : HasBoth t rows.balances
-  pub status : HasStatus t.id rows.statuses
+-- this is the tenant's status row of its transfer
+abbrev pub HasStatusRow : ℤ → StatusRow → State → Type 0
+HasStatusRow tenant row s = IsStatusOf tenant row.transfer s.now.trees (Some row)
 
--- the rows with what an expiry leaves
-abbrev pub with_expiry : Expiry → TypedRows → TypedRows
-with_expiry expiry rows = record rows {
+-- what the expiry of the transfer with this id changes is there
+pub record HasExpiring (id : ℕ) (t : Transfer) (rows : TypedRows) : Type 0 where
+  pub both : HasBoth t rows.balances
+  pub status : HasStatus id rows.statuses
+
+-- the rows with what it leaves
+abbrev pub with_expiry : ℕ → Expiry → TypedRows → TypedRows
+with_expiry id expiry rows = record rows {
   balances = set_both expiry.transfer expiry.debit expiry.credit rows.balances;
-  statuses = set_state expiry.transfer.id Expired rows.statuses;
+  statuses = set_state id Expired rows.statuses;
 }
 
 -- the transfer with this id has expired, if it could

@@ -1,36 +1,42 @@
 //! A pending transfer of a tenant expires.
 
 ghost use Rattle.std.specs.Prelude.{◌≡◌, IfOk};
+ghost use Rattle.records.specs.declared.facts.PendingState.TheVariants.{Expired};
 ghost use Rattle.records.specs.declared.side.Side.TheVariants.{Debit, Credit};
 ghost use Rattle.engine.specs.After.{balances_released};
+ghost use Rattle.rows.specs.Changes.{set_state};
+ghost use Rattle.rows.specs.Widths.{IsStorableStatus};
 ghost use Rattle.ledger_sql.specs.Calls.{Changes, IfClean, Learns};
 ghost use Rattle.ledger_sql.specs.Effects.{IsInside};
-ghost use Rattle.stored_tables.specs.Moves.{ChangesRows};
+ghost use Rattle.stored_tables.specs.Moves.{ChangesRows, HasStatus};
 ghost use Rattle.stored_tables.specs.Releasing.{Expires, IsExpiry, IsTransferOf, AreBalancesOf};
-ghost use Rattle.stored_tables.specs.Releasing.{HasExpiring, with_expiry};
+ghost use Rattle.stored_tables.specs.Releasing.{HasStatusRow, HasExpiring, with_expiry};
 
 use crate::batch::TenantNumber;
-use crate::changing::{set_both, set_state};
+use crate::changing::set_both;
 use crate::expiry::Expiry;
 use amount::{Amount, columns_keep_order};
 use engine::release;
 use ledger_sql::finding::{find_balance, find_transfer};
+use ledger_sql::setting::set_status;
 use records::{Balances, PendingState, Transfer, Unavailable};
-use rows::{BalanceRow, cells_tell_rows, found_by_key};
+use rows::{BalanceRow, StatusRow, cells_tell_rows, found_by_key};
 use sqlite::{Alter, Connection};
 
-/// Lets the pending transfer with this id expire, inside a transaction. That it or what belongs to
-/// it is missing is told as a disk that failed.
+/// Lets the pending transfer of this status row expire, inside a transaction. That it or what
+/// belongs to it is missing is told as a disk that failed.
 pub(crate) fn expire<S: Alter>(
     conn: &mut Connection<S>,
     tenant: TenantNumber,
-    id: u128,
+    row: &StatusRow,
 ) -> Result<(), Unavailable>
-    requires { IfClean IsInside S.Store conn.old }
-    ensures { Changes (Expires tenant.0 id) S.Store conn.old conn.new result }
+    requires inside { IfClean IsInside S.Store conn.old }
+    requires told { IfClean (HasStatusRow tenant.0 row.now) S.Store conn.old }
+    requires fits { IsStorableStatus row.now }
+    ensures { Changes (Expires tenant.0 row.now.transfer) S.Store conn.old conn.new result }
 {
-    let expiry = expiry_of(conn, tenant, id)?;
-    write_expiry(conn, tenant, &expiry)
+    let expiry = expiry_of(conn, tenant, row.transfer)?;
+    write_expiry(conn, tenant, row, &expiry)
 }
 
 /// What is left once the transfer with this id expires.
@@ -105,13 +111,37 @@ fn released(
 fn write_expiry<S: Alter>(
     conn: &mut Connection<S>,
     tenant: TenantNumber,
+    row: &StatusRow,
     expiry: &Expiry,
 ) -> Result<(), Unavailable>
-    requires { IfClean IsInside S.Store conn.old }
-    ensures { Changes
-        (ChangesRows tenant.0 (HasExpiring expiry.now.transfer) (with_expiry expiry.now))
+    requires inside { IfClean IsInside S.Store conn.old }
+    requires told { IfClean (HasStatusRow tenant.0 row.now) S.Store conn.old }
+    requires fits { IsStorableStatus row.now }
+    ensures { Changes (ChangesRows tenant.0 (HasExpiring row.now.transfer expiry.now.transfer)
+        (with_expiry row.now.transfer expiry.now)) S.Store conn.old conn.new result }
+{
+    set_expired(conn, tenant, row)?;
+    set_both(conn, tenant, &expiry.transfer, expiry.debit, expiry.credit)
+}
+
+/// Sets the state of a pending transfer to expired, where its status row was read.
+fn set_expired<S: Alter>(
+    conn: &mut Connection<S>,
+    tenant: TenantNumber,
+    row: &StatusRow,
+) -> Result<(), Unavailable>
+    requires inside { IfClean IsInside S.Store conn.old }
+    requires told { IfClean (HasStatusRow tenant.0 row.now) S.Store conn.old }
+    requires fits { IsStorableStatus row.now }
+    ensures { Changes (ChangesRows tenant.0 (λ rows. HasStatus row.now.transfer rows.statuses)
+        (λ rows. record rows { statuses = set_state row.now.transfer Expired rows.statuses }))
         S.Store conn.old conn.new result }
 {
-    set_both(conn, tenant, &expiry.transfer, expiry.debit, expiry.credit)?;
-    set_state(conn, tenant, expiry.transfer.id, PendingState::Expired)
+    columns_keep_order();
+    found_by_key::<StatusRow>();
+    let expired = StatusRow {
+        state: PendingState::Expired,
+        ..*row
+    };
+    set_status(conn, tenant.0, &expired)
 }

@@ -1,8 +1,7 @@
 //! The clock of a tenant, and what is due at it.
 
-ghost use Rattle.std.specs.Prelude.{◌≡◌, ◌≤◌, false, None};
+ghost use Rattle.std.specs.Prelude.{◌≡◌, ◌≤◌, None};
 ghost use Rattle.std.specs.BTreeSet.{contains};
-ghost use Rattle.std.specs.Option.{option_map_or};
 ghost use Rattle.records.specs.Due.{has_come};
 ghost use Rattle.records.specs.Step.{at_clock, max_clock};
 ghost use Rattle.rows.specs.Settling.{is_due_row};
@@ -106,22 +105,21 @@ fn release_if_due<S: Alter>(
     ensures { Changes (ReleasesOne tenant.0 clock id) S.Store conn.old conn.new result }
 {
     clock_rows();
-    let found = status(conn, tenant, id)?;
-    if is_due(&found, clock) {
-        expire(conn, tenant, id)
+    let Some(row) = status(conn, tenant, id)? else {
+        return Ok(());
+    };
+    if is_due(&row, clock) {
+        expire(conn, tenant, &row)
     } else {
         Ok(())
     }
 }
 
-/// Whether there is a transfer that is open and due at the clock.
-fn is_due(found: &Option<StatusRow>, clock: u64) -> bool
-    ensures { result ≡ option_map_or (is_due_row clock) found.now false }
+/// Whether a transfer is open and due at the clock.
+fn is_due(row: &StatusRow, clock: u64) -> bool
+    ensures { result ≡ is_due_row clock row.now }
 {
-    match found {
-        Some(row) => row.state == PendingState::Open && has_come(row.due, clock),
-        None => false,
-    }
+    row.state == PendingState::Open && has_come(row.due, clock)
 }
 
 /// Whether a due time has come.
