@@ -1,5 +1,5 @@
 -- What stands first in what has come is answered, whatever comes later.
-use Rattle.std.proofs.Common.{◌≡◌, ◌≢◌, ◌⊎◌, ⊎_elim, inl, inr, refl, ap, sym, ◌∙◌, subst, ℕ, Bool, true, false, List, ◌++◌, take, drop, Some}
+use Rattle.std.proofs.Common.{◌≡◌, ◌≢◌, ◌⊎◌, ⊎_elim, inl, inr, refl, ap, sym, ◌∙◌, subst, ℕ, Bool, true, false, List, ◌++◌, take, drop, Some, arith}
 use Rattle.std.proofs.lemmas.Bool.{and_parts}
 use Rattle.std.proofs.lemmas.List.{append-nil}
 use Rattle.chain.specs.Ledgers.{LedgersMeaning, Finds}
@@ -128,9 +128,11 @@ refused_at t gives ledgers moments old refusal stays refused ended later may =
       by = inr (inl (record {
         refusal = refusal;
         told = refl;
+        early = refused.early;
         first =
             at_known (λ (unread : List ℕ). IsRefused unread refusal) (old.bytes ++ later)
             (refused_with_later old refusal later stays refused ended may);
+        taken = λ unread known. (0, omega arith, known);
         cut = record { ledgers = refl; moments = refl; ends = refl };
       }));
     }
@@ -219,6 +221,7 @@ gives_up t gives stays ledgers moments talk announced = record {
       first =
           at_known IsAnnounced (talk.unread.bytes ++ later)
           (stays talk.unread.bytes later announced);
+      taken = λ unread known. (0, omega arith, known);
       cut = record { ledgers = refl; moments = refl; ends = refl };
     }));
   };

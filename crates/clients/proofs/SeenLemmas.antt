@@ -60,7 +60,9 @@ module _ {S C : Type 0} (t : LedgersMeaning S) (gives : C → ℕ → C → Type
       inr (inl (record {
         refusal = away.refusal;
         told = away.told;
+        early = away.early;
         first = away.first;
+        taken = away.taken;
         cut = record {
           ledgers = ap Whole away.cut.ledgers;
           moments = away.cut.moments;
@@ -71,6 +73,7 @@ module _ {S C : Type 0} (t : LedgersMeaning S) (gives : C → ℕ → C → Type
       inr (inr (record {
         told = lacks.told;
         first = lacks.first;
+        taken = lacks.taken;
         cut = record {
           ledgers = ap Whole lacks.cut.ledgers;
           moments = lacks.cut.moments;

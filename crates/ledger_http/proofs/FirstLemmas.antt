@@ -7,10 +7,12 @@ use Rattle.ledger_http.specs.declared.refusal.Refusal.{Refusal}
 use Rattle.ledger_http.specs.declared.refusal.Refusal.TheVariants.{BadHead, Truncated}
 use Rattle.ledger_http.specs.declared.message.Message.{Message}
 use Rattle.ledger_http.specs.declared.message.Message.TheVariants.{Whole, End, Refused, NoMemory}
+use Rattle.ledger_http.specs.RefusalTable.{is_of_reading}
 use Rattle.ledger_http.specs.Head.{IsGoodHead}
 use Rattle.ledger_http.specs.Message.{length_of_head, length_of_body, message_of, IsRefused}
 use Rattle.ledger_http.specs.First.{IsFirst, IsHeadRefused, IsRead}
 use Rattle.ledger_http.proofs.MessageLemmas.{first_message-no_end, first_message-bad_head, first_message-no_body, first_message-truncated, first_message-whole, HasHead-no_end, HasHead-none}
+use Rattle.ledger_http.proofs.RefusalLemmas.{no_end_is_of_reading, IsHeadRefused-reading, head_size-ended, left_cut}
 
 -- bytes whose head ends are some
 some_bytes : (unread : List ℕ) (n : ℕ) → length_of_head unread ≡ Ok n → unread ≢ []
@@ -24,6 +26,7 @@ pub IsRefused-no_end : (unread : List ℕ) (refusal : Refusal) → unread ≢ []
     → IsRefused unread refusal
 IsRefused-no_end unread refusal some open_head = record {
   some = some;
+  early = no_end_is_of_reading unread refusal open_head;
   head = None;
   has = HasHead-no_end unread refusal open_head;
   is = first_message-no_end unread refusal open_head;
@@ -36,12 +39,14 @@ IsRefused-head unread n refusal ends refused =
     ⊎_elim
     (λ (bad : (refusal ≡ BadHead) × ((h : RequestHead) → IsGoodHead (take n unread) h → ⊥)). record {
       some = some_bytes unread n ends;
+      early = IsHeadRefused-reading (take n unread) refusal refused;
       head = None;
       has = HasHead-none unread n ends bad.1;
       is = first_message-bad_head unread n ends ∙ ap (λ r. Err r) (sym bad.0);
     })
     (λ (good : (h : RequestHead) × IsGoodHead (take n unread) h × (length_of_body h ≡ Err refusal)). record {
       some = some_bytes unread n ends;
+      early = IsHeadRefused-reading (take n unread) refusal refused;
       head = Some good.0;
       has = (n, ends, good.1);
       is = first_message-no_body unread good.0 n refusal ends good.2;
@@ -65,12 +70,17 @@ IsFirst-read unread h n k left (Whole bytes) ends within good body read =
     }
 IsFirst-read unread h n k left End ends within good body read = absurd read
 IsFirst-read unread h n k left (Refused refusal) ends within good body read =
-    let few : length unread < n + k = omega (arith, within, read.1, length-drop n unread) in
-    record {
-      some = some_bytes unread n ends;
-      head = Some h;
-      has = (n, ends, good);
-      is = first_message-truncated unread h n k ends body few ∙ ap (λ r. Err r) (sym read.0);
-    }
-IsFirst-read unread h n k left NoMemory ends within good body read =
-    record { head = h; size = k; has = (n, ends, good); allowed = body }
+    let few : length unread < n + k = omega (arith, within, read.1, length-drop n unread) in (
+      record {
+        some = some_bytes unread n ends;
+        early = ap is_of_reading read.0;
+        head = Some h;
+        has = (n, ends, good);
+        is = first_message-truncated unread h n k ends body few ∙ ap (λ r. Err r) (sym read.0);
+      },
+      read.2 ∙ ap (λ xs. Some xs) (left_cut unread refusal read.0),
+    )
+IsFirst-read unread h n k left NoMemory ends within good body read = (
+  record { head = h; size = k; has = (n, ends, good); allowed = body },
+  read ∙ ap (λ size. Some (drop size unread)) (sym (head_size-ended unread n ends)),
+)

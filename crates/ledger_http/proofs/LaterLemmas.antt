@@ -1,5 +1,5 @@
 -- What comes later changes nothing of a message that stands first.
-use Rattle.std.proofs.Common.{◌≡◌, ◌≢◌, refl, ap, sym, subst, ◌∙◌, inl, inr, ⊎_elim, ◌⊎◌, ◌≤◌, ◌<◌, ◌+◌, ◌-◌, suc, if◌then◌else◌, Bool, true, false, ℕ, List, [], ◌∷◌, ◌++◌, length, take, drop, Option, Some, None, option_map, ok_or, Result, Ok, Err, nat_eq, nat_le, nat_lt, bytes_eq, codes, arith}
+use Rattle.std.proofs.Common.{◌≡◌, ◌≢◌, refl, ap, sym, subst, ◌∙◌, inl, inr, ⊎_elim, ◌⊎◌, ◌≤◌, ◌<◌, ◌+◌, ◌-◌, suc, if◌then◌else◌, Bool, true, false, ℕ, List, [], ◌∷◌, ◌++◌, length, take, drop, Option, Some, None, option_map, ok_or, Result, Ok, Err, nat_eq, nat_le, nat_lt, arith}
 use Rattle.std.proofs.lemmas.Bool.{cases_lt, ltb-false, le-ltb, true≢false}
 use Rattle.std.proofs.lemmas.List.{length-take, length-append, take-append-le, drop-append-le, take_all}
 use Rattle.std.proofs.Math.Seq.{take-append-add}
@@ -7,11 +7,11 @@ use Rattle.std.specs.List.{starts_with}
 use Rattle.std.specs.Cmp.Lexicographic.{pointwise}
 use Rattle.httparse.specs.Grammar.{RequestHead}
 use Rattle.ledger_http.specs.declared.refusal.Refusal.{Refusal}
-use Rattle.ledger_http.specs.declared.refusal.Refusal.TheVariants.{BadHead, Truncated, HeadTooLarge, LengthRequired, BodyTooLarge}
-use Rattle.ledger_http.specs.Limits.{max_head, max_body}
+use Rattle.ledger_http.specs.declared.refusal.Refusal.TheVariants.{BadHead, Truncated, HeadTooLarge}
+use Rattle.ledger_http.specs.Limits.{max_head}
 use Rattle.ledger_http.specs.Results.{and_then}
-use Rattle.ledger_http.specs.Head.{IsGoodHead, stated_length}
-use Rattle.ledger_http.specs.Message.{blank_line, end_of_head, length_of_head, length_for, at_most_max, length_of_body, HasHead, First, message_of, cut_at, first_message, Begins, IsRefused, IsAnnounced}
+use Rattle.ledger_http.specs.Head.{IsGoodHead}
+use Rattle.ledger_http.specs.Message.{blank_line, end_of_head, length_of_head, length_of_body, HasHead, First, message_of, cut_at, first_message, Begins, IsRefused, IsAnnounced}
 use Rattle.ledger_http.specs.First.{IsHeadRefused}
 use Rattle.ledger_http.proofs.EndLemmas.{short_start}
 use Rattle.ledger_http.proofs.MessageLemmas.{first_message-whole}
@@ -98,34 +98,6 @@ length_of_head-refused bytes later refusal refused other =
     ∙ ap (λ b. Err (if b then Truncated else HeadTooLarge))
     (le-ltb (length (bytes ++ later)) max_head (omega (arith, length-append bytes later)))
     ∙ ap (λ r. Err r) long.2
-
--- no length of a body is refused as cut short
-sure_most : (b : Bool) (n : ℕ) (refusal : Refusal) → (if b then Err BodyTooLarge else Ok n) ≡ Err refusal
-    → refusal ≢ Truncated
-sure_most true n refusal refused same = let other : BodyTooLarge ≡ Truncated = cc in absurd (cc)
-sure_most false n refusal refused same = cc
-
-sure_none : (b : Bool) (refusal : Refusal)
-    → and_then (if b then Ok 0 else Err LengthRequired) at_most_max ≡ Err refusal → refusal ≢ Truncated
-sure_none true refusal refused same = sure_most (nat_lt max_body 0) 0 refusal refused same
-sure_none false refusal refused same = let other : LengthRequired ≡ Truncated = cc in absurd (cc)
-
-sure_length : (method : List ℕ) (stated : Option ℕ) (refusal : Refusal)
-    → and_then (length_for method stated) at_most_max ≡ Err refusal → refusal ≢ Truncated
-sure_length method (Some n) refusal refused = sure_most (nat_lt max_body n) n refusal refused
-sure_length method None refusal refused = sure_none (bytes_eq method (codes "GET")) refusal refused
-
-pub length_of_body-sure : (h : RequestHead) (refusal : Refusal) → length_of_body h ≡ Err refusal
-    → refusal ≢ Truncated
-length_of_body-sure h refusal refused = sure_length h.method (stated_length h) refusal refused
-
--- a head that is refused is not cut short
-pub IsHeadRefused-sure : (head : List ℕ) (refusal : Refusal) → IsHeadRefused head refusal → refusal ≢ Truncated
-IsHeadRefused-sure head refusal refused same =
-    ⊎_elim
-    (λ (bad : (refusal ≡ BadHead) × ((h : RequestHead) → IsGoodHead head h → ⊥)). let other : BadHead ≡ Truncated = sym bad.0 ∙ same in absurd (cc))
-    (λ (good : (h : RequestHead) × IsGoodHead head h × (length_of_body h ≡ Err refusal)). length_of_body-sure good.0 refusal good.2 same)
-    refused
 
 -- what is refused is refused at its head, or is cut short
 cut_short : (b : Bool) (first : First) (refusal : Refusal)

@@ -3,6 +3,8 @@ pub mod HeaderLemmas
 pub mod EndLemmas
 pub mod MessageLemmas
 pub mod ReadingLemmas
+pub mod RefusalLemmas
+pub mod BrokenLemmas
 pub mod FirstLemmas
 pub mod MeaningLemmas
 pub mod LaterLemmas

@@ -79,7 +79,7 @@ of_ok_or None refusal n ok = cc
 of_ok_or (Some m) refusal n ok = cc
 
 -- the head of a beginning that has room for it
-length_of_head-take : (bytes : List ℕ) (n m : ℕ) → length_of_head bytes ≡ Ok n → n ≤ m
+pub length_of_head-take : (bytes : List ℕ) (n m : ℕ) → length_of_head bytes ≡ Ok n → n ≤ m
     → length_of_head (take m bytes) ≡ Ok n
 length_of_head-take bytes n m ends room =
     let end = of_ok_or (end_of_head (take max_head bytes)) _ n ends in

@@ -59,7 +59,7 @@ IsShort-head bytes open_head =
 
 -- at the end of the input a beginning of a message is refused
 pub IsRefused-short : (bytes : List ℕ) → bytes ≢ [] → IsShort bytes → IsRefused bytes Truncated
-IsRefused-short bytes some short = record { some = some; head = short.0; has = short.1; is = short.2 }
+IsRefused-short bytes some short = record { some = some; early = refl; head = short.0; has = short.1; is = short.2 }
 
 pub IsAnnounced-body : (bytes : List ℕ) (head size : ℕ) → HasBody bytes head size → IsAnnounced bytes
 IsAnnounced-body bytes head size body =

@@ -1,11 +1,12 @@
 -- The first message of some bytes. Which head they have is a relation, and all else a function
 -- of the bytes and the head.
-use Rattle.std.specs.Prelude.{◌≡◌, ◌≢◌, ℕ, suc, ◌+◌, List, [], ◌∷◌, length, take, drop, codes, bytes_eq, nat_eq, nat_lt, nat_le, Option, Some, None, option_map, ok_or, Result, Ok, Err, if◌then◌else◌}
+use Rattle.std.specs.Prelude.{◌≡◌, ◌≢◌, ℕ, suc, ◌+◌, true, List, [], ◌∷◌, length, take, drop, codes, bytes_eq, nat_eq, nat_lt, nat_le, Option, Some, None, option_map, ok_or, unwrap_or, Result, Ok, Err, if◌then◌else◌}
 use Rattle.std.specs.List.{starts_with}
 use Rattle.httparse.specs.Grammar.{RequestHead}
 use Rattle.ledger_http.specs.declared.refusal.Refusal.{Refusal}
 use Rattle.ledger_http.specs.declared.refusal.Refusal.TheVariants.{BadHead, HeadTooLarge, LengthRequired, BodyTooLarge, Truncated}
 use Rattle.ledger_http.specs.Limits.{max_head, max_body}
+use Rattle.ledger_http.specs.RefusalTable.{is_of_reading}
 use Rattle.ledger_http.specs.Results.{and_then}
 use Rattle.ledger_http.specs.Head.{IsGoodHead, stated_length}
 
@@ -25,6 +26,10 @@ abbrev pub length_of_head : List ℕ → Result ℕ Refusal
 length_of_head bytes =
     ok_or (end_of_head (take max_head bytes))
     (if nat_lt (length bytes) max_head then Truncated else HeadTooLarge)
+
+-- how many bytes of what is unread its head takes; one that does not end takes as many as it may
+abbrev pub head_size : List ℕ → ℕ
+head_size bytes = unwrap_or (end_of_head (take max_head bytes)) max_head
 
 -- the bytes begin with this good head, or with none
 abbrev pub HasHead : List ℕ → Option RequestHead → Type 0
@@ -82,12 +87,19 @@ pub record Begins (unread message : List ℕ) (left : Option (List ℕ)) : Type 
   pub whole : first.bytes ≡ message
   pub rest : left ≡ Some first.rest
 
--- what is unread begins with no message that is taken
+-- what is unread begins with no message that is taken, and is refused while it is read
 pub record IsRefused (unread : List ℕ) (refusal : Refusal) : Type 0 where
   pub some : unread ≢ []
+  pub early : is_of_reading refusal ≡ true
   pub head : Option RequestHead
   pub has : HasHead unread head
   pub is : first_message unread head ≡ Err refusal
+
+-- how many bytes of what is unread go with its refusal: the head, but all of a message that is cut
+-- short
+abbrev pub refused_size : List ℕ → Refusal → ℕ
+refused_size unread Truncated = length unread
+refused_size unread refusal = head_size unread
 
 -- what is unread begins with a good head, behind which a body of allowed length is due
 pub record IsAnnounced (unread : List ℕ) : Type 0 where

@@ -1,5 +1,5 @@
 -- The refusals, in the order in which they are tested.
-use Rattle.std.specs.Prelude.{ℕ, List, codes}
+use Rattle.std.specs.Prelude.{ℕ, Bool, true, false, List, codes}
 use Rattle.ledger_http.specs.declared.refusal.Refusal.{Refusal}
 use Rattle.ledger_http.specs.declared.refusal.Refusal.TheVariants.{BadHead, HeadTooLarge, LengthRequired, BodyTooLarge, Truncated, NoRoute, BadMethod, UnknownKey, BodyNotJson, BadField, TooManyEvents, NoAccount, NoHistory, ClockExhausted, Unavailable}
 
@@ -33,3 +33,12 @@ status_of refusal = (row_of refusal).status
 -- its name
 abbrev pub name_of : Refusal → List ℕ
 name_of refusal = (row_of refusal).name
+
+-- whether it is one of those that are told while a message is read
+abbrev pub is_of_reading : Refusal → Bool
+is_of_reading BadHead = true
+is_of_reading HeadTooLarge = true
+is_of_reading LengthRequired = true
+is_of_reading BodyTooLarge = true
+is_of_reading Truncated = true
+is_of_reading refusal = false

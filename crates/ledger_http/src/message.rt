@@ -1,11 +1,12 @@
 //! Messages, as a reader gives them.
-ghost use Rattle.std.specs.Prelude.{◌≡◌, ◌≤◌, ◌+◌, ℕ, List, Some, false, length, take, drop, is_err, IfOk, IfErr, OnOk};
+ghost use Rattle.std.specs.Prelude.{◌≡◌, ◌≤◌, ◌+◌, ◌-◌, ℕ, List, Some, false, length, take, drop, is_err, IfOk, IfErr, OnOk, OnErr};
 ghost use Rattle.httparse.specs.Grammar.{RequestHead};
 ghost use Rattle.ledger_http.specs.Limits.{max_head, max_body};
 ghost use Rattle.ledger_http.specs.Message.{length_of_body};
 ghost use Rattle.ledger_http.specs.Head.{IsGoodHead};
-ghost use Rattle.ledger_http.specs.Reading.{Fills};
-ghost use Rattle.ledger_http.specs.First.{IsFirst, IsHeadRefused, IsRead};
+ghost use Rattle.ledger_http.specs.Reading.{Fills, FallsShort};
+ghost use Rattle.ledger_http.specs.First.{IsFirst, IsHeadRefused, IsRead, IsToldReading};
+ghost use Rattle.ledger_http.specs.First.{IsBrokenOff};
 
 use crate::Refusal;
 use crate::asking::body_length;
@@ -22,13 +23,15 @@ pub enum Message {
     Whole(Vec<u8>),
     /// Nothing: the input has ended.
     End,
-    /// No message that is taken. What the reader has left is of no use.
+    /// No message that is taken. Its head is read, or as many bytes as one may have, or all of a
+    /// message that is cut short; what the reader has left is of no use.
     Refused(Refusal),
-    /// A good head, behind which a body of allowed length is due; memory for it ran out.
+    /// A good head, behind which a body of allowed length is due; memory for it ran out, and nothing
+    /// of it is read.
     NoMemory,
 }
 
-/// The reader failed.
+/// The reader failed, before a message was whole or refused. What it gave of one is lost.
 #[derive(Clone, Copy, Debug, PartialEq, Eq)]
 pub struct ReadError;
 
@@ -56,6 +59,8 @@ fn fill_message<R: Source>(reader: &mut R, head: &[u8], room: &mut [u8]) -> Resu
     ensures front { OnOk result (take (length head.now) room.new ≡ head.now) }
     ensures bytes { IfOk result (λ filled. (bytes : List ℕ) → R.left reader.old ≡ Some bytes
         → Fills bytes (R.left reader.new) (drop (length head.now) room.new) filled) }
+    ensures broken { OnErr result ((bytes : List ℕ) → R.left reader.old ≡ Some bytes
+        → FallsShort bytes (R.left reader.new) (length room.old - length head.now)) }
     ensures failed { R.failed reader.new ≡ is_err result }
 {
     room[..head.len()].copy_from_slice(head);
@@ -74,6 +79,9 @@ fn read_body<R: Source>(
     requires body { size ≤ max_body }
     ensures read { IfOk result (λ message. (bytes : List ℕ) → R.left reader.old ≡ Some bytes
         → IsRead head.now bytes size (R.left reader.new) message) }
+    ensures reading { IfOk result IsToldReading }
+    ensures broken { OnErr result ((bytes : List ℕ) → R.left reader.old ≡ Some bytes
+        → FallsShort bytes (R.left reader.new) size) }
     ensures failed { R.failed reader.new ≡ is_err result }
 {
     let Ok(mut message) = vec![in alloc; 0u8; head.len() + size] else {
@@ -86,11 +94,17 @@ fn read_body<R: Source>(
 }
 
 /// Reads the first message of what is unread, however it is cut into pieces. Nothing is kept for
-/// the next call, and no byte behind the message is read.
+/// the next call, and no byte behind the message is read, nor behind a head that is refused.
+///
+/// A message that is whole, or refused, is told before the reader is asked for more: `ReadError`
+/// comes behind a beginning of one alone.
 pub fn read_message<R: Source>(alloc: Global, reader: &mut R) -> Result<Message, ReadError>
     requires { R.failed reader.old ≡ false }
     ensures first { IfOk result (λ message. (unread : List ℕ) → R.left reader.old ≡ Some unread
         → IsFirst unread (R.left reader.new) message) }
+    ensures reading { IfOk result IsToldReading }
+    ensures broken { OnErr result ((unread : List ℕ) → R.left reader.old ≡ Some unread
+        → IsBrokenOff unread (R.left reader.new)) }
     ensures failed { R.failed reader.new ≡ is_err result }
 {
     let mut room = [0u8; MAX_HEAD];
@@ -100,8 +114,9 @@ pub fn read_message<R: Source>(alloc: Global, reader: &mut R) -> Result<Message,
         HeadEnd::Refused(refusal) => return Ok(Message::Refused(refusal)),
     };
     let head = &room[..size];
-    match announced(head) {
-        Ok(body_size) => read_body(alloc, reader, head, body_size),
-        Err(refusal) => Ok(Message::Refused(refusal)),
-    }
+    let body_size = match announced(head) {
+        Ok(body_size) => body_size,
+        Err(refusal) => return Ok(Message::Refused(refusal)),
+    };
+    read_body(alloc, reader, head, body_size)
 }

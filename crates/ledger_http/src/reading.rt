@@ -1,7 +1,9 @@
 //! Reads the bytes of a message, and none behind them.
-ghost use Rattle.std.specs.Prelude.{◌≡◌, ◌≤◌, ◌<◌, ℕ, List, Some, false, length, take, drop, is_err, slice_get, IfOk};
+ghost use Rattle.std.specs.Prelude.{◌≡◌, ◌≤◌, ◌<◌, ℕ, List, Some, false, length, take, drop, is_err, slice_get, IfOk, OnErr};
+ghost use Rattle.std.specs.Io.KnownBytes.{Keeps};
 ghost use Rattle.ledger_http.specs.Limits.{max_head};
-ghost use Rattle.ledger_http.specs.Reading.{IsHeadEnd, EndsWithin, Fills};
+ghost use Rattle.ledger_http.specs.First.{IsBrokenOff};
+ghost use Rattle.ledger_http.specs.Reading.{IsHeadEnd, EndsWithin, Fills, FallsShort};
 
 use crate::Refusal;
 use crate::ends::ends_head;
@@ -13,6 +15,7 @@ fn take_byte<R: Source>(reader: &mut R) -> Result<Option<u8>, Failed>
     requires { R.failed reader.old ≡ false }
     ensures byte { IfOk result (λ byte. (bytes : List ℕ) → R.left reader.old ≡ Some bytes
         → (byte ≡ slice_get bytes 0) × (R.left reader.new ≡ Some (drop 1 bytes))) }
+    ensures kept { OnErr result (Keeps (R.left reader.old) (R.left reader.new)) }
     ensures failed { R.failed reader.new ≡ is_err result }
 {
     let mut piece = [0u8];
@@ -42,6 +45,8 @@ pub(crate) fn read_head<R: Source>(reader: &mut R, head: &mut [u8]) -> Result<He
     ensures within { IfOk result (EndsWithin max_head) }
     ensures bytes { IfOk result (λ end. (bytes : List ℕ) → R.left reader.old ≡ Some bytes
         → IsHeadEnd bytes (R.left reader.new) head.new end) }
+    ensures broken { OnErr result ((bytes : List ℕ) → R.left reader.old ≡ Some bytes
+        → IsBrokenOff bytes (R.left reader.new)) }
     ensures failed { R.failed reader.new ≡ is_err result }
 {
     for at in 0..MAX_HEAD {
@@ -66,6 +71,8 @@ pub(crate) fn fill<R: Source>(reader: &mut R, room: &mut [u8]) -> Result<usize, 
     ensures within { IfOk result (λ filled. filled ≤ length room.new) }
     ensures bytes { IfOk result (λ filled. (bytes : List ℕ) → R.left reader.old ≡ Some bytes
         → Fills bytes (R.left reader.new) room.new filled) }
+    ensures broken { OnErr result ((bytes : List ℕ) → R.left reader.old ≡ Some bytes
+        → FallsShort bytes (R.left reader.new) (length room.old)) }
     ensures failed { R.failed reader.new ≡ is_err result }
 {
     let mut filled = 0;

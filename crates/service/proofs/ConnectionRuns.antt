@@ -5,7 +5,7 @@ use Rattle.std.proofs.Common.{true, false, Result, Ok, Err, is_err, ◌≡◌, �
 use Rattle.std.proofs.Common.{◌++◌, Option, Some, None, refl, sym, ap, ◌∙◌, subst, arith}
 use Rattle.std.proofs.Common.{append_assoc, length-append}
 use Rattle.std.proofs.lemmas.List.{append-nil}
-use Rattle.std.specs.Io.KnownBytes.{Appends}
+use Rattle.std.specs.Io.KnownBytes.{Appends, Keeps}
 use Rattle.std.proofs.KnownBytes.{Appends-trans}
 use Rattle.chain.specs.Ledgers.{LedgersMeaning}
 use Rattle.ledger_http.specs.declared.reply.Reply.{Reply}
@@ -18,6 +18,15 @@ texts_more [] reply = append-nil (reply_text reply)
 texts_more (first ∷ replies) reply =
     ap (λ (rest : List ℕ). reply_text first ++ rest) (texts_more replies reply)
     ∙ sym (append_assoc (reply_text first) (texts_of replies) (reply_text reply))
+
+-- at the end of the input nothing is left, and so nothing has changed
+pub stays_ended :
+    (old new : Option (List ℕ)) →
+    ((unread : List ℕ) → old ≡ Some unread → (unread ≡ []) × (new ≡ Some [])) → Keeps old new
+stays_ended None new ended = tt
+stays_ended (Some bytes) None ended = absurd (let none = (ended bytes refl).1 in cc)
+stays_ended (Some bytes) (Some rest) ended =
+    let here = ended bytes refl in let left : rest ≡ [] = (let is = here.1 in cc) in left ∙ sym here.0
 
 unwritten : (written : Option (List ℕ)) → Appends written written []
 unwritten None = tt

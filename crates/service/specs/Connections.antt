@@ -1,14 +1,16 @@
 -- Messages of one connection, one after the other, and their replies.
-use Rattle.std.specs.Prelude.{◌≡◌, ◌⊎◌, ℕ, Bool, true, false, List, [], ◌∷◌, ◌++◌, length}
+use Rattle.std.specs.Prelude.{◌≡◌, ◌⊎◌, ℕ, ◌≤◌, Bool, true, false, List, [], ◌∷◌, ◌++◌, length, drop}
 use Rattle.std.specs.Prelude.{Option, Some, None, Result, Ok, Err}
-use Rattle.std.specs.Io.KnownBytes.{Appends}
+use Rattle.std.specs.Io.KnownBytes.{Appends, Keeps}
 use Rattle.records.specs.Streams.{AppendsFront}
 use Rattle.chain.specs.Ledgers.{LedgersMeaning, Finds}
 use Rattle.ledger_http.specs.declared.refusal.Refusal.{Refusal}
 use Rattle.ledger_http.specs.declared.reply.Reply.{Reply}
 use Rattle.ledger_http.specs.declared.reply.Reply.TheVariants.{Fixed}
+use Rattle.ledger_http.specs.RefusalTable.{is_of_reading}
 use Rattle.ledger_http.specs.ReplyText.{reply_text}
-use Rattle.ledger_http.specs.Message.{Begins, IsRefused, IsAnnounced}
+use Rattle.ledger_http.specs.Message.{Begins, IsRefused, IsAnnounced, head_size, refused_size}
+use Rattle.ledger_http.specs.First.{IsBrokenOff}
 use Rattle.service.specs.declared.exchanging.Exchanged.{Exchanged}
 use Rattle.service.specs.declared.serving.ServeFault.{ServeFault}
 use Rattle.service.specs.declared.serving.ServeFault.TheVariants.{Read, Write}
@@ -51,19 +53,31 @@ pub record IsCutOff {S C : Type 0} (old new : Connection S C) : Type 0 where
   pub moments : new.moments ≡ old.moments
   pub ends : new.goes_on ≡ false
 
--- a message is refused while it is read
+-- of what is unread at most so many bytes are taken
+abbrev pub TakesAtMost : ℕ → List ℕ → Option (List ℕ) → Type 0
+TakesAtMost most unread left = (size : ℕ) × (size ≤ most) × (left ≡ Some (drop size unread))
+
+-- a message is refused while it is read, and nothing is taken of what is behind its head; where it
+-- is not known what is unread, the refusal is still one of those that are told while one is read
 pub record IsTurnedAway {S C : Type 0} (old : Connection S C) (reply : Reply)
     (new : Connection S C) : Type 0 where
   pub refusal : Refusal
   pub told : reply ≡ Fixed refusal
+  pub early : is_of_reading refusal ≡ true
   pub first : (unread : List ℕ) → old.unread ≡ Some unread → IsRefused unread refusal
+  pub taken :
+      (unread : List ℕ) → old.unread ≡ Some unread →
+      TakesAtMost (refused_size unread refusal) unread new.unread
   pub cut : IsCutOff old new
 
--- memory runs out for the body of a message whose head is good
+-- memory runs out for the body of a message whose head is good, of which nothing is taken
 pub record LacksMemory {S C : Type 0} (old : Connection S C) (reply : Reply)
     (new : Connection S C) : Type 0 where
   pub told : reply ≡ unavailable
   pub first : (unread : List ℕ) → old.unread ≡ Some unread → IsAnnounced unread
+  pub taken :
+      (unread : List ℕ) → old.unread ≡ Some unread →
+      TakesAtMost (head_size unread) unread new.unread
   pub cut : IsCutOff old new
 
 -- one message and its reply
@@ -73,7 +87,8 @@ pub record Exchange {S C : Type 0} (t : LedgersMeaning S) (gives : C → ℕ →
   pub by :
       IsAnswered t gives old reply new ⊎ (IsTurnedAway old reply new ⊎ LacksMemory old reply new)
 
--- the input has ended before the first byte of a message
+-- the input has ended before the first byte of a message, where it is known what is unread; where it
+-- is not, as over a socket, this says nothing: no reader tells its end but by what it gives
 abbrev pub HasEnded : {S C : Type 0} → Connection S C → Type 0
 HasEnded old = (unread : List ℕ) → old.unread ≡ Some unread → unread ≡ []
 
@@ -82,7 +97,7 @@ abbrev pub Exchanges :
     {S C : Type 0} → LedgersMeaning S → (C → ℕ → C → Type 0) → Connection S C → S
     → Option (List ℕ) → C → Option Exchanged → Type 0
 Exchanges t gives old ledgers unread moments None =
-    HasEnded old × (ledgers ≡ old.ledgers) × (moments ≡ old.moments)
+    HasEnded old × Keeps old.unread unread × (ledgers ≡ old.ledgers) × (moments ≡ old.moments)
 Exchanges t gives old ledgers unread moments (Some exchanged) =
     Exchange t gives old exchanged.reply (connection ledgers unread moments exchanged.goes_on)
 
@@ -110,30 +125,35 @@ pub record HasReplied {S C : Type 0} (t : LedgersMeaning S) (gives : C → ℕ �
   pub texts : Appends written written_now (texts_of replies)
 
 -- a connection that is over without a fault: all replies that were asked for are written, or the
--- last one ended it, or the input has ended
+-- last one ended it, or the input has ended; nothing is read behind the last message
 pub record HasServed {S C : Type 0} (t : LedgersMeaning S) (gives : C → ℕ → C → Type 0)
     (first : Connection S C) (written : Option (List ℕ)) (most number : ℕ) (ledgers : S)
-    (moments : C) (written_now : Option (List ℕ)) : Type 0 where
+    (unread_now : Option (List ℕ)) (moments : C) (written_now : Option (List ℕ)) :
+    Type 0 where
   pub last : Connection S C
   pub replied : HasReplied t gives first written number last written_now
   pub ended : (number ≡ most) ⊎ ((last.goes_on ≡ false) ⊎ HasEnded last)
+  pub unread_left : Keeps last.unread unread_now
   pub ledgers_left : ledgers ≡ last.ledgers
   pub moments_left : moments ≡ last.moments
 
--- the reader failed behind so many replies
+-- the reader failed behind so many replies, before another message was whole or refused
 pub record HasFailedToRead {S C : Type 0} (t : LedgersMeaning S) (gives : C → ℕ → C → Type 0)
-    (first : Connection S C) (written : Option (List ℕ)) (number : ℕ) (ledgers : S) (moments : C)
-    (written_now : Option (List ℕ)) : Type 0 where
+    (first : Connection S C) (written : Option (List ℕ)) (number : ℕ) (ledgers : S)
+    (unread_now : Option (List ℕ)) (moments : C) (written_now : Option (List ℕ)) :
+    Type 0 where
   pub last : Connection S C
   pub replied : HasReplied t gives first written number last written_now
+  pub broken : (unread : List ℕ) → last.unread ≡ Some unread → IsBrokenOff unread unread_now
   pub ledgers_left : ledgers ≡ last.ledgers
   pub moments_left : moments ≡ last.moments
 
--- the writer failed behind so many replies: the next exchange is done, and a beginning of its reply
--- written
+-- the writer failed behind so many replies: the next exchange is done, a beginning of its reply
+-- written, and nothing read behind its message
 pub record HasFailedToWrite {S C : Type 0} (t : LedgersMeaning S) (gives : C → ℕ → C → Type 0)
-    (first : Connection S C) (written : Option (List ℕ)) (number : ℕ) (ledgers : S) (moments : C)
-    (written_now : Option (List ℕ)) : Type 0 where
+    (first : Connection S C) (written : Option (List ℕ)) (number : ℕ) (ledgers : S)
+    (unread_now : Option (List ℕ)) (moments : C) (written_now : Option (List ℕ)) :
+    Type 0 where
   pub last : Connection S C
   pub between : Option (List ℕ)
   pub replied : HasReplied t gives first written number last between
@@ -141,19 +161,20 @@ pub record HasFailedToWrite {S C : Type 0} (t : LedgersMeaning S) (gives : C →
   pub next : Connection S C
   pub exchanged : Exchange t gives last reply next
   pub begun : AppendsFront between written_now (reply_text reply)
+  pub unread_left : Keeps next.unread unread_now
   pub ledgers_left : ledgers ≡ next.ledgers
   pub moments_left : moments ≡ next.moments
 
 -- how serving a connection ends
 abbrev pub IsServed :
     {S C : Type 0} → LedgersMeaning S → (C → ℕ → C → Type 0) → Connection S C → Option (List ℕ)
-    → ℕ → S → C → Option (List ℕ) → Result ℕ ServeFault → Type 0
-IsServed t gives first written most ledgers moments written_now (Ok number) =
-    HasServed t gives first written most number ledgers moments written_now
-IsServed t gives first written most ledgers moments written_now (Err (Read number)) =
-    HasFailedToRead t gives first written number ledgers moments written_now
-IsServed t gives first written most ledgers moments written_now (Err (Write number)) =
-    HasFailedToWrite t gives first written number ledgers moments written_now
+    → ℕ → S → Option (List ℕ) → C → Option (List ℕ) → Result ℕ ServeFault → Type 0
+IsServed t gives first written most ledgers unread_now moments written_now (Ok number) =
+    HasServed t gives first written most number ledgers unread_now moments written_now
+IsServed t gives first written most ledgers unread_now moments written_now (Err (Read number)) =
+    HasFailedToRead t gives first written number ledgers unread_now moments written_now
+IsServed t gives first written most ledgers unread_now moments written_now (Err (Write number)) =
+    HasFailedToWrite t gives first written number ledgers unread_now moments written_now
 
 -- how many replies were written whole
 abbrev pub replies_in : Result ℕ ServeFault → ℕ

@@ -1,7 +1,8 @@
 //! One message of a connection, and its reply.
-ghost use Rattle.std.specs.Prelude.{◌≡◌, true, false, is_err, IfOk, OnErr, OnOk};
+ghost use Rattle.std.specs.Prelude.{◌≡◌, ℕ, List, Some, true, false, is_err, IfOk, OnErr, OnOk};
 ghost use Rattle.std.specs.Io.KnownBytes.{Appends};
 ghost use Rattle.records.specs.Streams.{AppendsFront};
+ghost use Rattle.ledger_http.specs.First.{IsBrokenOff};
 ghost use Rattle.ledger_http.specs.ReplyText.{reply_text};
 ghost use Rattle.service.specs.Connections.{connection, Exchanges};
 
@@ -58,6 +59,8 @@ pub(crate) fn exchange<L: Ledgers, R: Source, C: Moments>(
         ledgers.new (R.left reader.new) moments.new) }
     ensures same { OnErr result (ledgers.new ≡ ledgers.old) }
     ensures unasked { OnErr result (moments.new ≡ moments.old) }
+    ensures broken { OnErr result ((unread : List ℕ) → R.left reader.old ≡ Some unread
+        → IsBrokenOff unread (R.left reader.new)) }
     ensures failed { R.failed reader.new ≡ is_err result }
     ensures usable { L.means.is_usable ledgers.new }
     ensures follows { L.means.follows ledgers.old ledgers.new }

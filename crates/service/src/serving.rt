@@ -12,7 +12,7 @@ use std::alloc::Global;
 /// Why serving a connection came to an end before its input did. What was answered stands.
 #[derive(Clone, Copy, Debug, PartialEq, Eq)]
 pub enum ServeFault {
-    /// The reader failed, behind so many replies.
+    /// The reader failed, behind so many replies: each message that it gave whole is answered.
     Read(u64),
     /// The writer failed, behind so many replies: the next message is answered, and a beginning of
     /// its reply written.
@@ -21,6 +21,9 @@ pub enum ServeFault {
 
 /// Answers one message after the other, until the input ends, a reply ends the connection, or
 /// `most` replies are written. Says how many were written, each of them whole.
+///
+/// A message that is read whole is answered, and its reply written, before another byte is read. No
+/// byte is read behind the message of the last reply, nor behind a head that is refused.
 ///
 /// The moment of each message is asked for once it is read. A message that is refused while it is
 /// read, and want of memory while one is read, ask for none and end the connection.
@@ -37,7 +40,7 @@ pub fn serve<L: Ledgers, R: Source, W: Drain, C: Moments>(
     requires writes { W.failed writer.old ≡ false }
     ensures served { IsServed L.means C.gives
         (connection ledgers.old (R.left reader.old) moments.old true) (W.written writer.old) most
-        ledgers.new moments.new (W.written writer.new) result }
+        ledgers.new (R.left reader.new) moments.new (W.written writer.new) result }
     ensures few { replies_in result ≤ most }
     ensures reader_failed { R.failed reader.new ≡ is_read_fault result }
     ensures writer_failed { W.failed writer.new ≡ is_write_fault result }

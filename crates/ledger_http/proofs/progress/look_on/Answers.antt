@@ -1,6 +1,7 @@
 use Rattle.std.proofs.Common.{sym, rules}
 use Rattle.ledger_http.proofs.FirstLemmas.{IsRefused-head}
-use Rattle.ledger_http.proofs.LaterLemmas.{IsHeadRefused-sure, IsRefused-long}
+use Rattle.ledger_http.proofs.LaterLemmas.{IsRefused-long}
+use Rattle.ledger_http.proofs.RefusalLemmas.{IsHeadRefused-sure}
 use Rattle.ledger_http.proofs.progress.look_on.Goals as goal
 
 pub returns-in-Err-announced-clause-refused : goal.returns-in-Err-announced-clause-refused

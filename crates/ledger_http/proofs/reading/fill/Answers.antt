@@ -1,6 +1,7 @@
 use Rattle.std.proofs.Common.{◌-◌, ◌∙◌, ap, Some, length, drop, arith, rules}
 use Rattle.std.proofs.lemmas.List.{length-take, length-drop}
 use Rattle.ledger_http.proofs.ReadingLemmas.{consumed, part_more, part_size}
+use Rattle.ledger_http.proofs.BrokenLemmas.{at_error, kept}
 use Rattle.ledger_http.proofs.reading.fill.Goals as goal
 
 pub loop-filled-preserved : goal.loop-filled-preserved
@@ -19,3 +20,14 @@ loop-filled-preserved g c =
           c.loop-filled.invariant.1 so_far.1 so_far.0 bound took.2 in
           (more.0, more.1, took.1 ∙ ap (λ xs. Some xs) more.2),
     )
+
+pub returns-in_err-count-clause-broken : goal.returns-in_err-count-clause-broken
+returns-in_err-count-clause-broken g c =
+    at_error c.from_residual.result _ (λ bytes known.
+    let so_far = c.loop-filled.invariant.3 bytes known in
+    record {
+      filled = c.loop-filled.filled;
+      few = omega (arith, c.loop-filled.invariant.2);
+      there = so_far.1;
+      rest = kept _ _ _ so_far.2 c.in_err-count.ensures.bytes;
+    })

@@ -1,9 +1,10 @@
 use Rattle.std.proofs.Common.{◌≡◌, ◌<◌, ◌+◌, ◌∙◌, ap, sym, [], Some, nat_eq, length, drop, set, arith, rules}
-use Rattle.std.proofs.lemmas.List.{length-drop, length-set, take-set-le, drop-drop}
+use Rattle.std.proofs.lemmas.List.{length-drop, length-set, take-set-le, drop-drop, drop_all}
 use Rattle.std.specs.List.{ends_with}
 use Rattle.ledger_http.specs.Limits.{max_head}
 use Rattle.ledger_http.specs.Message.{blank_line}
 use Rattle.ledger_http.proofs.ReadingLemmas.{no_byte, one_more, length_of_head-read, length_of_head-cut, length_of_head-long, none_more}
+use Rattle.ledger_http.proofs.BrokenLemmas.{at_error, kept, broken_in_head}
 use Rattle.ledger_http.proofs.reading.read_head.Goals as goal
 
 pub returns-then-at-eq0-clause-bytes : goal.returns-then-at-eq0-clause-bytes
@@ -23,6 +24,7 @@ returns-else-at-eq0-clause-bytes g c bytes known =
     let all : length bytes ≡ c.loop-at.at = omega (arith, ap length none, length-drop c.loop-at.at bytes, so_far.1) in (
       λ empty. absurd (omega (arith, ap length empty)),
       length_of_head-cut c.loop-at.head bytes c.loop-at.at (omega arith) all so_far.0 c.loop-at.invariant.2,
+      next.1 ∙ ap (λ xs. Some (drop 1 xs)) none ∙ ap (λ xs. Some xs) (sym (drop_all max_head bytes (omega arith))),
     )
 
 pub returns-then-ends_head-clause-bytes : goal.returns-then-ends_head-clause-bytes
@@ -62,4 +64,12 @@ returns-clause-bytes g c bytes known =
     let full : c.loop-at.at ≡ max_head = omega arith in (
       λ empty. absurd (omega (arith, ap length empty, so_far.1)),
       length_of_head-long c.loop-at.head bytes c.loop-at.at full so_far.1 so_far.0 c.loop-at.invariant.2,
+      so_far.2 ∙ ap (λ n. Some (drop n bytes)) full,
     )
+
+pub returns-in_err-byte-clause-broken : goal.returns-in_err-byte-clause-broken
+returns-in_err-byte-clause-broken g c =
+    at_error c.from_residual.result _ (λ bytes known.
+    let so_far = c.loop-at.invariant.3 bytes known in
+    broken_in_head c.loop-at.head bytes c.loop-at.at (g.R.Source.left c.take_byte.new.reader) (omega arith) so_far.1 so_far.0
+    c.loop-at.invariant.2 (kept _ _ _ so_far.2 c.in_err-byte.ensures.kept))

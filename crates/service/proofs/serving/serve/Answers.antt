@@ -1,4 +1,5 @@
 use Rattle.std.proofs.Common.{◌≡◌, Bool, true, refl, sym, ◌∙◌, subst, inl, inr, arith}
+use Rattle.std.proofs.KnownBytes.{Keeps-refl}
 use Rattle.service.specs.Connections.{connection, Exchange}
 use Rattle.service.proofs.ConnectionRuns.{none_yet, one_reply_more, on_err_is, on_ok_is}
 use Rattle.service.proofs.serving.serve.Goals as goal
@@ -22,8 +23,9 @@ returns-in-Ok-None-clause-served g c =
       replied =
           c.loop-replies.invariant.replied;
       ended = inr (inr end.0);
-      ledgers_left = end.1;
-      moments_left = end.2;
+      unread_left = end.1;
+      ledgers_left = end.2;
+      moments_left = end.3;
     }
 
 pub returns-in-Err-clause-served : goal.returns-in-Err-clause-served
@@ -32,6 +34,7 @@ returns-in-Err-clause-served g c = record {
       (g.R.Source.left c.loop-replies.reader) c.loop-replies.moments true;
   replied =
       c.loop-replies.invariant.replied;
+  broken = c.in-Err.ensures.broken;
   ledgers_left = c.in-Err.ensures.same;
   moments_left = c.in-Err.ensures.unasked;
 }
@@ -49,6 +52,7 @@ returns-then-is_err-clause-served g c = record {
   exchanged = rw c.in-Ok-Some.field-0-is at (c.in-Ok-Some.ensures.exchanges);
   begun = on_err_is c.write.result _ (sym c.is_err.ensures.value ∙ c.if-is_err.true)
       c.write.ensures.err;
+  unread_left = Keeps-refl (g.R.Source.left c.exchange.new.reader);
   ledgers_left = refl;
   moments_left = refl;
 }
@@ -64,6 +68,7 @@ returns-then-not-goes_on-clause-served g c = record {
       (on_ok_is c.write.result _ (sym c.is_err.ensures.value ∙ c.if-is_err.false)
       c.write.ensures.ok);
   ended = inr (inl c.if-not-goes_on.true);
+  unread_left = Keeps-refl (g.R.Source.left c.exchange.new.reader);
   ledgers_left = refl;
   moments_left = refl;
 }
@@ -102,6 +107,7 @@ returns-clause-served g c = record {
       (g.R.Source.left c.loop-replies.reader) c.loop-replies.moments true;
   replied = c.loop-replies.invariant.replied;
   ended = inl (omega (arith, c.loop-replies.invariant.few));
+  unread_left = Keeps-refl (g.R.Source.left c.loop-replies.reader);
   ledgers_left = refl;
   moments_left = refl;
 }
