@@ -11,10 +11,9 @@ use Rattle.ledger_http.specs.declared.refusal.Refusal.{Refusal}
 use Rattle.ledger_http.specs.declared.reply.Reply.{Reply}
 use Rattle.ledger_http.specs.ReplyText.{reply_text}
 use Rattle.ledger_http.specs.Results.{and_then}
-use Rattle.ledger_http.specs.Message.{First, HasHead, first_message}
+use Rattle.ledger_http.specs.Message.{First, first_message}
 use Rattle.ledger_http.specs.Question.{Question, as_early, question_in, asked_of}
-use Rattle.ledger_http.specs.Unread.{without}
-use Rattle.service.specs.Connections.{connection, Connection, IsAnswered, IsTurnedAway, LacksMemory, Exchange}
+use Rattle.service.specs.Connections.{connection, Connection, IsAnswered, IsTurnedAway, LacksMemory}
 use Rattle.service.specs.Courses.{Replied}
 use Rattle.service.specs.Deeds.{asking, tenant_of, after_deed, IsDeedDone}
 use Rattle.service.specs.Replies.{unavailable}
@@ -22,7 +21,7 @@ use Rattle.service.specs.Responds.{Answers, Responds, RefusesEarly, IsLeftBy, Is
 use Rattle.service.specs.Responds as response
 use Rattle.service.specs.Seen.{Seen, Whole, Within, seen}
 use Rattle.clients.specs.Talk.{Talk, may_answer, is_empty}
-use Rattle.clients.specs.Answering.{HasReplied, IsExchange}
+use Rattle.clients.specs.Answering.{HasReplied}
 use Rattle.clients.specs.Within.{replied_to, Asks, IsReady, after_asking, AnswersLeave, AreSeen}
 use Rattle.clients.specs.Within.{HeadsAreUnique}
 use Rattle.clients.specs.Within.{RepliesWithin, TellsUnavailable}
