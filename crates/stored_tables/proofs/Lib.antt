@@ -15,6 +15,8 @@ pub mod EntryRows
 pub mod ExpiryReads
 pub mod ExpiryWrites
 pub mod Keeping
+pub mod KeptMoves
+pub mod KeptRows
 pub mod MachineBack
 pub mod Marks
 pub mod Numbers

@@ -1,5 +1,5 @@
 -- One transfer after the other is released.
-use Rattle.std.proofs.Common.{◌≡◌, ℕ, ℤ, true, false, List, [], ◌∷◌, ◌++◌, append_assoc, Option, Some, None, Result, OnOk, IsSome, refl, sym, ap, subst, ◌∙◌}
+use Rattle.std.proofs.Common.{◌≡◌, ℕ, ℤ, true, false, List, [], ◌∷◌, ◌++◌, append_assoc, Option, Some, Result, OnOk, IsSome, refl, sym, ap, subst, ◌∙◌}
 use Rattle.std.specs.List.Sorted.{IsPermutation}
 use Rattle.std.proofs.lemmas.List.Sorted.{IsPermutation-trans, IsPermutation-append_right}
 use Rattle.std.proofs.lemmas.Result.{on_ok_weaker}
@@ -19,13 +19,15 @@ use Rattle.rows.specs.Prescribed.{rows_for}
 use Rattle.rows.specs.TypedRows.{TypedRows}
 use Rattle.rows.specs.Settling.{rows_when, rows_released, due_ids, is_due_row, IsNextRelease}
 use Rattle.ledger_sql.specs.Effects.{IsInside}
-use Rattle.stored_tables.specs.Frames.{KeepsOtherTenants}
-use Rattle.stored_tables.specs.Moves.{MovesRows, IsStatusOf}
+use Rattle.stored_tables.specs.BatchLaws.{others_then}
+use Rattle.stored_tables.specs.Frames.{KeepsOtherTenants, AreNumbered}
+use Rattle.stored_tables.specs.Kept.{Kept, HoldsKept, MovesKept, ChangesKept}
+use Rattle.stored_tables.specs.Moves.{Any, IsStatusOf}
 use Rattle.stored_tables.specs.Releasing.{AreApart, CanExpire, Expires, AreReleased, IsLess, ReleasesOne}
 use Rattle.stored_tables.proofs.Apart.{apart_expired}
 use Rattle.stored_tables.proofs.RowMoves.{found_key}
 use Rattle.stored_tables.proofs.DueRows.{due_in, expires, gone, not_due, not_in_fewer}
-use Rattle.stored_tables.proofs.Writing.{writes_after_same}
+use Rattle.stored_tables.proofs.Writing.{inside_then, writes_after_same}
 
 -- what is next to be released
 abbrev pub NextReleases : Type 0
@@ -97,41 +99,71 @@ keeps_itself tenant trees = record {
   others = λ other away. record { clock = refl; accounts = refl; transfers = refl; balances = refl; statuses = refl; history = refl; failed = refl };
 }
 
+-- a change behind a call that changed nothing
+kept_after_same : (tenant : ℤ) (was is : Kept) (can : TypedRows → Type 0) (change : TypedRows → TypedRows) (a b c : State) → IsUnchanged a b → ChangesKept tenant was is can change b c → ChangesKept tenant was is can change a c
+kept_after_same tenant was is _ change a b c same w = record {
+  inside = (writes_after_same tenant (λ rows. ⊥) (λ rows. rows) a b c same (record { inside = w.inside; moves = λ rows can. absurd can })).inside;
+  moves = λ rows may num held.
+      subst (λ (db : Database). MovesKept tenant is (change rows) db c.now) same.0.now_is
+      (w.moves rows may (subst (λ (db : Database). AreNumbered db.trees) (sym same.0.now_is) num) (subst (λ (db : Database). HoldsKept tenant was rows db.trees) (sym same.0.now_is) held));
+}
+
 module _ (tenant : ℤ) (clock id : ℕ) (found : Option StatusRow) (s0 s1 : State) (told : IsStatusOf tenant id s0.now.trees found) (same : IsUnchanged s0 s1) where
+  -- what was found, where some balances are kept
+  status_of : (kept : Kept) (m : Machine) (done : List ℕ) → AreReleased clock m done → HoldsKept tenant kept (rows_released m done) s0.now.trees → found ≡ row_with (λ r. r.transfer) id (rows_released m done).statuses
+  status_of kept m done was held = told (record (rows_released m done) { balances = held.stored }) held.holds was.apart.statuses_fit was.apart.statuses
+
   -- nothing is due, and nothing changes
-  pub passes : IsInside s0 → ((row : StatusRow) → found ≡ Some row → is_due_row clock row ≡ false) → ReleasesOne tenant clock id s0 s1
-  passes inside not = record {
+  pub passes : (kept : Kept) → IsInside s0 → ((row : StatusRow) → found ≡ Some row → is_due_row clock row ≡ false) → ReleasesOne tenant clock id kept kept s0 s1
+  passes kept inside not = record {
     inside = record {
       schema = ap (λ (db : Database). db.schema) same.0.now_is;
       shown = record { was_open = same.0.was_open; is_open = same.0.is_open; now_is = refl; committed_is = same.0.committed_is; mode = same.0.mode ∙ inside.mode };
       marks = same.2;
     };
-    step = λ m done valid was num held.
-        let is = told (rows_released m done) held was.apart.statuses_fit was.apart.statuses in (
-          done,
-          was,
-          record { gone = not_due clock id (rows_released m done).statuses (was.apart.statuses id) (λ row there. not row (is ∙ there)); fewer = λ other lacks. lacks },
-          subst (MovesRows tenant (rows_released m done) s0.now) (sym same.0.now_is) (record { numbered = num; others = keeps_itself tenant s0.now.trees; strangers = refl; rows = held }),
-        );
+    step = λ m done valid was num held. (
+      done,
+      was,
+      record { gone = not_due clock id (rows_released m done).statuses (was.apart.statuses id) (λ row there. not row (status_of kept m done was held ∙ there)); fewer = λ other lacks. lacks },
+      subst (MovesKept tenant kept (rows_released m done) s0.now) (sym same.0.now_is) (record { numbered = num; others = keeps_itself tenant s0.now.trees; strangers = refl; rows = held }),
+    );
   }
 
   -- the transfer is due, and expires
-  module _ (next : NextReleases) (s2 : State) (row : StatusRow) (is : found ≡ Some row) (due : is_due_row clock row ≡ true) where
-    lets_expire : Expires tenant row.transfer s1 s2 → ReleasesOne tenant clock id s0 s2
+  module _ (kept more : Kept) (next : NextReleases) (s2 : State) (row : StatusRow) (is : found ≡ Some row) (due : is_due_row clock row ≡ true) where
+    lets_expire : Expires tenant row.transfer kept more s1 s2 → ReleasesOne tenant clock id kept more s0 s2
     lets_expire expiry = record {
       inside = (writes_after_same tenant (λ rows. ⊥) (λ rows. rows) s0 s1 s2 same (record { inside = expiry.inside; moves = λ rows can. absurd can })).inside;
       step = λ m done valid was num held.
-          let there = sym (told (rows_released m done) held was.apart.statuses_fit was.apart.statuses) ∙ is in
+          let there = sym (status_of kept m done was held) ∙ is in
           let it = the_next next clock id m done valid was row there due in
           let own = found_key (λ (r : StatusRow). r.transfer) id (rows_released m done).statuses row there in
-          let all = writes_after_same tenant (CanExpire it.0 it.1 it.2) (with_expired it.0 it.1 it.2) s0 s1 s2 same (expiry.writes it.0 it.1 it.2 (it.3.id_is ∙ sym own)) in (
+          let all = kept_after_same tenant kept more (CanExpire it.0 it.1 it.2) (with_expired it.0 it.1 it.2) s0 s1 s2 same (expiry.writes it.0 it.1 it.2 (it.3.id_is ∙ sym own)) in (
             done ++ id ∷ [],
             released next clock id m done valid was row there due it.0 it.1 it.2 it.3,
             less next clock id m done valid was row there due it.0 it.1 it.2 it.3,
-            subst (λ (rows : TypedRows). MovesRows tenant rows s0.now s2.now) (sym it.3.leaves)
+            subst (λ (rows : TypedRows). MovesKept tenant more rows s0.now s2.now) (sym it.3.leaves)
                 (all.moves (rows_released m done) (can next clock id m done valid was row there due it.0 it.1 it.2 it.3) num held),
           );
     }
 
-    pub releases : (r : Result (Unit {0}) Unavailable) → OnOk r (Expires tenant row.transfer s1 s2) → OnOk r (ReleasesOne tenant clock id s0 s2)
+    pub releases : (r : Result (Unit {0}) Unavailable) → OnOk r (Expires tenant row.transfer kept more s1 s2) → OnOk r (ReleasesOne tenant clock id kept more s0 s2)
     releases r expiry = on_ok_weaker r lets_expire expiry
+
+-- the next one is released once there is room
+pub roomed : (tenant : ℤ) (clock id : ℕ) (was mid is : Kept) (s0 s1 s2 : State) (r : Result (Unit {0}) Unavailable) → ChangesKept tenant was mid Any (λ rows. rows) s0 s1 → OnOk r (ReleasesOne tenant clock id mid is s1 s2)
+    → OnOk r (ReleasesOne tenant clock id was is s0 s2)
+roomed tenant clock id was mid is s0 s1 s2 r room step =
+    on_ok_weaker r
+    (λ (one : ReleasesOne tenant clock id mid is s1 s2). record {
+      inside = inside_then s0 s1 s2 room.inside one.inside;
+      step = λ m done valid released num held.
+          let first = room.moves (rows_released m done) tt num held in
+          let then = one.step m done valid released first.numbered first.rows in (
+            then.0,
+            then.1,
+            then.2,
+            record { numbered = then.3.numbered; others = others_then tenant s0.now.trees s1.now.trees s2.now.trees first.others then.3.others; strangers = then.3.strangers ∙ first.strangers; rows = then.3.rows },
+          );
+    })
+    step

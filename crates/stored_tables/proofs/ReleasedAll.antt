@@ -1,5 +1,5 @@
 -- All that is due is released.
-use Rattle.std.proofs.Common.{◌≡◌, ℕ, ◌<◌, ◌≤◌, ◌^◌, ℤ, Bool, true, false, eqb, ◌&&◌, ◌||◌, List, [], ◌∷◌, ◌++◌, append-nil, Option, Some, None, IsTrue, refl, sym, ap, subst, ◌∙◌, arith}
+use Rattle.std.proofs.Common.{◌≡◌, ℕ, ◌<◌, ◌≤◌, ◌^◌, ℤ, Bool, true, false, eqb, ◌&&◌, ◌||◌, List, [], ◌∷◌, ◌++◌, append-nil, Option, Some, None, Ok, Err, Result, OnOk, IsTrue, refl, sym, ap, subst, ◌∙◌, arith}
 use Rattle.std.specs.List.{AllByRecursion, list_any, filter}
 use Rattle.std.specs.List.Sorted.{IsPermutation}
 use Rattle.std.specs.Prelude.{All}
@@ -8,6 +8,7 @@ use Rattle.std.proofs.lemmas.List.Elements.{recursion_from_All}
 use Rattle.std.proofs.lemmas.List.Folds.{list_any-append}
 use Rattle.std.proofs.lemmas.List.Sorted.{IsPermutation-refl, list_any-IsPermutation}
 use Rattle.sqlite.specs.State.{State}
+use Rattle.records.specs.declared.unavailable.Unavailable.{Unavailable}
 use Rattle.records.specs.declared.facts.PendingState.{PendingState}
 use Rattle.records.specs.declared.facts.PendingState.TheVariants.{Open, Posted, Voided, Expired}
 use Rattle.records.specs.Due.{has_come}
@@ -25,24 +26,27 @@ use Rattle.ledger_sql.specs.Effects.{IsInside, WritesInside}
 use Rattle.stored_tables.specs.Covers.{IsCovered, Covers}
 use Rattle.stored_tables.specs.Frames.{AreNumbered}
 use Rattle.stored_tables.specs.Holds.{HoldsRows}
-use Rattle.stored_tables.specs.Moves.{MovesRows}
+use Rattle.stored_tables.specs.declared.kept.KeptRow.{KeptRow}
+use Rattle.stored_tables.specs.Kept.{Kept, kept_in, HoldsKept, MovesKept, ChangesKept}
+use Rattle.stored_tables.specs.Moves.{CanWrite, Any}
 use Rattle.stored_tables.specs.Releasing.{AreApart, AreReleased, IsLess, ReleasesOne, ReleasesDue}
 use Rattle.stored_tables.specs.BatchLaws.{others_then}
 use Rattle.stored_tables.proofs.DueKeys.{finds, is_within, holds_within}
 use Rattle.stored_tables.proofs.DueRows.{due_row}
+use Rattle.stored_tables.proofs.KeptMoves.{none_kept, as_stored}
 use Rattle.stored_tables.proofs.PastTimes.{IsLater, all_later}
 use Rattle.stored_tables.proofs.Released.{keeps_itself}
 use Rattle.stored_tables.proofs.RowsTell.{same_themselves}
-use Rattle.stored_tables.proofs.Writing.{inside_then}
+use Rattle.stored_tables.proofs.Writing.{inside_then, still_inside}
 
--- of these keys no transfer is left
-pub record ReleasesSeen (tenant : ℤ) (clock : ℕ) (seen : List (ℕ × ℕ)) (old new : State) : Type 0 where
+-- of these keys no transfer is left, once what is kept is put into the rows
+pub record ReleasesSeen (tenant : ℤ) (clock : ℕ) (kept : Kept) (seen : List (ℕ × ℕ)) (old new : State) : Type 0 where
   pub inside : WritesInside old new
   pub all :
       (m : Machine) → IsValid m → AreNumbered old.now.trees → HoldsRows tenant (rows_for 3 m) old.now.trees → (done : List ℕ)
       × AreReleased clock m done
       × AllByRecursion (λ key. has_id key.1 (due_ids clock (rows_released m done)) ≡ false) seen
-      × MovesRows tenant (rows_released m done) old.now new.now
+      × MovesKept tenant kept (rows_released m done) old.now new.now
 
 abbrev pub NoneReleased : Type 0
 NoneReleased = (m : Machine) → rows_released m [] ≡ rows_for 3 m
@@ -69,18 +73,21 @@ apart_for fit keyed m valid =
 
 module _ (tenant : ℤ) (clock : ℕ) where
   -- at the beginning
-  pub seen_none : NoneReleased → RowsFit → KeysAreDistinct → (s : State) → IsInside s → IsTrue s.is_open → ReleasesSeen tenant clock [] s s
+  pub seen_none : NoneReleased → RowsFit → KeysAreDistinct → (s : State) → IsInside s → IsTrue s.is_open → ReleasesSeen tenant clock (kept_in []) [] s s
   seen_none first fit keyed s inside is_open = record {
     inside = record { schema = refl; shown = record { was_open = is_open; is_open = is_open; now_is = refl; committed_is = refl; mode = inside.mode }; marks = refl };
-    all = λ m valid num held. (
-      [],
-      record {
-        split = subst (λ (rows : TypedRows). IsPermutation (due_ids clock (rows_for 3 m)) (due_ids clock rows)) (sym (first m)) (IsPermutation-refl (due_ids clock (rows_for 3 m)));
-        apart = subst AreApart (sym (first m)) (apart_for fit keyed m valid);
-      },
-      tt,
-      record { numbered = num; others = keeps_itself tenant s.now.trees; strangers = refl; rows = subst (λ (rows : TypedRows). HoldsRows tenant rows s.now.trees) (sym (first m)) held },
-    );
+    all = λ m valid num held.
+        let apart : AreApart (rows_released m []) = subst AreApart (sym (first m)) (apart_for fit keyed m valid) in (
+          [],
+          record { split = subst (λ (rows : TypedRows). IsPermutation (due_ids clock (rows_for 3 m)) (due_ids clock rows)) (sym (first m)) (IsPermutation-refl (due_ids clock (rows_for 3 m))); apart = apart },
+          tt,
+          record {
+            numbered = num;
+            others = keeps_itself tenant s.now.trees;
+            strangers = refl;
+            rows = none_kept tenant (rows_released m []) s.now.trees apart (subst (λ (rows : TypedRows). HoldsRows tenant rows s.now.trees) (sym (first m)) held);
+          },
+        );
   }
 
   -- none of the keys that were seen comes back
@@ -90,8 +97,8 @@ module _ (tenant : ℤ) (clock : ℕ) where
   none_back id m done more less (first ∷ seen) key is all = (less.fewer first.1 all.0, none_back id m done more less seen key is all.1)
 
   -- one key more
-  pub seen_more : (seen : List (ℕ × ℕ)) (key : ℕ × ℕ) (s0 s1 s2 : State) → ReleasesSeen tenant clock seen s0 s1 → ReleasesOne tenant clock key.1 s1 s2 → ReleasesSeen tenant clock (seen ++ key ∷ []) s0 s2
-  seen_more seen key s0 s1 s2 before one = record {
+  pub seen_more : (kept more : Kept) (seen : List (ℕ × ℕ)) (key : ℕ × ℕ) (s0 s1 s2 : State) → ReleasesSeen tenant clock kept seen s0 s1 → ReleasesOne tenant clock key.1 kept more s1 s2 → ReleasesSeen tenant clock more (seen ++ key ∷ []) s0 s2
+  seen_more kept more seen key s0 s1 s2 before one = record {
     inside = inside_then s0 s1 s2 before.inside one.inside;
     all = λ m valid num held.
         let was = before.all m valid num held in
@@ -102,6 +109,26 @@ module _ (tenant : ℤ) (clock : ℕ) where
           record { numbered = then.3.numbered; others = others_then tenant s0.now.trees s1.now.trees s2.now.trees was.3.others then.3.others; strangers = then.3.strangers ∙ was.3.strangers; rows = then.3.rows },
         );
   }
+
+-- what was kept is written
+pub seen_flushed : (tenant : ℤ) (clock : ℕ) (kept : Kept) (rest : List KeptRow) (seen : List (ℕ × ℕ)) (s0 s1 s2 : State) → rest ≡ [] → ReleasesSeen tenant clock kept seen s0 s1 → ChangesKept tenant kept (kept_in rest) Any (λ rows. rows) s1 s2
+    → ReleasesSeen tenant clock (kept_in []) seen s0 s2
+seen_flushed tenant clock kept rest seen s0 s1 s2 empty before flushed = record {
+  inside = inside_then s0 s1 s2 before.inside flushed.inside;
+  all = λ m valid num held.
+      let was = before.all m valid num held in
+      let then = flushed.moves (rows_released m was.0) tt was.3.numbered was.3.rows in (
+        was.0,
+        was.1,
+        was.2,
+        record {
+          numbered = then.numbered;
+          others = others_then tenant s0.now.trees s1.now.trees s2.now.trees was.3.others then.others;
+          strangers = then.strangers ∙ was.3.strangers;
+          rows = subst (λ (rest : List KeptRow). HoldsKept tenant (kept_in rest) (rows_released m was.0) s2.now.trees) empty then.rows;
+        },
+      );
+}
 
 open_row : (state : PendingState) (come : Bool) → (is_open state && come) ≡ true → (state ≡ Open) × (come ≡ true)
 open_row Open come due = (refl, due)
@@ -149,11 +176,25 @@ module _ (from clock : ℕ) (m : Machine) (done : List ℕ) (keys : List (ℕ ×
   all_done = subst (IsPermutation (due_ids clock (rows_for 3 m))) (ap (λ left. done ++ left) (not_left (due_ids clock (rows_released m done)) refl) ∙ append-nil done) released.split
 
 -- where all keys behind a past moment and up to the clock were seen, all that is due is released
-pub seen_all : RowsFit → (tenant : ℤ) (past from clock : ℕ) (keys : List (ℕ × ℕ)) (s0 s1 : State) → from ≤ past → ReleasesSeen tenant clock (filter (is_within (from, 340282366920938463463374607431768211455) (clock, 340282366920938463463374607431768211455)) keys) s0 s1
+pub seen_all : RowsFit → (tenant : ℤ) (past from clock : ℕ) (keys : List (ℕ × ℕ)) (s0 s1 : State) → from ≤ past → ReleasesSeen tenant clock (kept_in []) (filter (is_within (from, 340282366920938463463374607431768211455) (clock, 340282366920938463463374607431768211455)) keys) s0 s1
     → ReleasesDue tenant past clock (λ key. list_any (finds key) keys) s0 s1
 seen_all fit tenant past from clock keys s0 s1 le seen = record {
   inside = seen.inside;
   all = λ m valid later covers num held.
-      let it = seen.all m valid num held in
-      (it.0, all_done from clock m it.0 keys (omega arith) (fit 3 m valid).statuses covers it.1 it.2, it.3);
+      let it = seen.all m valid num held in (
+        it.0,
+        all_done from clock m it.0 keys (omega arith) (fit 3 m valid).statuses covers it.1 it.2,
+        record { numbered = it.3.numbered; others = it.3.others; strangers = it.3.strangers; rows = as_stored tenant (rows_released m it.0) s1.now.trees it.3.rows },
+      );
 }
+
+-- so it is once all that was kept is written
+pub due_flushed : RowsFit → (tenant : ℤ) (past from clock : ℕ) (keys : List (ℕ × ℕ)) (kept : Kept) (rest : List KeptRow) (s0 s1 s2 : State) (r : Result (Unit {0}) Unavailable) → from ≤ past
+    → ReleasesSeen tenant clock kept (filter (is_within (from, 340282366920938463463374607431768211455) (clock, 340282366920938463463374607431768211455)) keys) s0 s1
+    → OnOk r (ChangesKept tenant kept (kept_in rest) Any (λ rows. rows) s1 s2) → OnOk r (rest ≡ []) → OnOk r (ReleasesDue tenant past clock (λ key. list_any (finds key) keys) s0 s2)
+due_flushed fit tenant past from clock keys kept rest s0 s1 s2 (Ok x) le seen flushed empty = seen_all fit tenant past from clock keys s0 s2 le (seen_flushed tenant clock kept rest _ s0 s1 s2 empty seen flushed)
+due_flushed fit tenant past from clock keys kept rest s0 s1 s2 (Err e) le seen flushed empty = tt
+
+-- the transaction is open still
+pub can_write_still : (s0 s1 : State) → CanWrite s0 → WritesInside s0 s1 → CanWrite s1
+can_write_still s0 s1 can w = record { inside = still_inside s0 s1 can.inside w; is_open = w.shown.is_open }

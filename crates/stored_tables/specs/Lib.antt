@@ -7,6 +7,7 @@ pub mod Handing
 pub mod Holds
 pub mod Idle
 pub mod InBatch
+pub mod Kept
 pub mod MachineOf
 pub mod Meaning
 pub mod Moves

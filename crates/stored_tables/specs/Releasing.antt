@@ -1,18 +1,19 @@
 -- How transfers that are due at a later clock are released, one after the other.
-use Rattle.std.specs.Prelude.{◌≡◌, ◌≤◌, ℕ, ℤ, false, List, ◌++◌, All, Some, IsSome, IsPermutation}
+use Rattle.std.specs.Prelude.{◌≡◌, ◌<◌, ◌≤◌, ◌^◌, ℕ, ℤ, false, List, ◌++◌, All}
+use Rattle.std.specs.Prelude.{Some, IsSome, IfSome, IsPermutation}
 use Rattle.sqlite_trees.specs.Tree.{Trees}
 use Rattle.sqlite.specs.State.{State}
 use Rattle.records.specs.declared.transfer.Transfer.{Transfer}
 use Rattle.records.specs.declared.balances.Balances.{Balances}
-use Rattle.records.specs.declared.facts.PendingState.TheVariants.{Expired}
 use Rattle.records.specs.declared.side.Side.TheVariants.{Debit, Credit}
 use Rattle.records.specs.Machine.{Machine, has_id, transfer_with}
 use Rattle.records.specs.Step.{at_clock}
 use Rattle.records.specs.Valid.{IsValid}
 use Rattle.engine.specs.After.{balances_released}
+use Rattle.rows.specs.declared.balance_row.BalanceRow.{BalanceRow}
 use Rattle.rows.specs.declared.status_row.StatusRow.{StatusRow}
 use Rattle.rows.specs.TypedRows.{TypedRows}
-use Rattle.rows.specs.Changes.{set_both, set_state, with_expired}
+use Rattle.rows.specs.Changes.{with_expired}
 use Rattle.rows.specs.Keyed.{row_with}
 use Rattle.rows.specs.Prescribed.{rows_for}
 use Rattle.rows.specs.Settling.{rows_released, due_ids}
@@ -22,7 +23,8 @@ use Rattle.ledger_sql.specs.Effects.{WritesInside}
 use Rattle.stored_tables.specs.Covers.{DueTest, Covers}
 use Rattle.stored_tables.specs.Frames.{AreNumbered}
 use Rattle.stored_tables.specs.Holds.{HoldsRows}
-use Rattle.stored_tables.specs.Moves.{MovesRows, ChangesRows, HasBoth, HasStatus, IsStatusOf}
+use Rattle.stored_tables.specs.Kept.{Kept, with_balances, HoldsKept, MovesKept, ChangesKept}
+use Rattle.stored_tables.specs.Moves.{MovesRows, ChangesRows, IsStatusOf}
 use Rattle.stored_tables.specs.declared.expiry.Expiry.{Expiry}
 
 -- rows that fit a file and are told apart by their keys
@@ -33,6 +35,12 @@ pub record AreApart (rows : TypedRows) : Type 0 where
   pub balances : HasDistinctKeys (λ row. row.account) rows.balances
   pub statuses_fit : All IsStorableStatus rows.statuses
   pub statuses : HasDistinctKeys (λ row. row.transfer) rows.statuses
+
+-- in a table whose keys tell its rows apart, the one of this account fits a file
+pub record HasAccounts (account : ℕ) (rows : List BalanceRow) : Type 0 where
+  pub ids : All (λ row. row.account < 2 ^ 128) rows
+  pub distinct : HasDistinctKeys (λ row. row.account) rows
+  pub fits : IfSome (row_with (λ row. row.account) account rows) IsStorableBalance
 
 -- this transfer can expire: it has a status, and its two accounts have these balances
 pub record CanExpire (t : Transfer) (debit credit : Balances) (rows : TypedRows) : Type 0 where
@@ -57,44 +65,46 @@ expiry_of t debit credit = record {
 -- what is found is the tenant's transfer with this id; the balances of its account with this id
 abbrev pub IsTransferOf : ℤ → ℕ → Trees → Transfer → Type 0
 IsTransferOf tenant id trees found =
-    (rows : TypedRows) → AreApart rows → HoldsRows tenant rows trees →
+    (rows : TypedRows) → HoldsRows tenant rows trees → All IsStorableTransfer rows.transfers →
+    HasDistinctKeys (λ row. row.id) rows.transfers →
     transfer_with id rows.transfers ≡ Some found
 
 abbrev pub AreBalancesOf : ℤ → ℕ → Trees → Balances → Type 0
 AreBalancesOf tenant account trees found =
-    (rows : TypedRows) → AreApart rows → HoldsRows tenant rows trees →
+    (rows : TypedRows) → HoldsRows tenant rows trees → HasAccounts account rows.balances →
     row_with (λ row. row.account) account rows.balances
     ≡ Some (record { account = account; balances = found })
 
+-- the balances of the account, with what is kept
+abbrev pub AreKeptBalancesOf : ℤ → Kept → ℕ → Trees → Balances → Type 0
+AreKeptBalancesOf tenant kept account trees found =
+    (rows : TypedRows) (balances : Balances) → AreApart rows → HoldsKept tenant kept rows trees →
+    row_with (λ row. row.account) account rows.balances
+    ≡ Some (record { account = account; balances = balances }) → found ≡ balances
+
 -- what was read of a transfer that can expire
-abbrev pub IsExpiry : ℤ → ℕ → Trees → Expiry → Type 0
-IsExpiry tenant id trees expiry =
+abbrev pub IsExpiry : ℤ → Kept → ℕ → Trees → Expiry → Type 0
+IsExpiry tenant kept id trees expiry =
     (t : Transfer) (debit credit : Balances) (rows : TypedRows) →
-    CanExpire t debit credit rows → t.id ≡ id → HoldsRows tenant rows trees →
+    CanExpire t debit credit rows → t.id ≡ id → HoldsKept tenant kept rows trees →
     expiry ≡ expiry_of t debit credit
+
+-- what is kept once it has expired
+abbrev pub with_expiry : Expiry → Kept → Kept
+with_expiry expiry kept =
+    with_balances expiry.transfer.credit_account_id expiry.credit
+    (with_balances expiry.transfer.debit_account_id expiry.debit kept)
 
 -- this is the tenant's status row of its transfer
 abbrev pub HasStatusRow : ℤ → StatusRow → State → Type 0
 HasStatusRow tenant row s = IsStatusOf tenant row.transfer s.now.trees (Some row)
 
--- what the expiry of the transfer with this id changes is there
-pub record HasExpiring (id : ℕ) (t : Transfer) (rows : TypedRows) : Type 0 where
-  pub both : HasBoth t rows.balances
-  pub status : HasStatus id rows.statuses
-
--- the rows with what it leaves
-abbrev pub with_expiry : ℕ → Expiry → TypedRows → TypedRows
-with_expiry id expiry rows = record rows {
-  balances = set_both expiry.transfer expiry.debit expiry.credit rows.balances;
-  statuses = set_state id Expired rows.statuses;
-}
-
 -- the transfer with this id has expired, if it could
-pub record Expires (tenant : ℤ) (id : ℕ) (old new : State) : Type 0 where
+pub record Expires (tenant : ℤ) (id : ℕ) (was is : Kept) (old new : State) : Type 0 where
   pub inside : WritesInside old new
   pub writes :
       (t : Transfer) (debit credit : Balances) → t.id ≡ id →
-      ChangesRows tenant (CanExpire t debit credit) (with_expired t debit credit) old new
+      ChangesKept tenant was is (CanExpire t debit credit) (with_expired t debit credit) old new
 
 -- of the transfers that are due at the clock these were released, and the others are left
 pub record AreReleased (clock : ℕ) (m : Machine) (done : List ℕ) : Type 0 where
@@ -111,15 +121,15 @@ pub record IsLess (clock id : ℕ) (m : Machine) (done more : List ℕ) : Type 0
       has_id other (due_ids clock (rows_released m more)) ≡ false
 
 -- one step of it
-pub record ReleasesOne (tenant : ℤ) (clock id : ℕ) (old new : State) : Type 0 where
+pub record ReleasesOne (tenant : ℤ) (clock id : ℕ) (was is : Kept) (old new : State) : Type 0 where
   pub inside : WritesInside old new
   pub step :
       (m : Machine) (done : List ℕ) → IsValid m → AreReleased clock m done →
-      AreNumbered old.now.trees → HoldsRows tenant (rows_released m done) old.now.trees →
+      AreNumbered old.now.trees → HoldsKept tenant was (rows_released m done) old.now.trees →
       (more : List ℕ)
       × AreReleased clock m more
       × IsLess clock id m done more
-      × MovesRows tenant (rows_released m more) old.now new.now
+      × MovesKept tenant is (rows_released m more) old.now new.now
 
 -- all that is due is released, where the set has it and the tenant's clock is at the past moment or
 -- later

@@ -12,6 +12,8 @@ mod entries_within;
 mod expiring;
 mod expiry;
 mod failing;
+mod flushing;
+mod kept;
 mod laws;
 mod marking;
 mod reading;

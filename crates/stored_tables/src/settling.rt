@@ -1,7 +1,8 @@
 //! The clock of a tenant, and what is due at it.
 
-ghost use Rattle.std.specs.Prelude.{◌≡◌, ◌≤◌, None};
+ghost use Rattle.std.specs.Prelude.{◌≡◌, ◌+◌, ◌≤◌, None};
 ghost use Rattle.std.specs.BTreeSet.{contains};
+ghost use Rattle.arrayvec.specs.ArrayVec.{array_vec_len};
 ghost use Rattle.records.specs.Due.{has_come};
 ghost use Rattle.records.specs.Step.{at_clock, max_clock};
 ghost use Rattle.rows.specs.Settling.{is_due_row};
@@ -9,6 +10,7 @@ ghost use Rattle.ledger_sql.specs.Calls.{Changes, IfClean};
 ghost use Rattle.ledger_sql.specs.Effects.{IsInside};
 ghost use Rattle.chain.specs.Tables.{Leaves, on_now};
 ghost use Rattle.stored_tables.specs.Covers.{Covers};
+ghost use Rattle.stored_tables.specs.Kept.{kept_in};
 ghost use Rattle.stored_tables.specs.Meaning.{batch_meaning};
 ghost use Rattle.stored_tables.specs.Moves.{CanWrite};
 ghost use Rattle.stored_tables.specs.Releasing.{ReleasesOne, ReleasesDue, MovesClock};
@@ -17,6 +19,8 @@ use crate::batch::TenantNumber;
 use crate::changing::status;
 use crate::expiring::expire;
 use crate::failing::give_up;
+use crate::flushing::{flush, make_room};
+use crate::kept::Kept;
 use crate::laws::held_machines;
 use ledger_sql::setting::set_clock;
 use records::{PendingState, Unavailable};
@@ -72,7 +76,8 @@ fn move_clock<S: Alter>(
     set_clock(conn, tenant.0, clock)
 }
 
-/// Releases what is due at the clock, and was not so at the past moment.
+/// Releases what is due at the clock, and was not so at the past moment. The balances of an account
+/// are kept back and written once, unless there are more accounts than have room.
 fn release_due<S: Alter>(
     conn: &mut Connection<S>,
     due: &BTreeSet<(u64, u128)>,
@@ -88,28 +93,50 @@ fn release_due<S: Alter>(
     rows_fit();
     keys_are_distinct();
     let from = past.min(clock);
+    let mut kept = Kept::new();
     for entry in due.range((from, u128::MAX)..=(clock, u128::MAX)) {
-        release_if_due(conn, tenant, clock, entry.1)?;
+        release_next(conn, &mut kept, tenant, clock, entry.1)?;
     }
-    Ok(())
+    flush(conn, &mut kept, tenant)
 }
 
-/// Releases a transfer that is open and due at the clock. A set of due times may have others.
-fn release_if_due<S: Alter>(
+/// Releases a transfer that is open and due at the clock, once there is room for its balances.
+fn release_next<S: Alter>(
     conn: &mut Connection<S>,
+    kept: &mut Kept,
     tenant: TenantNumber,
     clock: u64,
     id: u128,
 ) -> Result<(), Unavailable>
-    requires { IfClean IsInside S.Store conn.old }
-    ensures { Changes (ReleasesOne tenant.0 clock id) S.Store conn.old conn.new result }
+    requires { IfClean CanWrite S.Store conn.old }
+    ensures { Changes
+        (ReleasesOne tenant.0 clock id (kept_in kept.old.items) (kept_in kept.new.items))
+        S.Store conn.old conn.new result }
+{
+    make_room(conn, kept, tenant)?;
+    release_if_due(conn, kept, tenant, clock, id)
+}
+
+/// The same, where there is room. A set of due times may have others, which stay.
+fn release_if_due<S: Alter>(
+    conn: &mut Connection<S>,
+    kept: &mut Kept,
+    tenant: TenantNumber,
+    clock: u64,
+    id: u128,
+) -> Result<(), Unavailable>
+    requires inside { IfClean IsInside S.Store conn.old }
+    requires room { array_vec_len kept.old + 2 ≤ 128 }
+    ensures { Changes
+        (ReleasesOne tenant.0 clock id (kept_in kept.old.items) (kept_in kept.new.items))
+        S.Store conn.old conn.new result }
 {
     clock_rows();
     let Some(row) = status(conn, tenant, id)? else {
         return Ok(());
     };
     if is_due(&row, clock) {
-        expire(conn, tenant, &row)
+        expire(conn, kept, tenant, &row)
     } else {
         Ok(())
     }

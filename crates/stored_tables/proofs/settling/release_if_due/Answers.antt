@@ -1,9 +1,9 @@
-use Rattle.std.proofs.Common.{◌≡◌, ℕ, Option, None, Some, rules, sym, subst, ◌∙◌, arith, ap}
+use Rattle.std.proofs.Common.{◌≡◌, None, Some, rules, sym, subst, ◌∙◌, arith, ap}
 use Rattle.std.proofs.lemmas.Option.{same_Some}
 use Rattle.sqlite.specs.State.{HasCleanDisk}
 use Rattle.sqlite.specs.Held.{state}
-use Rattle.rows.specs.declared.status_row.StatusRow.{StatusRow}
 use Rattle.rows.specs.Settling.{is_due_row}
+use Rattle.stored_tables.specs.Kept.{kept_in}
 use Rattle.stored_tables.specs.Moves.{IsStatusOf}
 use Rattle.stored_tables.proofs.ExpiryWrites.{still_told, told_of_row}
 use Rattle.stored_tables.proofs.Released.{passes, releases}
@@ -22,7 +22,7 @@ returns-in_default g c = record {
       let s0 = state g.S.Store c.args.conn.now in
       let s1 = state g.S.Store c.status.new.conn in
       let before : HasCleanDisk s0 = omega (arith, c.status.ensures.reads.follows.survives.clean, clean) in
-      passes c.args.tenant.0 c.args.clock c.args.id c.in_ok-row.field-0 s0 s1 (c.in_ok-row.ensures.ok clean) (c.in_ok-row.ensures.reads.same clean) (c.requires before) (λ row there. absurd (let e : None ≡ Some row = sym c.in_default.is ∙ there in cc));
+      passes c.args.tenant.0 c.args.clock c.args.id c.in_ok-row.field-0 s0 s1 (c.in_ok-row.ensures.ok clean) (c.in_ok-row.ensures.reads.same clean) (kept_in c.args.kept.now.items) (c.requires.inside before) (λ row there. absurd (let e : None ≡ Some row = sym c.in_default.is ∙ there in cc));
   follows = search rules;
 }
 
@@ -32,7 +32,7 @@ returns-then-is_due g c = record {
       let s0 = state g.S.Store c.args.conn.now in
       let s1 = state g.S.Store c.status.new.conn in
       let before : HasCleanDisk s1 = omega (arith, c.expire.ensures.follows.survives.clean, clean) in
-      releases c.args.tenant.0 c.args.clock c.args.id c.in_ok-row.field-0 s0 s1 (c.in_ok-row.ensures.ok before) (c.in_ok-row.ensures.reads.same before) c.clock_rows.ensures.next (state g.S.Store c.expire.new.conn) c.in-Some.row c.in-Some.is (sym c.is_due.ensures ∙ c.if-is_due.true) c.expire.result
+      releases c.args.tenant.0 c.args.clock c.args.id c.in_ok-row.field-0 s0 s1 (c.in_ok-row.ensures.ok before) (c.in_ok-row.ensures.reads.same before) (kept_in c.args.kept.now.items) (kept_in c.expire.new.kept.items) c.clock_rows.ensures.next (state g.S.Store c.expire.new.conn) c.in-Some.row c.in-Some.is (sym c.is_due.ensures ∙ c.if-is_due.true) c.expire.result
       (c.expire.ensures.ok clean);
   follows = search rules;
 }
@@ -43,7 +43,7 @@ returns-else-is_due g c = record {
       let s0 = state g.S.Store c.args.conn.now in
       let s1 = state g.S.Store c.status.new.conn in
       let before : HasCleanDisk s0 = omega (arith, c.status.ensures.reads.follows.survives.clean, clean) in
-      passes c.args.tenant.0 c.args.clock c.args.id c.in_ok-row.field-0 s0 s1 (c.in_ok-row.ensures.ok clean) (c.in_ok-row.ensures.reads.same clean) (c.requires before)
+      passes c.args.tenant.0 c.args.clock c.args.id c.in_ok-row.field-0 s0 s1 (c.in_ok-row.ensures.ok clean) (c.in_ok-row.ensures.reads.same clean) (kept_in c.args.kept.now.items) (c.requires.inside before)
       (λ row there. ap (is_due_row c.args.clock) (same_Some _ _ (sym there ∙ c.in-Some.is)) ∙ sym c.is_due.ensures ∙ c.if-is_due.false);
   follows = search rules;
 }

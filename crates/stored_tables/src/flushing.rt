@@ -1,0 +1,57 @@
+//! Balances that were kept back are written.
+
+ghost use Rattle.std.specs.Prelude.{◌≡◌, ◌↔◌, ◌+◌, ◌≤◌, [], IsTrue, OnOk};
+ghost use Rattle.arrayvec.specs.ArrayVec.{array_vec_len};
+ghost use Rattle.ledger_sql.specs.Calls.{Changes, IfClean};
+ghost use Rattle.stored_tables.specs.Kept.{kept_in, ChangesKept};
+ghost use Rattle.stored_tables.specs.Moves.{CanWrite, Any};
+
+use crate::batch::TenantNumber;
+use crate::changing::set_balances;
+use crate::kept::{Kept, MOST};
+use records::Unavailable;
+use sqlite::{Alter, Connection};
+
+/// Writes all that is kept. The tenant's rows with it stay what they were.
+pub(crate) fn flush<S: Alter>(
+    conn: &mut Connection<S>,
+    kept: &mut Kept,
+    tenant: TenantNumber,
+) -> Result<(), Unavailable>
+    requires { IfClean CanWrite S.Store conn.old }
+    ensures changes { Changes
+        (ChangesKept tenant.0 (kept_in kept.old.items) (kept_in kept.new.items) Any (λ rows. rows))
+        S.Store conn.old conn.new result }
+    ensures empty { OnOk result (kept.new.items ≡ []) }
+{
+    while let Some(row) = kept.pop() {
+        set_balances(conn, tenant, row.account, row.balances)?;
+    }
+    Ok(())
+}
+
+/// Writes all that is kept where there is no room for two accounts more.
+pub(crate) fn make_room<S: Alter>(
+    conn: &mut Connection<S>,
+    kept: &mut Kept,
+    tenant: TenantNumber,
+) -> Result<(), Unavailable>
+    requires { IfClean CanWrite S.Store conn.old }
+    ensures changes { Changes
+        (ChangesKept tenant.0 (kept_in kept.old.items) (kept_in kept.new.items) Any (λ rows. rows))
+        S.Store conn.old conn.new result }
+    ensures room { OnOk result (array_vec_len kept.new + 2 ≤ 128) }
+{
+    if has_room(kept) {
+        Ok(())
+    } else {
+        flush(conn, kept, tenant)
+    }
+}
+
+/// Whether there is room for two accounts more.
+fn has_room(kept: &Kept) -> bool
+    ensures { IsTrue result ↔ (array_vec_len kept.now + 2 ≤ 128) }
+{
+    kept.len() + 2 <= MOST
+}
