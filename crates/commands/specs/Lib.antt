@@ -22,3 +22,4 @@ pub mod Listing
 pub mod Copying
 pub mod Tally
 pub mod Settling
+pub mod Leaving
