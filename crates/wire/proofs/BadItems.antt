@@ -6,11 +6,14 @@ use Rattle.serde_json.specs.Data.{Data, Items, no_items, item}
 use Rattle.serde_json.specs.Find.{as_array}
 use Rattle.serde_json.specs.View.{items_view}
 use Rattle.serde_json.specs.declared.value.Value.{Value}
+use Rattle.serde_json.proofs.Views.{items_len-items_view}
 use Rattle.ledger_http.specs.declared.refusal.Refusal.TheVariants.{BodyNotJson, BadField}
 use Rattle.ledger_http.specs.declared.refusal.Refusal.TheVariants.{TooManyEvents}
 use Rattle.wire.specs.Body.{json_of, each_of, list_in}
-use Rattle.wire.specs.Faults.{first_bad_in, refused}
-use Rattle.wire.specs.Misfits.{first_bad}
+use Rattle.wire.specs.declared.body_fault.BodyFault.{BodyFault}
+use Rattle.wire.specs.declared.wanted.Wanted.TheVariants.{Few}
+use Rattle.wire.specs.Faults.{IsListFault, first_bad_in, refused}
+use Rattle.wire.specs.Misfits.{Expected, first_bad}
 use Rattle.wire.proofs.Lists.{HasItems, list_in_few, list_in_many, list_in_bad}
 
 -- where no item is bad, all mean something
@@ -88,3 +91,10 @@ pub bad_item : {E : Type 0} (meant_by : Data → Option E) (body : List ℕ) (vs
     → refused (list_in meant_by body) ≡ Some BadField
 bad_item meant_by body vs n has is =
     ap refused (list_in_bad meant_by body vs has (one_bad meant_by 0 (items_view vs) n is))
+
+pub has_many : (expected : Expected) (body : List ℕ) (vs : List Value) (fault : BodyFault)
+    → HasItems body vs → 1000 < length vs
+    → fault.item ≡ None → fault.field ≡ None → fault.wanted ≡ Few → IsListFault expected body fault
+has_many expected body vs fault has many no_place no_field wanted =
+    rw (no_place, no_field, wanted)
+    (items_view vs, rw has.is has.list, rw items_len-items_view many)

@@ -1,5 +1,6 @@
 mod BadItems
 mod Lists
+mod Misfits
 mod Numbers
 mod Objects
 mod Texts

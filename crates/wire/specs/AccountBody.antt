@@ -3,15 +3,21 @@ use Rattle.std.specs.Prelude.{ℕ, ◌^◌, List, [], ◌∷◌, codes, Option, 
 use Rattle.serde_json.specs.Data.{Data}
 use Rattle.serde_json.specs.Find.{get}
 use Rattle.records.specs.declared.account.AccountEvent.{AccountEvent}
-use Rattle.wire.specs.Fields.{wide, whole, given, object_of}
+use Rattle.wire.specs.declared.wanted.Wanted.TheVariants.{Digits128, Digits64, WholeBelow}
+use Rattle.wire.specs.Fields.{KnownFields, known_names, wide, whole, given, object_of}
 
--- the fields that it may have
+-- the fields that it may have, and the number that is wanted in each
+abbrev pub account_fields : KnownFields
+account_fields =
+    (codes "id", Digits128) ∷ (codes "debits_pending", Digits128)
+    ∷ (codes "debits_posted", Digits128) ∷ (codes "credits_pending", Digits128)
+    ∷ (codes "credits_posted", Digits128) ∷ (codes "user_data_128", Digits128)
+    ∷ (codes "user_data_64", Digits64) ∷ (codes "user_data_32", WholeBelow (2 ^ 32))
+    ∷ (codes "ledger", WholeBelow (2 ^ 32)) ∷ (codes "code", WholeBelow (2 ^ 16))
+    ∷ (codes "flags", WholeBelow (2 ^ 16)) ∷ (codes "timestamp", Digits64) ∷ []
+
 abbrev pub account_names : List (List ℕ)
-account_names =
-    codes "id" ∷ codes "debits_pending" ∷ codes "debits_posted"
-    ∷ codes "credits_pending" ∷ codes "credits_posted"
-    ∷ codes "user_data_128" ∷ codes "user_data_64" ∷ codes "user_data_32"
-    ∷ codes "ledger" ∷ codes "code" ∷ codes "flags" ∷ codes "timestamp" ∷ []
+account_names = known_names account_fields
 
 -- the account event of these fields, if each of them is good
 unfoldable pub account_from : Data → Option AccountEvent

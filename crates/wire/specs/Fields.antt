@@ -1,12 +1,13 @@
 -- The fields of an object in a body: numbers, each with its form and its width.
 use Rattle.std.specs.Prelude.{ℕ, Bool, false, nat_lt, List, [], ◌∷◌, bytes_eq, Option, Some, None}
-use Rattle.std.specs.Prelude.{option_and_then, if◌then◌else◌}
-use Rattle.std.specs.List.{list_any, list_all}
+use Rattle.std.specs.Prelude.{map, option_map, option_and_then, if◌then◌else◌}
+use Rattle.std.specs.List.{find, list_any, list_all}
 use Rattle.std.specs.Str.Parse.{digits_value}
 use Rattle.amount.specs.Decimal.{decimal_of}
 use Rattle.serde_json.specs.Data.{Data, null, boolean, number, string, array, object, Members}
 use Rattle.serde_json.specs.Data.{no_members, member}
 use Rattle.serde_json.specs.Find.{as_str, as_number, as_u64}
+use Rattle.wire.specs.declared.wanted.Wanted.{Wanted}
 
 -- the number, where it is below the bound
 abbrev pub below : ℕ → ℕ → Option ℕ
@@ -37,6 +38,18 @@ whole bound (Some d) = option_and_then (below bound) (option_and_then as_u64 (as
 abbrev pub names_of : Members → List (List ℕ)
 names_of no_members = []
 names_of (member name d ms) = name ∷ names_of ms
+
+-- the fields that an object may have, by name, with the number that is wanted in each
+abbrev pub KnownFields : Type 0
+KnownFields = List (List ℕ × Wanted)
+
+-- their names
+abbrev pub known_names : KnownFields → List (List ℕ)
+known_names fields = map (λ f. f.0) fields
+
+-- the number that is wanted in the field of a name, if it is one of them
+abbrev pub wanted_in : KnownFields → List ℕ → Option Wanted
+wanted_in fields name = option_map (λ f. f.1) (find (λ f. bytes_eq name f.0) fields)
 
 -- whether a name is one of those known
 abbrev pub is_among : List (List ℕ) → List ℕ → Bool

@@ -4,13 +4,18 @@ use Rattle.std.specs.Prelude.{nat_lt, if◌then◌else◌}
 use Rattle.serde_json.specs.Data.{Data}
 use Rattle.serde_json.specs.Find.{get}
 use Rattle.records.specs.declared.filter.AccountFilter.{AccountFilter}
-use Rattle.wire.specs.Fields.{wide, whole, given, object_of}
+use Rattle.wire.specs.declared.wanted.Wanted.TheVariants.{Digits128, Digits64, WholeBelow, Limit}
+use Rattle.wire.specs.Fields.{KnownFields, known_names, wide, whole, given, object_of}
 
--- the fields that it may have
+-- the fields that it may have, and the number that is wanted in each
+abbrev pub filter_fields : KnownFields
+filter_fields =
+    (codes "account_id", Digits128) ∷ (codes "timestamp_min", Digits64)
+    ∷ (codes "timestamp_max", Digits64) ∷ (codes "flags", WholeBelow 8) ∷ (codes "limit", Limit)
+    ∷ []
+
 abbrev pub filter_names : List (List ℕ)
-filter_names =
-    codes "account_id" ∷ codes "timestamp_min" ∷ codes "timestamp_max"
-    ∷ codes "flags" ∷ codes "limit" ∷ []
+filter_names = known_names filter_fields
 
 -- at most 1,000 entries may be asked for, and not none
 abbrev pub limit_of : Option Data → Option ℕ

@@ -5,13 +5,18 @@ use Rattle.serde_json.specs.Find.{get}
 use Rattle.records.specs.declared.query.PageFilter.{PageFilter}
 use Rattle.records.specs.declared.query.QueryFilter.{QueryFilter}
 use Rattle.records.specs.declared.query.Tags.{Tags}
-use Rattle.wire.specs.Fields.{wide, whole, given, object_of}
+use Rattle.wire.specs.declared.wanted.Wanted.TheVariants.{Digits128, Digits64, WholeBelow, Limit}
+use Rattle.wire.specs.Fields.{KnownFields, known_names, wide, whole, given, object_of}
 use Rattle.wire.specs.FilterBody.{limit_of}
 
--- the fields that a page may have
+-- the fields that a page may have, and the number that is wanted in each
+abbrev pub page_fields : KnownFields
+page_fields =
+    (codes "timestamp_min", Digits64) ∷ (codes "timestamp_max", Digits64)
+    ∷ (codes "limit", Limit) ∷ (codes "flags", WholeBelow 2) ∷ []
+
 abbrev pub page_names : List (List ℕ)
-page_names =
-    codes "timestamp_min" ∷ codes "timestamp_max" ∷ codes "limit" ∷ codes "flags" ∷ []
+page_names = known_names page_fields
 
 -- the page of these fields, if each of them is good; no flag bit above the first is
 unfoldable pub page_from : Data → Option PageFilter
@@ -31,11 +36,12 @@ page_from d =
 abbrev pub page_of : Data → Option PageFilter
 page_of d = object_of page_names page_from d
 
--- the fields that a query may have beside those of its page
-abbrev pub tag_names : List (List ℕ)
-tag_names =
-    codes "user_data_128" ∷ codes "user_data_64" ∷ codes "user_data_32"
-    ∷ codes "ledger" ∷ codes "code" ∷ []
+-- the fields that a query may have beside those of its page, and the number that is wanted in each
+abbrev pub tag_fields : KnownFields
+tag_fields =
+    (codes "user_data_128", Digits128) ∷ (codes "user_data_64", Digits64)
+    ∷ (codes "user_data_32", WholeBelow (2 ^ 32)) ∷ (codes "ledger", WholeBelow (2 ^ 32))
+    ∷ (codes "code", WholeBelow (2 ^ 16)) ∷ []
 
 -- what records are asked for by, if each of these fields is good; 0 asks for any value
 unfoldable pub tags_from : Data → Option Tags
@@ -54,8 +60,11 @@ tags_from d =
     }))))))
 
 -- all fields that a query may have
+abbrev pub query_fields : KnownFields
+query_fields = tag_fields ++ page_fields
+
 abbrev pub query_names : List (List ℕ)
-query_names = tag_names ++ page_names
+query_names = known_names query_fields
 
 -- the query of these fields, if each of them is good
 unfoldable pub query_from : Data → Option QueryFilter

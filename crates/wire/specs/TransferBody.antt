@@ -3,15 +3,22 @@ use Rattle.std.specs.Prelude.{ℕ, ◌^◌, List, [], ◌∷◌, codes, Option, 
 use Rattle.serde_json.specs.Data.{Data}
 use Rattle.serde_json.specs.Find.{get}
 use Rattle.records.specs.declared.transfer.TransferEvent.{TransferEvent}
-use Rattle.wire.specs.Fields.{wide, whole, given, object_of}
+use Rattle.wire.specs.declared.wanted.Wanted.TheVariants.{Digits128, Digits64, WholeBelow}
+use Rattle.wire.specs.Fields.{KnownFields, known_names, wide, whole, given, object_of}
 
--- the fields that it may have
+-- the fields that it may have, and the number that is wanted in each
+abbrev pub transfer_fields : KnownFields
+transfer_fields =
+    (codes "id", Digits128) ∷ (codes "debit_account_id", Digits128)
+    ∷ (codes "credit_account_id", Digits128) ∷ (codes "amount", Digits128)
+    ∷ (codes "pending_id", Digits128) ∷ (codes "user_data_128", Digits128)
+    ∷ (codes "user_data_64", Digits64) ∷ (codes "user_data_32", WholeBelow (2 ^ 32))
+    ∷ (codes "timeout", WholeBelow (2 ^ 32)) ∷ (codes "ledger", WholeBelow (2 ^ 32))
+    ∷ (codes "code", WholeBelow (2 ^ 16)) ∷ (codes "flags", WholeBelow (2 ^ 16))
+    ∷ (codes "timestamp", Digits64) ∷ []
+
 abbrev pub transfer_names : List (List ℕ)
-transfer_names =
-    codes "id" ∷ codes "debit_account_id" ∷ codes "credit_account_id"
-    ∷ codes "amount" ∷ codes "pending_id"
-    ∷ codes "user_data_128" ∷ codes "user_data_64" ∷ codes "user_data_32"
-    ∷ codes "timeout" ∷ codes "ledger" ∷ codes "code" ∷ codes "flags" ∷ codes "timestamp" ∷ []
+transfer_names = known_names transfer_fields
 
 -- the transfer event of these fields, if each of them is good
 unfoldable pub transfer_from : Data → Option TransferEvent

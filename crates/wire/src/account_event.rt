@@ -6,9 +6,9 @@ use records::{AccountEvent, AccountFlags};
 use serde_json::Value;
 
 impl Object for AccountEvent {
-    ghost use Rattle.wire.specs.AccountBody.{account_names, account_from};
+    ghost use Rattle.wire.specs.AccountBody.{account_fields, account_from};
 
-    ghost names = { account_names };
+    ghost fields = { account_fields };
 
     ghost from_fields = { account_from };
 

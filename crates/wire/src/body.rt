@@ -4,7 +4,7 @@ ghost use Rattle.serde_json.specs.Errors.{IsMemory};
 ghost use Rattle.serde_json.specs.View.{view, items_view};
 ghost use Rattle.wire.specs.Body.{json_of, each_of, list_in, transfers_in, accounts_in, ids_in};
 ghost use Rattle.wire.specs.Body.{object_in};
-ghost use Rattle.wire.specs.Fields.{object_of};
+ghost use Rattle.wire.specs.Fields.{known_names, object_of};
 
 use crate::item::Item;
 use crate::object::{Object, read_object};
@@ -46,9 +46,9 @@ pub(crate) fn read_ids(alloc: Global, body: &[u8]) -> Result<Vec<u128>, Refusal>
 /// Reads the body of a history or a query: one JSON object.
 pub(crate) fn read_one<O: Object>(alloc: Global, body: &[u8]) -> Result<O, Refusal>
     ensures ok { IfOk result (λ asked.
-        object_in (object_of O.names O.from_fields) body.now ≡ Ok asked) }
+        object_in (object_of (known_names O.fields) O.from_fields) body.now ≡ Ok asked) }
     ensures err { IfErr result (λ e. e ≢ Refusal.Unavailable
-        → object_in (object_of O.names O.from_fields) body.now ≡ Err e) }
+        → object_in (object_of (known_names O.fields) O.from_fields) body.now ≡ Err e) }
 {
     let value = read_json(alloc, body)?;
     read_object(&value).map_err(|_| Refusal::BadField)

@@ -14,10 +14,13 @@ pub struct BodyFault {
 
 impl BodyFault {
     ghost use Rattle.std.specs.Prelude.{◌≡◌, None, IfOk};
+    ghost use Rattle.wire.specs.Faults.{told_field};
+    ghost use Rattle.wire.specs.Misfits.{field_of};
 
     // A body as a whole is refused.
     pub(crate) fn of_body(wanted: Wanted) -> BodyFault
         ensures item { result.item ≡ None }
+        ensures field { result.field ≡ None }
         ensures wanted { result.wanted ≡ wanted }
     {
         BodyFault {
@@ -34,6 +37,7 @@ impl BodyFault {
         misfit: Misfit<'_>,
     ) -> Result<BodyFault, AllocError>
         ensures item { IfOk result (λ fault. fault.item ≡ item) }
+        ensures field { IfOk result (λ fault. told_field fault ≡ field_of misfit.entry) }
         ensures wanted { IfOk result (λ fault. fault.wanted ≡ misfit.entry.wanted) }
     {
         let field = match misfit.field {

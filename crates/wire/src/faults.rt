@@ -2,12 +2,11 @@
 ghost use Rattle.std.specs.Prelude.{◌≡◌, ◌≢◌, IfOk, IfSome, List, None, ℕ, option_map};
 ghost use Rattle.serde_json.specs.View.{items_view};
 ghost use Rattle.wire.specs.Body.{list_in, object_in};
-ghost use Rattle.wire.specs.Fields.{object_of};
+ghost use Rattle.wire.specs.Fields.{known_names, object_of};
 ghost use Rattle.wire.specs.Meaning.{meaning_of};
-ghost use Rattle.wire.specs.Misfits.{first_bad, refusal_of};
-ghost use Rattle.wire.specs.Faults.{first_bad_in, place_in, refusal_in, refused, told_place};
-ghost use Rattle.wire.specs.Faults.{told_refusal};
-ghost use Rattle.ledger_http.specs.declared.refusal.Refusal.TheVariants.{BadField};
+ghost use Rattle.wire.specs.Misfits.{IsMisfitAt, first_bad};
+ghost use Rattle.wire.specs.Faults.{IsFaultOf, IsListFault, IsObjectFault, first_bad_in, place_in};
+ghost use Rattle.wire.specs.Faults.{refusal_in, refused, told_place, told_refusal};
 ghost use Rattle.ledger_http.specs.declared.route.Route.{Route as ARoute};
 
 use crate::body::{MAX_ITEMS, read_json};
@@ -25,6 +24,7 @@ use std::alloc::Global;
 pub fn fault_in(alloc: Global, route: Route, body: &[u8]) -> Result<Option<BodyFault>, Unavailable>
     ensures refusal { IfOk result (λ fault. told_refusal fault ≡ refusal_in route body.now) }
     ensures place { IfOk result (λ fault. told_place fault ≡ place_in route body.now) }
+    ensures misfit { IfOk result (λ fault. IfSome fault (IsFaultOf route body.now)) }
 {
     match route {
         Route::Accounts => list_fault::<AccountEvent>(alloc, body),
@@ -52,6 +52,7 @@ fn list_fault<I: Item>(alloc: Global, body: &[u8]) -> Result<Option<BodyFault>, 
     ensures refusal { IfOk result (λ fault.
         told_refusal fault ≡ refused (list_in I.means body.now)) }
     ensures place { IfOk result (λ fault. told_place fault ≡ first_bad_in I.means body.now) }
+    ensures misfit { IfOk result (λ fault. IfSome fault (IsListFault I.expected body.now)) }
 {
     let value = match read_json(alloc, body) {
         Ok(value) => value,
@@ -81,7 +82,8 @@ struct ItemFault<'a> {
 fn first_fault<I: Item>(items: &[Value]) -> Option<ItemFault<'_>>
     ensures place { option_map (λ fault. fault.place) result
         ≡ first_bad I.means 0 (items_view items.now) }
-    ensures misfit { IfSome result (λ fault. refusal_of fault.misfit.wanted ≡ BadField) }
+    ensures misfit { IfSome result (λ fault.
+        IsMisfitAt I.expected (items_view items.now) fault.place fault.misfit) }
 {
     for (place, item) in items.iter().enumerate() {
         if let Err(misfit) = I::read(item) {
@@ -93,8 +95,9 @@ fn first_fault<I: Item>(items: &[Value]) -> Option<ItemFault<'_>>
 
 fn object_fault<O: Object>(alloc: Global, body: &[u8]) -> Result<Option<BodyFault>, Unavailable>
     ensures refusal { IfOk result (λ fault. told_refusal fault
-        ≡ refused (object_in (object_of O.names O.from_fields) body.now)) }
+        ≡ refused (object_in (object_of (known_names O.fields) O.from_fields) body.now)) }
     ensures place { IfOk result (λ fault. told_place fault ≡ None) }
+    ensures misfit { IfOk result (λ fault. IfSome fault (IsObjectFault O.fields body.now)) }
 {
     let value = match read_json(alloc, body) {
         Ok(value) => value,

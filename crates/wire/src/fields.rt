@@ -6,7 +6,7 @@ ghost use Rattle.amount.specs.Decimal.{decimal_of};
 ghost use Rattle.serde_json.specs.Find.{get};
 ghost use Rattle.serde_json.specs.View.{view};
 ghost use Rattle.wire.specs.Fields.{number_below, wide, whole};
-ghost use Rattle.wire.specs.Misfits.{IsMisfit};
+ghost use Rattle.wire.specs.Misfits.{IsBadField};
 
 use crate::Wanted;
 use crate::misfit::Misfit;
@@ -56,7 +56,7 @@ pub(crate) fn whole_16(object: &Value, name: &str) -> Option<u16>
 /// The same field, or why it is none.
 pub(crate) fn u128_field<'a>(object: &Value, name: &'a str) -> Result<u128, Misfit<'a>>
     ensures value { result_ok result ≡ wide (2 ^ 128) (get name.now (view object.now)) }
-    ensures misfit { IfErr result (IsMisfit (view object.now)) }
+    ensures misfit { IfErr result (IsBadField name.now Wanted.Digits128 (view object.now)) }
 {
     wide_128(object, name).ok_or(Misfit::of_field(name, Wanted::Digits128))
 }
@@ -64,7 +64,7 @@ pub(crate) fn u128_field<'a>(object: &Value, name: &'a str) -> Result<u128, Misf
 /// The same of 64 bits.
 pub(crate) fn u64_field<'a>(object: &Value, name: &'a str) -> Result<u64, Misfit<'a>>
     ensures value { result_ok result ≡ wide (2 ^ 64) (get name.now (view object.now)) }
-    ensures misfit { IfErr result (IsMisfit (view object.now)) }
+    ensures misfit { IfErr result (IsBadField name.now Wanted.Digits64 (view object.now)) }
 {
     wide_64(object, name).ok_or(Misfit::of_field(name, Wanted::Digits64))
 }
@@ -72,7 +72,8 @@ pub(crate) fn u64_field<'a>(object: &Value, name: &'a str) -> Result<u64, Misfit
 /// The same of 32 bits.
 pub(crate) fn u32_field<'a>(object: &Value, name: &'a str) -> Result<u32, Misfit<'a>>
     ensures value { result_ok result ≡ whole (2 ^ 32) (get name.now (view object.now)) }
-    ensures misfit { IfErr result (IsMisfit (view object.now)) }
+    ensures misfit { IfErr result
+        (IsBadField name.now (Wanted.WholeBelow (2 ^ 32)) (view object.now)) }
 {
     whole_32(object, name).ok_or(Misfit::of_field(name, Wanted::WholeBelow(1 << 32)))
 }
@@ -80,7 +81,8 @@ pub(crate) fn u32_field<'a>(object: &Value, name: &'a str) -> Result<u32, Misfit
 /// The same of 16 bits.
 pub(crate) fn u16_field<'a>(object: &Value, name: &'a str) -> Result<u16, Misfit<'a>>
     ensures value { result_ok result ≡ whole (2 ^ 16) (get name.now (view object.now)) }
-    ensures misfit { IfErr result (IsMisfit (view object.now)) }
+    ensures misfit { IfErr result
+        (IsBadField name.now (Wanted.WholeBelow (2 ^ 16)) (view object.now)) }
 {
     whole_16(object, name).ok_or(Misfit::of_field(name, Wanted::WholeBelow(1 << 16)))
 }

@@ -4,7 +4,7 @@ ghost use Rattle.serde_json.specs.Find.{get};
 ghost use Rattle.serde_json.specs.View.{view};
 ghost use Rattle.wire.specs.Fields.{whole};
 ghost use Rattle.wire.specs.FilterBody.{limit_of};
-ghost use Rattle.wire.specs.Misfits.{IsMisfit};
+ghost use Rattle.wire.specs.Misfits.{IsBadField};
 
 use crate::Wanted;
 use crate::fields::{u64_field, u128_field, whole_16, whole_32};
@@ -20,9 +20,9 @@ const KNOWN_FLAGS: u16 = 0b111;
 const MAX_LIMIT: u32 = 1000;
 
 impl Object for AccountFilter {
-    ghost use Rattle.wire.specs.FilterBody.{filter_names, filter_from};
+    ghost use Rattle.wire.specs.FilterBody.{filter_fields, filter_from};
 
-    ghost names = { filter_names };
+    ghost fields = { filter_fields };
 
     ghost from_fields = { filter_from };
 
@@ -47,7 +47,8 @@ impl Object for AccountFilter {
 
 fn read_flags(object: &Value) -> Result<u16, Misfit<'static>>
     ensures value { result_ok result ≡ whole 8 (get (codes "flags") (view object.now)) }
-    ensures misfit { IfErr result (IsMisfit (view object.now)) }
+    ensures misfit { IfErr result
+        (IsBadField (codes "flags") (Wanted.WholeBelow 8) (view object.now)) }
 {
     flags_in(object).ok_or(Misfit::of_field("flags", Wanted::WholeBelow(8)))
 }
@@ -66,7 +67,8 @@ fn flags_in(object: &Value) -> Option<u16>
 /// How many entries are asked for: 1 to 1,000.
 pub(crate) fn read_limit(object: &Value) -> Result<u32, Misfit<'static>>
     ensures value { result_ok result ≡ limit_of (get (codes "limit") (view object.now)) }
-    ensures misfit { IfErr result (IsMisfit (view object.now)) }
+    ensures misfit { IfErr result
+        (IsBadField (codes "limit") Wanted.Limit (view object.now)) }
 {
     limit_in(object).ok_or(Misfit::of_field("limit", Wanted::Limit))
 }

@@ -3,7 +3,7 @@ ghost use Rattle.std.specs.Result.{result_ok};
 ghost use Rattle.serde_json.specs.Data.{Data};
 ghost use Rattle.serde_json.specs.View.{view};
 ghost use Rattle.wire.specs.Body.{id_of};
-ghost use Rattle.wire.specs.Misfits.{IsMisfit};
+ghost use Rattle.wire.specs.Misfits.{Expected, IsMisfit, an_id, an_object};
 
 use crate::Wanted;
 use crate::fields::read_number;
@@ -16,15 +16,19 @@ use serde_json::Value;
 pub(crate) trait Item: Drop {
     ghost means: { Data → Option Self };
 
+    ghost expected: { Expected };
+
     fn read(value: &Value) -> Result<Self, Misfit<'_>>
         ensures value { result_ok result ≡ means (view value.now) }
-        ensures misfit { IfErr result (IsMisfit (view value.now)) };
+        ensures misfit { IfErr result (IsMisfit expected (view value.now)) };
 }
 
 impl Item for AccountEvent {
-    ghost use Rattle.wire.specs.AccountBody.{account_of};
+    ghost use Rattle.wire.specs.AccountBody.{account_fields, account_of};
 
     ghost means = { account_of };
+
+    ghost expected = { an_object account_fields };
 
     fn read(value: &Value) -> Result<AccountEvent, Misfit<'_>> {
         read_object(value)
@@ -32,9 +36,11 @@ impl Item for AccountEvent {
 }
 
 impl Item for TransferEvent {
-    ghost use Rattle.wire.specs.TransferBody.{transfer_of};
+    ghost use Rattle.wire.specs.TransferBody.{transfer_fields, transfer_of};
 
     ghost means = { transfer_of };
+
+    ghost expected = { an_object transfer_fields };
 
     fn read(value: &Value) -> Result<TransferEvent, Misfit<'_>> {
         read_object(value)
@@ -44,6 +50,8 @@ impl Item for TransferEvent {
 /// The id of an account or a transfer that is looked up.
 impl Item for u128 {
     ghost means = { id_of };
+
+    ghost expected = { an_id };
 
     fn read(value: &Value) -> Result<u128, Misfit<'_>> {
         id_in(value).ok_or(Misfit::of_value(Wanted::Digits128))

@@ -3,8 +3,8 @@ ghost use Rattle.std.specs.Result.{result_ok};
 ghost use Rattle.serde_json.specs.Find.{get};
 ghost use Rattle.serde_json.specs.View.{view};
 ghost use Rattle.wire.specs.Fields.{whole};
-ghost use Rattle.wire.specs.Misfits.{IsMisfit};
-ghost use Rattle.wire.specs.QueryBody.{page_from, tags_from};
+ghost use Rattle.wire.specs.Misfits.{IsBadField, IsBadNumber};
+ghost use Rattle.wire.specs.QueryBody.{page_fields, page_from, query_fields, tags_from};
 
 use crate::Wanted;
 use crate::fields::{u16_field, u32_field, u64_field, u128_field, whole_16};
@@ -18,9 +18,9 @@ use serde_json::Value;
 const KNOWN_FLAGS: u16 = 0b1;
 
 impl Object for PageFilter {
-    ghost use Rattle.wire.specs.QueryBody.{page_names, page_from};
+    ghost use Rattle.wire.specs.QueryBody.{page_fields, page_from};
 
-    ghost names = { page_names };
+    ghost fields = { page_fields };
 
     ghost from_fields = { page_from };
 
@@ -34,9 +34,9 @@ impl Object for PageFilter {
 }
 
 impl Object for QueryFilter {
-    ghost use Rattle.wire.specs.QueryBody.{query_names, query_from};
+    ghost use Rattle.wire.specs.QueryBody.{query_fields, query_from};
 
-    ghost names = { query_names };
+    ghost fields = { query_fields };
 
     ghost from_fields = { query_from };
 
@@ -67,7 +67,8 @@ impl Object for QueryFilter {
 #[tactic(auto, unfolding(crate::specs::QueryBody::page_from))]
 fn read_page(object: &Value) -> Result<PageFilter, Misfit<'static>>
     ensures value { result_ok result ≡ page_from (view object.now) }
-    ensures misfit { IfErr result (IsMisfit (view object.now)) }
+    ensures misfit { IfErr result (IsBadNumber page_fields (view object.now)) }
+    ensures of_query { IfErr result (IsBadNumber query_fields (view object.now)) }
 {
     Ok(PageFilter {
         timestamp_min: u64_field(object, "timestamp_min")?,
@@ -80,7 +81,7 @@ fn read_page(object: &Value) -> Result<PageFilter, Misfit<'static>>
 #[tactic(auto, unfolding(crate::specs::QueryBody::tags_from))]
 fn read_tags(object: &Value) -> Result<Tags, Misfit<'static>>
     ensures value { result_ok result ≡ tags_from (view object.now) }
-    ensures misfit { IfErr result (IsMisfit (view object.now)) }
+    ensures misfit { IfErr result (IsBadNumber query_fields (view object.now)) }
 {
     Ok(Tags {
         user_data_128: u128_field(object, "user_data_128")?,
@@ -93,7 +94,8 @@ fn read_tags(object: &Value) -> Result<Tags, Misfit<'static>>
 
 fn read_flags(object: &Value) -> Result<u16, Misfit<'static>>
     ensures value { result_ok result ≡ whole 2 (get (codes "flags") (view object.now)) }
-    ensures misfit { IfErr result (IsMisfit (view object.now)) }
+    ensures misfit { IfErr result
+        (IsBadField (codes "flags") (Wanted.WholeBelow 2) (view object.now)) }
 {
     flags_in(object).ok_or(Misfit::of_field("flags", Wanted::WholeBelow(2)))
 }

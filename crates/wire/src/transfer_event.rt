@@ -6,9 +6,9 @@ use records::{TransferEvent, TransferFlags};
 use serde_json::Value;
 
 impl Object for TransferEvent {
-    ghost use Rattle.wire.specs.TransferBody.{transfer_names, transfer_from};
+    ghost use Rattle.wire.specs.TransferBody.{transfer_fields, transfer_from};
 
-    ghost names = { transfer_names };
+    ghost fields = { transfer_fields };
 
     ghost from_fields = { transfer_from };
 

@@ -4,18 +4,21 @@ use Rattle.serde_json.specs.View.{view}
 use Rattle.wire.specs.Body.{json_of}
 use Rattle.wire.specs.Misfits.{refusal_of}
 use Rattle.wire.proofs.Lists.{has_items}
-use Rattle.wire.proofs.BadItems.{bad_item, few_good, many_good, no_place, not_json, not_list}
+use Rattle.wire.proofs.BadItems.{bad_item, few_good, has_many, many_good, no_place, not_json}
+use Rattle.wire.proofs.BadItems.{not_list}
+use Rattle.wire.proofs.Misfits.{refused_as}
 use Rattle.wire.proofs.faults.list_fault.Goals as goal
 
-pub returns-in-Err : goal.returns-in-Err
-returns-in-Err g c =
+pub returns-in-Err-clause-refusal : goal.returns-in-Err-clause-refusal
+returns-in-Err-clause-refusal g c =
     let none : json_of c.args.body.now ≡ None = search rules in
-    record {
-      refusal =
-          ap (λ w. Some (refusal_of w)) c.of_body.ensures.wanted
-          ∙ sym (not_json g.I.Item.means c.args.body.now none);
-      place = c.of_body.ensures.item ∙ sym (no_place g.I.Item.means c.args.body.now none);
-    }
+    ap (λ w. Some (refusal_of w)) c.of_body.ensures.wanted
+    ∙ sym (not_json g.I.Item.means c.args.body.now none)
+
+pub returns-in-Err-clause-place : goal.returns-in-Err-clause-place
+returns-in-Err-clause-place g c =
+    let none : json_of c.args.body.now ≡ None = search rules in
+    c.of_body.ensures.item ∙ sym (no_place g.I.Item.means c.args.body.now none)
 
 pub returns-in_default-clause-refusal : goal.returns-in_default-clause-refusal
 returns-in_default-clause-refusal g c =
@@ -29,7 +32,7 @@ returns-in-Some-first_fault-clause-refusal g c =
     let items = c.deref.result.now in
     let has = has_items body _ items c.in-Ok.ensures.ok (search rules) in
     ap (λ w. Some (refusal_of w)) c.in_ok-of.ensures.wanted
-    ∙ ap Some c.in-Some-first_fault.ensures.misfit
+    ∙ ap Some (refused_as _ _ _ _ c.in-Some-first_fault.ensures.misfit.2)
     ∙ sym (bad_item g.I.Item.means body items _ has (sym c.in-Some-first_fault.ensures.place))
 
 pub returns-then-len-le-MAX_ITEMS-clause-refusal : goal.returns-then-len-le-MAX_ITEMS-clause-refusal
@@ -48,3 +51,12 @@ returns-clause-refusal g c =
     let many : 1000 < length items = omega arith in
     ap (λ w. Some (refusal_of w)) c.of_body-else-len-le-MAX_ITEMS.ensures.wanted
     ∙ sym (many_good g.I.Item.means body items has many (sym c.in_default-first_fault.ensures.place))
+
+pub returns-clause-misfit : goal.returns-clause-misfit
+returns-clause-misfit g c =
+    let body = c.args.body.now in
+    let items = c.deref.result.now in
+    let has = has_items body _ items c.in-Ok.ensures.ok (search rules) in
+    let many : 1000 < length items = omega arith in
+    let fault = c.of_body-else-len-le-MAX_ITEMS in
+    has_many _ body items _ has many fault.ensures.item fault.ensures.field fault.ensures.wanted
