@@ -26,14 +26,6 @@ pub record IsPrepared (to : ℕ) (sets : DueSets) (old new : State) : Type 0 whe
   pub schema : 3 ≤ to → new.now.schema ≡ ledger_schema
   pub raised : IsRaised to sets old.now new.now
 
--- a call that reads between two batches: the database is as it was, and unless this fault is told
--- it is open
-pub record ReadsAtRest {A E : Type 0} (disk : E) (old new : State) (result : Result A E) :
-    Type 0 where
-  pub same : Live new → IsSame old new
-  pub is_open : HasCleanDisk new → result ≢ Err disk → IsTrue new.is_open
-  pub follows : Follows old new
-
 -- all of an upgrade but the commit: answered, the newer ledger is prepared
 pub record Prepares {E : Type 0} (to : ℕ) (old new : State) (result : Result DueSets E) :
     Type 0 where

@@ -2,9 +2,10 @@ ghost use Rattle.std.specs.Prelude.{◌≡◌, ◌≢◌, ◌<◌, ◌≤◌, �
 ghost use Rattle.records.specs.declared.unavailable.Unavailable.TheVariants.{Disk as DiskFailed};
 ghost use Rattle.sqlite.specs.Held.{state};
 ghost use Rattle.ledger_sql.specs.Calls.{IfClean};
+ghost use Rattle.stored_ledgers.specs.Looks.{ReadsAtRest};
 ghost use Rattle.migrate.specs.Ledgers.{IsMigratable};
 ghost use Rattle.migrate.specs.Migrating.{LeavesAudited, MigratesLedger, RaisesLedger, RefusesNewer};
-ghost use Rattle.migrate.specs.Raising.{ReadsAtRest, RaisesOrTells};
+ghost use Rattle.migrate.specs.Raising.{RaisesOrTells};
 ghost use Rattle.migrate.specs.Upgrading.{IsOlder, older_schema};
 
 use crate::raising::raise;

@@ -6,9 +6,10 @@ ghost use Rattle.audit.specs.Sound.{AreSound};
 ghost use Rattle.rows.specs.TypedRows.{lists_of};
 ghost use Rattle.sqlite.specs.Held.{state};
 ghost use Rattle.openings.specs.Damage.{IfDamaged};
+ghost use Rattle.stored_ledgers.specs.Looks.{Looks};
 ghost use Rattle.openings.specs.Opened.{HasNames};
 ghost use Rattle.migrate.specs.Naming.{names_other};
-ghost use Rattle.migrate.specs.Older.{ExaminesOlder, LeavesExamined, RefusesUnless};
+ghost use Rattle.migrate.specs.Older.{ExaminesOlder, RefusesUnless};
 ghost use Rattle.migrate.specs.Told.{TellsOfRows};
 ghost use Rattle.migrate.specs.Upgrading.{older_schema};
 
@@ -33,7 +34,7 @@ pub(crate) fn examine_older<S: Alter, A: Audit>(
     requires { version < 3 }
     ensures examined { ExaminesOlder version
         (state S.Store conn.old) (state S.Store conn.new) result }
-    ensures looks { LeavesExamined (state S.Store conn.old) (state S.Store conn.new) result }
+    ensures looks { Looks (state S.Store conn.old) (state S.Store conn.new) result }
 {
     if let Some(fault) = older_refusal(version, conn.schema()) {
         return Err(fault);

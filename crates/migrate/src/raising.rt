@@ -8,7 +8,7 @@ ghost use Rattle.sqlite.specs.Held.{state};
 ghost use Rattle.ledger_sql.specs.Calls.{Changes, IfClean};
 ghost use Rattle.ledger_sql.specs.Frames.{Live, Follows};
 ghost use Rattle.stored_ledgers.specs.Resting.{IsQuiet, IsSame};
-ghost use Rattle.migrate.specs.Older.{LeavesExamined};
+ghost use Rattle.stored_ledgers.specs.Looks.{Looks};
 ghost use Rattle.migrate.specs.Raising.{HasBalanceTables, IsSeen, Prepares};
 ghost use Rattle.migrate.specs.Raising.{RaisesOrBegins, RaisesOrTells, RaisesWhole};
 ghost use Rattle.migrate.specs.Upgrading.{IsOlder, older_schema};
@@ -130,7 +130,7 @@ fn look_at<S: Alter, A: Audit>(
 ) -> Result<DueSets, OpenFault>
     ensures seen { HasCleanDisk (state S.Store conn.new) → IfOk result
         (λ sets. IsSeen version sets (state S.Store conn.old).now) }
-    ensures looks { LeavesExamined (state S.Store conn.old) (state S.Store conn.new) result }
+    ensures looks { Looks (state S.Store conn.old) (state S.Store conn.new) result }
 {
     if version < CURRENT_VERSION {
         examine_older(alloc, conn, BALANCE_VERSION, audit)?;

@@ -1,13 +1,12 @@
 -- At most one fault is told of a database.
-use Rattle.std.proofs.Common.{◌≡◌, ◌⊎◌, ℕ, ℤ, pos, ◌<ℤ◌, ◌≤ℤ◌, true, false, codes, refl, inl, inr, sym, ap, subst, ◌∙◌, ◌∷◌, [], arith}
+use Rattle.std.proofs.Common.{◌≡◌, ◌⊎◌, ℕ, ℤ, pos, ◌<ℤ◌, ◌≤ℤ◌, true, false, codes, refl, inl, inr, sym, subst, ◌∙◌, arith}
 use Rattle.std.proofs.lemmas.Bool.{both_ways}
 use Rattle.std.proofs.lemmas.Int.{ints}
 use Rattle.sqlite_schema.specs.Names.{same_name}
 use Rattle.sqlite_schema.specs.declared.schema.Schema.{Schema}
 use Rattle.sqlite.specs.Effect.{Database}
 use Rattle.ledger_sql.specs.Effects.{StartsAs, IsLedger}
-use Rattle.ledger_sql.specs.Schema.{after_schema, ledger_schema, no_schema}
-use Rattle.ledger_sql.specs.Values.{version_values}
+use Rattle.ledger_sql.specs.Schema.{after_schema, no_schema}
 use Rattle.openings.specs.Damage.{NamesVersion}
 use Rattle.openings.specs.Found.{IsUnavailable}
 use Rattle.openings.specs.Opened.{IsSoundIn}

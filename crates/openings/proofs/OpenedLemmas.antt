@@ -1,5 +1,5 @@
 -- What an opening has looked at.
-use Rattle.std.proofs.Common.{◌≡◌, ℕ, ℤ, pos, ◌+◌, ◌<◌, All, IsTrue, List, [], ◌∷◌, ◌++◌, map, take, drop, length, get_or, Result, Ok, Err, IfOk, OnOk, inl, inr, sym, ap, subst, ◌∙◌, arith}
+use Rattle.std.proofs.Common.{◌≡◌, ℕ, ℤ, pos, ◌+◌, ◌<◌, All, IsTrue, List, [], ◌∷◌, ◌++◌, map, take, drop, length, get_or, Result, Ok, Err, IfOk, inl, inr, sym, ap, subst, ◌∙◌, arith}
 use Rattle.std.specs.BTreeSet.{contains}
 use Rattle.std.specs.List.Sorted.{IsPermutation}
 use Rattle.std.proofs.lemmas.List.Elements.{All-more, All-weaker}

@@ -1,5 +1,5 @@
 -- A sound tenant is sound in each reading, so that nothing in it is damaged.
-use Rattle.std.proofs.Common.{◌≡◌, ◌⊎◌, ◌+◌, ◌*◌, ◌^◌, ◌<◌, ◌≤◌, ℕ, ℤ, pos, All, List, [], ◌∷◌, map, true, is_lt, inl, inr, refl, sym, ap, subst, ◌∙◌, arith}
+use Rattle.std.proofs.Common.{◌≡◌, ◌⊎◌, ◌^◌, ◌<◌, ◌≤◌, ℕ, ℤ, pos, All, List, [], ◌∷◌, map, true, is_lt, inl, inr, refl, sym, ap, subst, ◌∙◌, arith}
 use Rattle.std.specs.List.{AllByRecursion, AllZip}
 use Rattle.std.specs.List.Sorted.{IsPermutation}
 use Rattle.std.specs.Ordering.{nat_cmp, int_cmp, ordering_then}
@@ -31,7 +31,7 @@ use Rattle.sqlite_value.specs.declared.value.Value.{Value}
 use Rattle.sqlite_value.specs.declared.value.Value.TheVariants.{Int, Blob}
 use Rattle.sqlite_value.specs.Order.{Row, column}
 use Rattle.sqlite_trees.specs.Tree.{Trees}
-use Rattle.ledger_sql.specs.Reading.{ReadsRows, balance_cmp, history_cmp, id_cmp, status_cmp}
+use Rattle.ledger_sql.specs.Reading.{balance_cmp, history_cmp, id_cmp, status_cmp}
 use Rattle.ledger_sql.specs.TableRows.{account_rows, balance_rows, clock_rows, failed_rows, history_rows, status_rows, transfer_rows}
 use Rattle.ledger_sql.specs.Values.{account_values, balance_values, clock_values, history_values, id_values, status_values, transfer_values}
 use Rattle.openings.specs.Tables.{AreTenantRows}

@@ -1,5 +1,5 @@
 -- In which case of a database a fault is told.
-use Rattle.std.proofs.Common.{◌≡◌, ◌≢◌, ℤ, pos, List, [], ◌∷◌, map, Result, Err, IfErr, refl, sym, subst, ◌∙◌}
+use Rattle.std.proofs.Common.{◌≡◌, ◌≢◌, ℤ, pos, List, [], ◌∷◌, map, Result, Err, IfErr, subst}
 use Rattle.std.specs.List.Sorted.{IsPermutation}
 use Rattle.std.proofs.lemmas.List.Sorted.{IsPermutation-sym}
 use Rattle.audit.specs.declared.damage.Damage.{Damage}
@@ -9,7 +9,6 @@ use Rattle.audit.specs.Damage.{IfDamaged as IfAuditDamaged}
 use Rattle.records.specs.declared.unavailable.Unavailable.{Unavailable}
 use Rattle.sqlite.specs.Effect.{Database}
 use Rattle.sqlite_schema.specs.declared.schema.Schema.{Schema}
-use Rattle.sqlite_value.specs.Order.{Row}
 use Rattle.ledger_sql.specs.Effects.{StartsAs}
 use Rattle.ledger_sql.specs.Schema.{after_schema}
 use Rattle.ledger_sql.specs.TableRows.{version_rows}

@@ -19,11 +19,11 @@ use std::alloc::Global;
 pub trait Inspection {
     type Found: Drop;
 
-    ghost use Rattle.std.specs.Prelude.{IfOk, IfErr, OnOk};
+    ghost use Rattle.std.specs.Prelude.{IfOk, IfErr};
     ghost use Rattle.sqlite.specs.Effect.{Database};
     ghost use Rattle.sqlite.specs.Held.{state};
-    ghost use Rattle.sqlite.specs.State.{HasCleanDisk, IsUnchanged};
-    ghost use Rattle.ledger_sql.specs.Frames.{Follows};
+    ghost use Rattle.sqlite.specs.State.{HasCleanDisk};
+    ghost use Rattle.stored_ledgers.specs.Looks.{Looks};
     ghost use Rattle.openings.specs.declared.opening.OpenFault.{OpenFault};
 
     // What is known of each answer, whatever the disk has done.
@@ -46,9 +46,7 @@ pub trait Inspection {
             (λ found. finds found (state S.Store conn.old).now) }
         ensures told { HasCleanDisk (state S.Store conn.new)
             → IfErr result (λ fault. refuses fault (state S.Store conn.old).now) }
-        ensures kept { HasCleanDisk (state S.Store conn.new) → OnOk result
-            (IsUnchanged (state S.Store conn.old) (state S.Store conn.new)) }
-        ensures follows { Follows (state S.Store conn.old) (state S.Store conn.new) };
+        ensures looks { Looks (state S.Store conn.old) (state S.Store conn.new) result };
 }
 
 /// Opens the database in two files, and looks at it. They are given back where it is refused, and it

@@ -1,13 +1,12 @@
 //! What an opening looks at before a ledger is served.
 
 ghost use Rattle.std.specs.Prelude.{◌↔◌, IfOk, IfErr, OnOk, IsTrue};
-ghost use Rattle.sqlite.specs.State.{HasCleanDisk, IsUnchanged};
+ghost use Rattle.sqlite.specs.State.{HasCleanDisk};
 ghost use Rattle.sqlite.specs.Held.{state};
 ghost use Rattle.ledger_sql.specs.Effects.{IsLedger};
-ghost use Rattle.ledger_sql.specs.Frames.{Live, Follows};
+ghost use Rattle.stored_ledgers.specs.Looks.{Looks};
 ghost use Rattle.openings.specs.Opened.{CanServe, HasNames};
 ghost use Rattle.openings.specs.Told.{IsCurrent, IsSoundLedger, Tells};
-ghost use Rattle.stored_ledgers.specs.Resting.{IsQuiet, IsSame};
 ghost use Rattle.openings.specs.Whole.{AreAllRows};
 
 use crate::auditing::Audit;
@@ -36,11 +35,7 @@ pub fn examine<S: Alter, A: Audit>(
         → OnOk result (IsSoundLedger (state S.Store conn.old).now) }
     ensures told { HasCleanDisk (state S.Store conn.new)
         → IfErr result (λ fault. Tells fault (state S.Store conn.old).now) }
-    ensures kept { HasCleanDisk (state S.Store conn.new) → OnOk result
-        (IsUnchanged (state S.Store conn.old) (state S.Store conn.new)) }
-    ensures same { Live (state S.Store conn.new) → IsQuiet (state S.Store conn.old)
-        → IsSame (state S.Store conn.old) (state S.Store conn.new) }
-    ensures follows { Follows (state S.Store conn.old) (state S.Store conn.new) }
+    ensures looks { Looks (state S.Store conn.old) (state S.Store conn.new) result }
 {
     rows_fit();
     held_machines();
@@ -56,11 +51,7 @@ fn find_current<S: Alter>(alloc: Global, conn: &mut Connection<S>) -> Result<(),
         → OnOk result (IsCurrent (state S.Store conn.old).now) }
     ensures told { HasCleanDisk (state S.Store conn.new)
         → IfErr result (λ fault. Tells fault (state S.Store conn.old).now) }
-    ensures kept { HasCleanDisk (state S.Store conn.new) → OnOk result
-        (IsUnchanged (state S.Store conn.old) (state S.Store conn.new)) }
-    ensures same { Live (state S.Store conn.new) → IsQuiet (state S.Store conn.old)
-        → IsSame (state S.Store conn.old) (state S.Store conn.new) }
-    ensures follows { Follows (state S.Store conn.old) (state S.Store conn.new) }
+    ensures looks { Looks (state S.Store conn.old) (state S.Store conn.new) result }
 {
     let version = find_version(alloc, conn)?;
     if version < CURRENT_VERSION {
@@ -78,11 +69,7 @@ fn read_ledger<S: Alter>(alloc: Global, conn: &mut Connection<S>) -> Result<AllR
     ensures told { HasCleanDisk (state S.Store conn.new) → IsCurrent (state S.Store conn.old).now
         → IfErr result (λ fault. Tells fault (state S.Store conn.old).now) }
     ensures names { IfOk result (λ rows. HasNames rows.directory.items) }
-    ensures kept { HasCleanDisk (state S.Store conn.new) → OnOk result
-        (IsUnchanged (state S.Store conn.old) (state S.Store conn.new)) }
-    ensures same { Live (state S.Store conn.new) → IsQuiet (state S.Store conn.old)
-        → IsSame (state S.Store conn.old) (state S.Store conn.new) }
-    ensures follows { Follows (state S.Store conn.old) (state S.Store conn.new) }
+    ensures looks { Looks (state S.Store conn.old) (state S.Store conn.new) result }
 {
     if let Some(fault) = standing_refusal(conn.schema()) {
         return Err(fault);

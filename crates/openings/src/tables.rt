@@ -1,13 +1,12 @@
 //! A tenant's rows of each table.
 
-ghost use Rattle.std.specs.Prelude.{IfOk, OnOk};
-ghost use Rattle.sqlite.specs.State.{HasCleanDisk, IsUnchanged};
+ghost use Rattle.std.specs.Prelude.{IfOk};
+ghost use Rattle.sqlite.specs.State.{HasCleanDisk};
 ghost use Rattle.sqlite.specs.Held.{state};
 ghost use Rattle.ledger_sql.specs.Effects.{StartsAs};
-ghost use Rattle.ledger_sql.specs.Frames.{Live, Follows};
 ghost use Rattle.ledger_sql.specs.Schema.{list_schema, balance_schema, ledger_schema};
 ghost use Rattle.rows.specs.TypedRows.{lists_of};
-ghost use Rattle.stored_ledgers.specs.Resting.{IsQuiet, IsSame};
+ghost use Rattle.stored_ledgers.specs.Looks.{Looks};
 ghost use Rattle.openings.specs.Tables.{AreTenantRows, HasTables};
 
 use ledger_sql::listing::{
@@ -30,11 +29,7 @@ pub fn read_tenant<S: Alter>(
         → HasTables version (state S.Store conn.old).now.schema
         → IfOk result
         (λ rows. AreTenantRows version tenant (state S.Store conn.old).now.trees (lists_of rows)) }
-    ensures kept { HasCleanDisk (state S.Store conn.new) → OnOk result
-        (IsUnchanged (state S.Store conn.old) (state S.Store conn.new)) }
-    ensures same { Live (state S.Store conn.new) → IsQuiet (state S.Store conn.old)
-        → IsSame (state S.Store conn.old) (state S.Store conn.new) }
-    ensures follows { Follows (state S.Store conn.old) (state S.Store conn.new) }
+    ensures looks { Looks (state S.Store conn.old) (state S.Store conn.new) result }
 {
     if version < 2 {
         return read_entries(alloc, conn, tenant);
@@ -55,11 +50,7 @@ fn read_entries<S: Alter>(
         → StartsAs list_schema.tables (state S.Store conn.old).now.schema
         → IfOk result
         (λ rows. AreTenantRows 1 tenant (state S.Store conn.old).now.trees (lists_of rows)) }
-    ensures kept { HasCleanDisk (state S.Store conn.new) → OnOk result
-        (IsUnchanged (state S.Store conn.old) (state S.Store conn.new)) }
-    ensures same { Live (state S.Store conn.new) → IsQuiet (state S.Store conn.old)
-        → IsSame (state S.Store conn.old) (state S.Store conn.new) }
-    ensures follows { Follows (state S.Store conn.old) (state S.Store conn.new) }
+    ensures looks { Looks (state S.Store conn.old) (state S.Store conn.new) result }
 {
     let clocks = list_clocks(alloc, conn, tenant)?;
     let accounts = list_accounts(alloc, conn, tenant)?;
@@ -85,11 +76,7 @@ fn read_with_derived<S: Alter>(
         → StartsAs balance_schema.tables (state S.Store conn.old).now.schema
         → IfOk result
         (λ rows. AreTenantRows 2 tenant (state S.Store conn.old).now.trees (lists_of rows)) }
-    ensures kept { HasCleanDisk (state S.Store conn.new) → OnOk result
-        (IsUnchanged (state S.Store conn.old) (state S.Store conn.new)) }
-    ensures same { Live (state S.Store conn.new) → IsQuiet (state S.Store conn.old)
-        → IsSame (state S.Store conn.old) (state S.Store conn.new) }
-    ensures follows { Follows (state S.Store conn.old) (state S.Store conn.new) }
+    ensures looks { Looks (state S.Store conn.old) (state S.Store conn.new) result }
 {
     let entries = read_entries(alloc, conn, tenant)?;
     let balances = list_balances(alloc, conn, tenant)?;
@@ -113,11 +100,7 @@ fn read_with_failed<S: Alter>(
         → StartsAs ledger_schema.tables (state S.Store conn.old).now.schema
         → IfOk result
         (λ rows. AreTenantRows 3 tenant (state S.Store conn.old).now.trees (lists_of rows)) }
-    ensures kept { HasCleanDisk (state S.Store conn.new) → OnOk result
-        (IsUnchanged (state S.Store conn.old) (state S.Store conn.new)) }
-    ensures same { Live (state S.Store conn.new) → IsQuiet (state S.Store conn.old)
-        → IsSame (state S.Store conn.old) (state S.Store conn.new) }
-    ensures follows { Follows (state S.Store conn.old) (state S.Store conn.new) }
+    ensures looks { Looks (state S.Store conn.old) (state S.Store conn.new) result }
 {
     let derived = read_with_derived(alloc, conn, tenant)?;
     let failed = list_failed(alloc, conn, tenant)?;

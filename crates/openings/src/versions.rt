@@ -1,13 +1,12 @@
 //! The version of the schema that a file names.
 
-ghost use Rattle.std.specs.Prelude.{◌≡◌, ◌≢◌, ◌≤◌, pos, [], ◌∷◌, IfOk, IfErr, OnOk};
-ghost use Rattle.sqlite.specs.State.{HasCleanDisk, IsUnchanged};
+ghost use Rattle.std.specs.Prelude.{◌≡◌, ◌≢◌, ◌≤◌, pos, [], ◌∷◌, IfOk, IfErr};
+ghost use Rattle.sqlite.specs.State.{HasCleanDisk};
 ghost use Rattle.sqlite.specs.Held.{state};
-ghost use Rattle.ledger_sql.specs.Frames.{Live, Follows};
 ghost use Rattle.openings.specs.Damage.{IsNoDamage};
+ghost use Rattle.stored_ledgers.specs.Looks.{Looks};
 ghost use Rattle.openings.specs.Told.{HasVersion, LacksVersion, Tells};
 ghost use Rattle.openings.specs.declared.opening.OpenFault.TheVariants.{OldSchema};
-ghost use Rattle.stored_ledgers.specs.Resting.{IsQuiet, IsSame};
 
 use crate::opening::OpenFault;
 use crate::standing::version_refusal;
@@ -27,11 +26,7 @@ pub fn find_version<S: Alter>(alloc: Global, conn: &mut Connection<S>) -> Result
         → IfErr result (λ fault. Tells fault (state S.Store conn.old).now) }
     ensures not_old { IfErr result (λ fault. fault ≢ OldSchema) }
     ensures undamaged { IfErr result IsNoDamage }
-    ensures kept { HasCleanDisk (state S.Store conn.new) → OnOk result
-        (IsUnchanged (state S.Store conn.old) (state S.Store conn.new)) }
-    ensures same { Live (state S.Store conn.new) → IsQuiet (state S.Store conn.old)
-        → IsSame (state S.Store conn.old) (state S.Store conn.new) }
-    ensures follows { Follows (state S.Store conn.old) (state S.Store conn.new) }
+    ensures looks { Looks (state S.Store conn.old) (state S.Store conn.new) result }
 {
     if let Some(fault) = version_refusal(conn.schema()) {
         return Err(fault);

@@ -1,12 +1,13 @@
 //! All rows of a database, tenant by tenant, as the file has them.
 
-ghost use Rattle.std.specs.Prelude.{◌≢◌, ◌≡◌, Err, IfOk, OnOk, IsTrue};
+ghost use Rattle.std.specs.Prelude.{◌≡◌, IfOk, IsTrue};
 ghost use Rattle.std.specs.List.{AllZip};
-ghost use Rattle.sqlite.specs.State.{HasCleanDisk, IsUnchanged};
+ghost use Rattle.sqlite.specs.State.{HasCleanDisk};
 ghost use Rattle.sqlite.specs.Held.{state};
-ghost use Rattle.ledger_sql.specs.Frames.{Live, Follows};
-ghost use Rattle.stored_ledgers.specs.Resting.{IsQuiet, IsSame, HoldsHere};
+ghost use Rattle.ledger_sql.specs.Frames.{Follows};
+ghost use Rattle.stored_ledgers.specs.Resting.{HoldsHere};
 ghost use Rattle.records.specs.declared.unavailable.Unavailable.TheVariants.{Disk};
+ghost use Rattle.stored_ledgers.specs.Looks.{Looks, ReadsAtRest};
 ghost use Rattle.openings.specs.Whole.{CanBeRead, AreRowsOf, AreAllRows, IsReadFor};
 ghost use Rattle.openings.specs.Tables.{HasTables};
 
@@ -28,11 +29,7 @@ pub fn all_rows<S: Alter>(
     requires { HoldsHere (state S.Store conn.old) }
     ensures value { HasCleanDisk (state S.Store conn.new)
         → IfOk result (AreAllRows version (state S.Store conn.old).now.trees) }
-    ensures same { Live (state S.Store conn.new)
-        → IsSame (state S.Store conn.old) (state S.Store conn.new) }
-    ensures open { HasCleanDisk (state S.Store conn.new) → result ≢ Err Disk
-        → IsTrue (state S.Store conn.new).is_open }
-    ensures follows { Follows (state S.Store conn.old) (state S.Store conn.new) }
+    ensures reads { ReadsAtRest Disk (state S.Store conn.old) (state S.Store conn.new) result }
 {
     rows_in(alloc, conn, version)
 }
@@ -47,11 +44,7 @@ pub fn rows_in<S: Alter>(
     ensures version { IfOk result (λ rows. rows.version ≡ version) }
     ensures value { HasCleanDisk (state S.Store conn.new)
         → IfOk result (AreAllRows version (state S.Store conn.old).now.trees) }
-    ensures same { Live (state S.Store conn.new)
-        → IsSame (state S.Store conn.old) (state S.Store conn.new) }
-    ensures open { HasCleanDisk (state S.Store conn.new) → result ≢ Err Disk
-        → IsTrue (state S.Store conn.new).is_open }
-    ensures follows { Follows (state S.Store conn.old) (state S.Store conn.new) }
+    ensures reads { ReadsAtRest Disk (state S.Store conn.old) (state S.Store conn.new) result }
 {
     let rows = read_all(alloc, conn, version);
     judged(conn, rows)
@@ -67,11 +60,7 @@ pub fn rows_of<S: Alter>(
     requires { HoldsHere (state S.Store conn.old) }
     ensures value { HasCleanDisk (state S.Store conn.new)
         → IfOk result (AreRowsOf version digest.now (state S.Store conn.old).now.trees) }
-    ensures same { Live (state S.Store conn.new)
-        → IsSame (state S.Store conn.old) (state S.Store conn.new) }
-    ensures open { HasCleanDisk (state S.Store conn.new) → result ≢ Err Disk
-        → IsTrue (state S.Store conn.new).is_open }
-    ensures follows { Follows (state S.Store conn.old) (state S.Store conn.new) }
+    ensures reads { ReadsAtRest Disk (state S.Store conn.old) (state S.Store conn.new) result }
 {
     let rows = try_rows_of(alloc, conn, version, digest);
     judged(conn, rows)
@@ -87,11 +76,7 @@ fn try_rows_of<S: Alter>(
     requires { HoldsHere (state S.Store conn.old) }
     ensures whole { HasCleanDisk (state S.Store conn.new)
         → IfOk result (AreRowsOf version digest.now (state S.Store conn.old).now.trees) }
-    ensures kept { HasCleanDisk (state S.Store conn.new) → OnOk result
-        (IsUnchanged (state S.Store conn.old) (state S.Store conn.new)) }
-    ensures same { Live (state S.Store conn.new) → IsQuiet (state S.Store conn.old)
-        → IsSame (state S.Store conn.old) (state S.Store conn.new) }
-    ensures follows { Follows (state S.Store conn.old) (state S.Store conn.new) }
+    ensures looks { Looks (state S.Store conn.old) (state S.Store conn.new) result }
 {
     let Some(number) = find_tenant(conn, digest)? else {
         return Ok(None);
@@ -109,11 +94,7 @@ pub fn read_all<S: Alter>(
     ensures whole { HasCleanDisk (state S.Store conn.new)
         → HasTables version (state S.Store conn.old).now.schema
         → IfOk result (AreAllRows version (state S.Store conn.old).now.trees) }
-    ensures kept { HasCleanDisk (state S.Store conn.new) → OnOk result
-        (IsUnchanged (state S.Store conn.old) (state S.Store conn.new)) }
-    ensures same { Live (state S.Store conn.new) → IsQuiet (state S.Store conn.old)
-        → IsSame (state S.Store conn.old) (state S.Store conn.new) }
-    ensures follows { Follows (state S.Store conn.old) (state S.Store conn.new) }
+    ensures looks { Looks (state S.Store conn.old) (state S.Store conn.new) result }
 {
     let directory = directory(alloc, conn)?;
     let tenants = read_tenants(alloc, conn, version, &directory)?;
@@ -136,11 +117,8 @@ fn read_tenants<S: Alter>(
         → IfOk result (λ tenants.
         AllZip (IsReadFor version (state S.Store conn.old).now.trees) directory.now
         tenants.items) }
-    ensures kept { HasCleanDisk (state S.Store conn.new)
-        → IsTrue (state S.Store conn.old).is_open → OnOk result
-        (IsUnchanged (state S.Store conn.old) (state S.Store conn.new)) }
-    ensures same { Live (state S.Store conn.new) → IsQuiet (state S.Store conn.old)
-        → IsSame (state S.Store conn.old) (state S.Store conn.new) }
+    ensures looks { IsTrue (state S.Store conn.old).is_open
+        → Looks (state S.Store conn.old) (state S.Store conn.new) result }
     ensures follows { Follows (state S.Store conn.old) (state S.Store conn.new) }
 {
     let mut tenants = Vec::new(alloc);

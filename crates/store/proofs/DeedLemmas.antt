@@ -1,6 +1,7 @@
 -- What was tried on a store, as an event of a course.
 use Rattle.std.proofs.Common.{◌≡◌, ◌≢◌, inl, inr, ℕ, Bool, false, List, [], None, unwrap_or, Result}
 use Rattle.std.proofs.Common.{Ok, Err, refl, sym, ap, subst, ◌∙◌}
+use Rattle.records.specs.declared.unavailable.Unavailable.TheVariants.{Disk as DiskFailed}
 use Rattle.sqlite_disk.specs.declared.Disk as disk
 use Rattle.sqlite_store.specs.declared.store.FileStore.{FileStore}
 use Rattle.sqlite_trees.specs.Tree.{Trees}
@@ -162,7 +163,7 @@ module _ {D : Type 0} {g : disk.Ghosts D} where
   -- the adding of a tenant
   pub joins_so : JoiningAddsOne → (name digest : List ℕ) (old new : Store D g)
       (joined : Answer (Unit {0}) Taken) (result : Result (Unit {0}) AddTenant)
-      → result ≡ joining_answer joined → IsUsable old → Answers old new joined
+      → result ≡ joining_answer joined → IsUsable old → Answers (add.Unavailable DiskFailed) old new result
       → Goes old new (λ db. OfDatabase (λ was. Joined name digest was db) old)
       → IsSettledStore new
       → (IsLive new → OfDatabases (λ before after.
@@ -186,12 +187,12 @@ module _ {D : Type 0} {g : disk.Ghosts D} where
       (λ conn after. joining_in law name digest (file_state conn).now after (joining_answer joined))
       old.ready old.due old.place new.place usable (answers.follows.lived live) live (told live))
       (λ honest differs. answers.open_yet honest
-      (λ failed. differs (ap (λ tried. ending_of (joining_answer tried)) failed))))
+      (λ failed. differs (ap ending_of (sym is ∙ failed)))))
 
   -- the change of a tenant's key: of whoever has the name
   pub keys_so : KeyingMovesKey → (name digest : List ℕ) (old new : Store D g)
       (keyed : Answer (Unit {0}) KeyRefused) (result : Result (Unit {0}) ChangeKey)
-      → result ≡ keying_answer keyed → IsUsable old → Answers old new keyed
+      → result ≡ keying_answer keyed → IsUsable old → Answers (key.Unavailable DiskFailed) old new result
       → Goes old new (λ db. OfDatabase (λ was. Keyed name digest was db) old)
       → IsSettledStore new
       → (IsLive new → OfDatabases (λ before after.
@@ -217,4 +218,4 @@ module _ {D : Type 0} {g : disk.Ghosts D} where
       (λ conn after. keying_in law name digest (file_state conn).now after (keying_answer keyed))
       old.ready old.due old.place new.place usable (answers.follows.lived live) live (told live))
       (λ honest differs. answers.open_yet honest
-      (λ failed. differs (ap (λ tried. key_ending (keying_answer tried)) failed))))
+      (λ failed. differs (ap key_ending (sym is ∙ failed)))))

@@ -181,7 +181,7 @@ module _ {D : Type 0} {g : disk.Ghosts D} where
   -- after a round
   pub finds_round :
       {O : Type 0} (gives : Tenants → O → Tenants → Type 0) (old new : Store D g)
-      (result : Result O Unavailable) → IsUsable old → Answers old new result →
+      (result : Result O Unavailable) → IsUsable old → Answers DiskFailed old new result →
       Goes old new (λ db. OfDatabase (λ was. IsAfterRound gives was db) old) →
       Finds store_meaning (result ≢ Err DiskFailed) (LeadsByRound gives) old new
   finds_round gives old new result usable answers goes = record {

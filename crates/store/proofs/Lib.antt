@@ -4,3 +4,4 @@ mod MemoryLemmas
 mod NamedRows
 mod ReadLemmas
 mod ReopenLemmas
+mod OverdueLemmas

@@ -55,7 +55,7 @@ module _ {D : Type 0} (g : disk.Ghosts D) where
 
     -- a call on the open database, which then rests
     pub answers_open : (HasCleanDisk (file_state conn') → HasCleanDisk (file_state conn))
-        → (Live (file_state conn') → IsResting new.due (file_state conn')) → Answers old new result
+        → (Live (file_state conn') → IsResting new.due (file_state conn')) → Answers DiskFailed old new result
     answers_open before rests = record {
       usable = subst (IsUsableAt new.ready new.due) (sym new_is)
           (rests, λ ready clean. is_open clean (unless_fault ready));
@@ -70,6 +70,18 @@ module _ {D : Type 0} (g : disk.Ghosts D) where
       unready = λ failed. now_ready ∙ ap not (told.1 failed);
       refuses = λ shut. absurd (both_ways _ shut was_ready);
     }
+
+  -- the same of a call that tells the fault in words of its own
+  pub answers_as : {T U E : Type 0} (fault : E) (old new : Store D g) (done : Result T Unavailable)
+      (result : Result U E) → (result ≡ Err fault ↔ done ≡ Err DiskFailed) → old.ready ≡ true
+      → Answers DiskFailed old new done → Answers fault old new result
+  answers_as fault old new done result told was_ready answers = record {
+    usable = answers.usable;
+    follows = answers.follows;
+    open_yet = λ honest no_fault. answers.open_yet honest (λ failed. no_fault (told.1 failed));
+    unready = λ failed. answers.unready (told.0 failed);
+    refuses = λ shut. absurd (both_ways _ shut was_ready);
+  }
 
   module _ {T : Type 0} (result : Result T Unavailable) (fault : Bool) (old new : Store D g)
       (conn conn' : Held (FileStore D g)) (old_is : old.place ≡ at.Open conn)

@@ -4,3 +4,4 @@ pub mod Names
 pub mod NameLaws
 pub mod StoreLaws
 pub mod Deeds
+pub mod Overdue

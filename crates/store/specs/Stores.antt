@@ -171,20 +171,20 @@ module _ {D : Type 0} {g : disk.Ghosts D} where
   abbrev pub RefusesUnready : {T E : Type 0} → E → Store D g → Store D g → Result T E → Type 0
   RefusesUnready fault old new result = old.ready ≡ false → (result ≡ Err fault) × (new ≡ old)
 
-  -- where a call is answered that the disk failed, no call is answered from then on; otherwise the
-  -- store is open, if the disk was honest
-  pub record Answers {T : Type 0} (old new : Store D g) (result : Result T Unavailable)
+  -- where a call is answered with this fault, that the disk failed, no call is answered from then on;
+  -- otherwise the store is open, if the disk was honest
+  pub record Answers {T E : Type 0} (fault : E) (old new : Store D g) (result : Result T E)
       : Type 0 where
     pub usable : IsUsable new
     pub follows : Follows old new
-    pub open_yet : IsHonest new → result ≢ Err DiskFailed → IsLive new
-    pub unready : result ≡ Err DiskFailed → new.ready ≡ false
-    pub refuses : RefusesUnready DiskFailed old new result
+    pub open_yet : IsHonest new → result ≢ Err fault → IsLive new
+    pub unready : result ≡ Err fault → new.ready ≡ false
+    pub refuses : RefusesUnready fault old new result
 
   -- a call that only reads changes nothing in the database, so it keeps every machine, and what may
   -- be found
   pub record Reads {T : Type 0} (old new : Store D g) (result : Result T Unavailable) : Type 0 where
-    pub answers : Answers old new result
+    pub answers : Answers DiskFailed old new result
     pub unchanged : IsLive new → OfDatabases (λ before after. after ≡ before) old new
     pub same : IsLive new → KeepsAll (tenants_of old) (tenants_of new)
     pub finds : Goes old new (λ db. ⊥)

@@ -1,7 +1,10 @@
 //! Which tenants have holds that are due.
 
-ghost use Rattle.std.specs.Prelude.{◌≤◌, IfOk, IfSome};
-ghost use Rattle.store.specs.Stores.{IsUsable, Reads};
+ghost use Rattle.std.specs.Prelude.{◌≡◌, ◌≤◌, None, Some, IfOk, IfSome};
+ghost use Rattle.stored_ledgers.specs.Directory.{first_digest, with_number};
+ghost use Rattle.stored_ledgers.specs.Overdue.{FindsOverdue, piece_of};
+ghost use Rattle.store.specs.Overdue.{FindsNoneListed};
+ghost use Rattle.store.specs.Stores.{IsUsable, IsLive, OfDatabase, Reads};
 
 use crate::Store;
 use crate::place::Place;
@@ -22,6 +25,14 @@ impl<D: Disk + Drop> Store<D> {
     ) -> Result<Option<Overdue>, Unavailable>
         requires { IsUsable self.old }
         ensures by { IfOk result (λ found. IfSome found (λ overdue. overdue.until ≤ moment)) }
+        ensures found { IfOk result (λ found. IfSome found (λ overdue.
+            FindsOverdue self.old.due moment search.old search.new overdue.number
+            (piece_of overdue))) }
+        ensures listed { IsLive self.new → IfOk result (λ found. IfSome found (λ overdue.
+            OfDatabase (λ db. Some overdue.digest
+            ≡ first_digest (with_number overdue.number db.trees)) self.old)) }
+        ensures none { IfOk result (λ found. found ≡ None
+            → FindsNoneListed moment search.old search.new self.old self.new) }
         ensures reads { Reads self.old self.new result }
     {
         if !self.ready {

@@ -23,7 +23,7 @@ ghost use Rattle.store.specs.Deeds.{IsKeyTried, ending_of, key_ending};
 ghost use Rattle.store.specs.Names.{digest_named};
 ghost use Rattle.store.specs.Refused.{RefusesToOpen};
 ghost use Rattle.store.specs.StoreLaws.{store_meaning};
-ghost use Rattle.store.specs.Stores.{IsLive, IsHonest, IsOpenedOn, IsReady, IsStoreOver, tenants_of, GivesBack, IsUsable, Follows, Goes, OfDatabase, OfDatabases, IsSettledStore, Answers, Reads, RefusesUnready};
+ghost use Rattle.store.specs.Stores.{IsLive, IsHonest, IsOpenedOn, IsReady, IsStoreOver, tenants_of, GivesBack, IsUsable, Goes, OfDatabase, OfDatabases, IsSettledStore, Answers, Reads};
 ghost use Rattle.openings.specs.Whole.{AreAllRows, AreRowsOf};
 
 use crate::place::Place;
@@ -268,15 +268,9 @@ impl<D: Disk + Drop> Store<D> {
         requires { IsUsable self.old }
         ensures told { IsLive self.new → OfDatabases
             (λ old new. HasJoined name.now digest.now old new result) self.old self.new }
-        ensures usable { IsUsable self.new }
-        ensures follows { Follows self.old self.new }
-        ensures open { IsHonest self.new → result ≢ Err (AddTenant.Unavailable DiskFailed)
-            → IsLive self.new }
         ensures finds { Goes self.old self.new (λ db. OfDatabase
             (λ old. Joined name.now digest.now old db) self.old) }
-        ensures disk { result ≡ Err (AddTenant.Unavailable DiskFailed)
-            → self.new.ready ≡ false }
-        ensures refuses { RefusesUnready (AddTenant.Unavailable DiskFailed) self.old self.new result }
+        ensures answers { Answers (AddTenant.Unavailable DiskFailed) self.old self.new result }
         ensures moves { Moves (run_meaning store_meaning) self.old
             (Tried (DeedJoined digest.now) (ending_of result)) self.new }
     {
@@ -299,15 +293,9 @@ impl<D: Disk + Drop> Store<D> {
         requires { IsUsable self.old }
         ensures told { IsLive self.new → OfDatabases
             (λ old new. HasKeyed name.now digest.now old new result) self.old self.new }
-        ensures usable { IsUsable self.new }
-        ensures follows { Follows self.old self.new }
-        ensures open { IsHonest self.new → result ≢ Err (ChangeKey.Unavailable DiskFailed)
-            → IsLive self.new }
         ensures finds { Goes self.old self.new (λ db. OfDatabase
             (λ old. Keyed name.now digest.now old db) self.old) }
-        ensures disk { result ≡ Err (ChangeKey.Unavailable DiskFailed)
-            → self.new.ready ≡ false }
-        ensures refuses { RefusesUnready (ChangeKey.Unavailable DiskFailed) self.old self.new result }
+        ensures answers { Answers (ChangeKey.Unavailable DiskFailed) self.old self.new result }
         ensures moves { IsKeyTried (run_meaning store_meaning) self.old digest.now result self.new }
         ensures whose { Moves (run_meaning store_meaning) self.old
             (Tried (DeedKeyed (digest_named self.old name.now) digest.now) (key_ending result))
@@ -336,14 +324,9 @@ impl<D: Disk + Drop> Store<D> {
         ensures run { IsLive self.new → IsRun (W.gives work) digest.now (tenants_of self.old)
             (tenants_of self.new) result }
         ensures tables { IsLive self.new → OfDatabases KeepsTables self.old self.new }
-        ensures usable { IsUsable self.new }
-        ensures follows { Follows self.old self.new }
-        ensures open { IsHonest self.new → result ≢ Err (AreUnavailable DiskFailed)
-            → IsLive self.new }
         ensures finds { Goes self.old self.new (λ db. OfDatabase
             (λ old. IsAfterBatch (W.gives work) digest.now old db) self.old) }
-        ensures disk { result ≡ Err (AreUnavailable DiskFailed) → self.new.ready ≡ false }
-        ensures refuses { RefusesUnready (AreUnavailable DiskFailed) self.old self.new result }
+        ensures answers { Answers (AreUnavailable DiskFailed) self.old self.new result }
     {
         if !self.ready {
             return Err(BatchFault::Unavailable(Unavailable::Disk));
@@ -367,7 +350,7 @@ impl<D: Disk + Drop> Store<D> {
         ensures tables { IsLive self.new → OfDatabases KeepsTables self.old self.new }
         ensures finds { Goes self.old self.new (λ db. OfDatabase
             (λ old. IsAfterRound (W.gives work) old db) self.old) }
-        ensures answers { Answers self.old self.new result }
+        ensures answers { Answers DiskFailed self.old self.new result }
     {
         if !self.ready {
             return Err(Unavailable::Disk);

@@ -16,6 +16,7 @@ mod overdue;
 mod playing;
 mod read_answers;
 mod reads;
+mod released;
 mod rounds;
 mod scarce_reads;
 mod stops;

@@ -14,3 +14,7 @@ mod NamedLemmas
 mod KeyLemmas
 mod ListingLemmas
 mod NumberedLemmas
+mod SeenLemmas
+mod HoldLemmas
+mod SearchLemmas
+mod OverdueLemmas

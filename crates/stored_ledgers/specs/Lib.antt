@@ -3,6 +3,7 @@ pub mod DirectoryLaws
 pub mod Listing
 pub mod DueSets
 pub mod DueSetLaws
+pub mod Overdue
 pub mod Ledger
 pub mod Transactions
 pub mod Resting
@@ -13,3 +14,4 @@ pub mod Keying
 pub mod Names
 pub mod Rounds
 pub mod RoundLaws
+pub mod Looks

@@ -1,13 +1,13 @@
 //! Which tenants a database has.
 
-ghost use Rattle.std.specs.Prelude.{◌≡◌, ◌≢◌, Err, is_some, option_map, All, IsPermutation, IsSorted, IfSome, IfOk, OnOk, IsTrue};
+ghost use Rattle.std.specs.Prelude.{◌≡◌, is_some, option_map, All, IsPermutation, IsSorted, IfSome, IfOk};
 ghost use Rattle.records.specs.declared.unavailable.Unavailable.TheVariants.{Disk};
-ghost use Rattle.sqlite.specs.State.{HasCleanDisk, IsUnchanged};
+ghost use Rattle.sqlite.specs.State.{HasCleanDisk};
 ghost use Rattle.sqlite.specs.Held.{state};
-ghost use Rattle.ledger_sql.specs.Frames.{Live, Follows};
 ghost use Rattle.stored_ledgers.specs.Directory.{tenants_in, digest_in, first_digest, with_number};
 ghost use Rattle.stored_ledgers.specs.Listing.{AreListed, AreThose, IsThat, IsTenantOf, IsMadeOf, by_name};
-ghost use Rattle.stored_ledgers.specs.Resting.{IsResting, IsQuiet, IsSame, HoldsHere};
+ghost use Rattle.stored_ledgers.specs.Looks.{Looks, ReadsAtRest};
+ghost use Rattle.stored_ledgers.specs.Resting.{HoldsHere};
 
 use crate::probe::judged;
 use ledger_sql::finding::{find_clock, find_tenant, find_tenant_by_name, find_tenant_by_number};
@@ -33,11 +33,7 @@ pub fn knows<S: Alter>(conn: &mut Connection<S>, digest: &[u8; 32]) -> Result<bo
     requires { HoldsHere (state S.Store conn.old) }
     ensures value { HasCleanDisk (state S.Store conn.new) → IfOk result (λ known.
         known ≡ is_some (tenants_in (state S.Store conn.old).now.trees digest.now)) }
-    ensures same { Live (state S.Store conn.new)
-        → IsSame (state S.Store conn.old) (state S.Store conn.new) }
-    ensures open { HasCleanDisk (state S.Store conn.new) → result ≢ Err Disk
-        → IsTrue (state S.Store conn.new).is_open }
-    ensures follows { Follows (state S.Store conn.old) (state S.Store conn.new) }
+    ensures reads { ReadsAtRest Disk (state S.Store conn.old) (state S.Store conn.new) result }
 {
     let number = find_tenant(conn, digest);
     Ok(judged(conn, number)?.is_some())
@@ -51,11 +47,7 @@ pub fn digest_of<S: Alter>(
     requires { HoldsHere (state S.Store conn.old) }
     ensures value { HasCleanDisk (state S.Store conn.new) → IfOk result (λ digest.
         digest ≡ digest_in name.now (state S.Store conn.old).now.trees) }
-    ensures same { Live (state S.Store conn.new)
-        → IsSame (state S.Store conn.old) (state S.Store conn.new) }
-    ensures open { HasCleanDisk (state S.Store conn.new) → result ≢ Err Disk
-        → IsTrue (state S.Store conn.new).is_open }
-    ensures follows { Follows (state S.Store conn.old) (state S.Store conn.new) }
+    ensures reads { ReadsAtRest Disk (state S.Store conn.old) (state S.Store conn.new) result }
 {
     let row = find_tenant_by_name(conn, name.as_str());
     Ok(digest_in(judged(conn, row)?))
@@ -69,11 +61,7 @@ pub(crate) fn digest_numbered<S: Alter>(
     requires { HoldsHere (state S.Store conn.old) }
     ensures value { HasCleanDisk (state S.Store conn.new) → IfOk result (λ digest.
         digest ≡ first_digest (with_number number (state S.Store conn.old).now.trees)) }
-    ensures same { Live (state S.Store conn.new)
-        → IsSame (state S.Store conn.old) (state S.Store conn.new) }
-    ensures open { HasCleanDisk (state S.Store conn.new) → result ≢ Err Disk
-        → IsTrue (state S.Store conn.new).is_open }
-    ensures follows { Follows (state S.Store conn.old) (state S.Store conn.new) }
+    ensures reads { ReadsAtRest Disk (state S.Store conn.old) (state S.Store conn.new) result }
 {
     let row = find_tenant_by_number(conn, number);
     Ok(digest_in(judged(conn, row)?))
@@ -95,11 +83,7 @@ pub fn tenants<S: Alter>(
     requires { HoldsHere (state S.Store conn.old) }
     ensures value { HasCleanDisk (state S.Store conn.new) → IfOk result (λ tenants.
         AreListed (state S.Store conn.old).now.trees tenants.items) }
-    ensures same { Live (state S.Store conn.new)
-        → IsSame (state S.Store conn.old) (state S.Store conn.new) }
-    ensures open { HasCleanDisk (state S.Store conn.new) → result ≢ Err Disk
-        → IsTrue (state S.Store conn.new).is_open }
-    ensures follows { Follows (state S.Store conn.old) (state S.Store conn.new) }
+    ensures reads { ReadsAtRest Disk (state S.Store conn.old) (state S.Store conn.new) result }
 {
     let tenants = try_tenants(alloc, conn);
     judged(conn, tenants)
@@ -113,11 +97,7 @@ fn try_tenants<S: Alter>(
     requires { HoldsHere (state S.Store conn.old) }
     ensures value { HasCleanDisk (state S.Store conn.new) → IfOk result (λ tenants.
         AreListed (state S.Store conn.old).now.trees tenants.items) }
-    ensures kept { HasCleanDisk (state S.Store conn.new) → OnOk result
-        (IsUnchanged (state S.Store conn.old) (state S.Store conn.new)) }
-    ensures same { Live (state S.Store conn.new) → IsQuiet (state S.Store conn.old)
-        → IsSame (state S.Store conn.old) (state S.Store conn.new) }
-    ensures follows { Follows (state S.Store conn.old) (state S.Store conn.new) }
+    ensures looks { Looks (state S.Store conn.old) (state S.Store conn.new) result }
 {
     let rows = directory(alloc, conn)?;
     let mut tenants = with_clocks(alloc, conn, rows.as_slice())?;
@@ -136,11 +116,7 @@ fn with_clocks<S: Alter>(
         → All (IsTenantOf (state S.Store conn.old).now.trees) rows.now }
     ensures value { HasCleanDisk (state S.Store conn.new) → IfOk result (λ tenants.
         AreThose (state S.Store conn.old).now.trees rows.now tenants.items) }
-    ensures kept { HasCleanDisk (state S.Store conn.new) → OnOk result
-        (IsUnchanged (state S.Store conn.old) (state S.Store conn.new)) }
-    ensures same { Live (state S.Store conn.new) → IsQuiet (state S.Store conn.old)
-        → IsSame (state S.Store conn.old) (state S.Store conn.new) }
-    ensures follows { Follows (state S.Store conn.old) (state S.Store conn.new) }
+    ensures looks { Looks (state S.Store conn.old) (state S.Store conn.new) result }
 {
     let mut tenants = Vec::new(alloc);
     for row in rows {
@@ -159,11 +135,7 @@ fn with_clock<S: Alter>(
         → IsTenantOf (state S.Store conn.old).now.trees row.now }
     ensures value { HasCleanDisk (state S.Store conn.new) → IfOk result
         (IsThat (state S.Store conn.old).now.trees row.now) }
-    ensures kept { HasCleanDisk (state S.Store conn.new) → OnOk result
-        (IsUnchanged (state S.Store conn.old) (state S.Store conn.new)) }
-    ensures same { Live (state S.Store conn.new) → IsQuiet (state S.Store conn.old)
-        → IsSame (state S.Store conn.old) (state S.Store conn.new) }
-    ensures follows { Follows (state S.Store conn.old) (state S.Store conn.new) }
+    ensures looks { Looks (state S.Store conn.old) (state S.Store conn.new) result }
 {
     let clock = find_clock(conn, row.number)?;
     listed(row, clock).ok_or(Unavailable::Size)

@@ -3,6 +3,7 @@
 ghost use Rattle.stored_ledgers.specs.Joining.{JoiningAddsOne};
 ghost use Rattle.stored_ledgers.specs.Keying.{KeyingMovesKey};
 ghost use Rattle.stored_ledgers.specs.Names.{JoiningGivesName, KeyingGivesName};
+ghost use Rattle.stored_ledgers.specs.Overdue.{WholeSearchTells};
 
 /// A tenant that joins has a new machine, where it had none, and every other tenant's stays.
 pub fn joining_adds_one()
@@ -20,4 +21,10 @@ pub fn keying_moves_key()
 pub fn names_are_given()
     ensures joining { JoiningGivesName }
     ensures keying { KeyingGivesName }
+{}
+
+/// Where a search from the first tenant on finds none and begins anew, no tenant's open pending
+/// transfer has been due for a second.
+pub fn whole_search_tells()
+    ensures { WholeSearchTells }
 {}

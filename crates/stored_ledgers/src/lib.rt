@@ -4,6 +4,7 @@
 
 pub mod batches;
 pub mod directory;
+mod due_search;
 pub mod joining;
 pub mod keying;
 pub mod laws;

@@ -13,7 +13,7 @@ use std::test::Fail;
 use store::{Overdue, Search};
 use tenants::TenantName;
 
-const NORTH: [u8; 32] = [1; 32];
+pub const NORTH: [u8; 32] = [1; 32];
 
 const SOUTH: [u8; 32] = [2; 32];
 
@@ -21,7 +21,7 @@ const SOUTH: [u8; 32] = [2; 32];
 const SECOND: u64 = 1_000_000_000;
 
 /// A store in memory with two tenants, each with the accounts 1 and 2.
-fn made<D: Faulty>(alloc: Global) -> Result<Driven<D>, Fail> {
+pub fn made<D: Faulty>(alloc: Global) -> Result<Driven<D>, Fail> {
     let files = Files {
         log: D::made(alloc, Calls::All),
         db: D::made(alloc, Calls::All),
@@ -62,7 +62,7 @@ fn hold<D: Disk + Drop>(
 }
 
 /// A batch of transfers at a moment. One of none settles the tenant to it.
-fn settle<D: Disk + Drop>(
+pub fn settle<D: Disk + Drop>(
     alloc: Global,
     store: &mut Driven<D>,
     digest: &[u8; 32],

@@ -33,9 +33,9 @@ returns-in_err-check-clause-audited g c =
 
 pub returns-in_err-check-clause-reads : goal.returns-in_err-check-clause-reads
 returns-in_err-check-clause-reads g c = record {
-  same = c.in_ok-older.ensures.same;
-  is_open = λ clean told. c.in_ok-older.ensures.open clean (λ failed. no_fault failed);
-  follows = c.in_ok-older.ensures.follows;
+  same = c.in_ok-older.ensures.reads.same;
+  is_open = λ clean told. c.in_ok-older.ensures.reads.is_open clean (λ failed. no_fault failed);
+  follows = c.in_ok-older.ensures.reads.follows;
 }
 
 pub returns-clause-audited : goal.returns-clause-audited

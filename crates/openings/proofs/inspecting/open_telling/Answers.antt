@@ -20,14 +20,14 @@ returns-in-Err-clause-told g c clean = inl (c.in-Err.ensures.told clean)
 pub returns-in-Ok-inspect-clause-finds : goal.returns-in-Ok-inspect-clause-finds
 returns-in-Ok-inspect-clause-finds g c clean =
     subst (λ (db : Database). g.I.Inspection.finds c.in-Ok-inspect.found db)
-    (sym (c.in-Ok-inspect.ensures.kept clean).0.now_is) (c.in-Ok-inspect.ensures.finds clean)
+    (sym (c.in-Ok-inspect.ensures.looks.kept clean).0.now_is) (c.in-Ok-inspect.ensures.finds clean)
 
 pub returns-in-Ok-inspect-clause-opened : goal.returns-in-Ok-inspect-clause-opened
 returns-in-Ok-inspect-clause-opened g c clean =
     let first : HasCleanDisk (file_state c.in-Ok.conn) =
-    omega (arith, c.in-Ok-inspect.ensures.follows.survives.clean, clean) in
+    omega (arith, c.in-Ok-inspect.ensures.looks.follows.survives.clean, clean) in
     opened_on (image_of g.D.Disk c.args.files) (file_state c.in-Ok.conn) (file_state c.inspect.new.conn)
-    (c.in-Ok.ensures.opened first) (c.in-Ok-inspect.ensures.kept clean)
+    (c.in-Ok.ensures.opened first) (c.in-Ok-inspect.ensures.looks.kept clean)
 
 -- it was opened, and the files hold what they held
 pub returns-in-Err-inspect-clause-left : goal.returns-in-Err-inspect-clause-left
@@ -35,7 +35,7 @@ returns-in-Err-inspect-clause-left g c = record {
   stand = λ is.
       refused_stay g.D.Disk c.args.files c.shut.result (file_state c.in-Ok.conn)
       (file_state c.inspect.new.conn) c.in-Ok.ensures.opened c.in-Ok.ensures.honest
-      c.in-Err-inspect.ensures.follows c.shut.ensures.honest c.shut.ensures.left;
+      c.in-Err-inspect.ensures.looks.follows c.shut.ensures.honest c.shut.ensures.left;
   unopened = λ is. absurd (cc);
   of_ledger = λ is. refl;
 }
@@ -44,6 +44,6 @@ pub returns-in-Err-inspect-clause-told : goal.returns-in-Err-inspect-clause-told
 returns-in-Err-inspect-clause-told g c clean =
     let last = c.shut.ensures.honest clean in
     let first : HasCleanDisk (file_state c.in-Ok.conn) =
-    omega (arith, c.in-Err-inspect.ensures.follows.survives.clean, last) in
+    omega (arith, c.in-Err-inspect.ensures.looks.follows.survives.clean, last) in
     inr (finds_now (image_of g.D.Disk c.args.files) (file_state c.in-Ok.conn) (c.in-Ok.ensures.opened first)
     (g.I.Inspection.refuses c.in-Err-inspect.fault) (c.in-Err-inspect.ensures.told last))

@@ -14,7 +14,7 @@ use Rattle.openings.specs.Told.{IsCurrent, Tells}
 use Rattle.openings.proofs.OpenedLedger.{examined_holds, examined_covered}
 use Rattle.openings.specs.DamageLaws.{first_of_read}
 use Rattle.openings.specs.NameLaws.{good_names}
-use Rattle.openings.proofs.ToldLemmas.{names_current, told_by_audit, told_by_want}
+use Rattle.openings.proofs.ToldLemmas.{names_current, told_by_audit}
 use Rattle.openings.proofs.opened.examine.Goals as goal
 
 pub returns-clause-examined : goal.returns-clause-examined
@@ -22,8 +22,8 @@ returns-clause-examined g c clean sound ordered =
     let db = (state g.S.Store c.args.conn.now).now in
     let sets = c.in_ok-due_sets.field-0 in
     let first : HasCleanDisk (state g.S.Store c.find_current.new.conn) =
-    omega (arith, c.in_ok-rows.ensures.follows.survives.clean, clean) in
-    let kept = c.in_ok-find_current.ensures.kept first in
+    omega (arith, c.in_ok-rows.ensures.looks.follows.survives.clean, clean) in
+    let kept = c.in_ok-find_current.ensures.looks.kept first in
     let rows = c.in_ok-rows.rows in
     let ledger = subst (λ (db : Database). IsLedger db.schema) kept.0.now_is (c.in_ok-rows.ensures.ledger clean) in
     let read = subst (λ (db : Database). AreAllRows 3 db.trees rows) kept.0.now_is (c.in_ok-rows.ensures.read clean) in
@@ -45,8 +45,8 @@ pub returns-clause-sound : goal.returns-clause-sound
 returns-clause-sound g c clean =
     let db = (state g.S.Store c.args.conn.now).now in
     let first : HasCleanDisk (state g.S.Store c.find_current.new.conn) =
-    omega (arith, c.in_ok-rows.ensures.follows.survives.clean, clean) in
-    let kept = c.in_ok-find_current.ensures.kept first in
+    omega (arith, c.in_ok-rows.ensures.looks.follows.survives.clean, clean) in
+    let kept = c.in_ok-find_current.ensures.looks.kept first in
     let rows = c.in_ok-rows.rows in
     let read = subst (λ (db : Database). AreAllRows 3 db.trees rows) kept.0.now_is (c.in_ok-rows.ensures.read clean) in
     record {
@@ -65,8 +65,8 @@ pub returns-in_err-rows-clause-told : goal.returns-in_err-rows-clause-told
 returns-in_err-rows-clause-told g c clean =
     let p = err_from_is_err_and c.from_residual-in_err-rows.result c.from_residual-in_err-rows.ensures.1 in
     let first : HasCleanDisk (state g.S.Store c.find_current.new.conn) =
-    omega (arith, c.in_err-rows.ensures.follows.survives.clean, clean) in
-    let kept = c.in_ok-find_current.ensures.kept first in
+    omega (arith, c.in_err-rows.ensures.looks.follows.survives.clean, clean) in
+    let kept = c.in_ok-find_current.ensures.looks.kept first in
     let current = subst IsCurrent (sym kept.0.now_is) (c.in_ok-find_current.ensures.current first) in
     subst (λ (db : Database). IfErr c.from_residual-in_err-rows.result (λ told. Tells told db)) kept.0.now_is
     (rw (p.1, p.2) (c.in_err-rows.ensures.told clean current))
@@ -75,8 +75,8 @@ pub returns-in_err-audit-clause-told : goal.returns-in_err-audit-clause-told
 returns-in_err-audit-clause-told g c clean =
     let p = err_from_is_err_and c.from_residual-in_err-audit.result c.from_residual-in_err-audit.ensures.1 in
     let first : HasCleanDisk (state g.S.Store c.find_current.new.conn) =
-    omega (arith, c.in_ok-rows.ensures.follows.survives.clean, clean) in
-    let kept = c.in_ok-find_current.ensures.kept first in
+    omega (arith, c.in_ok-rows.ensures.looks.follows.survives.clean, clean) in
+    let kept = c.in_ok-find_current.ensures.looks.kept first in
     let rows = c.in_ok-rows.rows in
     let db = (state g.S.Store c.args.conn.now).now in
     let ledger = subst (λ (db : Database). IsLedger db.schema) kept.0.now_is (c.in_ok-rows.ensures.ledger clean) in

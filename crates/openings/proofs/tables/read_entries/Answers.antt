@@ -17,3 +17,6 @@ returns-clause-whole g c clean has =
     (state g.S.Store c.list_accounts.new.conn) kept.0.now_is (again.0.now_is ∙ kept.0.now_is) has
     (c.in_ok-clocks.ensures.whole first has) (c.in_ok-accounts.ensures.whole second)
     (c.in_ok-transfers.ensures.whole clean) (search rules) (search rules) (search rules) (search rules)
+
+pub returns-clause-looks : goal.returns-clause-looks
+returns-clause-looks g c = record { kept = search rules; same = search rules; follows = search rules }

@@ -16,7 +16,7 @@ returns-clause-whole g c clean has =
     omega (arith, c.in_ok-statuses.ensures.reads.follows.survives.clean, third) in
     let first : HasCleanDisk (state g.S.Store c.read_entries.new.conn) =
     omega (arith, c.in_ok-balances.ensures.reads.follows.survives.clean, second) in
-    let kept = (c.in_ok-entries.ensures.kept first).0.now_is in
+    let kept = (c.in_ok-entries.ensures.looks.kept first).0.now_is in
     let again = (c.in_ok-balances.ensures.reads.same second).0.now_is ∙ kept in
     let still = (c.in_ok-statuses.ensures.reads.same third).0.now_is ∙ again in
     derived_read _ c.args.tenant (passed c.args.tenant (search rules)) (lists_of c.in_ok-entries.entries) c.in_ok-balances.balances.items
@@ -27,14 +27,11 @@ returns-clause-whole g c clean has =
     (c.in_ok-balances.ensures.whole second) (c.in_ok-statuses.ensures.whole third)
     (c.in_ok-history.ensures.whole clean)
 
-pub returns-in_err-history-clause-follows : goal.returns-in_err-history-clause-follows
-returns-in_err-history-clause-follows g c =
-    follows_then _ _ _ c.in_ok-entries.ensures.follows
-    (follows_then _ _ _ c.in_ok-balances.ensures.reads.follows
-    (follows_then _ _ _ c.in_ok-statuses.ensures.reads.follows c.in_err-history.ensures.reads.follows))
+pub returns-in_err-statuses-clause-looks : goal.returns-in_err-statuses-clause-looks
+returns-in_err-statuses-clause-looks g c = search (rules, follows_then)
 
-pub returns-clause-follows : goal.returns-clause-follows
-returns-clause-follows g c =
-    follows_then _ _ _ c.in_ok-entries.ensures.follows
-    (follows_then _ _ _ c.in_ok-balances.ensures.reads.follows
-    (follows_then _ _ _ c.in_ok-statuses.ensures.reads.follows c.in_ok-history.ensures.reads.follows))
+pub returns-in_err-history-clause-looks : goal.returns-in_err-history-clause-looks
+returns-in_err-history-clause-looks g c = search (rules, follows_then)
+
+pub returns-clause-looks : goal.returns-clause-looks
+returns-clause-looks g c = search (rules, follows_then)

@@ -13,6 +13,6 @@ returns-clause-whole g c clean has =
     omega (arith, c.in_ok-failed.ensures.reads.follows.survives.clean, clean) in
     failed_read _ c.args.tenant (passed c.args.tenant (search rules)) (lists_of c.in_ok-derived.derived) c.in_ok-failed.failed.items
     (state g.S.Store c.args.conn.now) (state g.S.Store c.read_with_derived.new.conn)
-    (c.in_ok-derived.ensures.kept first).0.now_is has
+    (c.in_ok-derived.ensures.looks.kept first).0.now_is has
     (c.in_ok-derived.ensures.whole first (drop 8 ledger_schema.tables ++ has.0, has.1))
     (c.in_ok-failed.ensures.whole clean)

@@ -5,7 +5,7 @@ use Rattle.sqlite.specs.Effect.{Database}
 use Rattle.sqlite.specs.Held.{state}
 use Rattle.sqlite.specs.State.{HasCleanDisk}
 use Rattle.stored_tables.specs.BatchLaws.{follows_itself, follows_then}
-use Rattle.stored_ledgers.specs.RestingLaws.{unchanged, unchanged_then}
+use Rattle.stored_ledgers.specs.RestingLaws.{unchanged}
 use Rattle.openings.specs.Tables.{HasTables, AreTenantRows}
 use Rattle.openings.specs.Whole.{IsReadFor}
 use Rattle.openings.proofs.Passed.{passed}
@@ -25,11 +25,10 @@ pub loop-row-preserved : goal.loop-row-preserved
 loop-row-preserved g c =
     let s0 = state g.S.Store c.args.conn.now in
     let s1 = state g.S.Store c.loop-row.conn in
-    let s2 = state g.S.Store c.read_tenant.new.conn in
-    let follows = c.in_ok-rows.ensures.follows in record {
+    let follows = c.in_ok-rows.ensures.looks.follows in record {
       read = λ clean has.
           let mid : HasCleanDisk s1 = omega (arith, follows.survives.clean, clean) in
-          let was_open = c.loop-row.invariant.follows.live (mid, (c.in_ok-rows.ensures.kept clean).0.was_open) in
+          let was_open = c.loop-row.invariant.follows.live (mid, (c.in_ok-rows.ensures.looks.kept clean).0.was_open) in
           let now_is = (c.loop-row.invariant.kept mid was_open).0.now_is in
           let there = subst (λ (db : Database). HasTables c.args.version db.schema) (sym now_is) has in
           let number = passed c.row-item.result.number (search rules) in
@@ -38,8 +37,9 @@ loop-row-preserved g c =
           zipped_on (IsReadFor c.args.version s0.now.trees) c.args.directory.now _ _ c.loop-row.row-index
           c.row-item.result _ c.loop-row-test.true c.row-item.is c.in_ok-push.ensures.items
           (c.loop-row.invariant.read mid has) (record { digest = refl; rows = rows });
-      kept = λ clean is_open.
-          let mid : HasCleanDisk s1 = omega (arith, follows.survives.clean, clean) in
-          unchanged_then s0 s1 s2 (c.loop-row.invariant.kept mid is_open) (c.in_ok-rows.ensures.kept clean);
-      follows = follows_then s0 s1 s2 c.loop-row.invariant.follows follows;
+      kept = search rules;
+      follows = follows_then _ _ _ c.loop-row.invariant.follows follows;
     }
+
+pub returns-in_err-push-clause-looks : goal.returns-in_err-push-clause-looks
+returns-in_err-push-clause-looks g c is_open = search (rules, follows_then)

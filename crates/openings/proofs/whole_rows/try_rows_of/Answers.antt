@@ -5,7 +5,6 @@ use Rattle.sqlite.specs.Held.{state}
 use Rattle.sqlite.specs.State.{HasCleanDisk}
 use Rattle.openings.specs.Tables.{HasTables, AreTenantRows}
 use Rattle.openings.proofs.Passed.{passed}
-use Rattle.stored_tables.specs.BatchLaws.{follows_then}
 use Rattle.stored_ledgers.specs.DirectoryLaws.{found_number}
 use Rattle.openings.proofs.WholeLemmas.{has_tables}
 use Rattle.openings.proofs.whole_rows.try_rows_of.Goals as goal
@@ -21,7 +20,7 @@ returns-in_default-clause-whole g c clean =
 pub returns-clause-whole : goal.returns-clause-whole
 returns-clause-whole g c clean =
     let first : HasCleanDisk (state g.S.Store c.find_tenant.new.conn) =
-    omega (arith, c.in_ok-read_tenant.ensures.follows.survives.clean, clean) in
+    omega (arith, c.in_ok-read_tenant.ensures.looks.follows.survives.clean, clean) in
     let before : HasCleanDisk (state g.S.Store c.args.conn.now) =
     omega (arith, c.in_ok-number.ensures.reads.follows.survives.clean, first) in
     let ledgers = (c.requires before).2 in
@@ -35,7 +34,3 @@ returns-clause-whole g c clean =
       subst (λ (db : Database). AreTenantRows c.args.version c.in-Some.number db.trees
           (lists_of c.in_ok-read_tenant.field-0)) kept.0.now_is rows,
     )
-
-pub returns-clause-follows : goal.returns-clause-follows
-returns-clause-follows g c =
-    follows_then _ _ _ c.in_ok-number.ensures.reads.follows c.in_ok-read_tenant.ensures.follows

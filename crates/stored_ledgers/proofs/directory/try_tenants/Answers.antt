@@ -27,7 +27,7 @@ pub returns-clause-value : goal.returns-clause-value
 returns-clause-value g c clean =
     let s0 = state g.S.Store c.args.conn.now in
     let mid : HasCleanDisk (state g.S.Store c.directory.new.conn) =
-    omega (arith, c.in_ok-tenants.ensures.follows.survives.clean, clean) in
+    omega (arith, c.in_ok-tenants.ensures.looks.follows.survives.clean, clean) in
     let before : HasCleanDisk s0 = omega (arith, c.in_ok-rows.ensures.reads.follows.survives.clean, mid) in
     let reads = c.in_ok-rows.ensures.whole mid (starts_as_ours _ (c.requires before).2.schema) in
     let those = subst (λ (db : Database). AreThose db.trees c.in_ok-rows.rows.items c.in_ok-tenants.tenants.items)

@@ -35,7 +35,7 @@ loop-row-preserved g c =
     let s0 = state g.S.Store c.args.conn.now in
     let s1 = state g.S.Store c.loop-row.conn in
     let s2 = state g.S.Store c.with_clock.new.conn in
-    let follows = c.with_clock.ensures.follows in record {
+    let follows = c.with_clock.ensures.looks.follows in record {
       told = λ clean.
           let mid : HasCleanDisk s1 = omega (arith, follows.survives.clean, clean) in
           let kept = c.loop-row.invariant.kept mid in
@@ -45,6 +45,6 @@ loop-row-preserved g c =
           (c.in_ok-with_clock.ensures.value clean));
       kept = λ clean.
           let mid : HasCleanDisk s1 = omega (arith, follows.survives.clean, clean) in
-          unchanged_then s0 s1 s2 (c.loop-row.invariant.kept mid) (c.in_ok-with_clock.ensures.kept clean);
+          unchanged_then s0 s1 s2 (c.loop-row.invariant.kept mid) (c.in_ok-with_clock.ensures.looks.kept clean);
       follows = follows_then s0 s1 s2 c.loop-row.invariant.follows follows;
     }

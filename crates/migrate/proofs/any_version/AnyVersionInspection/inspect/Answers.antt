@@ -17,7 +17,7 @@ returns-then-version-lt-CURRENT_VERSION-clause-finds g c clean =
     let s0 = state g.S.Store c.args.conn.now in
     let s1 = state g.S.Store c.find_version.new.conn in
     let clean1 : HasCleanDisk s1 = omega (arith, c.in_ok-examine_older.ensures.looks.follows.survives.clean, clean) in
-    let same : s1.now ≡ s0.now = (c.in_ok-version.ensures.kept clean1).0.now_is in
+    let same : s1.now ≡ s0.now = (c.in_ok-version.ensures.looks.kept clean1).0.now_is in
     let schema : s0.now.schema ≡ older_schema version = ap (λ (d : Database). d.schema) (sym same) ∙ c.in_ok-examine_older.ensures.examined.schema clean in
     let examined = c.in_ok-examine_older.ensures.examined in
     let found = c.in_ok-version.ensures.found clean1 in
@@ -39,8 +39,8 @@ pub returns-clause-finds : goal.returns-clause-finds
 returns-clause-finds g c clean =
     let s0 = state g.S.Store c.args.conn.now in
     let s1 = state g.S.Store c.find_version.new.conn in
-    let clean1 : HasCleanDisk s1 = omega (arith, c.in_ok-due.ensures.follows.survives.clean, clean) in
-    let same : s1.now ≡ s0.now = (c.in_ok-version.ensures.kept clean1).0.now_is in
+    let clean1 : HasCleanDisk s1 = omega (arith, c.in_ok-due.ensures.looks.follows.survives.clean, clean) in
+    let same : s1.now ≡ s0.now = (c.in_ok-version.ensures.looks.kept clean1).0.now_is in
     record {
       ledger = record {
         older = λ less. absurd (let three = c.if-version-lt-CURRENT_VERSION.false in omega (arith, three, less));
@@ -60,7 +60,7 @@ returns-in_err-examine_older-clause-told g c clean =
     let s0 = state g.S.Store c.args.conn.now in
     let s1 = state g.S.Store c.find_version.new.conn in
     let clean1 : HasCleanDisk s1 = omega (arith, c.in_err-examine_older.ensures.looks.follows.survives.clean, clean) in
-    let same : s1.now ≡ s0.now = (c.in_ok-version.ensures.kept clean1).0.now_is in
+    let same : s1.now ≡ s0.now = (c.in_ok-version.ensures.looks.kept clean1).0.now_is in
     let r = c.from_residual-in_err-examine_older.result in
     let p = err_from_is_err_and r c.from_residual-in_err-examine_older.ensures.1 in
     IfErr-weaker r (λ told. TellsOlder version told s0.now) (λ told. TellsAny told s0.now)
@@ -78,8 +78,8 @@ pub returns-in_err-due-clause-told : goal.returns-in_err-due-clause-told
 returns-in_err-due-clause-told g c clean =
     let s0 = state g.S.Store c.args.conn.now in
     let s1 = state g.S.Store c.find_version.new.conn in
-    let clean1 : HasCleanDisk s1 = omega (arith, c.in_err-due.ensures.follows.survives.clean, clean) in
-    let same : s1.now ≡ s0.now = (c.in_ok-version.ensures.kept clean1).0.now_is in
+    let clean1 : HasCleanDisk s1 = omega (arith, c.in_err-due.ensures.looks.follows.survives.clean, clean) in
+    let same : s1.now ≡ s0.now = (c.in_ok-version.ensures.looks.kept clean1).0.now_is in
     let found = c.in_ok-version.ensures.found clean1 in
     let names = subst (λ n. NamesVersion n s0.now.trees) found.is found.named in
     let r = c.from_residual-in_err-due.result in

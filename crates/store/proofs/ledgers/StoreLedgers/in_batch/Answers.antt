@@ -6,18 +6,18 @@ use Rattle.store.proofs.ledgers.StoreLedgers.in_batch.Goals as goal
 pub returns-clause-finds : goal.returns-clause-finds
 returns-clause-finds g c =
     finds_batch (g.W.Work.gives c.args.work) c.args.digest.now c.args.self.now c.in_batch.new.self
-    c.requires c.in_batch.ensures.follows c.in_batch.ensures.finds c.in_batch.result
-    (λ shut. (c.in_batch.ensures.refuses shut).1) c.in_batch.ensures.open
+    c.requires c.in_batch.ensures.answers.follows c.in_batch.ensures.finds c.in_batch.result
+    (λ shut. (c.in_batch.ensures.answers.refuses shut).1) c.in_batch.ensures.answers.open_yet
 
 pub returns-clause-failed : goal.returns-clause-failed
-returns-clause-failed g c failed = (c.in_batch.ensures.refuses (not-true _ failed)).0
+returns-clause-failed g c failed = (c.in_batch.ensures.answers.refuses (not-true _ failed)).0
 
 pub returns-clause-follows : goal.returns-clause-follows
 returns-clause-follows g c = record {
-  follows = c.in_batch.ensures.follows;
+  follows = c.in_batch.ensures.answers.follows;
   tables = c.in_batch.ensures.tables;
   found = found_tables c.args.self.now c.in_batch.new.self c.is_settled.ensures c.requires
-      c.in_batch.ensures.follows (λ shut. (c.in_batch.ensures.refuses shut).1)
+      c.in_batch.ensures.answers.follows (λ shut. (c.in_batch.ensures.answers.refuses shut).1)
       (IsAfterBatch (g.W.Work.gives c.args.work) c.args.digest.now) (λ was db after. after.keeps)
       c.in_batch.ensures.finds;
 }

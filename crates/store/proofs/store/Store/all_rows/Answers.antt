@@ -13,4 +13,4 @@ returns-clause-reads g c =
     let answers : c.args.self.now.ready ≡ true = search rules in
     reads_open g.D.Disk c.all_rows-rows.result c.is_disk_fault.result c.args.self.now _ c.in-Open.conn
     c.all_rows-rows.new.conn c.in-Open.is refl refl answers refl c.is_disk_fault.ensures c.requires
-    c.all_rows-rows.ensures.follows c.all_rows-rows.ensures.same c.all_rows-rows.ensures.open
+    c.all_rows-rows.ensures.reads.follows c.all_rows-rows.ensures.reads.same c.all_rows-rows.ensures.reads.is_open

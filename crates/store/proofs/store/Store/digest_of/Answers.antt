@@ -13,4 +13,4 @@ returns-clause-reads g c =
     let answers : c.args.self.now.ready ≡ true = search rules in
     reads_open g.D.Disk c.digest_of-digest.result c.is_disk_fault.result c.args.self.now _ c.in-Open.conn
     c.digest_of-digest.new.conn c.in-Open.is refl refl answers refl c.is_disk_fault.ensures c.requires
-    c.digest_of-digest.ensures.follows c.digest_of-digest.ensures.same c.digest_of-digest.ensures.open
+    c.digest_of-digest.ensures.reads.follows c.digest_of-digest.ensures.reads.same c.digest_of-digest.ensures.reads.is_open

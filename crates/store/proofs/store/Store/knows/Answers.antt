@@ -13,4 +13,4 @@ returns-clause-reads g c =
     let answers : c.args.self.now.ready ≡ true = search rules in
     reads_open g.D.Disk c.knows-known.result c.is_disk_fault.result c.args.self.now _ c.in-Open.conn
     c.knows-known.new.conn c.in-Open.is refl refl answers refl c.is_disk_fault.ensures c.requires
-    c.knows-known.ensures.follows c.knows-known.ensures.same c.knows-known.ensures.open
+    c.knows-known.ensures.reads.follows c.knows-known.ensures.reads.same c.knows-known.ensures.reads.is_open

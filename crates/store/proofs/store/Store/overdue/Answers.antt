@@ -1,4 +1,11 @@
-use Rattle.std.proofs.Common.{◌≡◌, true, refl, rules}
+use Rattle.std.proofs.Common.{◌≡◌, None, true, refl, sym, subst, rules}
+use Rattle.sqlite.specs.Files.{file_state}
+use Rattle.sqlite.specs.State.{HasCleanDisk}
+use Rattle.ledger_sql.specs.Frames.{Live}
+use Rattle.stored_ledgers.specs.Directory.{first_digest, with_number}
+use Rattle.stored_ledgers.specs.Overdue.{FindsOverdue, FindsNone}
+use Rattle.store.specs.Stores.{OfDatabaseAt}
+use Rattle.store.proofs.OverdueLemmas.{told_so}
 use Rattle.store.proofs.ReadLemmas.{serves_open, holds_here, reads_open}
 use Rattle.store.proofs.store.Store.overdue.Goals as goal
 
@@ -13,4 +20,18 @@ returns-clause-reads g c =
     let answers : c.args.self.now.ready ≡ true = search rules in
     reads_open g.D.Disk c.find_overdue-found.result c.is_disk_fault.result c.args.self.now _ c.in-Open.conn
     c.find_overdue-found.new.conn c.in-Open.is refl refl answers refl c.is_disk_fault.ensures c.requires
-    c.find_overdue-found.ensures.follows c.find_overdue-found.ensures.same c.find_overdue-found.ensures.open
+    c.find_overdue-found.ensures.reads.follows c.find_overdue-found.ensures.reads.same c.find_overdue-found.ensures.reads.is_open
+
+pub returns-clause-none : goal.returns-clause-none
+returns-clause-none g c =
+    let due = c.args.self.now.due in
+    let moment = c.args.moment in
+    let old = c.args.search.now in
+    let new = c.find_overdue-found.new.search in
+    told_so (FindsNone due moment old new) (λ n piece. FindsOverdue due moment old new n piece)
+    (λ n. HasCleanDisk (file_state c.find_overdue-found.new.conn)
+    → first_digest (with_number n (file_state c.in-Open.conn).now.trees) ≡ None)
+    (λ n. Live (file_state c.find_overdue-found.new.conn)
+    → OfDatabaseAt (λ db. first_digest (with_number n db.trees) ≡ None) c.args.self.now.place)
+    (λ n missing live. subst (OfDatabaseAt (λ db. first_digest (with_number n db.trees) ≡ None))
+    (sym c.in-Open.is) (missing live.0)) c.find_overdue-found.result c.find_overdue-found.ensures.none

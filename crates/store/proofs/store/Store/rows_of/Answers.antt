@@ -13,4 +13,4 @@ returns-clause-reads g c =
     let answers : c.args.self.now.ready ≡ true = search rules in
     reads_open g.D.Disk c.rows_of-rows.result c.is_disk_fault.result c.args.self.now _ c.in-Open.conn
     c.rows_of-rows.new.conn c.in-Open.is refl refl answers refl c.is_disk_fault.ensures c.requires
-    c.rows_of-rows.ensures.follows c.rows_of-rows.ensures.same c.rows_of-rows.ensures.open
+    c.rows_of-rows.ensures.reads.follows c.rows_of-rows.ensures.reads.same c.rows_of-rows.ensures.reads.is_open

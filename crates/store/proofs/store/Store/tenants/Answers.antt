@@ -13,4 +13,4 @@ returns-clause-reads g c =
     let answers : c.args.self.now.ready ≡ true = search rules in
     reads_open g.D.Disk c.tenants-listed.result c.is_disk_fault.result c.args.self.now _ c.in-Open.conn
     c.tenants-listed.new.conn c.in-Open.is refl refl answers refl c.is_disk_fault.ensures c.requires
-    c.tenants-listed.ensures.follows c.tenants-listed.ensures.same c.tenants-listed.ensures.open
+    c.tenants-listed.ensures.reads.follows c.tenants-listed.ensures.reads.same c.tenants-listed.ensures.reads.is_open

@@ -14,7 +14,7 @@ use Rattle.whole_runs.proofs.stored.StoreReopening.change_key.Goals as goal
 pub returns-clause-taken : goal.returns-clause-taken
 returns-clause-taken g c live told =
     taken_at_keying c.args.name.now c.args.digest.now c.args.self.now c.change_key-keyed.new.self
-    c.change_key-keyed.result c.requires (c.change_key-keyed.ensures.follows.lived live)
+    c.change_key-keyed.result c.requires (c.change_key-keyed.ensures.answers.follows.lived live)
     (c.change_key-keyed.ensures.told live) told
 
 pub returns-clause-moves : goal.returns-clause-moves
@@ -25,7 +25,7 @@ returns-clause-moves g c =
     λ live.
     keys_names c.names_are_given.ensures.keying c.args.name.now c.args.digest.now c.args.self.now
     c.change_key-keyed.new.self c.change_key-keyed.result c.requires
-    (c.change_key-keyed.ensures.follows.lived live) (c.change_key-keyed.ensures.told live) in
+    (c.change_key-keyed.ensures.answers.follows.lived live) (c.change_key-keyed.ensures.told live) in
     record {
       was = digest_named c.args.self.now c.args.name.now;
       moves = c.change_key-keyed.ensures.whose;
@@ -39,12 +39,12 @@ returns-clause-moves g c =
           (record { schema = before.schema; trees = db }) ledgers keyed in
           (some_named (names_in before.trees c.args.name.now) keyed.was given.0, given.1))
           c.args.self.now c.change_key-keyed.new.self c.is_settled.ensures c.requires
-          c.change_key-keyed.ensures.follows (λ unready. (c.change_key-keyed.ensures.refuses unready).1)
-          c.change_key-keyed.ensures.finds c.is_settled-2.ensures c.change_key-keyed.ensures.usable
+          c.change_key-keyed.ensures.answers.follows (λ unready. (c.change_key-keyed.ensures.answers.refuses unready).1)
+          c.change_key-keyed.ensures.finds c.is_settled-2.ensures c.change_key-keyed.ensures.answers.usable
           (key_ending c.change_key-keyed.result)
           (λ live.
           keys_go c.args.name.now (digest_named c.args.self.now c.args.name.now) c.args.digest.now
           _ _ c.change_key-keyed.result (told live))
           (λ honest differs.
-          c.change_key-keyed.ensures.open honest (λ is. differs (ap key_ending is)));
+          c.change_key-keyed.ensures.answers.open_yet honest (λ is. differs (ap key_ending is)));
     }

@@ -13,7 +13,7 @@ use Rattle.whole_runs.proofs.stored.StoreReopening.join.Goals as goal
 pub returns-clause-taken : goal.returns-clause-taken
 returns-clause-taken g c live told =
     taken_at_joining c.args.name.now c.args.digest.now c.args.self.now c.add_tenant-joined.new.self
-    c.add_tenant-joined.result c.requires (c.add_tenant-joined.ensures.follows.lived live)
+    c.add_tenant-joined.result c.requires (c.add_tenant-joined.ensures.answers.follows.lived live)
     (c.add_tenant-joined.ensures.told live) told
 
 pub returns-clause-named : goal.returns-clause-named
@@ -24,7 +24,7 @@ returns-clause-named g c =
     λ live.
     joins_names c.names_are_given.ensures.joining c.args.name.now c.args.digest.now c.args.self.now
     c.add_tenant-joined.new.self c.add_tenant-joined.result c.requires
-    (c.add_tenant-joined.ensures.follows.lived live) (c.add_tenant-joined.ensures.told live) in
+    (c.add_tenant-joined.ensures.answers.follows.lived live) (c.add_tenant-joined.ensures.told live) in
     record {
       told = told;
       found =
@@ -34,10 +34,10 @@ returns-clause-named g c =
           c.names_are_given.ensures.joining c.args.name.now c.args.digest.now before
           (record { schema = before.schema; trees = db }) ledgers joined.0 joined.1)
           c.args.self.now c.add_tenant-joined.new.self c.is_settled.ensures c.requires
-          c.add_tenant-joined.ensures.follows (λ unready. (c.add_tenant-joined.ensures.refuses unready).1)
-          c.add_tenant-joined.ensures.finds c.is_settled-2.ensures c.add_tenant-joined.ensures.usable
+          c.add_tenant-joined.ensures.answers.follows (λ unready. (c.add_tenant-joined.ensures.answers.refuses unready).1)
+          c.add_tenant-joined.ensures.finds c.is_settled-2.ensures c.add_tenant-joined.ensures.answers.usable
           (ending_of c.add_tenant-joined.result)
           (λ live. joins_go c.args.name.now c.args.digest.now _ _ c.add_tenant-joined.result (told live))
           (λ honest differs.
-          c.add_tenant-joined.ensures.open honest (λ is. differs (ap ending_of is)));
+          c.add_tenant-joined.ensures.answers.open_yet honest (λ is. differs (ap ending_of is)));
     }
