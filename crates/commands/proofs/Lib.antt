@@ -10,3 +10,4 @@ mod StatementLemmas
 mod AskLemmas
 pub mod RenewLemmas
 mod HeldLemmas
+mod ServedLemmas

@@ -1,21 +1,32 @@
 -- A store that is opened again, or anew in its place.
-use Rattle.std.proofs.Common.{◌≡◌, false, Result, Ok, Err, OnOk, OnErr, IsTrue, ap, sym, subst}
+use Rattle.std.proofs.Common.{◌≡◌, false, Option, Some, None, Result, Ok, Err, OnOk, OnErr, IfSome}
+use Rattle.std.proofs.Common.{IsTrue, ap, sym, subst}
 use Rattle.sqlite_disk.specs.declared.Disk as disk
+use Rattle.sqlite_disk.specs.declared.Files.{Files}
 use Rattle.chain.specs.Ledgers.{Tenants}
 use Rattle.openings.specs.declared.opening.OpenFault.{OpenFault}
 use Rattle.service.specs.Openings.{run_meaning, IsSettled, IsOpened}
 use Rattle.service.specs.OpeningLaws.{is_opened}
 use Rattle.store.specs.StoreLaws.{store_meaning, finds_itself, opened_is_found, opened_is_live}
-use Rattle.store.specs.Stores.{IsHonest, IsSettledStore, Finds, may_find}
+use Rattle.store.specs.Stores.{IsHonest, IsSettledStore, IsUsable, Finds, may_find}
 use Rattle.store.specs.declared.store.Store.{Store}
 use Rattle.command_texts.specs.declared.fault.Fault.{Fault}
 use Rattle.commands.specs.Kept.{kept_store, IsLiveKept, IsUsableKept, answers, WasRefused}
-use Rattle.commands.specs.Kept.{Attends, tenants_kept}
+use Rattle.commands.specs.Kept.{Attends, IsAnew, MayBeCalled, kept_of}
 use Rattle.commands.specs.Kept.{Renews, Stays, Again, Anew, Refuses, Tries, Looks}
 use Rattle.commands.specs.declared.kept.Kept.{Kept}
 use Rattle.commands.specs.declared.kept.Kept.TheVariants.{Open, Closed}
 
 module _ {D : Type 0} {g : disk.Ghosts D} where
+  -- what is kept of a store, if there is one, may be called where the store may be
+  pub usable_so :
+      (store : Option (Store D g)) → IfSome store IsUsable → (kept : Kept (Store D g))
+      → kept ≡ kept_of store → MayBeCalled kept
+  usable_so (Some store) usable kept is =
+      subst (λ (other : Kept (Store D g)). MayBeCalled other) (sym is) usable
+  usable_so None usable kept is =
+      subst (λ (other : Kept (Store D g)). MayBeCalled other) (sym is) tt
+
   -- a store that was opened again is what was to be found
   pub opened_so :
       (old new : Store D g) (result : Result (Unit {0}) OpenFault) →
@@ -29,9 +40,9 @@ module _ {D : Type 0} {g : disk.Ghosts D} where
 
   -- a store was opened anew where one was refused, or that was refused too
   pub anew_so :
-      (opens : Tenants → Type 0) (old left new : Kept (Store D g))
+      (opens : Option (Files D) → Tenants → Type 0) (old left new : Kept (Store D g))
       (result : Result (Unit {0}) Fault) → answers old ≡ false → WasRefused old left →
-      OnOk result (opens (tenants_kept store_meaning new)) → OnOk result (IsTrue (answers new)) →
+      OnOk result (IsAnew opens left new) → OnOk result (IsTrue (answers new)) →
       OnOk result (IsSettled kept_store new) → OnErr result (new ≡ Closed) → Renews opens old new
   anew_so opens old left new (Ok done) silent refused anew answering settled closed =
       Anew left silent refused anew answering settled
@@ -42,12 +53,12 @@ module _ {D : Type 0} {g : disk.Ghosts D} where
 
   -- what is done where no store is opened anew is done where some may be
   pub attends_so :
-      (opens : Tenants → Type 0) (old new : Kept (Store D g))
+      (opens : Option (Files D) → Tenants → Type 0) (old new : Kept (Store D g))
       → Attends old new → Renews opens old new
   attends_so opens old new (Stays same) = Stays same
   attends_so opens old new (Again silent answering opened) = Again silent answering opened
   attends_so opens old new (Anew left silent refused anew answering settled) =
-      absurd anew
+      absurd anew.2
   attends_so opens old new (Refuses silent none dead) = Refuses silent none dead
   attends_so opens old new (Tries deed ending moves) = Tries deed ending moves
   attends_so opens old new (Looks rest) = Looks rest

@@ -6,6 +6,7 @@ use Rattle.sqlite_wal.specs.Reads.{AreClean}
 use Rattle.sqlite_wal.specs.Recovery.{Image}
 use Rattle.sqlite.specs.Effect.{Database}
 use Rattle.audit.specs.declared.damage.Damage.{Damage}
+use Rattle.control.specs.declared.answer.Answer.{Answer}
 use Rattle.ledger_sql.specs.Creating.{IsEmptyLedger}
 use Rattle.openings.specs.Found.{FindsNone, FindsOne, IsThere, Yields}
 use Rattle.openings.specs.Told.{IsDamagedLedger}
@@ -41,15 +42,15 @@ module _ {D : Type 0} {g : disk.Ghosts D} where
   HasDamaged P (held.Damaged files) = P files
   HasDamaged P other = ⊥
 
-  -- the service that has the file was asked
-  abbrev pub HasAsked : Held D g → Type 0
-  HasAsked (held.Asked answer) = Unit {0}
-  HasAsked other = ⊥
+  -- it has what the service that has the file answered, and this is so of it
+  abbrev pub HasTold : (Answer → Type 0) → Held D g → Type 0
+  HasTold P (held.Asked answer) = P answer
+  HasTold P other = ⊥
 
-  -- the service that has the file was asked, or this is so
-  abbrev pub HasAskedOr : (Held D g → Type 0) → Held D g → Type 0
-  HasAskedOr P (held.Asked answer) = Unit {0}
-  HasAskedOr P other = P other
+  -- it has such an answer, or else this is so
+  abbrev pub HasToldOr : (Answer → Type 0) → (Held D g → Type 0) → Held D g → Type 0
+  HasToldOr P Q (held.Asked answer) = P answer
+  HasToldOr P Q other = Q other
 
   -- a store was opened on what the files held, and its rows are those of valid machines
   pub record IsFrom (image : Image) (store : Store D g) : Type 0 where

@@ -2,6 +2,7 @@
 use Rattle.std.specs.Prelude.{◌≡◌, Bool, true, false, Option, Some, None, IsTrue}
 use Rattle.std.proofs.Common.{refl}
 use Rattle.sqlite_disk.specs.declared.Disk as disk
+use Rattle.sqlite_disk.specs.declared.Files.{Files}
 use Rattle.chain.specs.Ledgers.{LedgersMeaning, Tenants, AreValid}
 use Rattle.service.specs.Courses as course
 use Rattle.service.specs.Deeds.{Deed}
@@ -12,7 +13,7 @@ use Rattle.polling.specs.Courses as renewed
 use Rattle.polling.specs.Serving.{renews_seen}
 use Rattle.store.specs.StoreLaws.{store_meaning}
 use Rattle.openings.specs.declared.refused.Refused.{Refused}
-use Rattle.store.specs.Stores.{IsLive, LeavesStore}
+use Rattle.store.specs.Stores.{GivesBack, IsLive, LeavesStore}
 use Rattle.store.specs.declared.store.Store.{Store}
 use Rattle.commands.specs.declared.kept.Kept.{Kept}
 use Rattle.commands.specs.declared.kept.Kept.TheVariants.{Open, Closed}
@@ -128,12 +129,26 @@ module _ {D : Type 0} {g : disk.Ghosts D} where
   WasRefused Closed (Open left) = ⊥
   WasRefused Closed Closed = Unit {0}
 
+  -- the files that a store gives back, if there is one
+  abbrev pub GivesFiles : Kept (Store D g) → Option (Files D) → Type 0
+  GivesFiles (Open store) (Some files) = GivesBack store files
+  GivesFiles (Open store) None = ⊥
+  GivesFiles Closed (Some files) = ⊥
+  GivesFiles Closed None = Unit {0}
+
+  -- a home was given the files of what is left as they were, and has opened a store in its place
+  abbrev pub IsAnew :
+      (Option (Files D) → Tenants → Type 0) → (left new : Kept (Store D g)) → Type 0
+  IsAnew opens left new =
+      (files : Option (Files D)) × GivesFiles left files
+      × opens files (tenants_kept store_meaning new)
+
   -- what is made of a store between turns, where a home opens these: one that answers calls stays as it
   -- is; any other may stay, or is opened again over its own files, and is what was to be found there; or
   -- that is refused, and the home opens a store in its place; or that is refused too, and none answers;
   -- or an operator has asked for a deed, and this came of it; or for what is there, and nothing has
   -- changed
-  pub data Renews (opens : Tenants → Type 0) (old new : Kept (Store D g)) :
+  pub data Renews (opens : Option (Files D) → Tenants → Type 0) (old new : Kept (Store D g)) :
       Type 0 where
     Stays : new ≡ old → Renews opens old new
     Again :
@@ -141,7 +156,7 @@ module _ {D : Type 0} {g : disk.Ghosts D} where
         → Renews opens old new
     Anew :
         (left : Kept (Store D g)) → answers old ≡ false → WasRefused old left →
-        opens (tenants_kept store_meaning new) → IsTrue (answers new) → IsSettled kept_store new
+        IsAnew opens left new → IsTrue (answers new) → IsSettled kept_store new
         → Renews opens old new
     Refuses :
         answers old ≡ false → answers new ≡ false → (IsLiveKept store_meaning new → ⊥)
@@ -153,11 +168,11 @@ module _ {D : Type 0} {g : disk.Ghosts D} where
 
   -- the same where no store is opened in the place of another
   abbrev pub Attends : (old new : Kept (Store D g)) → Type 0
-  Attends old new = Renews (λ tenants. ⊥) old new
+  Attends old new = Renews (λ files tenants. ⊥) old new
 
   -- the same as it is told of any ledgers
   abbrev pub renewal_of :
-      (opens : Tenants → Type 0) (old new : Kept (Store D g))
+      (opens : Option (Files D) → Tenants → Type 0) (old new : Kept (Store D g))
       → Renews opens old new → Renewed kept_store old new
   renewal_of opens old new (Stays same) = Stayed same
   renewal_of opens old new (Again silent answering opened) = Opened opened
@@ -172,7 +187,7 @@ module _ {D : Type 0} {g : disk.Ghosts D} where
 
   -- and as it is seen between messages: nothing is opened inside of a round
   abbrev pub renewal_seen :
-      (opens : Tenants → Type 0) (old new : Seen (Kept (Store D g)))
+      (opens : Option (Files D) → Tenants → Type 0) (old new : Seen (Kept (Store D g)))
       → renews_seen (Renews opens) old new
       → Renewed (run_meaning (seen (kept_meaning store_meaning))) old new
   renewal_seen opens (Whole old) (Whole new) renews =

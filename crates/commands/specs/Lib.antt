@@ -11,6 +11,7 @@ pub mod Holding
 pub mod OverFiles
 pub mod Program
 pub mod Asking
+pub mod Behind
 pub mod Extracts
 pub mod GivenKeys
 pub mod Endings
@@ -22,3 +23,4 @@ pub mod Listing
 pub mod Copying
 pub mod Tally
 pub mod Settling
+pub mod Leaving

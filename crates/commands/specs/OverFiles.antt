@@ -1,5 +1,6 @@
--- What a command has done with the ledger that it has opened, and told of it.
-use Rattle.std.specs.Prelude.{ℕ, List, ◌++◌, map, Option, is_some, Ok}
+-- What a command has done with the ledger that it has opened, or what the service that has it has
+-- answered, and what is told of it.
+use Rattle.std.specs.Prelude.{ℕ, Bool, true, false, List, ◌++◌, map, Option, is_some, Ok}
 use Rattle.std.specs.Io.KnownBytes.{Appends}
 use Rattle.serde_json.specs.Written.{compact_text}
 use Rattle.sqlite_disk.specs.declared.Disk as disk
@@ -11,7 +12,11 @@ use Rattle.stored_ledgers.specs.Listing.{AreListed}
 use Rattle.stored_ledgers.specs.declared.directory.ListedTenant.{ListedTenant}
 use Rattle.store.specs.declared.store.Store.{Store}
 use Rattle.command_texts.specs.Lines.{tenants_line}
+use Rattle.control.specs.Answers.{TellsCounts, TellsTenants}
 use Rattle.control.specs.Listing.{IsListed, rows_data}
+use Rattle.control.specs.declared.answer.Answer.{Answer}
+use Rattle.control.specs.declared.counting.CountForm.{CountForm}
+use Rattle.control.specs.declared.counting.CountForm.TheVariants.{Metric, Plain}
 use Rattle.commands.specs.Extracts.{IsAskedTold}
 use Rattle.commands.specs.Holding.{Becomes, ComesOf, IsBegun, IsFrom}
 use Rattle.commands.specs.Listing.{row_of}
@@ -29,6 +34,21 @@ pub record AreTold (trees : Trees) (old new : Option (List ℕ)) : Type 0 where
   pub lines : List ℕ
   pub listed : ListsRows tenants lines
   pub told : Appends old new (tenants_line ++ lines)
+
+-- the tenants that an answer tells are listed, as CSV
+abbrev pub AreTenantsTold : Option (List ℕ) → Option (List ℕ) → Answer → Type 0
+AreTenantsTold old new answer =
+    (lines : List ℕ) × TellsTenants lines answer × Appends old new (tenants_line ++ lines)
+
+-- how counts are asked for
+abbrev pub count_form : Bool → CountForm
+count_form true = Metric
+count_form false = Plain
+
+-- the counts that an answer tells are written, a line each
+abbrev pub AreCountsTold : CountForm → Option (List ℕ) → Option (List ℕ) → Answer → Type 0
+AreCountsTold form old new answer =
+    (lines : List ℕ) × TellsCounts form lines answer × Appends old new lines
 
 -- what is asked for of the account of the tenant with this name is written
 abbrev pub IsWrittenFrom :

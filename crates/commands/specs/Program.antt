@@ -1,6 +1,6 @@
 -- What the program does for its words.
 use Rattle.std.specs.Prelude.{◌≡◌, ◌≢◌, ◌⊎◌, ◌<◌, ◌≤◌, ◌^◌, ℕ, Bool, true, false, codes, if◌then◌else◌}
-use Rattle.std.specs.Prelude.{List, [], ◌∷◌, ◌++◌}
+use Rattle.std.specs.Prelude.{List, [], ◌∷◌, ◌++◌, decimal}
 use Rattle.std.specs.Prelude.{Option, None, Some, Result, Ok, Err, IfOk}
 use Rattle.sqlite_disk.specs.declared.Disk as disk
 use Rattle.sqlite_wal.specs.Recovery.{Image}
@@ -25,9 +25,13 @@ use Rattle.command_texts.specs.Lines.{copied_line, fault_line, new_ledger_line, 
 use Rattle.command_texts.specs.Words.{IsDigestOfKey}
 use Rattle.command_line.specs.declared.commands.StatementWords.{StatementWords}
 use Rattle.commands.specs.Asking.{IsAsked, MeansPeriod, read_form}
-use Rattle.commands.specs.Holding.{HasAsked, HasAskedOr, HasDamaged, HasMigrated, HasOpened}
+use Rattle.control.specs.Answers.{TellsAdded, TellsChanged, TellsCopied, TellsStopped}
+use Rattle.commands.specs.Copying.{IsPathOf}
+use Rattle.commands.specs.Holding.{HasDamaged, HasMigrated, HasOpened, HasTold, HasToldOr}
 use Rattle.commands.specs.Holding.{IsBroughtTo, IsDamagedAt, IsFrom}
+use Rattle.commands.specs.OverFiles.{AreCountsTold, AreTenantsTold, count_form}
 use Rattle.commands.specs.OverFiles.{HasAdded, HasChanged, HasListed, HasWritten, IsWrittenFrom}
+use Rattle.commands.specs.Served.{IsServed}
 use Rattle.commands.specs.declared.asked.Asked.{Asked}
 use Rattle.statement.specs.declared.period.Period.{Period}
 use Rattle.commands.specs.GivenKeys.{IsGivenKey, AreLinesTold, key_text}
@@ -77,7 +81,7 @@ module _ {O D : Type 0} {g : disk.Ghosts D} where
       (key : Option (List ℕ)) (out : O) (ended : Ended O D g) : Type 0 where
     pub given : GivenKey
     pub line : TellsKey key (written out) (written ended.out) (added_line name) given
-    pub added : OfDigest given (λ digest. HasAskedOr
+    pub added : OfDigest given (λ digest. HasToldOr (TellsAdded name (key_text given))
         (HasOpened (HasAdded image (text_in ended.made) name digest)) ended.held)
 
   -- so it is; before the file is opened the name is judged, then the key
@@ -94,8 +98,8 @@ module _ {O D : Type 0} {g : disk.Ghosts D} where
       (key : Option (List ℕ)) (out : O) (ended : Ended O D g) : Type 0 where
     pub given : GivenKey
     pub line : TellsKey key (written out) (written ended.out) (changed_line name) given
-    pub changed : OfDigest given
-        (λ digest. HasAskedOr (HasOpened (HasChanged image name digest)) ended.held)
+    pub changed : OfDigest given (λ digest. HasToldOr (TellsChanged name (key_text given))
+        (HasOpened (HasChanged image name digest)) ended.held)
 
   -- so it is; before the file is opened the name is judged, then the key
   pub record ChangesKey (written : O → Option (List ℕ)) (image : Image) (name : List ℕ)
@@ -113,8 +117,9 @@ module _ {O D : Type 0} {g : disk.Ghosts D} where
     pub is : account ≡ decimal_of id
     pub asked : Asked
     pub means : IsAsked words asked
-    pub told : HasAskedOr (HasOpened (HasWritten image
-        (IsWrittenFrom written name id asked out ended.out))) ended.held
+    pub told : HasToldOr (IsServed name id asked (written out) (written ended.out))
+        (HasOpened (HasWritten image (IsWrittenFrom written name id asked out ended.out)))
+        ended.held
 
   -- so it is; before the file is opened the name is judged, then the account's id, then the period's
   -- bounds, and then the form
@@ -171,28 +176,39 @@ module _ {O D : Type 0} {g : disk.Ghosts D} where
   -- the tenants of a ledger are listed
   pub record ListsTenants (written : O → Option (List ℕ)) (image : Image) (out : O)
       (result : Result (Ended O D g) Fault) : Type 0 where
-    pub listed : IfOk result (λ ended. HasAskedOr
+    pub listed : IfOk result (λ ended.
+        HasToldOr (AreTenantsTold (written out) (written ended.out))
         (HasOpened (HasListed image (written out) (written ended.out))) ended.held)
     pub calm : IfOk result IsCalm
 
-  -- a line tells how many bytes a copy has, and the ledger that was copied is open
-  pub record Copies (written : O → Option (List ℕ)) (image : Image) (out : O)
+  -- a line tells how many bytes the copy at a path has, as it was answered, or the ledger that was
+  -- copied is open
+  pub record IsCopiedSo (written : O → Option (List ℕ)) (image : Image) (to : List ℕ) (out : O)
+      (ended : Ended O D g) : Type 0 where
+    pub bytes : ℕ
+    pub line : Appends (written out) (written ended.out) (copied_line (decimal bytes))
+    pub path : List ℕ
+    pub is : IsPathOf to path
+    pub copied : HasToldOr (TellsCopied path (decimal bytes)) (HasOpened (IsFrom image)) ended.held
+
+  -- so it is
+  pub record Copies (written : O → Option (List ℕ)) (image : Image) (to : List ℕ) (out : O)
       (result : Result (Ended O D g) Fault) : Type 0 where
-    pub line : IfOk result (λ ended. (bytes : List ℕ)
-        × Appends (written out) (written ended.out) (copied_line bytes))
-    pub opened : IfOk result (λ ended. HasAskedOr (HasOpened (IsFrom image)) ended.held)
+    pub copied : IfOk result (IsCopiedSo written image to out)
     pub calm : IfOk result IsCalm
 
-  -- the service was asked for what it tells of itself
-  pub record AsksStatus (result : Result (Ended O D g) Fault) : Type 0 where
-    pub asked : IfOk result (λ ended. HasAsked ended.held)
+  -- what the service has answered of itself is written
+  pub record AsksStatus (written : O → Option (List ℕ)) (as_metrics : Bool) (out : O)
+      (result : Result (Ended O D g) Fault) : Type 0 where
+    pub told : IfOk result (λ ended. HasTold
+        (AreCountsTold (count_form as_metrics) (written out) (written ended.out)) ended.held)
     pub calm : IfOk result IsCalm
 
-  -- the service was asked to end, and a line tells that it has
+  -- the service has answered that it has ended, and a line tells so
   pub record Stops (written : O → Option (List ℕ)) (out : O)
       (result : Result (Ended O D g) Fault) : Type 0 where
     pub line : IfOk result (λ ended. Appends (written out) (written ended.out) stopped_line)
-    pub asked : IfOk result (λ ended. HasAsked ended.held)
+    pub told : IfOk result (λ ended. HasTold TellsStopped ended.held)
     pub calm : IfOk result IsCalm
 
   -- the versions are written
@@ -222,8 +238,9 @@ module _ {O D : Type 0} {g : disk.Ghosts D} where
   Does written image (command.Migrate db to) out result = Migrates written image to.now out result
   Does written image (command.Lint route) out result = DoesNothing out result
   Does written image (command.Tenants db) out result = ListsTenants written image out result
-  Does written image (command.Status db prometheus) out result = AsksStatus result
-  Does written image (command.Copy db to) out result = Copies written image out result
+  Does written image (command.Status db prometheus) out result =
+      AsksStatus written prometheus out result
+  Does written image (command.Copy db to) out result = Copies written image to.now out result
   Does written image (command.Stop db) out result = Stops written out result
   Does written image command.Version out result = TellsVersion written out result
 

@@ -1,6 +1,7 @@
 -- What serving many clients comes to, until so many messages were replied to.
-use Rattle.std.specs.Prelude.{◌≡◌, ◌≢◌, ◌≤◌, ◌<◌, ℕ, List, Result, Ok, OnErr}
+use Rattle.std.specs.Prelude.{◌≡◌, ◌≢◌, ◌≤◌, ◌<◌, ℕ, List, Option, Result, Ok, OnErr}
 use Rattle.sqlite_disk.specs.declared.Disk as disk
+use Rattle.sqlite_disk.specs.declared.Files.{Files}
 use Rattle.chain.specs.Ledgers.{Tenants}
 use Rattle.service.specs.Courses.{Event}
 use Rattle.service.specs.Openings.{run_meaning, CourseSince, HasLed}
@@ -56,7 +57,7 @@ pub record ServesClients {S C P : Type 0} (r : Rules S C P) (ledgers : S) (momen
   pub asked : OnErr result (most_turns ≤ tellings served)
 
 module _ {D : Type 0} {g : disk.Ghosts D} {C P : Type 0}
-    (opens : Tenants → Type 0) (gives : C → ℕ → C → Type 0)
+    (opens : Option (Files D) → Tenants → Type 0) (gives : C → ℕ → C → Type 0)
     (does : P → Doing → P → Type 0) where
   -- messages are answered by a store, or by ledgers that are not there; a store that answers calls
   -- stays as it is
@@ -77,3 +78,10 @@ module _ {D : Type 0} {g : disk.Ghosts D} {C P : Type 0}
         → HasLed kept_store
         (IsSince (renewal_seen opens) (empty_hall (Whole first) moments peers) served.deeds
         served.last served.served) kept
+
+  -- so it was, and this was kept of the store in the end
+  pub record ServesKept (first : Kept (Store D g)) (moments : C) (peers : P) (most : ℕ)
+      (left : Kept (Store D g)) (moments_now : C) (peers_now : P) (result : Result Served Fault)
+      : Type 0 where
+    pub serves : ServesStore first moments peers most moments_now peers_now result
+    pub kept : serves.kept ≡ left

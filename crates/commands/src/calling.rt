@@ -1,7 +1,9 @@
 //! Calls to the service that has a file.
+ghost use Rattle.std.specs.Prelude.{IfOk, IfSome};
+ghost use Rattle.control.specs.Answers.{IsAnswerTo};
 
 use command_texts::Fault;
-use control::{Call, call};
+use control::{Answer, Call, call};
 use std::fs;
 use std::io::ErrorKind;
 
@@ -26,26 +28,23 @@ pub(crate) fn desk_path(rt: &HostRuntime, db: &str) -> Result<Option<String>, Fa
     Ok(Some(format!(in rt.alloc(); "{path}.control")?))
 }
 
-/// What the service that has a file has answered. Only `ask` makes one.
-#[derive(Drop)]
-pub(crate) struct Answer {
-    body: Vec<u8>,
-}
-
-impl Answer {
-    pub(crate) fn body(&self) -> &[u8] {
-        self.body.as_slice()
+/// What the service that has a file answers, if one has it and listens for its operator. It is
+/// `Unreadable` where a folder on the way to the file is another user's.
+pub(crate) fn ask(rt: &HostRuntime, db: &str, what: &Call<'_>) -> Result<Option<Answer>, Fault>
+    ensures { IfOk result (λ found. IfSome found (IsAnswerTo what.now)) }
+{
+    match desk_path(rt, db)? {
+        Some(path) => call(rt, rt.alloc(), path.as_str(), what),
+        None => Ok(None),
     }
 }
 
-/// What the service that has a file answers, if one has it and listens for its operator. It is
-/// `Unreadable` where a folder on the way to the file is another user's.
-pub(crate) fn ask(rt: &HostRuntime, db: &str, what: &Call<'_>) -> Result<Option<Answer>, Fault> {
-    let Some(path) = desk_path(rt, db)? else {
-        return Ok(None);
-    };
-    match call(rt, rt.alloc(), path.as_str(), what)? {
-        Some(body) => Ok(Some(Answer { body })),
-        None => Ok(None),
+/// The same of a file that is served: else it is `NotServed`.
+pub(crate) fn ask_served(rt: &HostRuntime, db: &str, what: &Call<'_>) -> Result<Answer, Fault>
+    ensures { IfOk result (IsAnswerTo what.now) }
+{
+    match ask(rt, db, what)? {
+        Some(answer) => Ok(answer),
+        None => Err(Fault::NotServed),
     }
 }

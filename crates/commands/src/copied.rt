@@ -1,12 +1,14 @@
 //! Copies of files.
 ghost use Rattle.std.specs.Prelude.{◌≡◌, IfOk};
 ghost use Rattle.sqlite_wal.specs.Files.{image_at};
-ghost use Rattle.commands.specs.Copying.{copy_fault};
+ghost use Rattle.std.specs.String.{string_bytes};
+ghost use Rattle.commands.specs.Copying.{IsPathOf, copy_fault};
 ghost use Rattle.commands.specs.Holding.{IsFrom};
 
 use crate::calling::real_path;
 use crate::opening::open_file;
 use command_texts::Fault;
+use control::is_from_root;
 pub(crate) use copies::Progress;
 use copies::{CopyFault, Copying, copy_whole};
 use sqlite_disk::Start;
@@ -15,8 +17,10 @@ use std::env;
 use store::Store;
 
 /// A path as any process finds it, whatever folder it is in.
-pub(crate) fn absolute(rt: &HostRuntime, path: &str) -> Result<String, Fault> {
-    if path.starts_with('/') {
+pub(crate) fn absolute(rt: &HostRuntime, path: &str) -> Result<String, Fault>
+    ensures { IfOk result (λ found. IsPathOf path.now (string_bytes found)) }
+{
+    if is_from_root(path) {
         return Ok(String::from_str(rt.alloc(), path)?);
     }
     let Ok(folder) = env::current_dir(rt) else {

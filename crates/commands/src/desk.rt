@@ -5,6 +5,7 @@ ghost use Rattle.commands.specs.Desk.{order_of};
 use crate::bell::Bell;
 use crate::calling::desk_path;
 use crate::copied::{Progress, begin_copy, copy_on};
+use crate::hosting::Site;
 use crate::listing::listed;
 use crate::orders::{Done, Order, Orders};
 use crate::status::status_body;
@@ -29,7 +30,7 @@ const MOST_ENTRIES: u32 = 1_000;
 
 /// The desk of a service, if it has one.
 #[derive(Drop)]
-pub(crate) struct HostDesk<'a> {
+pub struct HostDesk<'a> {
     rt: &'a HostRuntime,
     bell: &'a Bell,
     meter: &'a Meter,
@@ -102,17 +103,12 @@ fn file_number(rt: &HostRuntime, path: &str) -> Option<u64> {
 }
 
 impl<'a> HostDesk<'a> {
-    pub(crate) fn new(
-        rt: &'a HostRuntime,
-        db: &'a str,
-        bell: &'a Bell,
-        meter: &'a Meter,
-        watcher: Option<Watcher>,
-    ) -> Self {
+    pub(crate) fn new(site: &'a Site<'a>, db: &'a str, watcher: Option<Watcher>) -> Self {
+        let rt = site.rt;
         HostDesk {
             rt,
-            bell,
-            meter,
+            bell: &site.bell,
+            meter: &site.meter,
             db,
             watcher,
             desk: None,

@@ -1,4 +1,4 @@
-use crate::calling::Answer;
+use control::Answer;
 use migrate::LedgerOfVersion;
 use sqlite::Files;
 use sqlite_disk::Disk;
@@ -20,7 +20,7 @@ pub(crate) struct Ended<'a, O, D: Disk> {
 #[derive(Drop)]
 pub(crate) enum Held<D: Disk> {
     Nothing,
-    /// The service that has the file was asked.
+    /// The service that has the file has answered so.
     Asked(Answer),
     Opened(Store<D>),
     /// It was brought to a version.

@@ -58,7 +58,7 @@ pub(crate) fn open_file<St: Start>(
 }
 
 /// A file that is served, whose calls a meter counts.
-pub(crate) type ServedFile<'a> = Metered<'a, File, HostRuntime>;
+pub type ServedFile<'a> = Metered<'a, File, HostRuntime>;
 
 /// The ledger in a file that is there, to be served, behind an audit.
 pub(crate) fn open_served<'a, A: Audit>(

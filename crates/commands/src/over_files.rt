@@ -1,14 +1,17 @@
 //! Commands on a file as a whole, on the service that has it, and on one account.
-ghost use Rattle.std.specs.Prelude.{◌≡◌, ◌≤◌, false, IfOk};
+ghost use Rattle.std.specs.Prelude.{◌≡◌, ◌≤◌, ℕ, decimal, false, IfOk};
+ghost use Rattle.std.specs.String.{string_bytes};
 ghost use Rattle.sqlite_wal.specs.Files.{image_at};
-ghost use Rattle.commands.specs.Holding.{HasAskedOr, HasOpened, IsBroughtTo, IsFrom};
+ghost use Rattle.control.specs.Answers.{TellsCopied};
+ghost use Rattle.commands.specs.Holding.{HasOpened, HasToldOr, IsBroughtTo, IsFrom};
 ghost use Rattle.commands.specs.Migrating.{migrate_fault};
-ghost use Rattle.commands.specs.OverFiles.{HasWritten, IsWrittenFrom};
+ghost use Rattle.commands.specs.OverFiles.{HasWritten, IsWrittenFrom, count_form};
+ghost use Rattle.commands.specs.Served.{IsServed};
 ghost use Rattle.commands.specs.Program.{AsksStatus, Checks, Copies, Migrates, Stops};
 ghost use Rattle.commands.specs.Program.{WritesStatement};
 
 use crate::asked::Asked;
-use crate::calling::ask;
+use crate::calling::{ask, ask_served};
 use crate::copied::{absolute, copy_file};
 use crate::ended::{Ended, Held};
 use crate::opening::{Audited, examine, open_file, open_to_migrate};
@@ -18,7 +21,7 @@ use command_line::StatementWords;
 use command_texts::{
     Fault, account_id, damage_line, name, put_copied, put_schema, put_stopped, put_text, version,
 };
-use control::{Call, CountForm, copied_in, put_counted};
+use control::{Call, CountForm, copied_in, put_counted, stopped_in};
 use migrate::{LedgerOfVersion, MigrateFault, migrate};
 use records::Drain;
 use sqlite_disk::{Disk, Start};
@@ -34,21 +37,27 @@ pub(crate) fn run_status<O: Drain + Drop, D: Disk>(
     mut out: O,
 ) -> Result<Ended<'static, O, D>, Fault>
     requires { O.failed out ≡ false }
-    ensures { AsksStatus result }
+    ensures { AsksStatus O.written as_metrics out result }
 {
-    let answer = ask(rt, db, &Call::Status)?.ok_or(Fault::NotServed)?;
-    let form = if as_metrics {
-        CountForm::Metric
-    } else {
-        CountForm::Plain
-    };
-    put_counted(rt.alloc(), &mut out, form, answer.body())?;
+    let answer = ask_served(rt, db, &Call::Status)?;
+    put_counted(rt.alloc(), &mut out, count_form(as_metrics), answer.body())?;
     Ok(Ended {
         out,
         is_damaged: false,
         made: None,
         held: Held::Asked(answer),
     })
+}
+
+// How counts are asked for.
+fn count_form(as_metrics: bool) -> CountForm
+    ensures { result ≡ count_form as_metrics }
+{
+    if as_metrics {
+        CountForm::Metric
+    } else {
+        CountForm::Plain
+    }
 }
 
 /// Copies a file, and tells how many bytes the copy has.
@@ -60,7 +69,7 @@ pub(crate) fn run_copy<St: Start, O: Drain + Drop>(
     mut out: O,
 ) -> Result<Ended<'static, O, FileFrom<St>>, Fault>
     requires { O.failed out ≡ false }
-    ensures { Copies O.written (image_at St.Start) out result }
+    ensures { Copies O.written (image_at St.Start) to.now out result }
 {
     let to = absolute(rt, to)?;
     let (digits, held) = copy(rt, db, to.as_str(), start)?;
@@ -81,7 +90,9 @@ fn copy<St: Start>(
     to: &str,
     start: St,
 ) -> Result<(String, Held<FileFrom<St>>), Fault>
-    ensures { IfOk result (λ done. HasAskedOr (HasOpened (IsFrom (image_at St.Start))) done.1) }
+    ensures copied { IfOk result (λ done. HasToldOr (TellsCopied to.now (string_bytes done.0))
+        (HasOpened (IsFrom (image_at St.Start))) done.1) }
+    ensures number { IfOk result (λ done. (bytes : ℕ) × (string_bytes done.0 ≡ decimal bytes)) }
 {
     match ask(rt, db, &Call::Copy { to })? {
         Some(answer) => Ok((copied_in(rt.alloc(), answer.body())?, Held::Asked(answer))),
@@ -101,7 +112,8 @@ pub(crate) fn run_stop<O: Drain + Drop, D: Disk>(
     requires { O.failed out ≡ false }
     ensures { Stops O.written out result }
 {
-    let answer = ask(rt, db, &Call::Stop)?.ok_or(Fault::NotServed)?;
+    let answer = ask_served(rt, db, &Call::Stop)?;
+    stopped_in(rt.alloc(), answer.body())?;
     put_stopped(&mut out)?;
     Ok(Ended {
         out,
@@ -148,7 +160,9 @@ fn write<St: Start, O: Drain + Drop>(
     out: O,
 ) -> Result<(O, Held<FileFrom<St>>), Fault>
     requires { O.failed out ≡ false }
-    ensures { IfOk result (λ done. HasAskedOr (HasOpened (HasWritten (image_at St.Start)
+    ensures { IfOk result (λ done. HasToldOr
+        (IsServed tenant.now account asked.now (O.written out) (O.written done.0))
+        (HasOpened (HasWritten (image_at St.Start)
         (IsWrittenFrom O.written tenant.now account asked.now out done.0))) done.1) }
 {
     match ask_first(rt, db, tenant, account, asked)? {

@@ -2,8 +2,9 @@
 ghost use Rattle.std.specs.Prelude.{◌≡◌, false, is_some, IfOk};
 ghost use Rattle.sqlite_wal.specs.Files.{image_at};
 ghost use Rattle.command_line.specs.Values.{text_in};
-ghost use Rattle.commands.specs.Holding.{HasAskedOr, HasOpened};
-ghost use Rattle.commands.specs.OverFiles.{HasAdded, HasChanged, HasListed};
+ghost use Rattle.control.specs.Answers.{TellsAdded, TellsChanged};
+ghost use Rattle.commands.specs.Holding.{HasOpened, HasToldOr};
+ghost use Rattle.commands.specs.OverFiles.{AreTenantsTold, HasAdded, HasChanged, HasListed};
 ghost use Rattle.commands.specs.Program.{AddsTenant, ChangesKey, IsNoneOr, ListsTenants};
 
 use crate::adding::add_tenant;
@@ -14,7 +15,7 @@ use crate::keying::change_key;
 use crate::listing::listed;
 use crate::opening::{open_file, open_or_make};
 use command_texts::{Fault, key_digest, name, put_added, put_changed};
-use control::{Call, put_listed};
+use control::{Call, added_in, changed_in, put_listed};
 use records::Drain;
 use sqlite_disk::Start;
 use sqlite_std_file::FileFrom;
@@ -59,12 +60,15 @@ fn add<'a, St: Start>(
     start: St,
 ) -> Result<(Option<&'a str>, Held<FileFrom<St>>), Fault>
     ensures made { IfOk result (λ done. IsNoneOr db.now (text_in done.0)) }
-    ensures added { IfOk result (λ done. HasAskedOr
+    ensures added { IfOk result (λ done. HasToldOr (TellsAdded tenant.now key.now)
         (HasOpened (HasAdded (image_at St.Start) (text_in done.0) tenant.now digest.now)) done.1) }
 {
     let name = tenant.as_str();
     match ask(rt, db, &Call::AddTenant { name, key })? {
-        Some(answer) => Ok((None, Held::Asked(answer))),
+        Some(answer) => {
+            added_in(rt.alloc(), answer.body(), tenant)?;
+            Ok((None, Held::Asked(answer)))
+        }
         None => {
             let (made, store) = add_to(rt, db, tenant, digest, start)?;
             Ok((made, Held::Opened(store)))
@@ -131,12 +135,15 @@ fn change<St: Start>(
     digest: &[u8; 32],
     start: St,
 ) -> Result<Held<FileFrom<St>>, Fault>
-    ensures { IfOk result (HasAskedOr
+    ensures { IfOk result (HasToldOr (TellsChanged tenant.now key.now)
         (HasOpened (HasChanged (image_at St.Start) tenant.now digest.now))) }
 {
     let name = tenant.as_str();
     match ask(rt, db, &Call::ChangeKey { name, key })? {
-        Some(answer) => Ok(Held::Asked(answer)),
+        Some(answer) => {
+            changed_in(rt.alloc(), answer.body(), tenant)?;
+            Ok(Held::Asked(answer))
+        }
         None => Ok(Held::Opened(change_in(rt, db, tenant, digest, start)?)),
     }
 }
@@ -182,7 +189,7 @@ fn list<St: Start, O: Drain>(
     out: &mut O,
 ) -> Result<Held<FileFrom<St>>, Fault>
     requires { O.failed out.old ≡ false }
-    ensures { IfOk result (HasAskedOr
+    ensures { IfOk result (HasToldOr (AreTenantsTold (O.written out.old) (O.written out.new))
         (HasOpened (HasListed (image_at St.Start) (O.written out.old) (O.written out.new)))) }
 {
     match ask(rt, db, &Call::Tenants)? {

@@ -5,7 +5,7 @@ ghost use Rattle.service.specs.Openings.{run_meaning, IsSettled, IsOpened};
 ghost use Rattle.store.specs.Stores.{IsLive, IsReady, IsUsable};
 ghost use Rattle.store.specs.StoreLaws.{store_meaning};
 ghost use Rattle.commands.specs.Kept.{answers, kept_store, IsLiveKept, MayBeCalled};
-ghost use Rattle.commands.specs.Kept.{Attends, IsRefusedAgain, Renews, tenants_kept};
+ghost use Rattle.commands.specs.Kept.{Attends, GivesFiles, IsAnew, IsRefusedAgain, Renews};
 ghost use Rattle.commands.specs.Openings.{IsOpeningFault};
 
 use crate::kept::Kept;
@@ -16,8 +16,10 @@ use crate::settling::Settler;
 use command_texts::Fault;
 use polling::Steward;
 use records::Unavailable;
+use sqlite::Files;
 use sqlite_disk::Disk;
 use std::alloc::Global;
+use std::mem;
 use std::time::{Clock, Duration};
 use store::{FullAudit, OpenFault, Store};
 
@@ -29,17 +31,19 @@ const LONGEST_PAUSE: u64 = 60;
 
 /// Where a store is opened anew.
 pub trait Home<D: Disk + Drop> {
-    ghost use Rattle.std.specs.Prelude.{IfErr, IfOk};
+    ghost use Rattle.std.specs.Prelude.{IfErr, IfOk, Option};
+    ghost use Rattle.sqlite_disk.specs.declared.Files.{Files};
     ghost use Rattle.chain.specs.Ledgers.{Tenants};
     ghost use Rattle.store.specs.Stores.{IsReady, IsUsable, tenants_of};
     ghost use Rattle.commands.specs.Openings.{IsOpeningFault};
 
-    // Which tenants a store may have that it opens.
-    ghost opens: { Tenants → Type 0 } = { λ _. Unit {0} };
+    // Which tenants a store may have that it opens in the place of one that gave these files back.
+    ghost opens: { Option (Files D) → Tenants → Type 0 } = { λ _ _. Unit {0} };
 
-    /// Opens the store. The one before has let go of its files.
-    fn open_store(&self) -> Result<Store<D>, Fault>
-        ensures opens { IfOk result (λ store. opens (tenants_of store)) }
+    /// Opens a store in the place of one that gave these files back, if there was one, and first lets
+    /// go of them.
+    fn open_store(&self, left: &mut Option<Files<D>>) -> Result<Store<D>, Fault>
+        ensures opens { IfOk result (λ store. opens left.old (tenants_of store)) }
         ensures usable { IfOk result IsUsable }
         ensures ready { IfOk result IsReady }
         ensures fault { IfErr result IsOpeningFault };
@@ -261,18 +265,30 @@ fn reopened<D: Disk + Drop>(store: &mut Store<D>) -> Result<(), OpenFault>
     }
 }
 
-// Opens a store anew, where there is none or its files were refused: it lets go of them first.
+// Takes a store away, if there is one, which gives its files back.
+fn take_files<D: Disk + Drop>(kept: &mut Kept<Store<D>>) -> Option<Files<D>>
+    ensures files { GivesFiles kept.old result }
+    ensures gone { kept.new ≡ Kept.Closed }
+{
+    match mem::replace(kept, Kept::Closed) {
+        Kept::Open(store) => Some(store.close()),
+        Kept::Closed => None,
+    }
+}
+
+// Opens a store anew, where there is none or its files were refused: these go to the home as they
+// are.
 fn open_anew<D: Disk + Drop, H: Home<D>>(home: &H, kept: &mut Kept<Store<D>>) -> Result<(), Fault>
     requires { IsLiveKept store_meaning kept.old → ⊥ }
     ensures usable { MayBeCalled kept.new }
     ensures answers { OnOk result (IsTrue (answers kept.new)) }
-    ensures anew { OnOk result (H.opens (tenants_kept store_meaning kept.new)) }
+    ensures anew { OnOk result (IsAnew H.opens kept.old kept.new) }
     ensures settled { OnOk result (IsSettled kept_store kept.new) }
     ensures refused { OnErr result (kept.new ≡ Kept.Closed) }
     ensures fault { IfErr result IsOpeningFault }
 {
-    *kept = Kept::Closed;
-    match home.open_store() {
+    let mut left = take_files(kept);
+    match home.open_store(&mut left) {
         Ok(store) => {
             store.is_settled();
             *kept = Kept::Open(store);

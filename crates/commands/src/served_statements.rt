@@ -1,19 +1,28 @@
 //! Statements of a ledger that is served: the service is asked for one piece behind the other, of the
 //! entries up to the clock at which the first was read.
-ghost use Rattle.std.specs.Prelude.{◌≡◌, ◌||◌, Bool, false, OnOk};
+ghost use Rattle.std.specs.Prelude.{◌≡◌, ◌||◌, ◌++◌, Bool, List, false, map, IfOk, IfSome, OnOk};
 ghost use Rattle.chain.specs.AccountEntries.{row_of};
+ghost use Rattle.chain.specs.declared.account_entry.AccountEntry.{AccountEntry};
+ghost use Rattle.control.specs.Answers.{TellsEntries};
+ghost use Rattle.records.specs.Reads.{in_order};
+ghost use Rattle.records.specs.Streams.{TakesRows};
+ghost use Rattle.statement.specs.Extract.{closing_of, kept_of, opening_of};
 ghost use Rattle.statement.specs.Extract.{has_refused as has_refused_row};
+ghost use Rattle.statement.specs.Text.{statement_text};
 ghost use Rattle.statement.specs.Writer.{drain_of, has_refused};
-ghost use Rattle.commands.specs.Served.{first_asked, piece_behind};
+ghost use Rattle.commands.specs.Served.{first_asked, piece_behind, served_text};
+ghost use Rattle.commands.specs.Served.{Gathers, IsFirst, IsGathered, IsWrittenOn, TakesEntry};
 
 use crate::asked::Asked;
-use crate::calling::{Answer, ask};
+use crate::calling::ask;
 use crate::statements::statement_fault;
 use chain::{AccountEntry, ReadFault};
 use command_texts::Fault;
-use control::{Call, Entries, PieceAsked, entries_in};
+use control::{Answer, Call, Entries, PieceAsked, entries_in};
 use records::{Drain, Order, RowSink, StatementRow, Transfer, put_all};
-use statement::{Extract, Period, StatementWriter, extract_text};
+use statement::{
+    Extract, Period, StatementWriter, extract_text, rows_make_a_statement, rows_make_an_extract,
+};
 use std::alloc::Global;
 use tenants::TenantName;
 
@@ -26,13 +35,17 @@ pub(crate) struct First {
 
 /// Takes an account's entries, one after the other.
 trait EntrySink {
+    // What taking an entry makes of it.
+    ghost takes: { Self → AccountEntry → Self → Type 0 };
+
     // Whether it has refused one.
     ghost refused: { Self → Bool };
 
     /// Takes the next entry.
     fn entry(&mut self, entry: &AccountEntry) -> Result<(), Fault>
         requires { refused self.old ≡ false }
-        ensures { OnOk result (refused self.new ≡ false) };
+        ensures taken { OnOk result (takes self.old entry.now self.new) }
+        ensures ready { OnOk result (refused self.new ≡ false) };
 }
 
 /// A whole statement, which is written entry by entry.
@@ -43,6 +56,8 @@ struct Whole<O: Drain> {
 }
 
 impl<O: Drain> EntrySink for Whole<O> {
+    ghost takes = { TakesEntry O.written };
+
     ghost refused = { λ whole.
         has_refused whole.writer || O.failed (drain_of whole.writer) };
 
@@ -66,6 +81,8 @@ struct Gathered {
 }
 
 impl EntrySink for Gathered {
+    ghost takes = { Gathers };
+
     ghost refused = { λ gathered. has_refused_row gathered.extract };
 
     fn entry(&mut self, entry: &AccountEntry) -> Result<(), Fault> {
@@ -142,7 +159,9 @@ fn ask_piece(
     rt: &HostRuntime,
     db: &str,
     piece: &PieceAsked,
-) -> Result<Option<(Entries, Answer)>, Fault> {
+) -> Result<Option<(Entries, Answer)>, Fault>
+    ensures { IfOk result (λ found. IfSome found (λ told. TellsEntries piece.now told.0 told.1)) }
+{
     match ask(rt, db, &Call::Statement { piece: *piece })? {
         Some(answer) => Ok(Some((entries_in(rt.alloc(), answer.body())?, answer))),
         None => Ok(None),
@@ -156,7 +175,10 @@ pub(crate) fn ask_first(
     tenant: &TenantName,
     account: u128,
     asked: &Asked,
-) -> Result<Option<(First, Answer)>, Fault> {
+) -> Result<Option<(First, Answer)>, Fault>
+    ensures { IfOk result (λ found. IfSome found (λ told.
+        IsFirst tenant.now account asked.now told.0 told.1)) }
+{
     let asked = first_asked(tenant, account, asked);
     match ask_piece(rt, db, &asked)? {
         Some((entries, answer)) => Ok(Some((First { asked, entries }, answer))),
@@ -167,7 +189,8 @@ pub(crate) fn ask_first(
 // Hands the entries of a piece to a sink, and tells the time of the last one.
 fn hand_entries<S: EntrySink>(entries: &[AccountEntry], sink: &mut S) -> Result<Option<u64>, Fault>
     requires { S.refused sink.old ≡ false }
-    ensures { OnOk result (S.refused sink.new ≡ false) }
+    ensures taken { OnOk result (TakesRows S.takes sink.old entries.now sink.new) }
+    ensures ready { OnOk result (S.refused sink.new ≡ false) }
 {
     let mut last = None;
     for entry in entries {
@@ -185,22 +208,23 @@ fn hand_over<S: EntrySink>(
     sink: &mut S,
 ) -> Result<(), Fault>
     requires { S.refused sink.old ≡ false }
-    ensures { OnOk result (S.refused sink.new ≡ false) }
+    ensures taken { OnOk result ((more : List AccountEntry)
+        × TakesRows S.takes sink.old (first.entries.entries.items ++ more) sink.new) }
+    ensures ready { OnOk result (S.refused sink.new ≡ false) }
 {
     let First { asked, entries } = first;
     let mut asked = PieceAsked {
         to: asked.to.min(entries.clock),
         ..asked
     };
-    let mut entries = entries;
+    let mut last = hand_entries(entries.entries.as_slice(), sink)?;
     'pieces: for _ in 0..u64::MAX {
-        let last = hand_entries(entries.entries.as_slice(), sink)?;
         let Some(next) = piece_behind(asked, last) else {
             return Ok(());
         };
         asked = next;
         let (more, _answer) = ask_piece(rt, db, &asked)?.ok_or(Fault::Unavailable)?;
-        entries = more;
+        last = hand_entries(more.entries.as_slice(), sink)?;
     }
     Err(Fault::Unavailable)
 }
@@ -212,10 +236,15 @@ fn write_whole<O: Drain + Drop>(
     out: O,
 ) -> Result<O, Fault>
     requires { O.failed out ≡ false }
+    ensures { IfOk result (λ new. IsWrittenOn
+        (λ entries. statement_text (map (row_of first.asked.account) entries))
+        first.entries.entries.items (O.written out) (O.written new)) }
 {
+    rows_make_a_statement::<O>();
+    let writer = StatementWriter::new(rt.alloc(), out);
     let mut whole = Whole {
         account: first.asked.account,
-        writer: StatementWriter::new(rt.alloc(), out),
+        writer,
     };
     hand_over(rt, db, first, &mut whole)?;
     let Whole { account: _, writer } = whole;
@@ -226,20 +255,39 @@ fn write_whole<O: Drain + Drop>(
     }
 }
 
-fn gather(rt: &HostRuntime, db: &str, first: First, asked: &Asked) -> Result<Gathered, Fault> {
+fn gather(rt: &HostRuntime, db: &str, first: First, asked: &Asked) -> Result<Gathered, Fault>
+    ensures { IfOk result (λ gathered. (more : List AccountEntry)
+        × IsGathered first.asked.account asked.now (first.entries.entries.items ++ more) gathered) }
+{
+    rows_make_an_extract();
+    let extract = Extract::new(rt.alloc(), asked.period);
+    let transfers = Vec::new(rt.alloc());
     let mut gathered = Gathered {
         account: first.asked.account,
         period: asked.period,
         is_wide: asked.layout.is_wide,
-        extract: Extract::new(rt.alloc(), asked.period),
-        transfers: Vec::new(rt.alloc()),
+        extract,
+        transfers,
     };
     hand_over(rt, db, first, &mut gathered)?;
-    if asked.order == Order::Newest {
-        gathered.extract.turn();
-        gathered.transfers.reverse();
+    Ok(turned(gathered, asked.order))
+}
+
+// What is gathered, oldest entry first, in the order asked.
+fn turned(mut gathered: Gathered, order: Order) -> Gathered
+    ensures rows { kept_of result.extract ≡ in_order order (kept_of gathered.extract) }
+    ensures opening { opening_of result.extract ≡ opening_of gathered.extract }
+    ensures closing { closing_of result.extract ≡ closing_of gathered.extract }
+    ensures transfers { result.transfers.items ≡ in_order order gathered.transfers.items }
+{
+    match order {
+        Order::Oldest => gathered,
+        Order::Newest => {
+            gathered.extract.turn();
+            gathered.transfers.reverse();
+            gathered
+        }
     }
-    Ok(gathered)
 }
 
 /// Writes what is asked for of a statement of a ledger that is served, whose first piece is there, and
@@ -252,6 +300,8 @@ pub(crate) fn write_served<O: Drain + Drop>(
     mut out: O,
 ) -> Result<O, Fault>
     requires { O.failed out ≡ false }
+    ensures { IfOk result (λ new. IsWrittenOn (served_text first.asked.account asked.now)
+        first.entries.entries.items (O.written out) (O.written new)) }
 {
     if asked.is_whole() {
         return write_whole(rt, db, first, out);

@@ -1,10 +1,12 @@
 //! Holds that are due are released between turns, a piece at a time.
-ghost use Rattle.std.specs.Prelude.{ℕ};
+ghost use Rattle.std.specs.Prelude.{◌≡◌, ℕ, IsTrue};
 ghost use Rattle.service.specs.Courses.{Tried};
 ghost use Rattle.service.specs.Openings.{run_meaning, Moves};
+ghost use Rattle.stored_ledgers.specs.Overdue.{Begins};
 ghost use Rattle.store.specs.StoreLaws.{store_meaning};
 ghost use Rattle.store.specs.Stores.{IsUsable};
-ghost use Rattle.commands.specs.Settling.{GivesSettled, SettlesBy, batch_ending, settling};
+ghost use Rattle.commands.specs.Behind.{IsEmpty, IsPutOff, NotesPiece, NotesTold, search_behind};
+ghost use Rattle.commands.specs.Settling.{GivesSettled, HasSettled, Settles, SettlesBy, batch_ending, settling};
 
 use crate::behind::Behind;
 use crate::moments::moment_of;
@@ -69,11 +71,13 @@ fn settle_next<D: Disk + Drop>(
 ) -> Result<Option<Overdue>, BatchFault>
     requires { IsUsable store.old }
     ensures settles { SettlesBy moment store.old store.new }
+    ensures has { HasSettled moment search.old search.new store.old store.new result }
     ensures usable { IsUsable store.new }
 {
     match store.overdue(search, moment) {
         Ok(Some(overdue)) => {
-            settle_tenant(alloc, store, &overdue.digest, overdue.until).and(Ok(Some(overdue)))
+            settle_tenant(alloc, store, &overdue.digest, overdue.until)?;
+            Ok(Some(overdue))
         }
         Ok(None) => Ok(None),
         Err(why) => Err(BatchFault::Unavailable(why)),
@@ -96,7 +100,10 @@ pub(crate) struct Settler {
 }
 
 impl Settler {
-    pub(crate) fn new(alloc: Global) -> Settler {
+    pub(crate) fn new(alloc: Global) -> Settler
+        ensures search { Begins result.search }
+        ensures behind { IsEmpty result.behind }
+    {
         Settler {
             alloc,
             search: Search::new(),
@@ -121,7 +128,9 @@ impl Settler {
     }
 
     /// Whether a batch waits, since its tenant has more due than is released at once.
-    pub(crate) fn puts_off(&self, message: &[u8]) -> bool {
+    pub(crate) fn puts_off(&self, message: &[u8]) -> bool
+        ensures { IsTrue result → IsPutOff message.now self.now.behind }
+    {
         if self.behind.is_empty() {
             return false;
         }
@@ -132,7 +141,10 @@ impl Settler {
     }
 
     /// Begins anew, over another store.
-    pub(crate) fn begin(&mut self) {
+    pub(crate) fn begin(&mut self)
+        ensures search { Begins self.new.search }
+        ensures behind { IsEmpty self.new.behind }
+    {
         self.search = Search::new();
         self.has_found = false;
         self.is_busy = false;
@@ -142,7 +154,7 @@ impl Settler {
     /// Looks at some tenants, and releases a piece of what is due at one of them by the clock's moment.
     pub(crate) fn settle<D: Disk + Drop, K: Clock>(&mut self, clock: &K, store: &mut Store<D>)
         requires { IsUsable store.old }
-        ensures settles { (moment : ℕ) × SettlesBy moment store.old store.new }
+        ensures settles { (moment : ℕ) × Settles moment self.old self.new store.old store.new }
         ensures usable { IsUsable store.new }
     {
         let begun = clock.monotonic().unwrap_or(Duration::ZERO);
@@ -153,13 +165,12 @@ impl Settler {
         self.rests_until = ended.saturating_add(rest);
     }
 
-    /// Notes what was found, which took so long, and says for how long it rests.
-    fn rest_behind(
-        &mut self,
-        settled: Result<Option<Overdue>, BatchFault>,
-        took: Duration,
-    ) -> Duration {
-        let rest = match settled {
+    /// Notes what a piece has told, which took so long. Says for how long it rests behind that.
+    fn note(&mut self, told: Result<Option<Overdue>, BatchFault>, took: Duration) -> Duration
+        ensures search { self.new.search ≡ search_behind told self.old.search }
+        ensures behind { NotesTold told self.old.behind self.new.behind }
+    {
+        match told {
             Ok(Some(overdue)) => {
                 self.behind.found(&overdue);
                 self.has_found = true;
@@ -170,7 +181,16 @@ impl Settler {
                 self.search.forget_last();
                 Duration::from_millis(PAUSE)
             }
-        };
+        }
+    }
+
+    /// Notes what a piece has told, which took so long, and whether a search has ended with it. Says for
+    /// how long it rests.
+    fn rest_behind(&mut self, told: Result<Option<Overdue>, BatchFault>, took: Duration) -> Duration
+        ensures search { self.new.search ≡ search_behind told self.old.search }
+        ensures behind { NotesPiece told self.new.search self.old.behind self.new.behind }
+    {
+        let rest = self.note(told, took);
         self.is_busy = true;
         if !self.search.begins() {
             return rest;

@@ -1,4 +1,8 @@
 //! How a command calls a service.
+ghost use Rattle.std.specs.Prelude.{IfOk, IfSome};
+ghost use Rattle.control.specs.Answers.{IsAnswerTo};
+
+use crate::answer::Answer;
 use crate::hearing::told;
 use crate::messages::{Call, message};
 use command_texts::Fault;
@@ -56,20 +60,27 @@ fn exchange(
 }
 
 /// Asks the service that accepts at a path. `None` where nobody does: then the file is nobody's.
-/// Else it is the body of the reply, or the fault. It is `Unreadable` where the socket is another
-/// user's, and `Unavailable` where no reply came that could be read: what was asked for may be done.
+/// Else it is the answer, or the fault. It is `Unreadable` where the socket is another user's, and
+/// `Unavailable` where no reply came that could be read: what was asked for may be done.
 pub fn call<R: Net>(
     rt: &R,
     alloc: Global,
     path: &str,
     call: &Call<'_>,
-) -> Result<Option<Vec<u8>>, Fault> {
+) -> Result<Option<Answer>, Fault>
+    ensures { IfOk result (λ found. IfSome found (IsAnswerTo call.now)) }
+{
     let message = message(alloc, call)?;
     let Some(mut stream) = connect(rt, path)? else {
         return Ok(None);
     };
-    match exchange(alloc, &mut stream, message.as_slice(), patience(call)) {
-        Ok(reply) => Ok(Some(told(alloc, reply.as_slice())?)),
-        Err(_) => Err(Fault::Unavailable),
-    }
+    let Ok(reply) = exchange(alloc, &mut stream, message.as_slice(), patience(call)) else {
+        return Err(Fault::Unavailable);
+    };
+    let body = told(alloc, reply.as_slice())?;
+    Ok(Some(Answer {
+        message,
+        reply,
+        body,
+    }))
 }

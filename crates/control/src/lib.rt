@@ -6,6 +6,7 @@
 //! not, so who is connected, read and written to when is only tested.
 #![tactic(auto)]
 
+mod answer;
 mod asked;
 mod body;
 mod caller;
@@ -13,6 +14,7 @@ mod calling;
 mod copying;
 mod counting;
 mod desk;
+mod done;
 mod entries;
 mod hearing;
 mod listing;
@@ -28,14 +30,16 @@ mod reply;
 mod socket_file;
 mod stage;
 
+pub use answer::Answer;
 pub use body::{added_body, changed_body};
 pub use calling::call;
 pub use copying::{copied_body, copied_in};
 pub use counting::{Count, CountForm, counts_body, put_counted};
 pub use desk::Desk;
+pub use done::{added_in, changed_in, stopped_in};
 pub use entries::{Entries, entries_body, entries_in};
 pub use hearing::told;
 pub use listing::{TenantRow, put_listed, tenants_body};
 pub use messages::{Call, message};
-pub use orders::Order;
+pub use orders::{Order, is_from_root};
 pub use piece_asked::PieceAsked;

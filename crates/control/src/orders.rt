@@ -77,8 +77,8 @@ fn tenant_in(alloc: Global, body: &[u8]) -> Result<NamedKey, Refusal>
     }
 }
 
-// Whether a path begins at the root.
-fn is_from_root(path: &str) -> bool
+/// Whether a path begins at the root.
+pub fn is_from_root(path: &str) -> bool
     ensures { result ≡ is_from_root path.now }
 {
     matches!(path.as_bytes(), [b'/', ..])

@@ -2,6 +2,7 @@
 
 mod answers;
 mod copies;
+mod done;
 mod ends;
 mod lists;
 mod pieces;

@@ -6,7 +6,7 @@ mod run;
 
 use command_line::{Command, command};
 use command_texts::{Fault, tell_fault};
-use commands::{Place, program, serve_file, tell_file_fault};
+use commands::{Place, Site, program, serve_file, tell_file_fault};
 use records::Streamed;
 use sqlite_disk::Unknown;
 use std::env;
@@ -44,12 +44,19 @@ fn status(rt: &HostRuntime, words: &[String]) -> u8 {
                 limits,
             },
         ) => {
-            let served = serve_file(rt, db, address, port, &limits, standby, requests);
+            let site = Site::new(rt);
+            let ended = match serve_file(&site, db, address, port, &limits, standby, requests) {
+                Ok(service) => {
+                    service.close();
+                    Ok(0)
+                }
+                Err(fault) => Err(fault),
+            };
             let place = Place {
                 path: db,
                 is_made: false,
             };
-            tell(rt, served.map(|_| 0), Some(place))
+            tell(rt, ended, Some(place))
         }
         _ => {
             let (out, mut err) = (Streamed::new(rt.stdout()), Streamed::new(rt.stderr()));

@@ -6,7 +6,7 @@ use super::broken::breaks;
 use super::firms::{ADDING, Messages};
 use command_line::LimitWords;
 use command_texts::Fault;
-use commands::{program, serve_file};
+use commands::{Served, Site, program, serve_file};
 use records::{Drain, Streamed};
 use sqlite::{Alter, Connection, File, Options};
 use sqlite_disk::Unknown;
@@ -173,7 +173,7 @@ fn send(rt: &HostRuntime, db: &str, messages: Messages) -> Result<(), Fail> {
     Ok(())
 }
 
-// Serves a file for no replies, and looks at the fault.
+// Serves a file for no replies, and looks at the fault, or at why it has ended.
 fn serves(
     rt: &HostRuntime,
     db: &str,
@@ -181,11 +181,19 @@ fn serves(
     port: u16,
     want: Option<Fault>,
 ) -> Result<(), Fail> {
-    let fault = serve_file(rt, db, address, port, &LimitWords::default(), false, 0).err();
-    if fault == want {
+    let site = Site::new(rt);
+    let ended = match serve_file(&site, db, address, port, &LimitWords::default(), false, 0) {
+        Ok(service) => Ok(service.close()),
+        Err(fault) => Err(fault),
+    };
+    let want = match want {
+        Some(fault) => Err(fault),
+        None => Ok(Served::Enough),
+    };
+    if ended == want {
         return Ok(());
     }
-    Err(Fail::new(format_args!("served on {address:?} {port}: {fault:?}, and not {want:?}")))
+    Err(Fail::new(format_args!("served on {address:?} {port}: {ended:?}, and not {want:?}")))
 }
 
 // Runs a statement of SQL on a file.

@@ -144,7 +144,8 @@ impl<'a> Notes<'a> {
 pub struct Nowhere<'a>(pub Notes<'a>);
 
 impl<D: Disk + Drop> Home<D> for Nowhere<'_> {
-    fn open_store(&self) -> Result<Store<D>, Fault> {
+    fn open_store(&self, left: &mut Option<Files<D>>) -> Result<Store<D>, Fault> {
+        *left = None;
         self.0.ask();
         Err(Fault::NotALedger)
     }
@@ -177,7 +178,8 @@ impl<'a, F> Refusing<'a, F> {
 }
 
 impl<D: Disk + Drop, F: Firms<D>> Home<D> for Refusing<'_, F> {
-    fn open_store(&self) -> Result<Store<D>, Fault> {
+    fn open_store(&self, left: &mut Option<Files<D>>) -> Result<Store<D>, Fault> {
+        *left = None;
         self.notes.ask();
         let left = self.left.get();
         if left != 0 {

@@ -1,7 +1,8 @@
 use Rattle.std.proofs.Common.{List, ℕ, arith, refl, rules, subst}
 use Rattle.sqlite_wal.specs.Files.{image_at}
-use Rattle.commands.specs.Holding.{HasAskedOr, HasOpened}
+use Rattle.commands.specs.Holding.{HasOpened, HasToldOr}
 use Rattle.commands.specs.OverFiles.{HasWritten, IsWrittenFrom}
+use Rattle.commands.specs.Served.{IsServed}
 use Rattle.commands.proofs.over_files.run_statement.Goals as goal
 
 pub returns : goal.returns
@@ -20,7 +21,10 @@ returns g c = record {
     means = c.in_ok-asked.ensures.ok;
     told =
         subst
-        (λ (name : List ℕ). HasAskedOr (HasOpened (HasWritten (image_at g.St.Start)
+        (λ (name : List ℕ). HasToldOr
+        (IsServed name c.in_ok-account.account c.in_ok-asked.asked (g.O.Drain.written c.args.out)
+        (g.O.Drain.written c.in_ok-out.out))
+        (HasOpened (HasWritten (image_at g.St.Start)
         (IsWrittenFrom g.O.Drain.written name c.in_ok-account.account c.in_ok-asked.asked c.args.out
         c.in_ok-out.out)))
         c.in_ok-out.held)

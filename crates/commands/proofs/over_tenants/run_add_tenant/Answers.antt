@@ -5,7 +5,8 @@ use Rattle.tenants.specs.KeyText.{key_of}
 use Rattle.command_line.specs.Values.{text_in}
 use Rattle.command_texts.specs.Lines.{added_line}
 use Rattle.command_texts.specs.Words.{IsDigestOfKey}
-use Rattle.commands.specs.Holding.{HasAskedOr, HasOpened}
+use Rattle.control.specs.Answers.{TellsAdded}
+use Rattle.commands.specs.Holding.{HasOpened, HasToldOr}
 use Rattle.commands.specs.OverFiles.{HasAdded}
 use Rattle.commands.proofs.HeldLemmas.{is_key, lines_told}
 use Rattle.commands.proofs.over_tenants.run_add_tenant.Goals as goal
@@ -35,10 +36,17 @@ returns g c =
           c.in_ok-digest.digest,
           hashed,
           subst
-              (λ (name : List ℕ). HasAskedOr
-              (HasOpened (HasAdded (image_at g.St.Start) (text_in c.in_ok-made.made) name c.in_ok-digest.digest))
+              (λ (text : List ℕ). HasToldOr (TellsAdded c.args.tenant.now text)
+              (HasOpened (HasAdded (image_at g.St.Start) (text_in c.in_ok-made.made) c.args.tenant.now
+              c.in_ok-digest.digest))
               c.in_ok-made.held)
-              same c.in_ok-made.ensures.added,
+              c.as_str-2.ensures
+              (subst
+              (λ (name : List ℕ). HasToldOr (TellsAdded name c.as_str-2.result.now)
+              (HasOpened (HasAdded (image_at g.St.Start) (text_in c.in_ok-made.made) name
+              c.in_ok-digest.digest))
+              c.in_ok-made.held)
+              same c.in_ok-made.ensures.added),
         );
       };
       calm = refl;

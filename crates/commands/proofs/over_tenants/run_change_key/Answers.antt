@@ -4,7 +4,8 @@ use Rattle.sqlite_wal.specs.Files.{image_at}
 use Rattle.tenants.specs.KeyText.{key_of}
 use Rattle.command_texts.specs.Lines.{changed_line}
 use Rattle.command_texts.specs.Words.{IsDigestOfKey}
-use Rattle.commands.specs.Holding.{HasAskedOr, HasOpened}
+use Rattle.control.specs.Answers.{TellsChanged}
+use Rattle.commands.specs.Holding.{HasOpened, HasToldOr}
 use Rattle.commands.specs.OverFiles.{HasChanged}
 use Rattle.commands.proofs.HeldLemmas.{is_key, lines_told}
 use Rattle.commands.proofs.over_tenants.run_change_key.Goals as goal
@@ -34,10 +35,15 @@ returns g c =
           c.in_ok-digest.digest,
           hashed,
           subst
-              (λ (name : List ℕ). HasAskedOr
+              (λ (text : List ℕ). HasToldOr (TellsChanged c.args.tenant.now text)
+              (HasOpened (HasChanged (image_at g.St.Start) c.args.tenant.now c.in_ok-digest.digest))
+              c.in_ok-held.held)
+              c.as_str-2.ensures
+              (subst
+              (λ (name : List ℕ). HasToldOr (TellsChanged name c.as_str-2.result.now)
               (HasOpened (HasChanged (image_at g.St.Start) name c.in_ok-digest.digest))
               c.in_ok-held.held)
-              same c.in_ok-held.ensures,
+              same c.in_ok-held.ensures),
         );
       };
       calm = (refl, refl);

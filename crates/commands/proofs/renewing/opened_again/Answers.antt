@@ -2,7 +2,7 @@ use Rattle.std.proofs.Common.{sym, subst}
 use Rattle.store.specs.declared.store.Store.{Store}
 use Rattle.commands.specs.Kept.{WasRefused, Refuses}
 use Rattle.commands.specs.declared.kept.Kept.{Kept}
-use Rattle.commands.specs.declared.kept.Kept.TheVariants.{Open, Closed}
+use Rattle.commands.specs.declared.kept.Kept.TheVariants.{Open}
 use Rattle.commands.proofs.RenewLemmas.{anew_so}
 use Rattle.commands.proofs.renewing.opened_again.Goals as goal
 
@@ -23,6 +23,6 @@ returns-in-Err-clause-renews g c =
 pub returns-in-Closed-clause-renews : goal.returns-in-Closed-clause-renews
 returns-in-Closed-clause-renews g c =
     let opened = c.open_anew-in-Closed in
-    anew_so g.H.Home.opens c.args.kept.now Closed opened.new.kept opened.result c.requires.silent
-    (subst (λ (was : Kept (Store _ _)). WasRefused was Closed) (sym c.in-Closed.is) tt)
+    anew_so g.H.Home.opens c.args.kept.now c.args.kept.now opened.new.kept opened.result c.requires.silent
+    (subst (λ (was : Kept (Store _ _)). WasRefused was was) (sym c.in-Closed.is) tt)
     opened.ensures.anew opened.ensures.answers opened.ensures.settled opened.ensures.refused

@@ -9,4 +9,4 @@ use Rattle.commands.proofs.renewing.settle.Goals as goal
 pub returns-in-Open-clause-renews : goal.returns-in-Open-clause-renews
 returns-in-Open-clause-renews g c =
     subst (λ (was : Kept (Store _ _)). Attends was (Open c.settle.new.store)) (sym c.in-Open.is)
-    (settling_renews c.settle.ensures.settles.0 _ c.settle.new.store c.settle.ensures.settles.1)
+    (settling_renews c.settle.ensures.settles.0 _ c.settle.new.store c.settle.ensures.settles.1.by)

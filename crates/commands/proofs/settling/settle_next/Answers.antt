@@ -1,12 +1,14 @@
 use Rattle.std.proofs.Common.{inl, inr, [], Ok}
 use Rattle.wire.specs.declared.request.Request.TheVariants as asks
+use Rattle.service.specs.Courses.{Done}
 use Rattle.commands.specs.Settling.{batch_ending}
 use Rattle.commands.proofs.BehindLemmas.{both_move}
 use Rattle.commands.proofs.OrderLemmas.{rest_so}
 use Rattle.commands.proofs.settling.settle_next.Goals as goal
 
-pub returns-in-Ok-Some-clause-settles : goal.returns-in-Ok-Some-clause-settles
-returns-in-Ok-Some-clause-settles g c =
+pub returns-in_ok-settle_tenant-in-Ok-Some-clause-settles :
+    goal.returns-in_ok-settle_tenant-in-Ok-Some-clause-settles
+returns-in_ok-settle_tenant-in-Ok-Some-clause-settles g c =
     let overdue = c.in-Ok-Some.overdue in
     let ending = batch_ending c.settle_tenant.result in
     inr (
@@ -17,6 +19,31 @@ returns-in-Ok-Some-clause-settles g c =
       both_move overdue.digest (Ok (asks.Transfers [])) overdue.until c.args.store.now
           c.overdue.new.self c.settle_tenant.new.store c.overdue.result c.overdue.ensures.reads
           ending c.settle_tenant.ensures.moves,
+    )
+
+pub returns-in_err-settle_tenant-in-Ok-Some-clause-settles :
+    goal.returns-in_err-settle_tenant-in-Ok-Some-clause-settles
+returns-in_err-settle_tenant-in-Ok-Some-clause-settles g c =
+    let overdue = c.in-Ok-Some.overdue in
+    let ending = batch_ending c.settle_tenant.result in
+    inr (
+      overdue.digest,
+      overdue.until,
+      rw c.in-Ok-Some.field-0-is at c.in-Ok-Some.ensures.by,
+      ending,
+      both_move overdue.digest (Ok (asks.Transfers [])) overdue.until c.args.store.now
+          c.overdue.new.self c.settle_tenant.new.store c.overdue.result c.overdue.ensures.reads
+          ending c.settle_tenant.ensures.moves,
+    )
+
+pub returns-in_ok-settle_tenant-in-Ok-Some-clause-has :
+    goal.returns-in_ok-settle_tenant-in-Ok-Some-clause-has
+returns-in_ok-settle_tenant-in-Ok-Some-clause-has g c =
+    let overdue = c.in-Ok-Some.overdue in (
+      rw c.in-Ok-Some.field-0-is at c.in-Ok-Some.ensures.found,
+      both_move overdue.digest (Ok (asks.Transfers [])) overdue.until c.args.store.now
+          c.overdue.new.self c.settle_tenant.new.store c.overdue.result c.overdue.ensures.reads
+          Done c.in_ok-settle_tenant-in-Ok-Some.ensures.moves,
     )
 
 pub returns-in-Ok-None-clause-settles : goal.returns-in-Ok-None-clause-settles

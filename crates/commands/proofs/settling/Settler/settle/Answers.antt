@@ -1,4 +1,14 @@
 use Rattle.commands.proofs.settling.Settler.settle.Goals as goal
 
 pub returns-clause-settles : goal.returns-clause-settles
-returns-clause-settles g c = (c.moment_of-moment.result, c.settle_next-settled.ensures.settles)
+returns-clause-settles g c = (
+  c.moment_of-moment.result,
+  record {
+    by = c.settle_next-settled.ensures.settles;
+    searched = c.settle_next-settled.new.search;
+    told = c.settle_next-settled.result;
+    has = c.settle_next-settled.ensures.has;
+    goes_on = c.rest_behind-rest.ensures.search;
+    notes = c.rest_behind-rest.ensures.behind;
+  },
+)

@@ -1,0 +1,20 @@
+use Rattle.std.proofs.Common.{◌∙◌, Ok, ap, subst, sym}
+use Rattle.std.specs.Net.Socket.{socket_ip, socket_port}
+use Rattle.command_line.specs.Values.{text_in}
+use Rattle.commands.specs.Listening.{ReadsListening}
+use Rattle.commands.proofs.file_serving.serve_file.Goals as goal
+
+pub returns-in-Ok-clause-served : goal.returns-in-Ok-clause-served
+returns-in-Ok-clause-served c = record {
+  listening = c.in_ok-listening.listening;
+  listens = record {
+    ip = subst (λ ip. ReadsListening (text_in c.args.address) (Ok ip))
+        (sym (ap socket_ip c.in_ok-listening.ensures.there ∙ c.new-asked.ensures.ip))
+        c.in_ok-asked_address.ensures;
+    port = ap socket_port c.in_ok-listening.ensures.there ∙ c.new-asked.ensures.port;
+  };
+  first = c.in_ok-store.store;
+  begins = c.in_ok-store.ensures.first;
+  moments = c.new-moments.result;
+  served = c.in-Ok.ensures.served;
+}

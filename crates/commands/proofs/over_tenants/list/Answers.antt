@@ -1,0 +1,16 @@
+use Rattle.std.proofs.Common.{List, ℕ, refl, subst}
+use Rattle.control.specs.Listing.{IsListed}
+use Rattle.commands.proofs.over_tenants.list.Goals as goal
+
+pub returns-in_ok-put_listed-in-Some : goal.returns-in_ok-put_listed-in-Some
+returns-in_ok-put_listed-in-Some g c =
+    let listed = c.in_ok-put_listed-in-Some.ensures.listed in (
+      listed.0,
+      (
+        _,
+        refl,
+        rw c.in-Some.is at c.in_ok-answer.ensures,
+        subst (λ (body : List ℕ). IsListed body listed.0) c.body.ensures listed.1,
+      ),
+      listed.2,
+    )

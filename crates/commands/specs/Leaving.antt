@@ -1,0 +1,50 @@
+-- What has served, as it is left, and how that has come.
+use Rattle.std.specs.Prelude.{◌≡◌, ℕ, Bool, List, Option, None, Ok, IfSome, IsTrue, ⊤}
+use Rattle.std.specs.Net.Socket.{socket_ip, socket_port}
+use Rattle.sqlite_disk.specs.declared.Disk as disk
+use Rattle.sqlite_disk.specs.declared.Files.{Files}
+use Rattle.chain.specs.Ledgers.{Tenants}
+use Rattle.polling.specs.Peers.{Doing}
+use Rattle.store.specs.Stores.{IsReady, IsUsable}
+use Rattle.store.specs.declared.store.Store.{Store}
+use Rattle.commands.specs.Kept.{kept_of}
+use Rattle.commands.specs.Listening.{ReadsListening}
+use Rattle.commands.specs.Serving.{ServesKept}
+use Rattle.commands.specs.declared.kept.Kept.{Kept}
+use Rattle.commands.specs.declared.listening.Listening.{Listening}
+use Rattle.commands.specs.declared.store_serving.EndedService.{EndedService}
+
+-- a service listens at this port of the address that a word asks for
+pub record ListensAt (word : Option (List ℕ)) (number : ℕ) (listening : Listening) : Type 0 where
+  pub ip : ReadsListening word (Ok (socket_ip listening.asked))
+  pub port : socket_port listening.asked ≡ number
+
+module _ {D : Type 0} {g : disk.Ghosts D} where
+  -- what is served first: a store that was opened, or none where the file is waited for
+  pub record IsFirst (standby : Bool) (first : Option (Store D g)) : Type 0 where
+    pub usable : IfSome first IsUsable
+    pub ready : IfSome first IsReady
+    pub waits : first ≡ None → IsTrue standby
+
+module _ {D : Type 0} {g : disk.Ghosts D} {C O : Type 0} where
+  -- what is left has served these peers a store, or what stands in its place, from these moments on,
+  -- until so many messages were replied to, or it was asked to end
+  abbrev pub HasServed :
+      {P : Type 0} → (Option (Files D) → Tenants → Type 0) → (C → ℕ → C → Type 0)
+      → (P → Doing → P → Type 0) → Kept (Store D g) → C → P → ℕ → EndedService D P C O g → Type 0
+  HasServed opens gives does first moments peers most ended =
+      ServesKept opens gives does first moments peers most ended.kept ended.moments ended.peers
+      (Ok ended.why)
+
+  -- what is left has served a file to those who connected at an address. Nothing is known of its home,
+  -- of the clock or of what clients do
+  pub record HasServedFile (word : Option (List ℕ)) (number : ℕ) (standby : Bool) (most : ℕ)
+      (ended : EndedService D Listening C O g) : Type 0 where
+    pub listening : Listening
+    pub listens : ListensAt word number listening
+    pub first : Option (Store D g)
+    pub begins : IsFirst standby first
+    pub moments : C
+    pub served :
+        HasServed (λ files tenants. Unit {0}) (λ old moment new. ⊤) (λ old doing new. ⊤)
+        (kept_of first) moments listening most ended

@@ -1,0 +1,96 @@
+//! Those who connect at an address of this machine.
+ghost use Rattle.std.specs.Prelude.{◌≡◌, IfErr, IfOk, ⊤};
+ghost use Rattle.command_line.specs.Values.{text_in};
+ghost use Rattle.commands.specs.Listening.{ReadsListening};
+
+use crate::hosting::Site;
+use command_texts::{Fault, address};
+use polling::{Batch, Peers, Read, Told, Written};
+use sockets::{Limits, Sockets, Watcher};
+use std::net::{IpAddr, Ipv4Addr, SocketAddr};
+
+/// Those who connect at an address.
+#[derive(Drop)]
+pub struct Listening<'a> {
+    /// The address that was asked for.
+    asked: SocketAddr,
+    sockets: Sockets<'a, HostRuntime, Site<'a>>,
+}
+
+/// The address that a word asks for: 127.0.0.1 without a word.
+pub(crate) fn asked_address(word: Option<&str>) -> Result<IpAddr, Fault>
+    ensures { ReadsListening (text_in word.entry) result }
+{
+    match word {
+        Some(text) => address(text),
+        None => Ok(IpAddr::V4(Ipv4Addr::LOCALHOST)),
+    }
+}
+
+impl<'a> Listening<'a> {
+    /// Listens at an address.
+    pub(crate) fn at(
+        site: &'a Site<'a>,
+        asked: SocketAddr,
+        limits: Limits,
+    ) -> Result<Listening<'a>, Fault>
+        ensures there { IfOk result (λ listening. listening.asked ≡ asked) }
+        ensures fault { IfErr result (λ fault. fault ≡ Fault.Socket) }
+    {
+        match Sockets::listen(site.rt, site.rt, site, asked, limits) {
+            Ok(sockets) => Ok(Listening { asked, sockets }),
+            Err(_) => Err(Fault::Socket),
+        }
+    }
+
+    /// Where it listens, by the system: it chooses a port where 0 was asked for.
+    pub(crate) fn address(&self) -> SocketAddr {
+        self.sockets.local_addr().unwrap_or(self.asked)
+    }
+
+    /// What has a source of the operator's own watched, if the system gives one.
+    pub(crate) fn watcher(&self) -> Option<Watcher> {
+        self.sockets.watcher().ok()
+    }
+}
+
+impl Peers for Listening<'_> {
+    // Nothing is known of what a client does.
+    ghost does = { λ _ _ _. ⊤ };
+
+    fn told(&mut self, fresh: u64) -> Told {
+        self.sockets.told(fresh)
+    }
+
+    fn has_more(&self) -> bool {
+        self.sockets.has_more()
+    }
+
+    fn shared(&self, messages: u64) {
+        self.sockets.shared(messages);
+    }
+
+    fn answered(&self, batch: Batch, reply: &[u8]) {
+        self.sockets.answered(batch, reply);
+    }
+
+    fn wants(&mut self, client: u64, bytes: u64) {
+        self.sockets.wants(client, bytes);
+    }
+
+    fn read(&mut self, client: u64, piece: &mut [u8]) -> Read {
+        self.sockets.read(client, piece)
+    }
+
+    fn write(&mut self, client: u64, bytes: &[u8]) -> Written {
+        self.sockets.write(client, bytes)
+    }
+
+    fn again(&mut self, client: u64) {
+        self.sockets.again(client);
+    }
+
+    fn close(&mut self, client: u64) {
+        self.sockets.close(client);
+    }
+}
