@@ -23,9 +23,10 @@ told_disk (Err why) is = let e = is in cc
 pub returns-clause-answers : goal.returns-clause-answers
 returns-clause-answers g c =
     let ready : c.args.self.now.ready ≡ true = search rules in
-    answers_as g.D.Disk (AreUnavailable DiskFailed) c.args.self.now _ c.in_batch-done.result c.batch_answer.result
-    (λ failed. told_disk _ (sym c.batch_answer.ensures ∙ failed),
-    λ failed. c.batch_answer.ensures ∙ ap batch_answer failed) ready
+    answers_as g.D.Disk (AreUnavailable DiskFailed) c.args.self.now _ c.in_batch-done.result c.batch_answer.result (
+      λ failed. told_disk _ (sym c.batch_answer.ensures ∙ failed),
+      λ failed. c.batch_answer.ensures ∙ ap batch_answer failed,
+    ) ready
     (answers_open g.D.Disk c.in_batch-done.result c.is_disk_fault.result c.args.self.now _ c.in-Open.conn
     c.in_batch-done.new.conn c.in-Open.is refl ready refl c.is_disk_fault.ensures c.requires
     c.in_batch-done.ensures.open (λ clean. omega (arith, c.in_batch-done.ensures.survives.clean, clean))
