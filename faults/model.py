@@ -24,8 +24,9 @@ class Ledger:
 
     def __init__(self):
         self.accounts, self.transfers, self.failed, self.clock = {}, {}, set(), 0
-        # When holds are due, or would be had they not been undone with their chains.
-        self.dues = set()
+        # When holds are due, or would be had they not been undone with their chains. And from when to
+        # when those would be whose batch was refused whole, at a moment that nobody is told.
+        self.dues, self.refused_dues = set(), []
 
     # What has become of things.
 
@@ -61,9 +62,20 @@ class Ledger:
     def reach(self, clock):
         """Comes to a later clock, at which a hold is due: between batches the service settles a tenant
         to such times by itself, also of holds that were undone. Says whether it is there."""
-        if clock > self.clock and clock in self.dues:
+        if clock > self.clock and self.may_settle_at(clock):
             self.clock = clock
         return clock == self.clock
+
+    def may_settle_at(self, clock):
+        return clock in self.dues or any(first <= clock <= last for first, last in self.refused_dues)
+
+    def refuse(self, events, first, last):
+        """Between these moments a batch of transfers was refused whole, and undone with its holds."""
+        count = len(events)
+        for event in events:
+            if event["flags"] & PENDING and event["timeout"]:
+                wait = event["timeout"] * 10**9
+                self.refused_dues.append((first - count + wait, max(last, self.clock + count) + wait))
 
     # Batches.
 

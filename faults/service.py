@@ -279,8 +279,10 @@ class Desk:
     def batch(self, events, transfers=True):
         """Sends a batch, and compares. Says whether it was answered; else nothing has changed."""
         self.asked |= {event["id"] for event in events if transfers}
+        begun = time.time_ns()
         told = self.ask("POST", "/transfers" if transfers else "/accounts", body_of(events))
         if told is None:
+            self.ledger.refuse(events if transfers else (), begun, time.time_ns())
             return False
         self.judge(events, transfers, told)
         return True
@@ -317,11 +319,13 @@ class Desk:
         told = self.until_told(*lookup(path, ids))
         clock, stamps = int(told["clock"]), {int(it["id"]): int(it["timestamp"]) for it in told[name]}
         last = next((stamps[number] + len(ids) - 1 - place for place, number in enumerate(ids)
-                     if number in stamps and number not in known), clock)
-        if last == clock == self.ledger.clock:
+                     if number in stamps and number not in known), None)
+        if last is None and clock == self.ledger.clock:
             return False
-        if before in self.ledger.dues:
-            self.ledger.clock = min(before, last - len(events))
+        last = last or clock
+        # Before the batch it was here, where it had not been settled behind the batch by then.
+        is_settled = self.ledger.may_settle_at(before)
+        self.ledger.clock = min(before, last - len(events)) if is_settled else before
         self.ledger.batch(events, last, transfers)
         want(self.ledger.reach(clock), f"the clock is {clock}, of a batch at {last}")
         return True
