@@ -68,7 +68,10 @@ class Asking:
                             f"{len(text)}\r\n\r\n".encode() + text)
         read = b""
         while True:
-            read += self.socket.recv(1 << 16)
+            more = self.socket.recv(1 << 16)
+            if not more:
+                raise SystemExit(f"{route}: the connection ended")
+            read += more
             head, _, told = read.partition(b"\r\n\r\n")
             length = head.partition(b"content-length: ")[2].partition(b"\r\n")[0]
             if length and len(told) == int(length):
