@@ -5,6 +5,7 @@ import signal
 import threading
 
 from control import ALL, DISK, KILL, MEMORY, SENT, Control, places
+from indexed import Indexed
 from runs import House
 from service import Lost, body_of, check, message, want
 
@@ -110,6 +111,8 @@ def memory_fails(trial, control):
     """An allocation is refused: at most one tenant is told so, and nothing of its batch is done.
     The batches are of one event, so that each allocation of a round can be tried."""
     house, refused = Crowd(trial.fresh(), most=1), 0
+    for desk in house.desks:
+        desk.ledger = Indexed() if trial.is_long else desk.ledger
     house.begin(control.env)
     for place in places(trial):
         batches, answered = house.meet(control, MEMORY, place)

@@ -20,6 +20,8 @@ from pages import shown
 TOP = pathlib.Path(__file__).resolve().parent.parent
 # Seconds behind which something hangs: a busy machine may take minutes for a long file.
 PATIENCE = 300
+# So many seconds a connection is kept that is not used. A service lets it go after 75.
+KEPT = 30
 # What a service tells that cannot listen for its operator.
 NO_DESK = "no commands while it is served: "
 # What a command tells that memory or the disk has failed; a file whose first page cannot be read is
@@ -367,10 +369,15 @@ class Desk:
         return reply
 
     def compare(self, service):
-        """Compares all that the tenant can see."""
+        """Compares all that the tenant can see. Behind a reply that took long to work out the service
+        may have let the connection go."""
         self.connect(service)
+        asked = time.monotonic()
         for request, reply in self.expected():
+            if time.monotonic() - asked > KEPT:
+                self.connect(service)
             look_at(request, self.ask(*request), reply)
+            asked = time.monotonic()
 
 
 def look_at(request, told, reply):
