@@ -79,7 +79,7 @@ class Server:
         for pid in own:
             try:
                 used += sum(stat(pid)[:2])
-            except FileNotFoundError:
+            except (FileNotFoundError, ProcessLookupError):
                 pass
         return used
 
