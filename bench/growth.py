@@ -13,14 +13,13 @@ import hashlib
 import json
 import os
 import random
-import sqlite3
 import statistics
 import subprocess
 import sys
 import tempfile
 import time
 
-from openings import texts
+from openings import fill
 from rounds import Asking, Ledger, free_port
 
 EACH, BATCH, TIMES, ACCOUNTS = 1000, 100, 30, 100
@@ -41,25 +40,17 @@ def milliseconds(act, times):
 
 # Tenants.
 
-def fill(path, tenants):
-    """A sound file of so many tenants without accounts."""
-    with sqlite3.connect(path) as file:
-        file.execute("PRAGMA synchronous = OFF")
-        for text in texts():
-            file.execute(text)
-        file.execute("INSERT INTO schema VALUES (1, 3)")
-        for number in range(1, tenants + 1):
-            name = f"tenant-{number}"
-            digest = hashlib.sha256(name.encode()).digest()
-            file.execute("INSERT INTO tenant VALUES (?, ?, ?)", (number, name, digest))
-            file.execute("INSERT INTO clock VALUES (?, 0)", (number,))
-        file.execute("PRAGMA journal_mode = WAL")
-    file.close()
+def add_empty(file, number, _transfers):
+    """A tenant without accounts."""
+    name = f"tenant-{number}"
+    file.execute("INSERT INTO tenant VALUES (?, ?, ?)",
+                 (number, name, hashlib.sha256(name.encode()).digest()))
+    file.execute("INSERT INTO clock VALUES (?, 0)", (number,))
 
 
 def adding_a_tenant(program, folder, tenants):
     path = os.path.join(folder, "ledger.db")
-    fill(path, tenants)
+    fill(path, tenants, 0, add_empty)
     served = subprocess.Popen([program, "serve", "--db", path, "--port", str(free_port()),
                                "--requests", "1"], stderr=subprocess.PIPE)
     served.stderr.readline()

@@ -31,15 +31,15 @@ def wide(number):
     return number.to_bytes(16, "big")
 
 
-def fill(path, tenants, transfers):
-    """A file of so many tenants that share so many transfers."""
+def fill(path, tenants, transfers, add_one=None):
+    """A file of so many tenants that share so many transfers, each added by `add` or as is told."""
     with sqlite3.connect(path) as file:
         file.execute("PRAGMA synchronous = OFF")
         for text in texts():
             file.execute(text)
         file.execute("INSERT INTO schema VALUES (1, 3)")
         for tenant in range(1, tenants + 1):
-            add(file, tenant, transfers // tenants)
+            (add_one or add)(file, tenant, transfers // tenants)
         file.execute("PRAGMA journal_mode = WAL")
     file.close()
 

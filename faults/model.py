@@ -67,6 +67,7 @@ class Ledger:
         return clock == self.clock
 
     def may_settle_at(self, clock):
+        """Whether the service may settle the tenant at a clock."""
         return clock in self.dues or any(first <= clock <= last for first, last in self.refused_dues)
 
     def refuse(self, events, first, last):
