@@ -1,7 +1,7 @@
 """Measures what many clients get done at once: of `ledgerd`, and in the same run of PostgreSQL 15 by
 its function of the same rules, and of C SQLite in one process with no clients.
 
-    python3 bench/rounds.py LEDGERD DATA [ACCOUNTS] [SECONDS] [CASE..]
+    [SYNC_MS=1] python3 bench/rounds.py LEDGERD DATA [ACCOUNTS] [SECONDS] [CASE..]
 
 LEDGERD is the program, DATA a folder that is there, where all may go. A case is CLIENTS/TENANTS/SIZE;
 with none all of CASES are measured, each for so many seconds (3) on new files, with so many accounts
@@ -10,7 +10,8 @@ answered (`peer/clients.c`, for both); client N is of tenant N, or of the first.
 same batches by the same statements, so many by a commit as a round has at most, and judges
 nothing. Prints a line of a table for each case; the machine's load stands at the end. It needs a C
 compiler, `libsqlite3-dev` and `libpq-dev`. Where PostgreSQL 15 is not installed it is left out, and
-where `perf` cannot count calls of the system the syncs are."""
+where `perf` cannot count calls of the system the syncs are. With SYNC_MS each sync of all three takes
+so many milliseconds longer, as on a slower disk (`slow_sync.c`)."""
 
 import json
 import os
@@ -46,6 +47,15 @@ def build(within):
                         ("peer", ("-lsqlite3",))):
         subprocess.run(["cc", "-O2", "-o", os.path.join(within, name), HERE / f"peer/{name}.c",
                         *words], check=True)
+
+
+def slow_syncs(within):
+    """Whatever is started from now on waits with each sync, if SYNC_MS is given."""
+    if "SYNC_MS" in os.environ:
+        made = os.path.join(within, "slow_sync.so")
+        subprocess.run(["cc", "-O2", "-shared", "-fPIC", "-o", made, HERE / "slow_sync.c"],
+                       check=True)
+        os.environ["LD_PRELOAD"] = made
 
 
 def free_port():
@@ -238,6 +248,8 @@ def main():
     cases = [tuple(map(int, word.split("/"))) for word in sys.argv[5:]] or CASES
     with tempfile.TemporaryDirectory(dir=data) as within:
         build(within)
+        os.chmod(within, 0o755)
+        slow_syncs(within)
         measure(program, within, accounts, seconds, cases)
     print("load", os.getloadavg()[0])
 
