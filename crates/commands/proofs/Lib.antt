@@ -11,3 +11,7 @@ mod AskLemmas
 pub mod RenewLemmas
 mod HeldLemmas
 mod ServedLemmas
+mod LaterEntries
+mod WholeLemmas
+mod WholeStatements
+mod ReadBack

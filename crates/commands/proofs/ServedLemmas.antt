@@ -1,16 +1,18 @@
 -- What is made of entries that a sink takes one after the other.
-use Rattle.std.proofs.Common.{◌≡◌, ◌∙◌, ℕ, ◌+◌, ◌<◌, List, Option, [], ◌∷◌, ◌++◌, append_assoc, ap, false, get_or, length, map, refl, subst, sym, take}
-use Rattle.std.specs.List.{flat_map}
+use Rattle.std.proofs.Common.{◌≡◌, ◌∙◌, ℕ, ◌+◌, ◌<◌, List, Option, [], ◌∷◌, ◌++◌, append_assoc, Some, None, ap, false, get_or, length, map, refl, subst, sym, take}
+use Rattle.std.specs.List.{flat_map, last_or}
+use Rattle.std.specs.Option.{option_map}
 use Rattle.std.proofs.lemmas.List.{append-nil, take_more}
-use Rattle.chain.specs.AccountEntries.{row_of}
+use Rattle.std.proofs.lemmas.List.Concat.{flat_map-append}
+use Rattle.chain.specs.AccountEntries.{entry_time, row_of}
 use Rattle.chain.specs.declared.account_entry.AccountEntry.{AccountEntry}
+use Rattle.control.specs.declared.entries.Entries.{Entries}
 use Rattle.records.specs.Streams.{TakesRows}
 use Rattle.records.specs.declared.transfer.Transfer.{Transfer}
 use Rattle.statement.specs.Extract.{Keeps, closing_of, kept_of, opening_of}
 use Rattle.statement.specs.Written.{extract_text}
 use Rattle.statement.specs.Writer.{TakesRow}
-use Rattle.statement.specs.declared.period.Period.{Period}
-use Rattle.commands.specs.Served.{Gathers, IsGathered, TakesEntry, text_by, transfer_within}
+use Rattle.commands.specs.Served.{Gathers, IsGathered, TakesEntry, entries_of, last_time, text_by, transfer_within}
 use Rattle.commands.specs.declared.asked.Asked.{Asked}
 use Rattle.commands.specs.declared.served_statements.Gathered.{Gathered}
 use Rattle.commands.specs.declared.served_statements.Whole.{Whole}
@@ -32,6 +34,30 @@ taken_more {S} {A} takes s t u xs place x within is before taken =
     subst (λ (all : List A). TakesRows takes s all u)
     (sym (take_more xs place x within ∙ ap (λ (y : A). take place xs ++ y ∷ []) (sym is)))
     (taken_then takes s t u (take place xs) (x ∷ []) before (u, taken, refl))
+
+-- the last of a list with one more behind it
+last_behind : {A : Type 0} (o : Option A) (xs : List A) (x : A) → last_or o (xs ++ x ∷ []) ≡ Some x
+last_behind o [] x = refl
+last_behind o (y ∷ ys) x = last_behind (Some y) ys x
+
+-- the time of the last of one entry more of a list
+pub last_more :
+    (xs : List AccountEntry) (place : ℕ) (x : AccountEntry) → place < length xs → x ≡ get_or xs place x
+    → Some (entry_time x) ≡ last_time (take (place + 1) xs)
+last_more xs place x within is =
+    let front = take place xs in
+    ap (option_map entry_time) (sym (last_behind None front x))
+    ∙ ap last_time
+    (sym (take_more xs place x within ∙ ap (λ (y : AccountEntry). front ++ y ∷ []) (sym is)))
+
+-- the entries of pieces with one more behind them
+pub pieces_more :
+    (pieces : List Entries) (piece : Entries)
+    → entries_of pieces ++ piece.entries.items ≡ entries_of (pieces ++ piece ∷ [])
+pieces_more pieces piece =
+    ap (λ (entries : List AccountEntry). entries_of pieces ++ entries)
+    (sym (append-nil piece.entries.items))
+    ∙ sym (flat_map-append (λ (p : Entries). p.entries.items) pieces (piece ∷ []))
 
 -- a whole statement that takes entries writes their lines
 pub lines_taken :

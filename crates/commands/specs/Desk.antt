@@ -1,15 +1,31 @@
 -- What is asked of a store for an operator's call.
-use Rattle.std.specs.Prelude.{if◌then◌else◌}
+use Rattle.std.specs.Prelude.{◌≡◌, if◌then◌else◌, ℕ, List, Result, Ok, Err}
+use Rattle.serde_json.specs.Written.{compact_text}
 use Rattle.records.specs.declared.filter.Order.TheVariants.{Oldest, Newest}
+use Rattle.records.specs.declared.query.Span.{Span}
+use Rattle.command_texts.specs.declared.fault.Fault.{Fault}
+use Rattle.control.specs.Entries.{entries_data}
 use Rattle.control.specs.declared.piece_asked.PieceAsked.{PieceAsked}
+use Rattle.commands.specs.declared.orders.Done.{Done}
+use Rattle.commands.specs.declared.orders.Done.TheVariants.{Read}
 use Rattle.commands.specs.declared.orders.Order.{Order}
 use Rattle.commands.specs.declared.orders.Order.TheVariants.{Statement}
 
--- at most a thousand entries of an account, within the bounds that the call tells
-abbrev pub order_of : PieceAsked → Order
-order_of piece = Statement piece.tenant piece.account (record {
+-- at most a thousand entries, within the bounds that the call tells
+abbrev pub span_of : PieceAsked → Span
+span_of piece = record {
   first = piece.from;
   last = piece.to;
   order = if piece.is_reversed then Newest else Oldest;
   most = 1000;
-})
+}
+
+-- those of an account
+abbrev pub order_of : PieceAsked → Order
+order_of piece = Statement piece.tenant piece.account (span_of piece)
+
+-- the body that tells a piece that was read: its clock and its entries
+abbrev pub IsBodyOf : Result Done Fault → List ℕ → Type 0
+IsBodyOf (Ok (Read piece)) body = body ≡ compact_text (entries_data piece.clock piece.entries.items)
+IsBodyOf (Ok done) body = Unit {0}
+IsBodyOf (Err fault) body = ⊥

@@ -19,6 +19,8 @@ pub mod Pieces
 pub mod Orders
 pub mod Desk
 pub mod Served
+pub mod PieceByPiece
+pub mod ReadBack
 pub mod Listing
 pub mod Copying
 pub mod Tally

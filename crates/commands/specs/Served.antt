@@ -1,13 +1,17 @@
 -- What a command asks a service for, piece by piece, and what it writes of the entries.
-use Rattle.std.specs.Prelude.{◌≡◌, ◌==◌, ◌&&◌, ◌+◌, ◌-◌, ◌^◌, ◌++◌, ◌∷◌, [], ℕ, Bool, true, false, List, Option, Some, None, if◌then◌else◌, map, max}
-use Rattle.std.specs.List.{flat_map}
+use Rattle.std.specs.Prelude.{◌≡◌, ◌==◌, ◌&&◌, ◌+◌, ◌-◌, ◌^◌, ◌++◌, ◌∷◌, [], ℕ, Bool, true, false, List, Option, Some, None, if◌then◌else◌, map, max, min, option_map}
+use Rattle.std.specs.List.{flat_map, last_or}
 use Rattle.std.specs.Io.KnownBytes.{Appends}
 use Rattle.records.specs.declared.filter.Order.{Order}
 use Rattle.records.specs.declared.filter.Order.TheVariants.{Oldest, Newest}
+use Rattle.records.specs.declared.row_sink.SinkFault.{SinkFault}
+use Rattle.records.specs.declared.row_sink.SinkFault.TheVariants.{Memory, Write}
 use Rattle.records.specs.declared.transfer.Transfer.{Transfer}
 use Rattle.records.specs.Reads.{in_order}
-use Rattle.chain.specs.AccountEntries.{row_of}
+use Rattle.chain.specs.AccountEntries.{entry_time, row_of}
 use Rattle.chain.specs.declared.account_entry.AccountEntry.{AccountEntry}
+use Rattle.chain.specs.declared.reads.ReadFault.TheVariants as read
+use Rattle.command_texts.specs.declared.fault.Fault.{Fault}
 use Rattle.statement.specs.Extract.{Keeps}
 use Rattle.statement.specs.Period.{closing, is_within, opening}
 use Rattle.statement.specs.Text.{statement_text}
@@ -20,6 +24,7 @@ use Rattle.control.specs.declared.entries.Entries.{Entries}
 use Rattle.control.specs.declared.piece_asked.PieceAsked.{PieceAsked}
 use Rattle.commands.specs.Asking.{is_whole}
 use Rattle.commands.specs.Extracts.{Finds, rows_asked}
+use Rattle.commands.specs.Statements.{statement_fault}
 use Rattle.commands.specs.declared.asked.Asked.{Asked}
 use Rattle.commands.specs.declared.served_statements.First.{First}
 use Rattle.commands.specs.declared.served_statements.Gathered.{Gathered}
@@ -48,11 +53,52 @@ piece_behind asked (Some last) =
     then (if last == 0 then None else Some (record asked { to = last - 1 }))
     else (if last == 2 ^ 64 - 1 then None else Some (record asked { from = last + 1 }))
 
+-- the time of the last of some entries
+abbrev pub last_time : List AccountEntry → Option ℕ
+last_time entries = option_map entry_time (last_or None entries)
+
+-- a piece that goes no further than a clock
+abbrev pub up_to : ℕ → PieceAsked → PieceAsked
+up_to clock asked = record asked { to = min asked.to clock }
+
+-- pieces come behind one that was asked for: each is what is asked for behind the one before it,
+-- and is told, and behind the last there is none to ask for
+abbrev pub ComeBehind :
+    (PieceAsked → Entries → Type 0) → PieceAsked → Entries → List Entries → Type 0
+ComeBehind IsTold asked piece [] = piece_behind asked (last_time piece.entries.items) ≡ None
+ComeBehind IsTold asked piece (next ∷ pieces) =
+    (behind : PieceAsked) × (piece_behind asked (last_time piece.entries.items) ≡ Some behind)
+    × IsTold behind next × ComeBehind IsTold behind next pieces
+
+-- the entries of pieces, one behind the other
+abbrev pub entries_of : List Entries → List AccountEntry
+entries_of pieces = flat_map (λ piece. piece.entries.items) pieces
+
+-- an answer tells a piece
+abbrev pub IsAnswered : PieceAsked → Entries → Type 0
+IsAnswered asked piece = (answer : Answer) × TellsEntries asked piece answer
+
+-- something is so of the entries of a first piece and of all behind it, up to its clock, as
+-- answers tell them
+abbrev pub OfAllPieces : PieceAsked → Entries → (List AccountEntry → Type 0) → Type 0
+OfAllPieces asked first P =
+    (pieces : List Entries) × ComeBehind IsAnswered (up_to first.clock asked) first pieces
+    × P (entries_of (first ∷ pieces))
+
 -- an answer tells the entries of the first piece
 pub record IsFirst (tenant : List ℕ) (account : ℕ) (asked : Asked) (first : First)
     (answer : Answer) : Type 0 where
   pub piece : first.asked ≡ first_asked tenant account asked
   pub told : TellsEntries (first_asked tenant account asked) first.entries answer
+
+-- why an entry is refused: what it is written to has failed, or else memory ran out
+abbrev pub why_refused : Bool → SinkFault
+why_refused true = Write
+why_refused false = Memory
+
+-- the fault that is told of it
+abbrev pub sink_fault : SinkFault → Fault
+sink_fault why = statement_fault (read.Sink why)
 
 -- a whole statement takes an entry: the line of it goes out
 pub record TakesEntry {O : Type 0} (written : O → Option (List ℕ)) (old : Whole O)
@@ -97,15 +143,10 @@ text_by false account asked entries =
 abbrev pub served_text : ℕ → Asked → List AccountEntry → List ℕ
 served_text account asked entries = text_by (is_whole asked) account asked entries
 
--- a text of these entries, and perhaps of more behind them, is written
-abbrev pub IsWrittenOn :
-    (List AccountEntry → List ℕ) → List AccountEntry → Option (List ℕ) → Option (List ℕ) → Type 0
-IsWrittenOn text entries old new =
-    (more : List AccountEntry) × Appends old new (text (entries ++ more))
-
--- a statement is written of the entries that an answer tells to be the first
+-- a statement is written of all entries that answers tell, piece behind piece, from the first on
 abbrev pub IsServed :
     List ℕ → ℕ → Asked → Option (List ℕ) → Option (List ℕ) → Answer → Type 0
 IsServed tenant account asked old new answer =
     (first : Entries) × TellsEntries (first_asked tenant account asked) first answer
-    × IsWrittenOn (served_text account asked) first.entries.items old new
+    × OfAllPieces (first_asked tenant account asked) first
+    (λ entries. Appends old new (served_text account asked entries))

@@ -1,6 +1,6 @@
 //! The desk at which the operator of a service on this machine asks.
-ghost use Rattle.std.specs.Prelude.{◌≡◌};
-ghost use Rattle.commands.specs.Desk.{order_of};
+ghost use Rattle.std.specs.Prelude.{◌≡◌, IfOk};
+ghost use Rattle.commands.specs.Desk.{IsBodyOf, order_of};
 
 use crate::bell::Bell;
 use crate::calling::desk_path;
@@ -64,7 +64,9 @@ enum Found {
 }
 
 // The body that tells what an order came to.
-fn body_of(alloc: Global, order: &Order, done: Result<Done, Fault>) -> Result<Vec<u8>, Fault> {
+fn body_of(alloc: Global, order: &Order, done: Result<Done, Fault>) -> Result<Vec<u8>, Fault>
+    ensures { IfOk result (λ body. IsBodyOf done body.items) }
+{
     match (order, done?) {
         (_, Done::Listed(tenants)) => listed(alloc, tenants.as_slice()),
         (Order::ChangeKey { name, .. }, Done::Changed) => Ok(changed_body(alloc, name)?),

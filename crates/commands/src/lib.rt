@@ -19,6 +19,7 @@ mod given_limits;
 mod hosting;
 mod kept;
 mod keying;
+mod laws;
 mod listening;
 mod listing;
 mod moments;
@@ -40,6 +41,7 @@ mod whole_program;
 
 pub use file_serving::{HostService, serve_file};
 pub use hosting::Site;
+pub use laws::{pieces_are_read_back, pieces_make_the_whole};
 pub use moments::{RisingClock, SystemMoments};
 pub use orders::{Done, Order, Orders};
 pub use reasons::{Place, tell_file_fault};

@@ -167,7 +167,8 @@ fn write<St: Start, O: Drain + Drop>(
 {
     match ask_first(rt, db, tenant, account, asked)? {
         Some((first, answer)) => {
-            let out = write_served(rt, db, first, asked, out)?;
+            let (out, written) = write_served(rt, db, first, asked, out);
+            written?;
             Ok((out, Held::Asked(answer)))
         }
         None => {

@@ -1,6 +1,8 @@
 //! Statements of a ledger that is served: the service is asked for one piece behind the other, of the
 //! entries up to the clock at which the first was read.
-ghost use Rattle.std.specs.Prelude.{◌≡◌, ◌||◌, ◌++◌, Bool, List, false, map, IfOk, IfSome, OnOk};
+ghost use Rattle.std.specs.Prelude.{◌≡◌, ◌||◌, Bool, Err, false, is_err, map, true};
+ghost use Rattle.std.specs.Prelude.{IfErr, IfOk, IfSome, OnOk};
+ghost use Rattle.std.specs.Io.KnownBytes.{Appends};
 ghost use Rattle.chain.specs.AccountEntries.{row_of};
 ghost use Rattle.chain.specs.declared.account_entry.AccountEntry.{AccountEntry};
 ghost use Rattle.control.specs.Answers.{TellsEntries};
@@ -10,8 +12,9 @@ ghost use Rattle.statement.specs.Extract.{closing_of, kept_of, opening_of};
 ghost use Rattle.statement.specs.Extract.{has_refused as has_refused_row};
 ghost use Rattle.statement.specs.Text.{statement_text};
 ghost use Rattle.statement.specs.Writer.{drain_of, has_refused};
-ghost use Rattle.commands.specs.Served.{first_asked, piece_behind, served_text};
-ghost use Rattle.commands.specs.Served.{Gathers, IsFirst, IsGathered, IsWrittenOn, TakesEntry};
+ghost use Rattle.commands.specs.Served.{first_asked, last_time, piece_behind, served_text};
+ghost use Rattle.commands.specs.Served.{sink_fault, text_by, why_refused};
+ghost use Rattle.commands.specs.Served.{Gathers, IsFirst, IsGathered, OfAllPieces, TakesEntry};
 
 use crate::asked::Asked;
 use crate::calling::ask;
@@ -19,7 +22,7 @@ use crate::statements::statement_fault;
 use chain::{AccountEntry, ReadFault};
 use command_texts::Fault;
 use control::{Answer, Call, Entries, PieceAsked, entries_in};
-use records::{Drain, Order, RowSink, StatementRow, Transfer, put_all};
+use records::{Drain, Order, RowSink, SinkFault, StatementRow, Transfer, put_all};
 use statement::{
     Extract, Period, StatementWriter, extract_text, rows_make_a_statement, rows_make_an_extract,
 };
@@ -41,11 +44,15 @@ trait EntrySink {
     // Whether it has refused one.
     ghost refused: { Self → Bool };
 
+    // Whether what it writes to has failed.
+    ghost failed: { Self → Bool };
+
     /// Takes the next entry.
-    fn entry(&mut self, entry: &AccountEntry) -> Result<(), Fault>
+    fn entry(&mut self, entry: &AccountEntry) -> Result<(), SinkFault>
         requires { refused self.old ≡ false }
         ensures taken { OnOk result (takes self.old entry.now self.new) }
-        ensures ready { OnOk result (refused self.new ≡ false) };
+        ensures refused { refused self.new ≡ is_err result }
+        ensures why { IfErr result (λ why. why ≡ why_refused (failed self.new)) };
 }
 
 /// A whole statement, which is written entry by entry.
@@ -61,11 +68,10 @@ impl<O: Drain> EntrySink for Whole<O> {
     ghost refused = { λ whole.
         has_refused whole.writer || O.failed (drain_of whole.writer) };
 
-    fn entry(&mut self, entry: &AccountEntry) -> Result<(), Fault> {
-        match self.writer.row(&row_of(self.account, entry)) {
-            Ok(()) => Ok(()),
-            Err(why) => Err(statement_fault(ReadFault::Sink(why))),
-        }
+    ghost failed = { λ whole. O.failed (drain_of whole.writer) };
+
+    fn entry(&mut self, entry: &AccountEntry) -> Result<(), SinkFault> {
+        self.writer.row(&row_of(self.account, entry))
     }
 }
 
@@ -78,23 +84,26 @@ struct Gathered {
     is_wide: bool,
     extract: Extract,
     transfers: Vec<Transfer>,
+    // Whether a transfer was refused.
+    has_refused: bool,
 }
 
 impl EntrySink for Gathered {
     ghost takes = { Gathers };
 
-    ghost refused = { λ gathered. has_refused_row gathered.extract };
+    ghost refused = { λ gathered. gathered.has_refused || has_refused_row gathered.extract };
 
-    fn entry(&mut self, entry: &AccountEntry) -> Result<(), Fault> {
+    ghost failed = { λ gathered. false };
+
+    fn entry(&mut self, entry: &AccountEntry) -> Result<(), SinkFault> {
         let row = row_of(self.account, entry);
-        if let Err(why) = self.extract.row(&row) {
-            return Err(statement_fault(ReadFault::Sink(why)));
-        }
+        self.extract.row(&row)?;
         if self.is_wide
             && self.period.is_within(&row)
             && self.transfers.push(entry.transfer).is_err()
         {
-            return Err(Fault::Unavailable);
+            self.has_refused = true;
+            return Err(SinkFault::Memory);
         }
         Ok(())
     }
@@ -190,12 +199,16 @@ pub(crate) fn ask_first(
 fn hand_entries<S: EntrySink>(entries: &[AccountEntry], sink: &mut S) -> Result<Option<u64>, Fault>
     requires { S.refused sink.old ≡ false }
     ensures taken { OnOk result (TakesRows S.takes sink.old entries.now sink.new) }
-    ensures ready { OnOk result (S.refused sink.new ≡ false) }
+    ensures last { IfOk result (λ last. last ≡ last_time entries.now) }
+    ensures refused { S.refused sink.new ≡ is_err result }
+    ensures fault { IfErr result (λ fault. fault ≡ sink_fault (why_refused (S.failed sink.new))) }
 {
     let mut last = None;
     for entry in entries {
-        sink.entry(entry)?;
-        last = Some(entry.transfer.timestamp);
+        match sink.entry(entry) {
+            Ok(()) => last = Some(entry.transfer.timestamp),
+            Err(why) => return Err(statement_fault(ReadFault::Sink(why))),
+        }
     }
     Ok(last)
 }
@@ -208,9 +221,11 @@ fn hand_over<S: EntrySink>(
     sink: &mut S,
 ) -> Result<(), Fault>
     requires { S.refused sink.old ≡ false }
-    ensures taken { OnOk result ((more : List AccountEntry)
-        × TakesRows S.takes sink.old (first.entries.entries.items ++ more) sink.new) }
+    ensures taken { OnOk result (OfAllPieces first.asked first.entries
+        (λ entries. TakesRows S.takes sink.old entries sink.new)) }
     ensures ready { OnOk result (S.refused sink.new ≡ false) }
+    ensures fault { IfErr result (λ fault. S.refused sink.new ≡ true
+        → fault ≡ sink_fault (why_refused (S.failed sink.new))) }
 {
     let First { asked, entries } = first;
     let mut asked = PieceAsked {
@@ -234,11 +249,12 @@ fn write_whole<O: Drain + Drop>(
     db: &str,
     first: First,
     out: O,
-) -> Result<O, Fault>
+) -> (O, Result<(), Fault>)
     requires { O.failed out ≡ false }
-    ensures { IfOk result (λ new. IsWrittenOn
-        (λ entries. statement_text (map (row_of first.asked.account) entries))
-        first.entries.entries.items (O.written out) (O.written new)) }
+    ensures written { OnOk result.1 (OfAllPieces first.asked first.entries
+        (λ entries. Appends (O.written out) (O.written result.0)
+        (statement_text (map (row_of first.asked.account) entries)))) }
+    ensures failed { O.failed result.0 ≡ true → result.1 ≡ Err Fault.Output }
 {
     rows_make_a_statement::<O>();
     let writer = StatementWriter::new(rt.alloc(), out);
@@ -246,18 +262,21 @@ fn write_whole<O: Drain + Drop>(
         account: first.asked.account,
         writer,
     };
-    hand_over(rt, db, first, &mut whole)?;
+    let handed = hand_over(rt, db, first, &mut whole);
     let Whole { account: _, writer } = whole;
+    if let Err(fault) = handed {
+        return (writer.into_inner(), Err(fault));
+    }
     let (out, ended) = writer.finish();
     match ended {
-        Ok(()) => Ok(out),
-        Err(_) => Err(Fault::Output),
+        Ok(()) => (out, Ok(())),
+        Err(_) => (out, Err(Fault::Output)),
     }
 }
 
 fn gather(rt: &HostRuntime, db: &str, first: First, asked: &Asked) -> Result<Gathered, Fault>
-    ensures { IfOk result (λ gathered. (more : List AccountEntry)
-        × IsGathered first.asked.account asked.now (first.entries.entries.items ++ more) gathered) }
+    ensures { IfOk result (λ gathered. OfAllPieces first.asked first.entries
+        (λ entries. IsGathered first.asked.account asked.now entries gathered)) }
 {
     rows_make_an_extract();
     let extract = Extract::new(rt.alloc(), asked.period);
@@ -268,6 +287,7 @@ fn gather(rt: &HostRuntime, db: &str, first: First, asked: &Asked) -> Result<Gat
         is_wide: asked.layout.is_wide,
         extract,
         transfers,
+        has_refused: false,
     };
     hand_over(rt, db, first, &mut gathered)?;
     Ok(turned(gathered, asked.order))
@@ -290,6 +310,16 @@ fn turned(mut gathered: Gathered, order: Order) -> Gathered
     }
 }
 
+// What is asked for of a statement of a period.
+fn period_text(rt: &HostRuntime, db: &str, first: First, asked: &Asked) -> Result<Vec<u8>, Fault>
+    ensures { IfOk result (λ text. OfAllPieces first.asked first.entries
+        (λ entries. text.items ≡ text_by false first.asked.account asked.now entries)) }
+{
+    let gathered = gather(rt, db, first, asked)?;
+    let transfers = gathered.transfers.as_slice();
+    Ok(extract_text(rt.alloc(), asked.layout, &gathered.extract, transfers)?)
+}
+
 /// Writes what is asked for of a statement of a ledger that is served, whose first piece is there, and
 /// gives the writer back. Where the service has ended in the middle it is `Unavailable`.
 pub(crate) fn write_served<O: Drain + Drop>(
@@ -298,19 +328,22 @@ pub(crate) fn write_served<O: Drain + Drop>(
     first: First,
     asked: &Asked,
     mut out: O,
-) -> Result<O, Fault>
+) -> (O, Result<(), Fault>)
     requires { O.failed out ≡ false }
-    ensures { IfOk result (λ new. IsWrittenOn (served_text first.asked.account asked.now)
-        first.entries.entries.items (O.written out) (O.written new)) }
+    ensures written { OnOk result.1 (OfAllPieces first.asked first.entries
+        (λ entries. Appends (O.written out) (O.written result.0)
+        (served_text first.asked.account asked.now entries))) }
+    ensures failed { O.failed result.0 ≡ true → result.1 ≡ Err Fault.Output }
 {
     if asked.is_whole() {
         return write_whole(rt, db, first, out);
     }
-    let gathered = gather(rt, db, first, asked)?;
-    let transfers = gathered.transfers.as_slice();
-    let text = extract_text(rt.alloc(), asked.layout, &gathered.extract, transfers)?;
+    let text = match period_text(rt, db, first, asked) {
+        Ok(text) => text,
+        Err(fault) => return (out, Err(fault)),
+    };
     match put_all(&mut out, text.as_slice()) {
-        Ok(()) => Ok(out),
-        Err(_) => Err(Fault::Output),
+        Ok(()) => (out, Ok(())),
+        Err(_) => (out, Err(Fault::Output)),
     }
 }

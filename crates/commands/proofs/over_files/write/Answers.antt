@@ -1,17 +1,20 @@
-use Rattle.std.proofs.Common.{subst}
+use Rattle.std.proofs.Common.{List, subst}
+use Rattle.std.specs.Io.KnownBytes.{Appends}
+use Rattle.chain.specs.declared.account_entry.AccountEntry.{AccountEntry}
 use Rattle.control.specs.declared.piece_asked.PieceAsked.{PieceAsked}
-use Rattle.commands.specs.Served.{IsWrittenOn, served_text}
+use Rattle.commands.specs.Served.{OfAllPieces, served_text}
 use Rattle.commands.proofs.over_files.write.Goals as goal
 
-pub returns-in_ok-out-in-Some : goal.returns-in_ok-out-in-Some
-returns-in_ok-out-in-Some g c =
+pub returns-in_ok-written-in-Some : goal.returns-in_ok-written-in-Some
+returns-in_ok-written-in-Some g c =
     let first = c.in-Some.first in
     let told = rw c.in-Some.is at c.in_ok-first.ensures in (
       first.entries,
       told.told,
       subst
-          (λ (piece : PieceAsked). IsWrittenOn (served_text piece.account c.args.asked.now)
-          first.entries.entries.items (g.O.Drain.written c.args.out)
-          (g.O.Drain.written c.in_ok-out-in-Some.out))
-          told.piece c.in_ok-out-in-Some.ensures,
+          (λ (piece : PieceAsked). OfAllPieces piece first.entries
+          (λ (entries : List AccountEntry). Appends (g.O.Drain.written c.args.out)
+          (g.O.Drain.written c.write_served-out.result.0)
+          (served_text piece.account c.args.asked.now entries)))
+          told.piece (rw c.in_ok-written-in-Some.was at c.write_served-out.ensures.written),
     )

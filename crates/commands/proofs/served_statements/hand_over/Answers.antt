@@ -1,35 +1,73 @@
-use Rattle.std.proofs.Common.{List, [], ◌++◌, ◌∙◌, append_assoc, subst, sym}
-use Rattle.std.proofs.lemmas.List.{append-nil}
+use Rattle.std.proofs.Common.{◌++◌, ◌∷◌, ◌∙◌, List, ℕ, [], append_assoc, ap, subst, sym, append-nil}
 use Rattle.chain.specs.declared.account_entry.AccountEntry.{AccountEntry}
+use Rattle.control.specs.declared.entries.Entries.{Entries}
 use Rattle.records.specs.Streams.{TakesRows}
-use Rattle.commands.proofs.ServedLemmas.{taken_then}
+use Rattle.commands.specs.Served.{ComeBehind, IsAnswered, last_time, piece_behind, up_to}
+use Rattle.commands.proofs.ServedLemmas.{pieces_more, taken_then}
 use Rattle.commands.proofs.served_statements.hand_over.Goals as goal
 
 pub pieces-init : goal.pieces-init
-pieces-init g c = (
-  [],
-  subst
+pieces-init g c = record {
+  so_far = [];
+  latest = c.args.first.entries;
+  last = c.in_ok-last.ensures.last ∙ ap last_time c.as_slice.ensures.value;
+  taken =
+      subst
       (λ (entries : List AccountEntry). TakesRows g.S.EntrySink.takes c.args.sink.now entries
       c.hand_entries.new.sink)
       (c.as_slice.ensures.value ∙ sym (append-nil c.args.first.entries.entries.items))
-      c.in_ok-last.ensures.taken,
-  c.in_ok-last.ensures.ready,
-)
+      c.in_ok-last.ensures.taken;
+  ready = c.in_ok-last.ensures.refused;
+  behind = λ pieces come.
+      subst
+      (λ (to : ℕ). ComeBehind IsAnswered (record c.args.first.asked { to = to })
+      c.args.first.entries pieces)
+      c.min.ensures come;
+}
 
 pub pieces-preserved : goal.pieces-preserved
 pieces-preserved g c =
-    let first = c.args.first.entries.entries.items in
-    let more = c.in_ok-more.more.entries.items in (
-      c.pieces.invariant.0 ++ more,
-      subst
+    let before = c.pieces.invariant in
+    let more = c.in_ok-more.more in record {
+      so_far = before.so_far ++ more ∷ [];
+      latest = more;
+      last = c.in_ok-last-2.ensures.last ∙ ap last_time c.as_slice-in-pieces.ensures.value;
+      taken =
+          subst
           (λ (entries : List AccountEntry). TakesRows g.S.EntrySink.takes c.args.sink.now entries
           c.hand_entries-in-pieces.new.sink)
-          (append_assoc first c.pieces.invariant.0 more)
-          (taken_then g.S.EntrySink.takes c.args.sink.now c.pieces.sink c.hand_entries-in-pieces.new.sink _ more
-          c.pieces.invariant.1
+          (pieces_more (c.args.first.entries ∷ before.so_far) more)
+          (taken_then g.S.EntrySink.takes c.args.sink.now c.pieces.sink
+          c.hand_entries-in-pieces.new.sink _ more.entries.items before.taken
           (subst
           (λ (entries : List AccountEntry). TakesRows g.S.EntrySink.takes c.pieces.sink entries
           c.hand_entries-in-pieces.new.sink)
-          c.as_slice-in-pieces.ensures.value c.in_ok-last-2.ensures.taken)),
-      c.in_ok-last-2.ensures.ready,
+          c.as_slice-in-pieces.ensures.value c.in_ok-last-2.ensures.taken));
+      ready = c.in_ok-last-2.ensures.refused;
+      behind = λ pieces come.
+          subst
+          (λ (all : List Entries). ComeBehind IsAnswered
+          (up_to c.args.first.entries.clock c.args.first.asked) c.args.first.entries all)
+          (sym (append_assoc before.so_far (more ∷ []) pieces))
+          (before.behind (more ∷ pieces) (
+            c.in-Some.next,
+            ap (piece_behind c.pieces.asked) (sym before.last) ∙ sym c.piece_behind.ensures
+                ∙ c.in-Some.is,
+            (c.in_ok-more._answer, rw c.in_ok-more.ensures.ok_part at c.in_ok-ask_piece.ensures),
+            come,
+          ));
+    }
+
+pub returns-in_default-clause-taken : goal.returns-in_default-clause-taken
+returns-in_default-clause-taken g c =
+    let before = c.pieces.invariant in (
+      before.so_far,
+      subst
+          (λ (all : List Entries). ComeBehind IsAnswered
+          (up_to c.args.first.entries.clock c.args.first.asked) c.args.first.entries all)
+          (append-nil before.so_far)
+          (before.behind []
+          (ap (piece_behind c.pieces.asked) (sym before.last) ∙ sym c.piece_behind.ensures
+          ∙ c.in_default.is)),
+      before.taken,
     )

@@ -1,11 +1,19 @@
-use Rattle.std.proofs.Common.{◌≡◌, ◌++◌, List, false}
-use Rattle.chain.specs.declared.account_entry.AccountEntry.{AccountEntry}
+use Rattle.std.proofs.Common.{◌≡◌, ◌++◌, ◌∷◌, List, false}
+use Rattle.control.specs.declared.entries.Entries.{Entries}
 use Rattle.records.specs.Streams.{TakesRows}
+use Rattle.commands.specs.Served.{ComeBehind, IsAnswered, entries_of, last_time, up_to}
 use Rattle.commands.proofs.served_statements.hand_over.Given as goal
 
--- the entries of the first piece and of more behind it are taken, and none was refused
+-- the entries of the first piece and of some behind it are taken, and none was refused; what comes
+-- behind the last of them comes behind the first with these between
 abbrev pub invariant-pieces : goal.invariant-pieces
-invariant-pieces g l =
-    (more : List AccountEntry)
-    × TakesRows g.S.EntrySink.takes l.fn.sink (l.fn.first.entries.entries.items ++ more) l.sink
-    × (g.S.EntrySink.refused l.sink ≡ false)
+invariant-pieces g l = record {
+  so_far : List Entries;
+  latest : Entries;
+  last : l.last ≡ last_time latest.entries.items;
+  taken : TakesRows g.S.EntrySink.takes l.fn.sink (entries_of (l.fn.first.entries ∷ so_far)) l.sink;
+  ready : g.S.EntrySink.refused l.sink ≡ false;
+  behind : (pieces : List Entries) → ComeBehind IsAnswered l.asked latest pieces
+      → ComeBehind IsAnswered (up_to l.fn.first.entries.clock l.fn.first.asked) l.fn.first.entries
+      (so_far ++ pieces);
+}
