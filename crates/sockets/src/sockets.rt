@@ -36,6 +36,8 @@ pub struct Sockets<'a, K: Clock, O: Operator> {
     pub(crate) events: Events<Global>,
     pub(crate) door: Door,
     pub(crate) guests: Guests,
+    // How often it is looked yet who else is ready before it is waited.
+    pub(crate) looks: u8,
 }
 
 impl<'a, K: Clock, O: Operator> Sockets<'a, K, O> {
@@ -60,6 +62,7 @@ impl<'a, K: Clock, O: Operator> Sockets<'a, K, O> {
             events: Events::with_capacity(rt.alloc(), EVENTS)?,
             door,
             guests: Guests::new(rt.alloc(), limits)?,
+            looks: 0,
         })
     }
 

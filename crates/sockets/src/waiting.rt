@@ -21,6 +21,10 @@ const BUSY: u64 = 10;
 /// For how many milliseconds it is waited where waiting for all fails.
 const PAUSE: u64 = 100;
 
+/// How often all who are ready have their turn, behind a waiting, before it is waited again. A client
+/// is read in one of these turns and may share a round from the next one on.
+const LOOKS: u8 = 2;
+
 // Registers a client's connection.
 fn register(poll: &mio::Registry, stream: &mut TcpStream, number: u64) -> io::Result<()> {
     let Some(token) = token_of(number) else {
@@ -216,13 +220,24 @@ impl<K: Clock, O: Operator> Sockets<'_, K, O> {
         }
     }
 
+    // Whether somebody is ready, and it is to be looked who else is before it is waited again.
+    fn looks_again(&self) -> bool {
+        self.looks > 0 && self.guests.is_anybody_ready()
+    }
+
     // What has happened since it was told last, or what happens now.
     fn told_next(&mut self, fresh: u64) -> Told {
         let told = self.next(fresh);
         if told != Told::Nothing {
             return told;
         }
-        self.wait();
+        if self.looks_again() {
+            self.looks = self.looks.saturating_sub(1);
+            self.look(Duration::ZERO);
+        } else {
+            self.wait();
+            self.looks = LOOKS;
+        }
         self.next(fresh)
     }
 }
@@ -235,9 +250,10 @@ impl<K: Clock, O: Operator> Peers for Sockets<'_, K, O> {
         self.told_now(fresh)
     }
 
-    // Who asks for another turn is told behind the next waiting, and waited for by nobody.
+    // Who asks for another turn is told behind the next look, and is waited for by nobody once it was
+    // looked often enough.
     fn has_more(&self) -> bool {
-        self.guests.has_turns()
+        self.guests.has_turns() || self.looks_again()
     }
 
     fn shared(&self, messages: u64) {

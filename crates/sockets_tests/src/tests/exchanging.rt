@@ -1,7 +1,7 @@
 //! What is read, and what is written.
 use super::scene::Allowed;
 use super::steps::Step::{
-    Again, Closes, Connects, Hears, Reads, Sends, Shuts, Tells, Wants, Writes,
+    Again, Closes, Connects, HasMore, Hears, Reads, Sends, Shuts, Tells, Wants, Writes,
 };
 use super::steps::{Step, take_steps};
 use polling::{Read, Told, Written};
@@ -31,6 +31,27 @@ const ONE: [Step; 16] = [
 #[test]
 fn tells_who_is_there_and_what_comes(rt: HostRuntime) -> Result<(), Fail> {
     take_steps(&rt, 0, Allowed(9, 9, LONG, LONG, LONG), &ONE)
+}
+
+// Who asks for one turn after the other is told so, and is waited for twice between two waitings.
+const ASKS_ON: [Step; 12] = [
+    Connects(0),
+    Tells(0, 3, Told::Joined),
+    Tells(1, 1, Told::Ready(0)),
+    HasMore(false),
+    Again(0),
+    HasMore(true),
+    Tells(1, 1, Told::Ready(0)),
+    Again(0),
+    HasMore(false),
+    Tells(1, 1, Told::Ready(0)),
+    Again(0),
+    HasMore(true),
+];
+
+#[test]
+fn waits_twice_for_who_asks_on(rt: HostRuntime) -> Result<(), Fail> {
+    take_steps(&rt, 0, Allowed(9, 9, LONG, LONG, LONG), &ASKS_ON)
 }
 
 // Of three long messages two have room. The third is not read before the first is answered.

@@ -29,6 +29,8 @@ pub enum Step {
     /// This comes of writing so many bytes.
     Writes(u64, usize, Written),
     Again(u64),
+    /// Whether more is told without waiting.
+    HasMore(bool),
     Closes(u64),
     /// So many milliseconds pass.
     Passes(u64),
@@ -87,6 +89,7 @@ fn is_taken(
             scene.sockets.again(client);
             Ok(true)
         }
+        Step::HasMore(has_more) => Ok(scene.sockets.has_more() == has_more),
         Step::Closes(client) => {
             scene.sockets.close(client);
             Ok(true)
