@@ -13,14 +13,14 @@ use Rattle.store.proofs.reopening.reopened.Goals as goal
 pub returns-in-Ok-clause-found : goal.returns-in-Ok-clause-found
 returns-in-Ok-clause-found g c honest =
     let clean = subst (λ place. IsHonestAt {g = g.D.Disk} place) c.over.ensures.over honest in
-    finds_again g.D.Disk g.met.D.Disk.seen_may_stay c.close-files.result (c.in-Ok.ensures.honest clean)
+    finds_again g.D.Disk g.met.D.Disk.seen_may_stay c.close-files.result (c.in-Ok.ensures.opened.honest clean)
     c.args.store.place c.over.result.place c.close-files.ensures.back
     (subst (λ place. IsOpenedAt {g = g.D.Disk} (image_of g.D.Disk c.close-files.result) place)
-    (sym c.over.ensures.over) (c.in-Ok.ensures.opened clean, c.in-Ok.ensures.sound clean))
+    (sym c.over.ensures.over) (c.in-Ok.ensures.opened.opened clean))
 
 pub returns-in-Ok-clause-honest : goal.returns-in-Ok-clause-honest
 returns-in-Ok-clause-honest g c honest =
-    c.close-files.ensures.honest (c.in-Ok.ensures.honest
+    c.close-files.ensures.honest (c.in-Ok.ensures.opened.honest
     (subst (λ place. IsHonestAt {g = g.D.Disk} place) c.over.ensures.over honest))
 
 pub returns-in-Err-clause-damaged : goal.returns-in-Err-clause-damaged
@@ -30,8 +30,8 @@ returns-in-Err-clause-damaged g c honest =
     (λ damage held. held_again g.D.Disk g.met.D.Disk.seen_may_stay c.close-files.result held.honest
     c.args.store.place (IsDamagedIn 3 damage) c.close-files.ensures.back held)
     (let clean = subst (λ place. IsHonestAt {g = g.D.Disk} place) c.unopened-in-Err.ensures.place honest in
-    held_damage g.D.Disk c.close-files.result c.in-Err.left c.in-Err.refused.fault clean (c.in-Err.ensures.told clean)
-    (files_stay g.D.Disk c.close-files.result c.in-Err.refused c.in-Err.left c.in-Err.ensures.left))
+    held_damage g.D.Disk c.close-files.result c.in-Err.left c.in-Err.refused.fault clean (c.in-Err.ensures.refused.told clean)
+    (files_stay g.D.Disk c.close-files.result c.in-Err.refused c.in-Err.left c.in-Err.ensures.refused.left))
 
 -- files that may not be used are kept as they are
 pub returns-then-not-may_be_used-clause-left : goal.returns-then-not-may_be_used-clause-left
@@ -53,20 +53,20 @@ pub returns-in-Err-clause-left : goal.returns-in-Err-clause-left
 returns-in-Err-clause-left g c = record {
   stand = λ is. keeps_left g.D.Disk g.met.D.Disk.seen_may_stay c.args.store c.unopened-in-Err.result
       c.close-files.result c.in-Err.left c.close-files.ensures.back c.close-files.ensures.honest
-      c.unopened-in-Err.ensures.place (c.in-Err.ensures.left.stand is);
+      c.unopened-in-Err.ensures.place (c.in-Err.ensures.refused.left.stand is);
   unopened = λ is. record {
     files = c.close-files.result;
     back = c.close-files.ensures.back;
     left = c.in-Err.left;
     place = c.unopened-in-Err.ensures.place;
-    unopened = c.in-Err.ensures.left.unopened is;
+    unopened = c.in-Err.ensures.refused.left.unopened is;
   };
-  of_ledger = c.in-Err.ensures.left.of_ledger;
+  of_ledger = c.in-Err.ensures.refused.left.of_ledger;
   cause = record {
     files = c.close-files.result;
     back = c.close-files.ensures.back;
     left = c.in-Err.left;
     place = c.unopened-in-Err.ensures.place;
-    told = c.in-Err.ensures.told;
+    told = c.in-Err.ensures.refused.told;
   };
 }
