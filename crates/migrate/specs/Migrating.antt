@@ -6,7 +6,7 @@ use Rattle.sqlite.specs.State.{State, HasCleanDisk, Survives}
 use Rattle.ledger_sql.specs.Frames.{Live}
 use Rattle.openings.specs.Damage.{HasFirstDamage}
 use Rattle.migrate.specs.Faults.{IfDamaged}
-use Rattle.migrate.specs.Ledgers.{state_of}
+use Rattle.migrate.specs.Ledgers.{IsMigratable, state_of}
 use Rattle.openings.specs.Opened.{IsSoundIn}
 use Rattle.migrate.specs.Upgrading.{HasRisen, KeepsMachines, Raised}
 use Rattle.migrate.specs.declared.fault.MigrateFault.{MigrateFault}
@@ -22,6 +22,13 @@ pub record LeavesAudited {A : Type 0} (version : ℕ) (old new : State)
       HasCleanDisk new → IfErr result (λ fault. IfDamaged fault
       (λ damage. HasFirstDamage version damage old.now.trees))
   pub sound : HasCleanDisk new → OnOk result (IsSoundIn version old.now.trees)
+
+-- a ledger of an older version than this one, which is a known one
+pub record IsBelow {D : Type 0} {g : disk.Ghosts D} (to : ℕ) (ledger : LedgerOfVersion D g) :
+    Type 0 where
+  pub migratable : IsMigratable ledger
+  pub older : ledger.version < to
+  pub known : to ≤ 3
 
 module _ {D : Type 0} {g : disk.Ghosts D} {A : Type 0} where
   -- just a ledger that is newer than what is asked for is told as one; one that has that version is

@@ -6,6 +6,7 @@ ghost use Rattle.sqlite.specs.State.{HasCleanDisk};
 ghost use Rattle.sqlite_wal.specs.Files.{image_at};
 ghost use Rattle.sqlite_wal.specs.Reads.{AreClean};
 ghost use Rattle.openings.specs.AtPath.{LeavesPath};
+ghost use Rattle.openings.specs.Calls.{AreUsable};
 ghost use Rattle.openings.specs.Found.{IsSettled, Yields};
 ghost use Rattle.stored_ledgers.specs.Resting.{Serves};
 ghost use Rattle.migrate.specs.Ledgers.{IsMigratable, IsOpenedToMigrate, RefusesFiles, state_of};
@@ -45,8 +46,7 @@ impl<D: Disk + Drop> LedgerOfVersion<D> {
         options: Options,
         audit: &A,
     ) -> Result<LedgerOfVersion<D>, (OpenFault, Files<D>)>
-        requires log { IsTrue (D.Disk.is_usable files.log) }
-        requires db { IsTrue (D.Disk.is_usable files.db) }
+        requires { AreUsable D.Disk files }
         ensures migratable { IfOk result IsMigratable }
         ensures opened { IfOk result (IsOpenedToMigrate (image_of D.Disk files)) }
         ensures honest { IfOk result (λ ledger. HasCleanDisk (state_of ledger)

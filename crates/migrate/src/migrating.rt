@@ -1,12 +1,11 @@
 ghost use Rattle.std.specs.Prelude.{◌≡◌, ◌≢◌, ◌<◌, ◌≤◌, ◌↔◌, Err, IfOk, IsTrue};
 ghost use Rattle.records.specs.declared.unavailable.Unavailable.TheVariants.{Disk as DiskFailed};
 ghost use Rattle.sqlite.specs.Held.{state};
-ghost use Rattle.ledger_sql.specs.Calls.{IfClean};
 ghost use Rattle.stored_ledgers.specs.Looks.{ReadsAtRest};
 ghost use Rattle.migrate.specs.Ledgers.{IsMigratable};
-ghost use Rattle.migrate.specs.Migrating.{LeavesAudited, MigratesLedger, RaisesLedger, RefusesNewer};
+ghost use Rattle.migrate.specs.Older.{CanBeRaised};
+ghost use Rattle.migrate.specs.Migrating.{IsBelow, LeavesAudited, MigratesLedger, RaisesLedger, RefusesNewer};
 ghost use Rattle.migrate.specs.Raising.{RaisesOrTells};
-ghost use Rattle.migrate.specs.Upgrading.{IsOlder, older_schema};
 
 use crate::raising::raise;
 use crate::{LedgerOfVersion, MigrateFault, rows_in_version};
@@ -51,9 +50,7 @@ fn migrate_older<D: Disk + Drop>(
     ledger: &mut LedgerOfVersion<D>,
     to: u32,
 ) -> Result<(), MigrateFault>
-    requires migratable { IsMigratable ledger.old }
-    requires older { ledger.old.version < to }
-    requires known { to ≤ 3 }
+    requires { IsBelow to ledger.old }
     ensures no_newer { result ≢ Err MigrateFault.NewerSchema }
     ensures migratable { IsMigratable ledger.new }
     ensures raises { RaisesLedger to ledger.old ledger.new result }
@@ -81,8 +78,7 @@ fn raise_rows<S: Alter>(
     version: u32,
     to: u32,
 ) -> Result<DueSets, MigrateFault>
-    requires less { version < 3 }
-    requires older { IfClean (IsOlder (older_schema version)) S.Store conn.old }
+    requires { CanBeRaised version S.Store conn.old }
     ensures audited { LeavesAudited version
         (state S.Store conn.old) (state S.Store conn.new) result }
     ensures whole { RaisesOrTells (MigrateFault.Unavailable DiskFailed) to
@@ -100,8 +96,7 @@ fn newer_rows<S: Alter>(
     version: u32,
     to: u32,
 ) -> Result<AllRows, MigrateFault>
-    requires less { version < 3 }
-    requires older { IfClean (IsOlder (older_schema version)) S.Store conn.old }
+    requires { CanBeRaised version S.Store conn.old }
     ensures audited { LeavesAudited version
         (state S.Store conn.old) (state S.Store conn.new) result }
     ensures version { IfOk result (λ newer. newer.version ≡ to) }

@@ -1,10 +1,11 @@
 //! All rows of a ledger in a newer version of the schema.
 
-ghost use Rattle.std.specs.Prelude.{◌<◌, All, IfOk};
+ghost use Rattle.std.specs.Prelude.{◌<◌, IfOk};
 ghost use Rattle.std.specs.List.{AllZip};
 ghost use Rattle.rows.specs.TypedRows.{lists_of};
 ghost use Rattle.audit.specs.Sound.{AreSound};
 ghost use Rattle.migrate.specs.Migrated.{AreMigrated, IsMigrated};
+ghost use Rattle.migrate.specs.Older.{AreSoundOlder};
 
 use audit::rows_in_version as tenant_rows_in_version;
 use rows::{AllRows, TenantOfDigest};
@@ -14,9 +15,7 @@ use std::alloc::{AllocError, Global};
 /// ids: of each tenant the rows there of the same machine, in which no id has failed. The rows have
 /// to be sound, as `audit::check` finds. It takes as much time and memory as that does.
 pub fn rows_in_version(alloc: Global, rows: AllRows, to: u32) -> Result<AllRows, AllocError>
-    requires older { rows.version < 3 }
-    requires sound { All (λ tenant. AreSound rows.version (lists_of tenant.rows))
-        rows.tenants.items }
+    requires { AreSoundOlder rows.version rows.tenants.items }
     ensures { IfOk result (AreMigrated to rows) }
 {
     let AllRows {
@@ -38,8 +37,7 @@ fn tenants_in_version(
     to: u32,
     tenants: Vec<TenantOfDigest>,
 ) -> Result<Vec<TenantOfDigest>, AllocError>
-    requires older { version < 3 }
-    requires sound { All (λ tenant. AreSound version (lists_of tenant.rows)) tenants.items }
+    requires { AreSoundOlder version tenants.items }
     ensures { IfOk result (λ newer. AllZip (IsMigrated version to) tenants.items newer.items) }
 {
     let mut newer = Vec::new(alloc);

@@ -1,16 +1,10 @@
 //! What an opening looks at in a ledger of an older version.
 
-ghost use Rattle.std.specs.Prelude.{◌≡◌, ◌<◌, All, IfErr, OnOk, IsTrue};
-ghost use Rattle.audit.specs.Damage.{IsFirstDamage};
-ghost use Rattle.audit.specs.Sound.{AreSound};
-ghost use Rattle.rows.specs.TypedRows.{lists_of};
-ghost use Rattle.sqlite.specs.Held.{state};
-ghost use Rattle.openings.specs.Damage.{IfDamaged};
-ghost use Rattle.stored_ledgers.specs.Looks.{Looks};
-ghost use Rattle.openings.specs.Opened.{HasNames};
+ghost use Rattle.std.specs.Prelude.{◌≡◌, ◌<◌, IsTrue};
+ghost use Rattle.openings.specs.Calls.{Examines};
 ghost use Rattle.migrate.specs.Naming.{names_other};
-ghost use Rattle.migrate.specs.Older.{ExaminesOlder, RefusesUnless};
-ghost use Rattle.migrate.specs.Told.{TellsOfRows};
+ghost use Rattle.migrate.specs.Older.{AuditsOlder, IsSoundOlder, RefusesUnless};
+ghost use Rattle.migrate.specs.Told.{TellsOlder};
 ghost use Rattle.migrate.specs.Upgrading.{older_schema};
 
 use crate::naming::{names_no_balances, names_no_lists};
@@ -32,9 +26,8 @@ pub(crate) fn examine_older<S: Alter, A: Audit>(
     audit: &A,
 ) -> Result<(), OpenFault>
     requires { version < 3 }
-    ensures examined { ExaminesOlder version
-        (state S.Store conn.old) (state S.Store conn.new) result }
-    ensures looks { Looks (state S.Store conn.old) (state S.Store conn.new) result }
+    ensures { Examines (λ done. IsSoundOlder version) (TellsOlder version)
+        S.Store conn.old conn.new result }
 {
     if let Some(fault) = older_refusal(version, conn.schema()) {
         return Err(fault);
@@ -45,12 +38,7 @@ pub(crate) fn examine_older<S: Alter, A: Audit>(
 
 /// Whether each tenant of an older ledger has a name and sound rows.
 fn audit_older<A: Audit>(alloc: Global, rows: &AllRows, audit: &A) -> Result<(), OpenFault>
-    ensures sound { OnOk result
-        (All (λ tenant. AreSound rows.now.version (lists_of tenant.rows)) rows.now.tenants.items) }
-    ensures names { OnOk result (HasNames rows.now.directory.items) }
-    ensures damaged { IfErr result (λ fault. IfDamaged fault
-        (IsFirstDamage rows.now.version rows.now.tenants.items)) }
-    ensures told { IfErr result (λ fault. TellsOfRows fault rows.now) }
+    ensures { AuditsOlder rows.now result }
 {
     if !has_names(&rows.directory) {
         return Err(OpenFault::NotALedger);

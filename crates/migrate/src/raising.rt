@@ -1,14 +1,14 @@
 //! A ledger of an older version becomes one of a newer version, in one transaction: whole or not at
 //! all. What was written is looked at as at an opening before it is committed.
 
-ghost use Rattle.std.specs.Prelude.{◌≢◌, IfOk, IsTrue};
+ghost use Rattle.std.specs.Prelude.{◌≢◌, IsTrue};
 ghost use Rattle.records.specs.declared.unavailable.Unavailable.TheVariants.{Disk as DiskFailed};
 ghost use Rattle.sqlite.specs.State.{HasCleanDisk};
 ghost use Rattle.sqlite.specs.Held.{state};
 ghost use Rattle.ledger_sql.specs.Calls.{Changes, IfClean};
 ghost use Rattle.ledger_sql.specs.Frames.{Live, Follows};
 ghost use Rattle.stored_ledgers.specs.Resting.{IsQuiet, IsSame};
-ghost use Rattle.stored_ledgers.specs.Looks.{Looks};
+ghost use Rattle.stored_ledgers.specs.Calls.{Sees};
 ghost use Rattle.migrate.specs.Raising.{HasBalanceTables, IsSeen, Prepares};
 ghost use Rattle.migrate.specs.Raising.{RaisesOrBegins, RaisesOrTells, RaisesWhole};
 ghost use Rattle.migrate.specs.Upgrading.{IsOlder, older_schema};
@@ -128,9 +128,7 @@ fn look_at<S: Alter, A: Audit>(
     version: u32,
     audit: &A,
 ) -> Result<DueSets, OpenFault>
-    ensures seen { HasCleanDisk (state S.Store conn.new) → IfOk result
-        (λ sets. IsSeen version sets (state S.Store conn.old).now) }
-    ensures looks { Looks (state S.Store conn.old) (state S.Store conn.new) result }
+    ensures { Sees (λ db sets. IsSeen version sets db) S.Store conn.old conn.new result }
 {
     if version < CURRENT_VERSION {
         examine_older(alloc, conn, BALANCE_VERSION, audit)?;

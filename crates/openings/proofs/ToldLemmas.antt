@@ -1,5 +1,5 @@
 -- In which case of a database a fault is told.
-use Rattle.std.proofs.Common.{◌≡◌, ◌≢◌, ℤ, pos, List, [], ◌∷◌, map, Result, Err, IfErr, subst}
+use Rattle.std.proofs.Common.{◌≡◌, ◌≢◌, ℤ, pos, List, [], ◌∷◌, map, Result, Err, IfErr, refl, subst}
 use Rattle.std.specs.List.Sorted.{IsPermutation}
 use Rattle.std.proofs.lemmas.List.Sorted.{IsPermutation-sym}
 use Rattle.audit.specs.declared.damage.Damage.{Damage}
@@ -15,7 +15,8 @@ use Rattle.ledger_sql.specs.TableRows.{version_rows}
 use Rattle.ledger_sql.specs.Values.{version_values}
 use Rattle.ledger_sql.specs.declared.table_fault.TableFault.{TableFault}
 use Rattle.ledger_sql.specs.declared.table_fault.TableFault.TheVariants as table
-use Rattle.openings.specs.Damage.{NamesVersion}
+use Rattle.openings.specs.Calls.{IsOfVersion}
+use Rattle.openings.specs.Damage.{IsNoDamage, NamesVersion}
 use Rattle.openings.specs.Faults.{damage_fault, open_fault_of}
 use Rattle.openings.specs.Told.{IsCurrent, LacksTables, LacksVersion, LacksVersions, Tells}
 use Rattle.openings.specs.Told.{No_versions, No_version, No_table, Of_version, Of_ledger}
@@ -70,6 +71,16 @@ told_version fault.NewerSchema db versions starts all lacks = record {
 told_version (fault.Damaged damage) db versions starts all lacks = absurd lacks
 told_version (fault.Unavailable why) db versions starts all lacks = absurd lacks
 
+-- where the fault is no damage, none is told
+none_damaged : (told : OpenFault) → ((damage : Damage) → told ≢ fault.Damaged damage) → IsNoDamage told
+none_damaged fault.InUse none = tt
+none_damaged fault.Unreadable none = tt
+none_damaged fault.NotALedger none = tt
+none_damaged fault.OldSchema none = tt
+none_damaged fault.NewerSchema none = tt
+none_damaged (fault.Damaged damage) none = none damage refl
+none_damaged (fault.Unavailable why) none = tt
+
 -- a call that was in want of something is told as that, whatever the database is
 told_want : (cause : TableFault) (db : Database) → Tells (open_fault_of cause) db
 told_want table.Missing db = tt
@@ -83,20 +94,27 @@ pub told_by_want : {T : Type 0} (r : Result T OpenFault) (why : Unavailable) (db
     → r ≡ Err (fault.Unavailable why) → IfErr r (λ told. Tells told db)
 told_by_want r why db is = rw is tt
 
--- that the ledger is an old one is told by neither, and by no such call
-pub not_old_versions : (told : OpenFault) (schema : Schema) → LacksVersions told schema → told ≢ fault.OldSchema
-not_old_versions told schema lacks is = subst (λ (t : OpenFault). LacksVersions t schema) is lacks
+-- either tells a fault of the version alone, and so does such a call
+module _ (told : OpenFault) where
+  pub of_versions : (schema : Schema) → LacksVersions told schema → IsOfVersion told
+  of_versions schema lacks = record {
+    not_old = λ is. subst (λ (t : OpenFault). LacksVersions t schema) is lacks;
+    undamaged = none_damaged told (λ damage is. subst (λ (t : OpenFault). LacksVersions t schema) is lacks);
+  }
 
-pub not_old_version : (told : OpenFault) (versions : List ℤ) → LacksVersion told versions → told ≢ fault.OldSchema
-not_old_version told versions lacks is = subst (λ (t : OpenFault). LacksVersion t versions) is lacks
+  pub of_version : (versions : List ℤ) → LacksVersion told versions → IsOfVersion told
+  of_version versions lacks = record {
+    not_old = λ is. subst (λ (t : OpenFault). LacksVersion t versions) is lacks;
+    undamaged = none_damaged told (λ damage is. subst (λ (t : OpenFault). LacksVersion t versions) is lacks);
+  }
 
-not_old_want : (cause : TableFault) → open_fault_of cause ≢ fault.OldSchema
-not_old_want table.Missing is = cc
-not_old_want (table.Unavailable why) is = cc
+of_version_want : (cause : TableFault) → IsOfVersion (open_fault_of cause)
+of_version_want table.Missing = record { not_old = λ is. cc; undamaged = tt }
+of_version_want (table.Unavailable why) = record { not_old = λ is. cc; undamaged = tt }
 
-pub not_old_call : {T : Type 0} (r : Result T OpenFault) (cause : TableFault) → r ≡ Err (open_fault_of cause)
-    → IfErr r (λ told. told ≢ fault.OldSchema)
-not_old_call r cause is = rw is (not_old_want cause)
+pub of_version_by_call : {T : Type 0} (r : Result T OpenFault) (cause : TableFault)
+    → r ≡ Err (open_fault_of cause) → IfErr r IsOfVersion
+of_version_by_call r cause is = rw is (of_version_want cause)
 
 -- so is an audit, unless it found damage
 told_audit : (cause : AuditFault) (db : Database) (P : Damage → Type 0)

@@ -12,3 +12,4 @@ pub mod CaseLaws
 pub mod DamageLaws
 pub mod NameLaws
 pub mod AtPath
+pub mod Calls

@@ -1,12 +1,10 @@
 //! A database that was just opened, looked at before anyone else gets it.
 
-ghost use Rattle.std.specs.Prelude.{IfOk, IfErr, IsTrue};
+ghost use Rattle.std.specs.Prelude.{IfOk, IfErr};
 ghost use Rattle.sqlite.specs.State.{HasCleanDisk};
-ghost use Rattle.sqlite.specs.Files.{file_state, image_of};
-ghost use Rattle.sqlite_wal.specs.Reads.{AreClean};
+ghost use Rattle.sqlite.specs.Files.{file_state};
+ghost use Rattle.openings.specs.Calls.{AreUsable, RefusesBy, StandsOn};
 ghost use Rattle.openings.specs.Opened.{IsOpened};
-ghost use Rattle.openings.specs.Refused.{LeavesAsTold};
-ghost use Rattle.openings.specs.Told.{IsToldBy};
 
 use crate::closing::shut;
 use crate::opening::{OpenFault, open_on};
@@ -19,11 +17,9 @@ use std::alloc::Global;
 pub trait Inspection {
     type Found: Drop;
 
-    ghost use Rattle.std.specs.Prelude.{IfOk, IfErr};
+    ghost use Rattle.std.specs.Prelude.{IfOk};
     ghost use Rattle.sqlite.specs.Effect.{Database};
-    ghost use Rattle.sqlite.specs.Held.{state};
-    ghost use Rattle.sqlite.specs.State.{HasCleanDisk};
-    ghost use Rattle.stored_ledgers.specs.Looks.{Looks};
+    ghost use Rattle.openings.specs.Calls.{Examines};
     ghost use Rattle.openings.specs.declared.opening.OpenFault.{OpenFault};
 
     // What is known of each answer, whatever the disk has done.
@@ -42,11 +38,7 @@ pub trait Inspection {
         conn: &mut Connection<S>,
     ) -> Result<Self::Found, OpenFault>
         ensures known { IfOk result known }
-        ensures finds { HasCleanDisk (state S.Store conn.new) → IfOk result
-            (λ found. finds found (state S.Store conn.old).now) }
-        ensures told { HasCleanDisk (state S.Store conn.new)
-            → IfErr result (λ fault. refuses fault (state S.Store conn.old).now) }
-        ensures looks { Looks (state S.Store conn.old) (state S.Store conn.new) result };
+        ensures examines { Examines finds refuses S.Store conn.old conn.new result };
 }
 
 /// Opens the database in two files, and looks at it. They are given back where it is refused, and it
@@ -57,18 +49,12 @@ pub fn open_telling<D: Disk + Drop, I: Inspection>(
     options: Options,
     inspection: &I,
 ) -> Result<(Connection<FileStore<D>>, I::Found), (Refused, Files<D>)>
-    requires log { IsTrue (D.Disk.is_usable files.log) }
-    requires db { IsTrue (D.Disk.is_usable files.db) }
+    requires { AreUsable D.Disk files }
     ensures known { IfOk result (λ it. I.known it.1) }
     ensures finds { IfOk result (λ it. HasCleanDisk (file_state it.0)
         → I.finds it.1 (file_state it.0).now) }
-    ensures opened { IfOk result (λ it. HasCleanDisk (file_state it.0)
-        → IsOpened (image_of D.Disk files) (file_state it.0)) }
-    ensures honest { IfOk result (λ it. HasCleanDisk (file_state it.0)
-        → AreClean D.Disk files.log files.db) }
-    ensures told { IfErr result (λ e. AreClean D.Disk e.1.log e.1.db
-        → IsToldBy I.refuses D.Disk files e.0.fault e.1) }
-    ensures left { IfErr result (λ e. LeavesAsTold D.Disk files e.0 e.1) }
+    ensures opened { IfOk result (λ it. StandsOn D.Disk files IsOpened (file_state it.0)) }
+    ensures refused { IfErr result (RefusesBy D.Disk I.refuses files) }
 {
     let mut conn = match open_on(alloc, files, options) {
         Ok(conn) => conn,

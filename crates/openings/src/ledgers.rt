@@ -1,13 +1,11 @@
 //! Ledgers in two files, opened once all of them was looked at.
 
-ghost use Rattle.std.specs.Prelude.{IfOk, IfErr, IsTrue};
-ghost use Rattle.sqlite.specs.State.{HasCleanDisk};
-ghost use Rattle.sqlite.specs.Files.{file_state, image_of};
-ghost use Rattle.sqlite_wal.specs.Reads.{AreClean};
+ghost use Rattle.std.specs.Prelude.{IfOk, IfErr};
+ghost use Rattle.sqlite.specs.Files.{file_state};
 ghost use Rattle.stored_ledgers.specs.Resting.{Serves};
+ghost use Rattle.openings.specs.Calls.{AreUsable, RefusesBy, StandsOn};
 ghost use Rattle.openings.specs.Opened.{IsOpened};
-ghost use Rattle.openings.specs.Refused.{LeavesAsTold};
-ghost use Rattle.openings.specs.Told.{IsSoundLedger, IsTold};
+ghost use Rattle.openings.specs.Told.{IsSoundLedger, Tells};
 
 use crate::auditing::Audit;
 use crate::inspecting::{Inspection, open_telling};
@@ -54,18 +52,11 @@ pub fn open_ledger<D: Disk + Drop, A: Audit>(
     options: Options,
     audit: &A,
 ) -> Result<(Connection<FileStore<D>>, DueSets), (Refused, Files<D>)>
-    requires log { IsTrue (D.Disk.is_usable files.log) }
-    requires db { IsTrue (D.Disk.is_usable files.db) }
+    requires { AreUsable D.Disk files }
     ensures serves { IfOk result (λ it. Serves it.1 (file_state it.0)) }
-    ensures opened { IfOk result (λ it. HasCleanDisk (file_state it.0)
-        → IsOpened (image_of D.Disk files) (file_state it.0)) }
-    ensures sound { IfOk result (λ it. HasCleanDisk (file_state it.0)
-        → IsSoundLedger (file_state it.0).now) }
-    ensures honest { IfOk result (λ it. HasCleanDisk (file_state it.0)
-        → AreClean D.Disk files.log files.db) }
-    ensures told { IfErr result (λ e. AreClean D.Disk e.1.log e.1.db
-        → IsTold D.Disk files e.0.fault e.1) }
-    ensures left { IfErr result (λ e. LeavesAsTold D.Disk files e.0 e.1) }
+    ensures opened { IfOk result (λ it. StandsOn D.Disk files
+        (λ image s. IsOpened image s × IsSoundLedger s.now) (file_state it.0)) }
+    ensures refused { IfErr result (RefusesBy D.Disk Tells files) }
 {
     open_telling(alloc, files, options, &ServedInspection { audit })
 }

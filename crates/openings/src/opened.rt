@@ -1,10 +1,8 @@
 //! What an opening looks at before a ledger is served.
 
-ghost use Rattle.std.specs.Prelude.{◌↔◌, IfOk, IfErr, OnOk, IsTrue};
-ghost use Rattle.sqlite.specs.State.{HasCleanDisk};
-ghost use Rattle.sqlite.specs.Held.{state};
+ghost use Rattle.std.specs.Prelude.{◌↔◌, IfOk, IsTrue};
 ghost use Rattle.ledger_sql.specs.Effects.{IsLedger};
-ghost use Rattle.stored_ledgers.specs.Looks.{Looks};
+ghost use Rattle.openings.specs.Calls.{Examines};
 ghost use Rattle.openings.specs.Opened.{CanServe, HasNames};
 ghost use Rattle.openings.specs.Told.{IsCurrent, IsSoundLedger, Tells};
 ghost use Rattle.openings.specs.Whole.{AreAllRows};
@@ -29,13 +27,8 @@ pub fn examine<S: Alter, A: Audit>(
     conn: &mut Connection<S>,
     audit: &A,
 ) -> Result<DueSets, OpenFault>
-    ensures examined { HasCleanDisk (state S.Store conn.new)
-        → IfOk result (λ sets. CanServe sets (state S.Store conn.old).now) }
-    ensures sound { HasCleanDisk (state S.Store conn.new)
-        → OnOk result (IsSoundLedger (state S.Store conn.old).now) }
-    ensures told { HasCleanDisk (state S.Store conn.new)
-        → IfErr result (λ fault. Tells fault (state S.Store conn.old).now) }
-    ensures looks { Looks (state S.Store conn.old) (state S.Store conn.new) result }
+    ensures { Examines (λ sets db. CanServe sets db × IsSoundLedger db) Tells
+        S.Store conn.old conn.new result }
 {
     rows_fit();
     held_machines();
@@ -47,11 +40,7 @@ pub fn examine<S: Alter, A: Audit>(
 
 /// Refuses each version of the schema but the current one.
 fn find_current<S: Alter>(alloc: Global, conn: &mut Connection<S>) -> Result<(), OpenFault>
-    ensures current { HasCleanDisk (state S.Store conn.new)
-        → OnOk result (IsCurrent (state S.Store conn.old).now) }
-    ensures told { HasCleanDisk (state S.Store conn.new)
-        → IfErr result (λ fault. Tells fault (state S.Store conn.old).now) }
-    ensures looks { Looks (state S.Store conn.old) (state S.Store conn.new) result }
+    ensures { Examines (λ done. IsCurrent) Tells S.Store conn.old conn.new result }
 {
     let version = find_version(alloc, conn)?;
     if version < CURRENT_VERSION {
@@ -62,14 +51,10 @@ fn find_current<S: Alter>(alloc: Global, conn: &mut Connection<S>) -> Result<(),
 
 /// Reads all rows of a file of the current version.
 fn read_ledger<S: Alter>(alloc: Global, conn: &mut Connection<S>) -> Result<AllRows, OpenFault>
-    ensures ledger { HasCleanDisk (state S.Store conn.new) → OnOk result
-        (IsLedger (state S.Store conn.old).now.schema) }
-    ensures read { HasCleanDisk (state S.Store conn.new)
-        → IfOk result (AreAllRows CURRENT_VERSION (state S.Store conn.old).now.trees) }
-    ensures told { HasCleanDisk (state S.Store conn.new) → IsCurrent (state S.Store conn.old).now
-        → IfErr result (λ fault. Tells fault (state S.Store conn.old).now) }
     ensures names { IfOk result (λ rows. HasNames rows.directory.items) }
-    ensures looks { Looks (state S.Store conn.old) (state S.Store conn.new) result }
+    ensures examines { Examines
+        (λ rows db. IsLedger db.schema × AreAllRows CURRENT_VERSION db.trees rows)
+        (λ fault db. IsCurrent db → Tells fault db) S.Store conn.old conn.new result }
 {
     if let Some(fault) = standing_refusal(conn.schema()) {
         return Err(fault);

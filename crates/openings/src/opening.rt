@@ -1,15 +1,13 @@
 //! How the database of a store is opened.
 
-ghost use Rattle.std.specs.Prelude.{◌≡◌, true, false, IsTrue, IfOk, IfErr};
-ghost use Rattle.sqlite.specs.State.{HasCleanDisk};
-ghost use Rattle.sqlite.specs.Files.{file_state, image_of};
-ghost use Rattle.sqlite_std_file.specs.File.{file_is_usable, IsFresh};
+ghost use Rattle.std.specs.Prelude.{◌≡◌, true, false, IfOk, IfErr};
+ghost use Rattle.sqlite.specs.Files.{file_state};
+ghost use Rattle.sqlite_std_file.specs.File.{IsFresh};
 ghost use Rattle.sqlite_wal.specs.Files.{image_at};
-ghost use Rattle.sqlite_wal.specs.Reads.{AreClean};
+ghost use Rattle.openings.specs.Calls.{AreUsable, RefusesUnopened, StandsOn};
 ghost use Rattle.openings.specs.AtPath.{HoldHonestly};
 ghost use Rattle.openings.specs.Faults.{open_fault_in};
-ghost use Rattle.openings.specs.Told.{IsUnopenedFor};
-ghost use Rattle.openings.specs.Found.{IsOfLedger, IsOpenAt, LeavesUnopened};
+ghost use Rattle.openings.specs.Found.{IsOfLedger, IsOpenAt};
 
 use crate::closing::is_settled;
 use audit::{AuditFault, Damage};
@@ -97,16 +95,9 @@ pub(crate) fn open_on<D: Disk + Drop>(
     files: Files<D>,
     options: Options,
 ) -> Result<Connection<FileStore<D>>, (OpenFault, Files<D>)>
-    requires log { IsTrue (D.Disk.is_usable files.log) }
-    requires db { IsTrue (D.Disk.is_usable files.db) }
-    ensures opened { IfOk result (λ conn. HasCleanDisk (file_state conn)
-        → IsOpenAt (image_of D.Disk files) (file_state conn)) }
-    ensures honest { IfOk result (λ conn. HasCleanDisk (file_state conn)
-        → AreClean D.Disk files.log files.db) }
-    ensures fault { IfErr result (λ e. IsOfLedger e.0 → ⊥) }
-    ensures told { IfErr result (λ e. AreClean D.Disk e.1.log e.1.db
-        → IsUnopenedFor D.Disk files e.0 e.1) }
-    ensures left { IfErr result (λ e. LeavesUnopened D.Disk files e.1) }
+    requires { AreUsable D.Disk files }
+    ensures opened { IfOk result (λ conn. StandsOn D.Disk files IsOpenAt (file_state conn)) }
+    ensures refused { IfErr result (RefusesUnopened D.Disk files) }
 {
     match Connection::open_files(alloc, files, options) {
         Ok(conn) => {
@@ -124,8 +115,7 @@ pub fn files_at<St: Start>(
     path: &str,
     start: St,
 ) -> Result<Files<FileFrom<St>>, OpenFault>
-    ensures log { IfOk result (λ files. IsTrue (file_is_usable St.Start files.log)) }
-    ensures db { IfOk result (λ files. IsTrue (file_is_usable St.Start files.db)) }
+    ensures usable { IfOk result (AreUsable ⟦<FileFrom<St> as Disk>⟧) }
     ensures fresh { IfOk result (λ files. IsFresh true files.log × IsFresh false files.db) }
     ensures held { IfOk result (HoldHonestly ⟦<FileFrom<St> as Disk>⟧ (image_at St.Start)) }
     ensures fault { IfErr result (λ fault. IsOfLedger fault → ⊥) }

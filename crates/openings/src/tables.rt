@@ -1,12 +1,9 @@
 //! A tenant's rows of each table.
 
-ghost use Rattle.std.specs.Prelude.{IfOk};
-ghost use Rattle.sqlite.specs.State.{HasCleanDisk};
-ghost use Rattle.sqlite.specs.Held.{state};
 ghost use Rattle.ledger_sql.specs.Effects.{StartsAs};
 ghost use Rattle.ledger_sql.specs.Schema.{list_schema, balance_schema, ledger_schema};
 ghost use Rattle.rows.specs.TypedRows.{lists_of};
-ghost use Rattle.stored_ledgers.specs.Looks.{Looks};
+ghost use Rattle.openings.specs.Calls.{ReadsTables};
 ghost use Rattle.openings.specs.Tables.{AreTenantRows, HasTables};
 
 use ledger_sql::listing::{
@@ -25,11 +22,9 @@ pub fn read_tenant<S: Alter>(
     version: u32,
     tenant: i64,
 ) -> Result<TenantRows, Unavailable>
-    ensures whole { HasCleanDisk (state S.Store conn.new)
-        → HasTables version (state S.Store conn.old).now.schema
-        → IfOk result
-        (λ rows. AreTenantRows version tenant (state S.Store conn.old).now.trees (lists_of rows)) }
-    ensures looks { Looks (state S.Store conn.old) (state S.Store conn.new) result }
+    ensures { ReadsTables (HasTables version)
+        (λ trees rows. AreTenantRows version tenant trees (lists_of rows))
+        S.Store conn.old conn.new result }
 {
     if version < 2 {
         return read_entries(alloc, conn, tenant);
@@ -46,11 +41,9 @@ fn read_entries<S: Alter>(
     conn: &mut Connection<S>,
     tenant: i64,
 ) -> Result<TenantRows, Unavailable>
-    ensures whole { HasCleanDisk (state S.Store conn.new)
-        → StartsAs list_schema.tables (state S.Store conn.old).now.schema
-        → IfOk result
-        (λ rows. AreTenantRows 1 tenant (state S.Store conn.old).now.trees (lists_of rows)) }
-    ensures looks { Looks (state S.Store conn.old) (state S.Store conn.new) result }
+    ensures { ReadsTables (StartsAs list_schema.tables)
+        (λ trees rows. AreTenantRows 1 tenant trees (lists_of rows))
+        S.Store conn.old conn.new result }
 {
     let clocks = list_clocks(alloc, conn, tenant)?;
     let accounts = list_accounts(alloc, conn, tenant)?;
@@ -72,11 +65,9 @@ fn read_with_derived<S: Alter>(
     conn: &mut Connection<S>,
     tenant: i64,
 ) -> Result<TenantRows, Unavailable>
-    ensures whole { HasCleanDisk (state S.Store conn.new)
-        → StartsAs balance_schema.tables (state S.Store conn.old).now.schema
-        → IfOk result
-        (λ rows. AreTenantRows 2 tenant (state S.Store conn.old).now.trees (lists_of rows)) }
-    ensures looks { Looks (state S.Store conn.old) (state S.Store conn.new) result }
+    ensures { ReadsTables (StartsAs balance_schema.tables)
+        (λ trees rows. AreTenantRows 2 tenant trees (lists_of rows))
+        S.Store conn.old conn.new result }
 {
     let entries = read_entries(alloc, conn, tenant)?;
     let balances = list_balances(alloc, conn, tenant)?;
@@ -96,11 +87,9 @@ fn read_with_failed<S: Alter>(
     conn: &mut Connection<S>,
     tenant: i64,
 ) -> Result<TenantRows, Unavailable>
-    ensures whole { HasCleanDisk (state S.Store conn.new)
-        → StartsAs ledger_schema.tables (state S.Store conn.old).now.schema
-        → IfOk result
-        (λ rows. AreTenantRows 3 tenant (state S.Store conn.old).now.trees (lists_of rows)) }
-    ensures looks { Looks (state S.Store conn.old) (state S.Store conn.new) result }
+    ensures { ReadsTables (StartsAs ledger_schema.tables)
+        (λ trees rows. AreTenantRows 3 tenant trees (lists_of rows))
+        S.Store conn.old conn.new result }
 {
     let derived = read_with_derived(alloc, conn, tenant)?;
     let failed = list_failed(alloc, conn, tenant)?;

@@ -1,12 +1,8 @@
 //! The version of the schema that a file names.
 
-ghost use Rattle.std.specs.Prelude.{◌≡◌, ◌≢◌, ◌≤◌, pos, [], ◌∷◌, IfOk, IfErr};
-ghost use Rattle.sqlite.specs.State.{HasCleanDisk};
-ghost use Rattle.sqlite.specs.Held.{state};
-ghost use Rattle.openings.specs.Damage.{IsNoDamage};
-ghost use Rattle.stored_ledgers.specs.Looks.{Looks};
+ghost use Rattle.std.specs.Prelude.{◌≡◌, ◌≤◌, pos, [], ◌∷◌, IfOk, IfErr};
+ghost use Rattle.openings.specs.Calls.{Examines, IsNamedBy, IsOfVersion};
 ghost use Rattle.openings.specs.Told.{HasVersion, LacksVersion, Tells};
-ghost use Rattle.openings.specs.declared.opening.OpenFault.TheVariants.{OldSchema};
 
 use crate::opening::OpenFault;
 use crate::standing::version_refusal;
@@ -19,14 +15,10 @@ pub const CURRENT_VERSION: u32 = 3;
 
 /// The version that a file names. It only reads.
 pub fn find_version<S: Alter>(alloc: Global, conn: &mut Connection<S>) -> Result<u32, OpenFault>
-    ensures found { HasCleanDisk (state S.Store conn.new) → IfOk result
-        (λ version. HasVersion (λ number. number ≡ pos version) (state S.Store conn.old).now) }
+    ensures examines { Examines (λ version. HasVersion (λ number. number ≡ pos version)) Tells
+        S.Store conn.old conn.new result }
     ensures known { IfOk result (λ version. (1 ≤ version) × (version ≤ CURRENT_VERSION)) }
-    ensures told { HasCleanDisk (state S.Store conn.new)
-        → IfErr result (λ fault. Tells fault (state S.Store conn.old).now) }
-    ensures not_old { IfErr result (λ fault. fault ≢ OldSchema) }
-    ensures undamaged { IfErr result IsNoDamage }
-    ensures looks { Looks (state S.Store conn.old) (state S.Store conn.new) result }
+    ensures only { IfErr result IsOfVersion }
 {
     if let Some(fault) = version_refusal(conn.schema()) {
         return Err(fault);
@@ -36,8 +28,7 @@ pub fn find_version<S: Alter>(alloc: Global, conn: &mut Connection<S>) -> Result
 }
 
 fn one_version(versions: &[i64]) -> Result<u32, OpenFault>
-    ensures named { IfOk result (λ version. versions.now ≡ pos version ∷ []) }
-    ensures known { IfOk result (λ version. (1 ≤ version) × (version ≤ CURRENT_VERSION)) }
+    ensures named { IfOk result (IsNamedBy versions.now) }
     ensures lacks { IfErr result (λ fault. LacksVersion fault versions.now) }
 {
     match versions {
@@ -48,8 +39,7 @@ fn one_version(versions: &[i64]) -> Result<u32, OpenFault>
 
 /// The version with this number, if a ledger may have it.
 fn known_version(number: i64) -> Result<u32, OpenFault>
-    ensures named { IfOk result (λ version. number ≡ pos version) }
-    ensures known { IfOk result (λ version. (1 ≤ version) × (version ≤ CURRENT_VERSION)) }
+    ensures named { IfOk result (IsNamedBy (number ∷ [])) }
     ensures lacks { IfErr result (λ fault. LacksVersion fault (number ∷ [])) }
 {
     if number < 1 {

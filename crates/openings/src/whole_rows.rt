@@ -5,9 +5,11 @@ ghost use Rattle.std.specs.List.{AllZip};
 ghost use Rattle.sqlite.specs.State.{HasCleanDisk};
 ghost use Rattle.sqlite.specs.Held.{state};
 ghost use Rattle.ledger_sql.specs.Frames.{Follows};
+ghost use Rattle.stored_ledgers.specs.Calls.{Sees, TellsAtRest};
 ghost use Rattle.stored_ledgers.specs.Resting.{HoldsHere};
 ghost use Rattle.records.specs.declared.unavailable.Unavailable.TheVariants.{Disk};
-ghost use Rattle.stored_ledgers.specs.Looks.{Looks, ReadsAtRest};
+ghost use Rattle.stored_ledgers.specs.Looks.{Looks};
+ghost use Rattle.openings.specs.Calls.{ReadsTables};
 ghost use Rattle.openings.specs.Whole.{CanBeRead, AreRowsOf, AreAllRows, IsReadFor};
 ghost use Rattle.openings.specs.Tables.{HasTables};
 
@@ -27,9 +29,8 @@ pub fn all_rows<S: Alter>(
     version: u32,
 ) -> Result<AllRows, Unavailable>
     requires { HoldsHere (state S.Store conn.old) }
-    ensures value { HasCleanDisk (state S.Store conn.new)
-        → IfOk result (AreAllRows version (state S.Store conn.old).now.trees) }
-    ensures reads { ReadsAtRest Disk (state S.Store conn.old) (state S.Store conn.new) result }
+    ensures { TellsAtRest Disk (λ db rows. AreAllRows version db.trees rows)
+        S.Store conn.old conn.new result }
 {
     rows_in(alloc, conn, version)
 }
@@ -42,9 +43,8 @@ pub fn rows_in<S: Alter>(
 ) -> Result<AllRows, Unavailable>
     requires { CanBeRead version (state S.Store conn.old) }
     ensures version { IfOk result (λ rows. rows.version ≡ version) }
-    ensures value { HasCleanDisk (state S.Store conn.new)
-        → IfOk result (AreAllRows version (state S.Store conn.old).now.trees) }
-    ensures reads { ReadsAtRest Disk (state S.Store conn.old) (state S.Store conn.new) result }
+    ensures tells { TellsAtRest Disk (λ db rows. AreAllRows version db.trees rows)
+        S.Store conn.old conn.new result }
 {
     let rows = read_all(alloc, conn, version);
     judged(conn, rows)
@@ -58,9 +58,8 @@ pub fn rows_of<S: Alter>(
     digest: &[u8; 32],
 ) -> Result<Option<TenantRows>, Unavailable>
     requires { HoldsHere (state S.Store conn.old) }
-    ensures value { HasCleanDisk (state S.Store conn.new)
-        → IfOk result (AreRowsOf version digest.now (state S.Store conn.old).now.trees) }
-    ensures reads { ReadsAtRest Disk (state S.Store conn.old) (state S.Store conn.new) result }
+    ensures { TellsAtRest Disk (λ db rows. AreRowsOf version digest.now db.trees rows)
+        S.Store conn.old conn.new result }
 {
     let rows = try_rows_of(alloc, conn, version, digest);
     judged(conn, rows)
@@ -74,9 +73,8 @@ fn try_rows_of<S: Alter>(
     digest: &[u8; 32],
 ) -> Result<Option<TenantRows>, Unavailable>
     requires { HoldsHere (state S.Store conn.old) }
-    ensures whole { HasCleanDisk (state S.Store conn.new)
-        → IfOk result (AreRowsOf version digest.now (state S.Store conn.old).now.trees) }
-    ensures looks { Looks (state S.Store conn.old) (state S.Store conn.new) result }
+    ensures { Sees (λ db rows. AreRowsOf version digest.now db.trees rows)
+        S.Store conn.old conn.new result }
 {
     let Some(number) = find_tenant(conn, digest)? else {
         return Ok(None);
@@ -91,10 +89,8 @@ pub fn read_all<S: Alter>(
     version: u32,
 ) -> Result<AllRows, Unavailable>
     ensures version { IfOk result (λ rows. rows.version ≡ version) }
-    ensures whole { HasCleanDisk (state S.Store conn.new)
-        → HasTables version (state S.Store conn.old).now.schema
-        → IfOk result (AreAllRows version (state S.Store conn.old).now.trees) }
-    ensures looks { Looks (state S.Store conn.old) (state S.Store conn.new) result }
+    ensures reads { ReadsTables (HasTables version) (AreAllRows version)
+        S.Store conn.old conn.new result }
 {
     let directory = directory(alloc, conn)?;
     let tenants = read_tenants(alloc, conn, version, &directory)?;

@@ -5,3 +5,4 @@ pub mod NameLaws
 pub mod StoreLaws
 pub mod Deeds
 pub mod Overdue
+pub mod Reopened

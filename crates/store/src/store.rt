@@ -1,6 +1,6 @@
 //! A store: the ledgers of many tenants in two files.
 
-ghost use Rattle.std.specs.Prelude.{◌≡◌, ◌≢◌, false, Err, is_some, IfOk, IfErr, OnErr, IsTrue};
+ghost use Rattle.std.specs.Prelude.{◌≡◌, ◌≢◌, false, Err, is_some, IfOk, IfErr, OnErr};
 ghost use Rattle.records.specs.declared.unavailable.Unavailable.TheVariants.{Disk as DiskFailed};
 ghost use Rattle.chain.specs.Ledgers.{IsRun, KeepsAll};
 ghost use Rattle.chain.specs.declared.ledgers.BatchFault.TheVariants.{Unavailable as AreUnavailable};
@@ -9,6 +9,7 @@ ghost use Rattle.stored_ledgers.specs.Outcomes.{IsAfterBatch, KeepsTables};
 ghost use Rattle.sqlite_wal.specs.Reads.{AreClean};
 ghost use Rattle.ledger_sql.specs.Creating.{IsEmptyLedger};
 ghost use Rattle.stored_ledgers.specs.Directory.{digest_in};
+ghost use Rattle.openings.specs.Calls.{AreUsable};
 ghost use Rattle.openings.specs.Found.{FindsNone};
 ghost use Rattle.stored_ledgers.specs.Listing.{AreListed};
 ghost use Rattle.stored_ledgers.specs.Joining.{HasJoined, Joined};
@@ -71,8 +72,7 @@ impl<D: Disk + Drop> Store<D> {
         files: Files<D>,
         options: Options,
     ) -> Result<Store<D>, (OpenFault, Files<D>)>
-        requires log { IsTrue (D.Disk.is_usable files.log) }
-        requires db { IsTrue (D.Disk.is_usable files.db) }
+        requires { AreUsable D.Disk files }
         ensures usable { IfOk result IsUsable }
         ensures ready { IfOk result IsReady }
         ensures empty { IfOk result (λ store. IsHonest store → IsLive store
@@ -94,8 +94,7 @@ impl<D: Disk + Drop> Store<D> {
         options: Options,
         audit: &A,
     ) -> Result<Store<D>, (OpenFault, Files<D>)>
-        requires log { IsTrue (D.Disk.is_usable files.log) }
-        requires db { IsTrue (D.Disk.is_usable files.db) }
+        requires { AreUsable D.Disk files }
         ensures usable { IfOk result IsUsable }
         ensures ready { IfOk result IsReady }
         ensures opened { IfOk result (λ store. IsHonest store

@@ -15,3 +15,4 @@ pub mod Names
 pub mod Rounds
 pub mod RoundLaws
 pub mod Looks
+pub mod Calls

@@ -1,14 +1,15 @@
 //! Batches of work on one tenant's tables.
 
-ghost use Rattle.std.specs.Prelude.{◌≡◌, ◌≢◌, None, Err, IsTrue};
-ghost use Rattle.sqlite.specs.State.{HasCleanDisk, Survives};
+ghost use Rattle.std.specs.Prelude.{◌≡◌, None};
+ghost use Rattle.sqlite.specs.State.{Survives};
 ghost use Rattle.sqlite.specs.Held.{state};
 ghost use Rattle.records.specs.declared.unavailable.Unavailable.TheVariants.{Disk};
 ghost use Rattle.chain.specs.Ledgers.{IsRun};
 ghost use Rattle.ledger_sql.specs.Frames.{Live};
+ghost use Rattle.stored_ledgers.specs.Calls.{ServesOn};
 ghost use Rattle.stored_ledgers.specs.Directory.{tenants_in};
 ghost use Rattle.stored_ledgers.specs.Outcomes.{batch_answer, IsAfterBatch, IsBatchTimed, KeepsTables};
-ghost use Rattle.stored_ledgers.specs.Resting.{IsResting, Serves, CanServe};
+ghost use Rattle.stored_ledgers.specs.Resting.{Serves, CanServe};
 
 use crate::transactions::{Change, in_transaction};
 use crate::working::{Worked, forget, work_here};
@@ -38,10 +39,7 @@ pub fn in_batch<S: Alter, W: Work + Drop>(
         (tenants_in (state S.Store conn.new).now.trees) (batch_answer result) }
     ensures tables { Live (state S.Store conn.new)
         → KeepsTables (state S.Store conn.old).now (state S.Store conn.new).now }
-    ensures resting { Live (state S.Store conn.new)
-        → IsResting due.new (state S.Store conn.new) }
-    ensures open { HasCleanDisk (state S.Store conn.new) → result ≢ Err Disk
-        → IsTrue (state S.Store conn.new).is_open }
+    ensures serves { ServesOn Disk due.new (state S.Store conn.new) result }
     ensures survives { Survives (state S.Store conn.old) (state S.Store conn.new)
         (IsAfterBatch (W.gives work) digest.now (state S.Store conn.old).now) }
 {

@@ -1,12 +1,12 @@
 //! Which tenants a database has.
 
-ghost use Rattle.std.specs.Prelude.{◌≡◌, is_some, option_map, All, IsPermutation, IsSorted, IfSome, IfOk};
+ghost use Rattle.std.specs.Prelude.{◌≡◌, is_some, option_map, All, IsPermutation, IsSorted, IfSome};
 ghost use Rattle.records.specs.declared.unavailable.Unavailable.TheVariants.{Disk};
 ghost use Rattle.sqlite.specs.State.{HasCleanDisk};
 ghost use Rattle.sqlite.specs.Held.{state};
+ghost use Rattle.stored_ledgers.specs.Calls.{Sees, TellsAtRest};
 ghost use Rattle.stored_ledgers.specs.Directory.{tenants_in, digest_in, first_digest, with_number};
 ghost use Rattle.stored_ledgers.specs.Listing.{AreListed, AreThose, IsThat, IsTenantOf, IsMadeOf, by_name};
-ghost use Rattle.stored_ledgers.specs.Looks.{Looks, ReadsAtRest};
 ghost use Rattle.stored_ledgers.specs.Resting.{HoldsHere};
 
 use crate::probe::judged;
@@ -31,9 +31,8 @@ pub struct ListedTenant {
 /// Whether a tenant has this digest.
 pub fn knows<S: Alter>(conn: &mut Connection<S>, digest: &[u8; 32]) -> Result<bool, Unavailable>
     requires { HoldsHere (state S.Store conn.old) }
-    ensures value { HasCleanDisk (state S.Store conn.new) → IfOk result (λ known.
-        known ≡ is_some (tenants_in (state S.Store conn.old).now.trees digest.now)) }
-    ensures reads { ReadsAtRest Disk (state S.Store conn.old) (state S.Store conn.new) result }
+    ensures { TellsAtRest Disk (λ db known. known ≡ is_some (tenants_in db.trees digest.now))
+        S.Store conn.old conn.new result }
 {
     let number = find_tenant(conn, digest);
     Ok(judged(conn, number)?.is_some())
@@ -45,9 +44,8 @@ pub fn digest_of<S: Alter>(
     name: &TenantName,
 ) -> Result<Option<[u8; 32]>, Unavailable>
     requires { HoldsHere (state S.Store conn.old) }
-    ensures value { HasCleanDisk (state S.Store conn.new) → IfOk result (λ digest.
-        digest ≡ digest_in name.now (state S.Store conn.old).now.trees) }
-    ensures reads { ReadsAtRest Disk (state S.Store conn.old) (state S.Store conn.new) result }
+    ensures { TellsAtRest Disk (λ db digest. digest ≡ digest_in name.now db.trees)
+        S.Store conn.old conn.new result }
 {
     let row = find_tenant_by_name(conn, name.as_str());
     Ok(digest_in(judged(conn, row)?))
@@ -59,9 +57,8 @@ pub(crate) fn digest_numbered<S: Alter>(
     number: i64,
 ) -> Result<Option<[u8; 32]>, Unavailable>
     requires { HoldsHere (state S.Store conn.old) }
-    ensures value { HasCleanDisk (state S.Store conn.new) → IfOk result (λ digest.
-        digest ≡ first_digest (with_number number (state S.Store conn.old).now.trees)) }
-    ensures reads { ReadsAtRest Disk (state S.Store conn.old) (state S.Store conn.new) result }
+    ensures { TellsAtRest Disk (λ db digest. digest ≡ first_digest (with_number number db.trees))
+        S.Store conn.old conn.new result }
 {
     let row = find_tenant_by_number(conn, number);
     Ok(digest_in(judged(conn, row)?))
@@ -81,9 +78,8 @@ pub fn tenants<S: Alter>(
     conn: &mut Connection<S>,
 ) -> Result<Vec<ListedTenant>, Unavailable>
     requires { HoldsHere (state S.Store conn.old) }
-    ensures value { HasCleanDisk (state S.Store conn.new) → IfOk result (λ tenants.
-        AreListed (state S.Store conn.old).now.trees tenants.items) }
-    ensures reads { ReadsAtRest Disk (state S.Store conn.old) (state S.Store conn.new) result }
+    ensures { TellsAtRest Disk (λ db tenants. AreListed db.trees tenants.items)
+        S.Store conn.old conn.new result }
 {
     let tenants = try_tenants(alloc, conn);
     judged(conn, tenants)
@@ -95,9 +91,8 @@ fn try_tenants<S: Alter>(
     conn: &mut Connection<S>,
 ) -> Result<Vec<ListedTenant>, Unavailable>
     requires { HoldsHere (state S.Store conn.old) }
-    ensures value { HasCleanDisk (state S.Store conn.new) → IfOk result (λ tenants.
-        AreListed (state S.Store conn.old).now.trees tenants.items) }
-    ensures looks { Looks (state S.Store conn.old) (state S.Store conn.new) result }
+    ensures { Sees (λ db tenants. AreListed db.trees tenants.items)
+        S.Store conn.old conn.new result }
 {
     let rows = directory(alloc, conn)?;
     let mut tenants = with_clocks(alloc, conn, rows.as_slice())?;
@@ -114,9 +109,8 @@ fn with_clocks<S: Alter>(
     requires here { HoldsHere (state S.Store conn.old) }
     requires found { HasCleanDisk (state S.Store conn.old)
         → All (IsTenantOf (state S.Store conn.old).now.trees) rows.now }
-    ensures value { HasCleanDisk (state S.Store conn.new) → IfOk result (λ tenants.
-        AreThose (state S.Store conn.old).now.trees rows.now tenants.items) }
-    ensures looks { Looks (state S.Store conn.old) (state S.Store conn.new) result }
+    ensures { Sees (λ db tenants. AreThose db.trees rows.now tenants.items)
+        S.Store conn.old conn.new result }
 {
     let mut tenants = Vec::new(alloc);
     for row in rows {
@@ -133,9 +127,7 @@ fn with_clock<S: Alter>(
     requires here { HoldsHere (state S.Store conn.old) }
     requires found { HasCleanDisk (state S.Store conn.old)
         → IsTenantOf (state S.Store conn.old).now.trees row.now }
-    ensures value { HasCleanDisk (state S.Store conn.new) → IfOk result
-        (IsThat (state S.Store conn.old).now.trees row.now) }
-    ensures looks { Looks (state S.Store conn.old) (state S.Store conn.new) result }
+    ensures { Sees (λ db tenant. IsThat db.trees row.now tenant) S.Store conn.old conn.new result }
 {
     let clock = find_clock(conn, row.number)?;
     listed(row, clock).ok_or(Unavailable::Size)

@@ -1,16 +1,18 @@
 //! New tenants.
 
-ghost use Rattle.std.specs.Prelude.{◌≡◌, ◌≢◌, ◌<◌, ◌≤◌, ℕ, pos, true, None, Some, Err, IfSome, IfOk, OnOk, IsTrue};
+ghost use Rattle.std.specs.Prelude.{◌≡◌, ◌<◌, ◌≤◌, ℕ, pos, true, None, Some, Err, IfSome};
 ghost use Rattle.std.specs.List.{list_any};
 ghost use Rattle.std.specs.Ordering.{int_eq};
 ghost use Rattle.records.specs.declared.unavailable.Unavailable.TheVariants.{Disk};
-ghost use Rattle.sqlite.specs.State.{HasCleanDisk, IsUnchanged, Survives};
+ghost use Rattle.sqlite.specs.State.{Survives};
 ghost use Rattle.sqlite.specs.Held.{state};
-ghost use Rattle.ledger_sql.specs.Frames.{Live, Follows};
+ghost use Rattle.ledger_sql.specs.Calls.{IfClean};
+ghost use Rattle.ledger_sql.specs.Frames.{Live};
+ghost use Rattle.stored_ledgers.specs.Calls.{Sees, ServesOn};
 ghost use Rattle.stored_ledgers.specs.Directory.{IsLeastFree, IsLeastMissing, has_number, with_name, with_digest};
 ghost use Rattle.stored_ledgers.specs.Joining.{HasJoined, Joined, IsJoined, joining_answer, AreTaken};
 ghost use Rattle.stored_ledgers.specs.Ledger.{HoldsLedgers};
-ghost use Rattle.stored_ledgers.specs.Resting.{IsResting, Serves, CanServe};
+ghost use Rattle.stored_ledgers.specs.Resting.{Serves, CanServe};
 
 use crate::batches::DueSets;
 use crate::transactions::{Change, in_transaction};
@@ -53,10 +55,7 @@ pub fn join<S: Alter>(
     requires { Serves due.old (state S.Store conn.old) }
     ensures told { Live (state S.Store conn.new) → HasJoined name.now digest.now
         (state S.Store conn.old).now (state S.Store conn.new).now (joining_answer result) }
-    ensures resting { Live (state S.Store conn.new)
-        → IsResting due.new (state S.Store conn.new) }
-    ensures open { HasCleanDisk (state S.Store conn.new) → result ≢ Err Disk
-        → IsTrue (state S.Store conn.new).is_open }
+    ensures serves { ServesOn Disk due.new (state S.Store conn.new) result }
     ensures survives { Survives (state S.Store conn.old) (state S.Store conn.new)
         (Joined name.now digest.now (state S.Store conn.old).now) }
 {
@@ -114,13 +113,9 @@ fn what_is_taken<S: Alter>(
     name: &TenantName,
     digest: &[u8; 32],
 ) -> Result<Option<Taken>, Unavailable>
-    requires { HasCleanDisk (state S.Store conn.old)
-        → HoldsLedgers (state S.Store conn.old).now }
-    ensures told { HasCleanDisk (state S.Store conn.new) → IfOk result
-        (AreTaken name.now digest.now (state S.Store conn.old).now.trees) }
-    ensures same { HasCleanDisk (state S.Store conn.new) → OnOk result
-        (IsUnchanged (state S.Store conn.old) (state S.Store conn.new)) }
-    ensures follows { Follows (state S.Store conn.old) (state S.Store conn.new) }
+    requires { IfClean (λ s. HoldsLedgers s.now) S.Store conn.old }
+    ensures { Sees (λ db taken. AreTaken name.now digest.now db.trees taken)
+        S.Store conn.old conn.new result }
 {
     if find_tenant_by_name(conn, name.as_str())?.is_some() {
         return Ok(Some(Taken::Name));
@@ -133,13 +128,8 @@ fn what_is_taken<S: Alter>(
 
 /// The least number from 1 that no tenant has.
 fn free_number<S: Alter>(alloc: Global, conn: &mut Connection<S>) -> Result<u32, Unavailable>
-    requires { HasCleanDisk (state S.Store conn.old)
-        → HoldsLedgers (state S.Store conn.old).now }
-    ensures least { HasCleanDisk (state S.Store conn.new) → IfOk result
-        (λ number. IsLeastFree number (state S.Store conn.old).now.trees) }
-    ensures same { HasCleanDisk (state S.Store conn.new) → OnOk result
-        (IsUnchanged (state S.Store conn.old) (state S.Store conn.new)) }
-    ensures follows { Follows (state S.Store conn.old) (state S.Store conn.new) }
+    requires { IfClean (λ s. HoldsLedgers s.now) S.Store conn.old }
+    ensures { Sees (λ db number. IsLeastFree number db.trees) S.Store conn.old conn.new result }
 {
     let rows = directory(alloc, conn)?;
     least_missing(rows.as_slice()).ok_or(Unavailable::Size)

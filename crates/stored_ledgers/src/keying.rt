@@ -1,12 +1,13 @@
 //! Another key for a tenant.
 
-ghost use Rattle.std.specs.Prelude.{◌≡◌, ◌≢◌, Err, IsTrue};
+ghost use Rattle.std.specs.Prelude.{◌≡◌, Err};
 ghost use Rattle.records.specs.declared.unavailable.Unavailable.TheVariants.{Disk};
-ghost use Rattle.sqlite.specs.State.{HasCleanDisk, Survives};
+ghost use Rattle.sqlite.specs.State.{Survives};
 ghost use Rattle.sqlite.specs.Held.{state};
 ghost use Rattle.ledger_sql.specs.Frames.{Live};
+ghost use Rattle.stored_ledgers.specs.Calls.{ServesOn};
 ghost use Rattle.stored_ledgers.specs.Keying.{HasKeyed, Keyed, IsKeyed, IsKeyRefused, keying_answer};
-ghost use Rattle.stored_ledgers.specs.Resting.{IsResting, Serves, CanServe};
+ghost use Rattle.stored_ledgers.specs.Resting.{Serves, CanServe};
 
 use crate::batches::DueSets;
 use crate::transactions::{Change, in_transaction};
@@ -45,10 +46,7 @@ pub fn change_key<S: Alter>(
     requires { Serves due.old (state S.Store conn.old) }
     ensures told { Live (state S.Store conn.new) → HasKeyed name.now digest.now
         (state S.Store conn.old).now (state S.Store conn.new).now (keying_answer result) }
-    ensures resting { Live (state S.Store conn.new)
-        → IsResting due.new (state S.Store conn.new) }
-    ensures open { HasCleanDisk (state S.Store conn.new) → result ≢ Err Disk
-        → IsTrue (state S.Store conn.new).is_open }
+    ensures serves { ServesOn Disk due.new (state S.Store conn.new) result }
     ensures survives { Survives (state S.Store conn.old) (state S.Store conn.new)
         (Keyed name.now digest.now (state S.Store conn.old).now) }
 {

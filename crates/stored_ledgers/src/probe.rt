@@ -5,7 +5,8 @@ ghost use Rattle.std.specs.Bool.{OnTrue};
 ghost use Rattle.records.specs.declared.unavailable.Unavailable.TheVariants.{Disk};
 ghost use Rattle.sqlite.specs.State.{HasCleanDisk};
 ghost use Rattle.sqlite.specs.Held.{state};
-ghost use Rattle.ledger_sql.specs.Frames.{Live, IsOver, Follows};
+ghost use Rattle.ledger_sql.specs.Calls.{GivesUp};
+ghost use Rattle.ledger_sql.specs.Frames.{Live, Follows};
 ghost use Rattle.stored_ledgers.specs.Transactions.{IsQuiet, IsSame};
 
 use ledger_sql::stages::{abandon, is_open};
@@ -38,9 +39,7 @@ pub fn judged<S: Alter, T>(
 pub fn or_disk_fault<S: Alter>(conn: &mut Connection<S>, why: Unavailable) -> Unavailable
     ensures open { HasCleanDisk (state S.Store conn.new) → result ≢ Disk
         → IsTrue (state S.Store conn.new).is_open }
-    ensures over { Live (state S.Store conn.new)
-        → IsOver (state S.Store conn.old) (state S.Store conn.new) }
-    ensures follows { Follows (state S.Store conn.old) (state S.Store conn.new) }
+    ensures over { GivesUp S.Store conn.old conn.new }
 {
     if ends_open(conn) {
         why
@@ -54,9 +53,7 @@ pub fn or_disk_fault<S: Alter>(conn: &mut Connection<S>, why: Unavailable) -> Un
 pub(crate) fn ends_open<S: Alter>(conn: &mut Connection<S>) -> bool
     ensures open { HasCleanDisk (state S.Store conn.new)
         → OnTrue result (IsTrue (state S.Store conn.new).is_open) }
-    ensures over { Live (state S.Store conn.new)
-        → IsOver (state S.Store conn.old) (state S.Store conn.new) }
-    ensures follows { Follows (state S.Store conn.old) (state S.Store conn.new) }
+    ensures over { GivesUp S.Store conn.old conn.new }
 {
     abandon(conn);
     if is_open(conn) {

@@ -1,15 +1,16 @@
 //! Rounds: work of several tenants in one transaction.
 
-ghost use Rattle.std.specs.Prelude.{◌≡◌, ◌≢◌, None, Err, IfOk, OnOk, OnErr, IsTrue};
-ghost use Rattle.sqlite.specs.State.{HasCleanDisk, Survives};
+ghost use Rattle.std.specs.Prelude.{◌≡◌, None, IfOk, OnOk, OnErr};
+ghost use Rattle.sqlite.specs.State.{Survives};
 ghost use Rattle.sqlite.specs.Held.{state};
 ghost use Rattle.sqlite_trees.specs.Tree.{Trees};
 ghost use Rattle.records.specs.declared.unavailable.Unavailable.TheVariants.{Disk};
 ghost use Rattle.ledger_sql.specs.Frames.{Live};
+ghost use Rattle.stored_ledgers.specs.Calls.{ServesOn};
 ghost use Rattle.stored_ledgers.specs.Directory.{tenants_in};
 ghost use Rattle.stored_ledgers.specs.DueSets.{AreCovered};
 ghost use Rattle.stored_ledgers.specs.Outcomes.{ArePast, KeepsTables};
-ghost use Rattle.stored_ledgers.specs.Resting.{IsResting, IsSame, Serves, CanServe};
+ghost use Rattle.stored_ledgers.specs.Resting.{IsSame, Serves, CanServe};
 ghost use Rattle.stored_ledgers.specs.Rounds.{CanGoOn, FollowsHere, GrowsSets, IsAfterRound, IsRoundDone};
 
 use crate::batches::DueSets;
@@ -35,10 +36,7 @@ pub fn in_round<S: Alter, W: RoundWork + Drop>(
         (tenants_in (state S.Store conn.new).now.trees)) }
     ensures tables { Live (state S.Store conn.new)
         → KeepsTables (state S.Store conn.old).now (state S.Store conn.new).now }
-    ensures resting { Live (state S.Store conn.new)
-        → IsResting due.new (state S.Store conn.new) }
-    ensures open { HasCleanDisk (state S.Store conn.new) → result ≢ Err Disk
-        → IsTrue (state S.Store conn.new).is_open }
+    ensures serves { ServesOn Disk due.new (state S.Store conn.new) result }
     ensures same { Live (state S.Store conn.new) → OnErr result
         (IsSame (state S.Store conn.old) (state S.Store conn.new)) }
     ensures survives { Survives (state S.Store conn.old) (state S.Store conn.new)

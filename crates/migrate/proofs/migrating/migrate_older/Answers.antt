@@ -10,18 +10,15 @@ use Rattle.migrate.proofs.LedgerLemmas.{answers_live, no_fault, older_open, othe
 use Rattle.migrate.proofs.LedgerLemmas.{still_ready, unless_fault}
 use Rattle.migrate.proofs.migrating.migrate_older.Goals as goal
 
-pub raise_rows-raised-requires-clause-less : goal.raise_rows-raised-requires-clause-less
-raise_rows-raised-requires-clause-less g c =
-    let older = c.requires.older in
-    let known = c.requires.known in
-    omega (arith, older, known)
-
-pub raise_rows-raised-requires-clause-older : goal.raise_rows-raised-requires-clause-older
-raise_rows-raised-requires-clause-older g c =
+pub raise_rows-raised-requires : goal.raise_rows-raised-requires
+raise_rows-raised-requires g c =
     let answers : c.args.ledger.now.ready ≡ true = search rules in
     let older = c.requires.older in
     let known = c.requires.known in
-    older_open g.D.Disk c.args.ledger.now c.requires.migratable answers (omega (arith, older, known))
+    record {
+      less = omega (arith, older, known);
+      older = older_open g.D.Disk c.args.ledger.now c.requires.migratable answers (omega (arith, older, known));
+    }
 
 pub returns-in-Ok-clause-migratable : goal.returns-in-Ok-clause-migratable
 returns-in-Ok-clause-migratable g c =

@@ -27,15 +27,15 @@ returns-in_err-check-clause-audited g c =
       no_newer = no_newer_by_audit told _ (p.1 ∙ ap Err p.2);
       damaged = λ clean.
           damage_by_audit told c.args.version _ _ c.in_ok-older.older (state g.S.Store c.args.conn.now).now.trees (p.1 ∙ ap Err p.2)
-          c.in_ok-older.ensures.version c.in_err-check.ensures.damaged (c.in_ok-older.ensures.value clean);
+          c.in_ok-older.ensures.version c.in_err-check.ensures.damaged (c.in_ok-older.ensures.tells.value clean);
       sound = search rules;
     }
 
 pub returns-in_err-check-clause-reads : goal.returns-in_err-check-clause-reads
 returns-in_err-check-clause-reads g c = record {
-  same = c.in_ok-older.ensures.reads.same;
-  is_open = λ clean told. c.in_ok-older.ensures.reads.is_open clean (λ failed. no_fault failed);
-  follows = c.in_ok-older.ensures.reads.follows;
+  same = c.in_ok-older.ensures.tells.reads.same;
+  is_open = λ clean told. c.in_ok-older.ensures.tells.reads.is_open clean (λ failed. no_fault failed);
+  follows = c.in_ok-older.ensures.tells.reads.follows;
 }
 
 pub returns-clause-audited : goal.returns-clause-audited
@@ -44,7 +44,7 @@ returns-clause-audited g c = record {
   damaged = search rules;
   sound = λ clean.
       let rows = c.in_ok-older.older in
-      let read = c.in_ok-older.ensures.value clean in
+      let read = c.in_ok-older.ensures.tells.value clean in
       record {
         all = rows;
         read = read;

@@ -14,6 +14,6 @@ returns g c = record {
       let clean2 : HasCleanDisk s2 = omega (arith, c.in_ok-due.ensures.looks.follows.survives.clean, clean3) in
       let clean1 : HasCleanDisk s1 = omega (arith, c.in_ok-make_version.ensures.follows.survives.clean, clean2) in
       prepared_now c.args.rows.now.version c.in_ok-due.due s0 s1 s2 s3 (c.in_ok-begin_balanced.ensures.ok clean1)
-      (c.in_ok-make_version.ensures.ok clean2) (c.in_ok-due.ensures.seen clean3) (c.in_ok-due.ensures.looks.kept clean3).0.now_is;
+      (c.in_ok-make_version.ensures.ok clean2) (c.in_ok-due.ensures.value clean3) (c.in_ok-due.ensures.looks.kept clean3).0.now_is;
   follows = search rules;
 }

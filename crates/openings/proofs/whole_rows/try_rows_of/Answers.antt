@@ -9,28 +9,34 @@ use Rattle.stored_ledgers.specs.DirectoryLaws.{found_number}
 use Rattle.openings.proofs.WholeLemmas.{has_tables}
 use Rattle.openings.proofs.whole_rows.try_rows_of.Goals as goal
 
-pub returns-in_default-clause-whole : goal.returns-in_default-clause-whole
-returns-in_default-clause-whole g c clean =
-    let before : HasCleanDisk (state g.S.Store c.args.conn.now) =
-    omega (arith, c.in_ok-number.ensures.reads.follows.survives.clean, clean) in
-    found_number c.args.digest.now _ c.in_ok-number.field-0
-    ((c.requires before).2.distinct.digests c.args.digest.now) (c.in_ok-number.ensures.ok clean)
-    ∙ c.in_default.is
+pub returns-in_default : goal.returns-in_default
+returns-in_default g c = record {
+  value = λ clean.
+      let before : HasCleanDisk (state g.S.Store c.args.conn.now) =
+      omega (arith, c.in_ok-number.ensures.reads.follows.survives.clean, clean) in
+      found_number c.args.digest.now _ c.in_ok-number.field-0
+      ((c.requires before).2.distinct.digests c.args.digest.now) (c.in_ok-number.ensures.ok clean)
+      ∙ c.in_default.is;
+  looks = search rules;
+}
 
-pub returns-clause-whole : goal.returns-clause-whole
-returns-clause-whole g c clean =
-    let first : HasCleanDisk (state g.S.Store c.find_tenant.new.conn) =
-    omega (arith, c.in_ok-read_tenant.ensures.looks.follows.survives.clean, clean) in
-    let before : HasCleanDisk (state g.S.Store c.args.conn.now) =
-    omega (arith, c.in_ok-number.ensures.reads.follows.survives.clean, first) in
-    let ledgers = (c.requires before).2 in
-    let kept = c.in_ok-number.ensures.reads.same first in
-    let there = subst (λ (db : Database). HasTables c.args.version db.schema) (sym kept.0.now_is)
-    (has_tables c.args.version _ ledgers.schema) in
-    let rows = rw (passed c.in-Some.number (search rules)) at (c.in_ok-read_tenant.ensures.whole clean there) in (
-      c.in-Some.number,
-      found_number c.args.digest.now _ c.in_ok-number.field-0 (ledgers.distinct.digests c.args.digest.now)
-          (c.in_ok-number.ensures.ok first) ∙ c.in-Some.is,
-      subst (λ (db : Database). AreTenantRows c.args.version c.in-Some.number db.trees
-          (lists_of c.in_ok-read_tenant.field-0)) kept.0.now_is rows,
-    )
+pub returns : goal.returns
+returns g c = record {
+  value = λ clean.
+      let first : HasCleanDisk (state g.S.Store c.find_tenant.new.conn) =
+      omega (arith, c.in_ok-read_tenant.ensures.looks.follows.survives.clean, clean) in
+      let before : HasCleanDisk (state g.S.Store c.args.conn.now) =
+      omega (arith, c.in_ok-number.ensures.reads.follows.survives.clean, first) in
+      let ledgers = (c.requires before).2 in
+      let kept = c.in_ok-number.ensures.reads.same first in
+      let there = subst (λ (db : Database). HasTables c.args.version db.schema) (sym kept.0.now_is)
+      (has_tables c.args.version _ ledgers.schema) in
+      let rows = rw (passed c.in-Some.number (search rules)) at (c.in_ok-read_tenant.ensures.whole clean there) in (
+        c.in-Some.number,
+        found_number c.args.digest.now _ c.in_ok-number.field-0 (ledgers.distinct.digests c.args.digest.now)
+            (c.in_ok-number.ensures.ok first) ∙ c.in-Some.is,
+        subst (λ (db : Database). AreTenantRows c.args.version c.in-Some.number db.trees
+            (lists_of c.in_ok-read_tenant.field-0)) kept.0.now_is rows,
+      );
+  looks = search rules;
+}

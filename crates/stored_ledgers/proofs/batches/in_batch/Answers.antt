@@ -16,19 +16,19 @@ returns-in-Ok-Ok-clause-tables g c live =
     c.in-Ok-Ok.is ∙ ap Ok c.in-Ok-Ok.field-0-is in
     (told_made c.in_transaction.result _ _ _ is (c.in_transaction.ensures.told live)).0.batch.keeps
 
-pub returns-in-Ok-Ok-clause-resting : goal.returns-in-Ok-Ok-clause-resting
-returns-in-Ok-Ok-clause-resting g c live =
-    let is : c.in_transaction.result ≡ Ok (Ok c.in-Ok-Ok.worked) =
-    c.in-Ok-Ok.is ∙ ap Ok c.in-Ok-Ok.field-0-is in
-    let told = told_made c.in_transaction.result _ _ _ is (c.in_transaction.ensures.told live) in record {
-      quiet = c.in_transaction.ensures.quiet live;
-      ledgers = told.1.ledgers;
-      covered = c.forget.ensures _ told.0.behind told.1.covered;
-    }
-
-pub returns-in-Ok-Ok-clause-open : goal.returns-in-Ok-Ok-clause-open
-returns-in-Ok-Ok-clause-open g c clean differs =
-    c.in_transaction.ensures.open clean (no_fault c.in_transaction.result _ c.in-Ok-Ok.is)
+pub returns-in-Ok-Ok-clause-serves : goal.returns-in-Ok-Ok-clause-serves
+returns-in-Ok-Ok-clause-serves g c = record {
+  resting = λ live.
+      let is : c.in_transaction.result ≡ Ok (Ok c.in-Ok-Ok.worked) =
+      c.in-Ok-Ok.is ∙ ap Ok c.in-Ok-Ok.field-0-is in
+      let told = told_made c.in_transaction.result _ _ _ is (c.in_transaction.ensures.told live) in record {
+        quiet = c.in_transaction.ensures.quiet live;
+        ledgers = told.1.ledgers;
+        covered = c.forget.ensures _ told.0.behind told.1.covered;
+      };
+  is_open = λ clean differs.
+      c.in_transaction.ensures.open clean (no_fault c.in_transaction.result _ c.in-Ok-Ok.is);
+}
 
 pub returns-in-Ok-Ok-clause-survives : goal.returns-in-Ok-Ok-clause-survives
 returns-in-Ok-Ok-clause-survives g c =
@@ -50,17 +50,17 @@ returns-in-Ok-Err-clause-tables g c live =
     c.in-Ok-Err.is ∙ ap Ok c.in-Ok-Err.field-0-is in
     keeps_tables _ _ (unless_refused c.in_transaction.result _ _ is (c.in_transaction.ensures.same live))
 
-pub returns-in-Ok-Err-clause-resting : goal.returns-in-Ok-Err-clause-resting
-returns-in-Ok-Err-clause-resting g c live =
-    let is : c.in_transaction.result ≡ Ok (Err c.in-Ok-Err.unknown) =
-    c.in-Ok-Err.is ∙ ap Ok c.in-Ok-Err.field-0-is in
-    rests_still _ _ _ (unless_refused c.in_transaction.result _ _ is (c.in_transaction.ensures.again live))
-    (unless_refused c.in_transaction.result _ _ is (c.in_transaction.ensures.same live))
-    (c.in_transaction.ensures.quiet live)
-
-pub returns-in-Ok-Err-clause-open : goal.returns-in-Ok-Err-clause-open
-returns-in-Ok-Err-clause-open g c clean differs =
-    c.in_transaction.ensures.open clean (no_fault c.in_transaction.result _ c.in-Ok-Err.is)
+pub returns-in-Ok-Err-clause-serves : goal.returns-in-Ok-Err-clause-serves
+returns-in-Ok-Err-clause-serves g c = record {
+  resting = λ live.
+      let is : c.in_transaction.result ≡ Ok (Err c.in-Ok-Err.unknown) =
+      c.in-Ok-Err.is ∙ ap Ok c.in-Ok-Err.field-0-is in
+      rests_still _ _ _ (unless_refused c.in_transaction.result _ _ is (c.in_transaction.ensures.again live))
+      (unless_refused c.in_transaction.result _ _ is (c.in_transaction.ensures.same live))
+      (c.in_transaction.ensures.quiet live);
+  is_open = λ clean differs.
+      c.in_transaction.ensures.open clean (no_fault c.in_transaction.result _ c.in-Ok-Err.is);
+}
 
 pub returns-in-Ok-Err-clause-survives : goal.returns-in-Ok-Err-clause-survives
 returns-in-Ok-Err-clause-survives g c =
@@ -74,14 +74,14 @@ returns-in-Err-clause-run g c live = keeps_all _ _ (c.in-Err.ensures.same live)
 pub returns-in-Err-clause-tables : goal.returns-in-Err-clause-tables
 returns-in-Err-clause-tables g c live = keeps_tables _ _ (c.in-Err.ensures.same live)
 
-pub returns-in-Err-clause-resting : goal.returns-in-Err-clause-resting
-returns-in-Err-clause-resting g c live =
-    rests_still _ _ _ (c.in-Err.ensures.again live) (c.in-Err.ensures.same live)
-    (c.in-Err.ensures.quiet live)
-
-pub returns-in-Err-clause-open : goal.returns-in-Err-clause-open
-returns-in-Err-clause-open g c clean differs =
-    c.in-Err.ensures.open clean (other_fault c.in-Err.why differs)
+pub returns-in-Err-clause-serves : goal.returns-in-Err-clause-serves
+returns-in-Err-clause-serves g c = record {
+  resting = λ live.
+      rests_still _ _ _ (c.in-Err.ensures.again live) (c.in-Err.ensures.same live)
+      (c.in-Err.ensures.quiet live);
+  is_open = λ clean differs.
+      c.in-Err.ensures.open clean (other_fault c.in-Err.why differs);
+}
 
 pub returns-in-Err-clause-survives : goal.returns-in-Err-clause-survives
 returns-in-Err-clause-survives g c =

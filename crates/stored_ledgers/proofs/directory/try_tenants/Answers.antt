@@ -1,4 +1,4 @@
-use Rattle.std.proofs.Common.{All, sym, subst, arith}
+use Rattle.std.proofs.Common.{All, sym, subst, rules, arith}
 use Rattle.sqlite.specs.Effect.{Database}
 use Rattle.sqlite.specs.Held.{state}
 use Rattle.sqlite.specs.State.{HasCleanDisk}
@@ -23,15 +23,18 @@ with_clocks-requires-clause-found g c mid =
     (subst (All (IsTenantOf s0.now.trees)) (sym c.as_slice.ensures.value)
     (all_found s0.now.trees ledgers.distinct c.in_ok-rows.rows.items reads))
 
-pub returns-clause-value : goal.returns-clause-value
-returns-clause-value g c clean =
-    let s0 = state g.S.Store c.args.conn.now in
-    let mid : HasCleanDisk (state g.S.Store c.directory.new.conn) =
-    omega (arith, c.in_ok-tenants.ensures.looks.follows.survives.clean, clean) in
-    let before : HasCleanDisk s0 = omega (arith, c.in_ok-rows.ensures.reads.follows.survives.clean, mid) in
-    let reads = c.in_ok-rows.ensures.whole mid (starts_as_ours _ (c.requires before).2.schema) in
-    let those = subst (λ (db : Database). AreThose db.trees c.in_ok-rows.rows.items c.in_ok-tenants.tenants.items)
-    (c.in_ok-rows.ensures.reads.same mid).0.now_is
-    (rw c.as_slice.ensures.value at (c.in_ok-tenants.ensures.value clean)) in
-    are_listed s0.now.trees c.in_ok-rows.rows.items c.in_ok-tenants.tenants.items _ reads those
-    c.sort_by_name.ensures.same c.sort_by_name.ensures.sorted
+pub returns : goal.returns
+returns g c = record {
+  value = λ clean.
+      let s0 = state g.S.Store c.args.conn.now in
+      let mid : HasCleanDisk (state g.S.Store c.directory.new.conn) =
+      omega (arith, c.in_ok-tenants.ensures.looks.follows.survives.clean, clean) in
+      let before : HasCleanDisk s0 = omega (arith, c.in_ok-rows.ensures.reads.follows.survives.clean, mid) in
+      let reads = c.in_ok-rows.ensures.whole mid (starts_as_ours _ (c.requires before).2.schema) in
+      let those = subst (λ (db : Database). AreThose db.trees c.in_ok-rows.rows.items c.in_ok-tenants.tenants.items)
+      (c.in_ok-rows.ensures.reads.same mid).0.now_is
+      (rw c.as_slice.ensures.value at (c.in_ok-tenants.ensures.value clean)) in
+      are_listed s0.now.trees c.in_ok-rows.rows.items c.in_ok-tenants.tenants.items _ reads those
+      c.sort_by_name.ensures.same c.sort_by_name.ensures.sorted;
+  looks = search rules;
+}

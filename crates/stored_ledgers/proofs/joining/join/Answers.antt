@@ -8,11 +8,14 @@ returns-clause-told g c live =
     has_joined c.args.name.now c.args.digest.now c.in_transaction.new.memory _ _
     c.in_transaction.result (c.in_transaction.ensures.told live) (c.in_transaction.ensures.same live)
 
-pub returns-clause-resting : goal.returns-clause-resting
-returns-clause-resting g c live =
-    rests_after c.in_transaction.result _ _ _ _ _ (c.in_transaction.ensures.told live)
-    (c.in_transaction.ensures.again live) (c.in_transaction.ensures.same live)
-    (c.in_transaction.ensures.quiet live)
+pub returns-clause-serves : goal.returns-clause-serves
+returns-clause-serves g c = record {
+  resting = λ live.
+      rests_after c.in_transaction.result _ _ _ _ _ (c.in_transaction.ensures.told live)
+      (c.in_transaction.ensures.again live) (c.in_transaction.ensures.same live)
+      (c.in_transaction.ensures.quiet live);
+  is_open = c.in_transaction.ensures.open;
+}
 
 pub returns-clause-survives : goal.returns-clause-survives
 returns-clause-survives g c =

@@ -1,4 +1,4 @@
-use Rattle.std.proofs.Common.{sym, subst, ◌∙◌, ◌≡◌, ◌≢◌, [], arith}
+use Rattle.std.proofs.Common.{sym, subst, ◌∙◌, ◌≡◌, ◌≢◌, [], rules, arith}
 use Rattle.sqlite.specs.Effect.{Database}
 use Rattle.sqlite.specs.Held.{state}
 use Rattle.sqlite.specs.State.{HasCleanDisk}
@@ -6,34 +6,43 @@ use Rattle.stored_ledgers.specs.Directory.{with_digest}
 use Rattle.stored_ledgers.proofs.TakenLemmas.{picked_some, picked_none, digest_some, digest_none}
 use Rattle.stored_ledgers.proofs.joining.what_is_taken.Goals as goal
 
-pub returns-then-is_some-clause-told : goal.returns-then-is_some-clause-told
-returns-then-is_some-clause-told g c clean =
-    picked_some _ _ c.in_ok-find_tenant_by_name.field-0
-    (rw c.as_str.ensures.same at (c.in_ok-find_tenant_by_name.ensures.ok clean))
-    (sym c.is_some.ensures ∙ c.if-is_some.true)
+pub returns-then-is_some : goal.returns-then-is_some
+returns-then-is_some g c = record {
+  value = λ clean.
+      picked_some _ _ c.in_ok-find_tenant_by_name.field-0
+      (rw c.as_str.ensures.same at (c.in_ok-find_tenant_by_name.ensures.ok clean))
+      (sym c.is_some.ensures ∙ c.if-is_some.true);
+  looks = search rules;
+}
 
-pub returns-then-is_some-2-clause-told : goal.returns-then-is_some-2-clause-told
-returns-then-is_some-2-clause-told g c clean =
-    let mid : HasCleanDisk (state g.S.Store c.find_tenant_by_name.new.conn) =
-    omega (arith, c.in_ok-find_tenant.ensures.reads.follows.survives.clean, clean) in (
-      picked_none _ _ c.in_ok-find_tenant_by_name.field-0
-          (rw c.as_str.ensures.same at (c.in_ok-find_tenant_by_name.ensures.ok mid))
-          (sym c.is_some.ensures ∙ c.if-is_some.false),
-      subst (λ (db : Database). with_digest c.args.digest.now db.trees ≢ [])
-          (c.in_ok-find_tenant_by_name.ensures.reads.same mid).0.now_is
-          (digest_some c.args.digest.now (state g.S.Store c.find_tenant_by_name.new.conn).now.trees (picked_some _ _ c.in_ok-find_tenant.field-0
-          (c.in_ok-find_tenant.ensures.ok clean) (sym c.is_some-2.ensures ∙ c.if-is_some-2.true))),
-    )
+pub returns-then-is_some-2 : goal.returns-then-is_some-2
+returns-then-is_some-2 g c = record {
+  value = λ clean.
+      let mid : HasCleanDisk (state g.S.Store c.find_tenant_by_name.new.conn) =
+      omega (arith, c.in_ok-find_tenant.ensures.reads.follows.survives.clean, clean) in (
+        picked_none _ _ c.in_ok-find_tenant_by_name.field-0
+            (rw c.as_str.ensures.same at (c.in_ok-find_tenant_by_name.ensures.ok mid))
+            (sym c.is_some.ensures ∙ c.if-is_some.false),
+        subst (λ (db : Database). with_digest c.args.digest.now db.trees ≢ [])
+            (c.in_ok-find_tenant_by_name.ensures.reads.same mid).0.now_is
+            (digest_some c.args.digest.now (state g.S.Store c.find_tenant_by_name.new.conn).now.trees (picked_some _ _ c.in_ok-find_tenant.field-0
+            (c.in_ok-find_tenant.ensures.ok clean) (sym c.is_some-2.ensures ∙ c.if-is_some-2.true))),
+      );
+  looks = search rules;
+}
 
-pub returns-clause-told : goal.returns-clause-told
-returns-clause-told g c clean =
-    let mid : HasCleanDisk (state g.S.Store c.find_tenant_by_name.new.conn) =
-    omega (arith, c.in_ok-find_tenant.ensures.reads.follows.survives.clean, clean) in (
-      picked_none _ _ c.in_ok-find_tenant_by_name.field-0
-          (rw c.as_str.ensures.same at (c.in_ok-find_tenant_by_name.ensures.ok mid))
-          (sym c.is_some.ensures ∙ c.if-is_some.false),
-      subst (λ (db : Database). with_digest c.args.digest.now db.trees ≡ [])
-          (c.in_ok-find_tenant_by_name.ensures.reads.same mid).0.now_is
-          (digest_none c.args.digest.now (state g.S.Store c.find_tenant_by_name.new.conn).now.trees (picked_none _ _ c.in_ok-find_tenant.field-0
-          (c.in_ok-find_tenant.ensures.ok clean) (sym c.is_some-2.ensures ∙ c.if-is_some-2.false))),
-    )
+pub returns : goal.returns
+returns g c = record {
+  value = λ clean.
+      let mid : HasCleanDisk (state g.S.Store c.find_tenant_by_name.new.conn) =
+      omega (arith, c.in_ok-find_tenant.ensures.reads.follows.survives.clean, clean) in (
+        picked_none _ _ c.in_ok-find_tenant_by_name.field-0
+            (rw c.as_str.ensures.same at (c.in_ok-find_tenant_by_name.ensures.ok mid))
+            (sym c.is_some.ensures ∙ c.if-is_some.false),
+        subst (λ (db : Database). with_digest c.args.digest.now db.trees ≡ [])
+            (c.in_ok-find_tenant_by_name.ensures.reads.same mid).0.now_is
+            (digest_none c.args.digest.now (state g.S.Store c.find_tenant_by_name.new.conn).now.trees (picked_none _ _ c.in_ok-find_tenant.field-0
+            (c.in_ok-find_tenant.ensures.ok clean) (sym c.is_some-2.ensures ∙ c.if-is_some-2.false))),
+      );
+  looks = search rules;
+}

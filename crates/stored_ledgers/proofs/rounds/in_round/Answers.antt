@@ -19,21 +19,21 @@ returns-in-Ok-Ok-clause-tables g c live =
     c.in-Ok-Ok.is ∙ ap Ok c.in-Ok-Ok.field-0-is in
     (told_made c.in_transaction.result _ _ _ is (c.in_transaction.ensures.told live)).0.keeps
 
-pub returns-in-Ok-Ok-clause-resting : goal.returns-in-Ok-Ok-clause-resting
-returns-in-Ok-Ok-clause-resting g c live =
-    let is : c.in_transaction.result ≡ Ok (Ok c.in-Ok-Ok.done) =
-    c.in-Ok-Ok.is ∙ ap Ok c.in-Ok-Ok.field-0-is in
-    let new = state g.S.Store c.in_transaction.new.conn in
-    let told = told_made c.in_transaction.result _ _ _ is (c.in_transaction.ensures.told live) in record {
-      quiet = c.in_transaction.ensures.quiet live;
-      ledgers = told.1.ledgers;
-      covered = c.forget_all.ensures _ (subst (λ pasts. ArePast pasts new.now.trees)
-          (sym c.deref.ensures.value) told.0.past) told.1.covered;
-    }
-
-pub returns-in-Ok-Ok-clause-open : goal.returns-in-Ok-Ok-clause-open
-returns-in-Ok-Ok-clause-open g c clean differs =
-    c.in_transaction.ensures.open clean (no_fault c.in_transaction.result _ c.in-Ok-Ok.is)
+pub returns-in-Ok-Ok-clause-serves : goal.returns-in-Ok-Ok-clause-serves
+returns-in-Ok-Ok-clause-serves g c = record {
+  resting = λ live.
+      let is : c.in_transaction.result ≡ Ok (Ok c.in-Ok-Ok.done) =
+      c.in-Ok-Ok.is ∙ ap Ok c.in-Ok-Ok.field-0-is in
+      let new = state g.S.Store c.in_transaction.new.conn in
+      let told = told_made c.in_transaction.result _ _ _ is (c.in_transaction.ensures.told live) in record {
+        quiet = c.in_transaction.ensures.quiet live;
+        ledgers = told.1.ledgers;
+        covered = c.forget_all.ensures _ (subst (λ pasts. ArePast pasts new.now.trees)
+            (sym c.deref.ensures.value) told.0.past) told.1.covered;
+      };
+  is_open = λ clean differs.
+      c.in_transaction.ensures.open clean (no_fault c.in_transaction.result _ c.in-Ok-Ok.is);
+}
 
 pub returns-in-Ok-Ok-clause-survives : goal.returns-in-Ok-Ok-clause-survives
 returns-in-Ok-Ok-clause-survives g c =
@@ -44,14 +44,14 @@ returns-in-Ok-Ok-clause-survives g c =
 pub returns-in-Err-clause-tables : goal.returns-in-Err-clause-tables
 returns-in-Err-clause-tables g c live = keeps_tables _ _ (c.in-Err.ensures.same live)
 
-pub returns-in-Err-clause-resting : goal.returns-in-Err-clause-resting
-returns-in-Err-clause-resting g c live =
-    rests_still _ _ _ (c.in-Err.ensures.again live) (c.in-Err.ensures.same live)
-    (c.in-Err.ensures.quiet live)
-
-pub returns-in-Err-clause-open : goal.returns-in-Err-clause-open
-returns-in-Err-clause-open g c clean differs =
-    c.in-Err.ensures.open clean (other_fault c.in-Err.why differs)
+pub returns-in-Err-clause-serves : goal.returns-in-Err-clause-serves
+returns-in-Err-clause-serves g c = record {
+  resting = λ live.
+      rests_still _ _ _ (c.in-Err.ensures.again live) (c.in-Err.ensures.same live)
+      (c.in-Err.ensures.quiet live);
+  is_open = λ clean differs.
+      c.in-Err.ensures.open clean (other_fault c.in-Err.why differs);
+}
 
 pub returns-in-Err-clause-same : goal.returns-in-Err-clause-same
 returns-in-Err-clause-same g c live = c.in-Err.ensures.same live

@@ -20,7 +20,7 @@ returns-in-Err-commit-clause-survives g c =
     let clean : HasCleanDisk made = omega (
       arith,
       c.in-Err-commit.ensures.survives.clean,
-      c.or_disk_fault-in-Err-commit.ensures.follows.survives.clean,
+      c.or_disk_fault-in-Err-commit.ensures.over.follows.survives.clean,
       clean,
     ) in record {
       output = c.in-Ok-Ok.output;
@@ -30,4 +30,4 @@ returns-in-Err-commit-clause-survives g c =
       is = is;
     })
     (λ _ trees none. absurd none) c.in-Err-commit.ensures.survives
-    c.or_disk_fault-in-Err-commit.ensures.follows.survives)
+    c.or_disk_fault-in-Err-commit.ensures.over.follows.survives)

@@ -9,13 +9,13 @@ returns-in-Ok-clause-migratable g c =
     record {
       known = e.known;
       older = λ less live.
-          let at = e.opened live.0 in
+          let at = e.opened.opened live.0 in
           older_between _ _ ((e.finds live.0).ledger.older less) at.ordered at.quiet at.is_open;
       current = λ three live.
-          let at = e.opened live.0 in
+          let at = e.opened.opened live.0 in
           let holds = (e.finds live.0).serves three at.sound at.ordered in
           record { quiet = at.quiet; ledgers = holds.0; covered = holds.1 };
-      is_open = λ _ clean. (e.opened clean).is_open;
+      is_open = λ _ clean. (e.opened.opened clean).is_open;
     }
 
 pub returns-in-Ok-clause-opened : goal.returns-in-Ok-clause-opened
@@ -25,12 +25,12 @@ returns-in-Ok-clause-opened g c =
       ready = refl;
       known = e.known;
       sound = λ clean. (e.finds clean).ledger;
-      opened = e.opened;
+      opened = e.opened.opened;
     }
 
 pub returns-in-Err-clause-refused : goal.returns-in-Err-clause-refused
 returns-in-Err-clause-refused g c =
-    let e = c.in-Err.ensures in
+    let e = c.in-Err.ensures.refused in
     record {
       told = e.told;
       left = leaves_refused g.D.Disk c.args.files c.in-Err.refused c.in-Err.left e.left;

@@ -21,8 +21,8 @@ returns-clause-answers g c =
     (c.joining_answer.ensures.disk, λ failed. c.joining_answer.ensures.told ∙ ap joining_answer failed) ready
     (answers_open g.D.Disk c.join-joined.result c.is_disk_fault.result c.args.self.now _ c.in-Open.conn
     c.join-joined.new.conn c.in-Open.is refl ready refl c.is_disk_fault.ensures c.requires
-    c.join-joined.ensures.open (λ clean. omega (arith, c.join-joined.ensures.survives.clean, clean))
-    c.join-joined.ensures.resting)
+    c.join-joined.ensures.serves.is_open (λ clean. omega (arith, c.join-joined.ensures.survives.clean, clean))
+    c.join-joined.ensures.serves.resting)
 
 pub returns-clause-moves : goal.returns-clause-moves
 returns-clause-moves g c =

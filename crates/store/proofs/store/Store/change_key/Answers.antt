@@ -22,8 +22,8 @@ returns-clause-answers g c =
     (c.keying_answer.ensures.disk, λ failed. c.keying_answer.ensures.told ∙ ap keying_answer failed) ready
     (answers_open g.D.Disk c.change_key-keyed.result c.is_disk_fault.result c.args.self.now _ c.in-Open.conn
     c.change_key-keyed.new.conn c.in-Open.is refl ready refl c.is_disk_fault.ensures c.requires
-    c.change_key-keyed.ensures.open (λ clean. omega (arith, c.change_key-keyed.ensures.survives.clean, clean))
-    c.change_key-keyed.ensures.resting)
+    c.change_key-keyed.ensures.serves.is_open (λ clean. omega (arith, c.change_key-keyed.ensures.survives.clean, clean))
+    c.change_key-keyed.ensures.serves.resting)
 
 pub returns-clause-whose : goal.returns-clause-whose
 returns-clause-whose g c =

@@ -6,14 +6,14 @@ use Rattle.std.proofs.lemmas.Result.{err_from_is_err_and}
 use Rattle.store.proofs.store.Store.create.Goals as goal
 
 pub over-requires : goal.over-requires
-over-requires g c = c.in_ok-conn.ensures.serves c.new.result
+over-requires g c = c.in_ok-conn.ensures.made.serves c.new.result
 
 pub returns-clause-empty : goal.returns-clause-empty
 returns-clause-empty g c honest =
     subst (λ place. IsLiveAt {g = g.D.Disk} place × OfDatabaseAt (λ (db : Database). IsEmptyLedger db.trees) place)
     (sym c.over.ensures.over)
     (let clean = subst (λ place. IsHonestAt {g = g.D.Disk} place) c.over.ensures.over honest in
-    let made = c.in_ok-conn.ensures.made clean in
+    let made = c.in_ok-conn.ensures.made.made clean in
     ((clean, made.rests.is_open), made.empty))
 
 pub returns-in_err-conn-clause-refused : goal.returns-in_err-conn-clause-refused
@@ -23,8 +23,8 @@ returns-in_err-conn-clause-refused g c =
 
 pub returns-clause-blank : goal.returns-clause-blank
 returns-clause-blank g c honest =
-    c.in_ok-conn.ensures.blank (subst (λ place. IsHonestAt {g = g.D.Disk} place) c.over.ensures.over honest)
+    c.in_ok-conn.ensures.made.blank (subst (λ place. IsHonestAt {g = g.D.Disk} place) c.over.ensures.over honest)
 
 pub returns-clause-honest : goal.returns-clause-honest
 returns-clause-honest g c honest =
-    c.in_ok-conn.ensures.honest (subst (λ place. IsHonestAt {g = g.D.Disk} place) c.over.ensures.over honest)
+    c.in_ok-conn.ensures.made.honest (subst (λ place. IsHonestAt {g = g.D.Disk} place) c.over.ensures.over honest)

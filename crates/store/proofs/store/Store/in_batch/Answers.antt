@@ -29,5 +29,5 @@ returns-clause-answers g c =
     ) ready
     (answers_open g.D.Disk c.in_batch-done.result c.is_disk_fault.result c.args.self.now _ c.in-Open.conn
     c.in_batch-done.new.conn c.in-Open.is refl ready refl c.is_disk_fault.ensures c.requires
-    c.in_batch-done.ensures.open (λ clean. omega (arith, c.in_batch-done.ensures.survives.clean, clean))
-    c.in_batch-done.ensures.resting)
+    c.in_batch-done.ensures.serves.is_open (λ clean. omega (arith, c.in_batch-done.ensures.survives.clean, clean))
+    c.in_batch-done.ensures.serves.resting)

@@ -31,5 +31,5 @@ returns-clause-answers g c =
     let answers : c.args.self.now.ready ≡ true = search rules in
     answers_open g.D.Disk c.in_round-ran.result c.is_disk_fault.result c.args.self.now _ c.in-Open.conn
     c.in_round-ran.new.conn c.in-Open.is refl answers refl c.is_disk_fault.ensures c.requires
-    c.in_round-ran.ensures.open (λ clean. omega (arith, c.in_round-ran.ensures.survives.clean, clean))
-    c.in_round-ran.ensures.resting
+    c.in_round-ran.ensures.serves.is_open (λ clean. omega (arith, c.in_round-ran.ensures.survives.clean, clean))
+    c.in_round-ran.ensures.serves.resting

@@ -20,16 +20,16 @@ returns-clause-told g c live =
     let clean2 : HasCleanDisk read =
     omega (arith, c.in_ok-add_tenant.ensures.follows.survives.clean, clean3) in
     let clean1 : HasCleanDisk (state g.S.Store c.what_is_taken.new.conn) =
-    omega (arith, c.in_ok-number.ensures.follows.survives.clean, clean2) in
-    let clean0 : HasCleanDisk old = omega (arith, c.in_ok-taken.ensures.follows.survives.clean, clean1) in
+    omega (arith, c.in_ok-number.ensures.looks.follows.survives.clean, clean2) in
+    let clean0 : HasCleanDisk old = omega (arith, c.in_ok-taken.ensures.looks.follows.survives.clean, clean1) in
     let serves = (c.requires clean0).needs in
-    let same1 = (c.in_ok-taken.ensures.same clean1).0.now_is in
-    let same2 = (c.in_ok-number.ensures.same clean2).0.now_is in
+    let same1 = (c.in_ok-taken.ensures.looks.kept clean1).0.now_is in
+    let same2 = (c.in_ok-number.ensures.looks.kept clean2).0.now_is in
     let taken = subst (AreTaken c.args.self.name.now c.args.self.digest.now old.now.trees) c.in_default.is
-    (c.in_ok-taken.ensures.told clean1) in
+    (c.in_ok-taken.ensures.value clean1) in
     let number = c.in_ok-number.number in
     let least = subst (λ (db : Database). IsLeastFree number db.trees) same1
-    (c.in_ok-number.ensures.least clean2) in
+    (c.in_ok-number.ensures.value clean2) in
     let passed1 : to_z w64 (of_z w64 c.from.result) ≡ pos number =
     to_z-of_z w64 c.from.result (search rules) ∙ c.from.ensures in
     let passed2 : to_z w64 (of_z w64 c.from-2.result) ≡ pos number =
@@ -59,12 +59,12 @@ returns-clause-again g c live =
     let clean2 : HasCleanDisk (state g.S.Store c.free_number.new.conn) =
     omega (arith, c.in_ok-add_tenant.ensures.follows.survives.clean, clean3) in
     let clean1 : HasCleanDisk (state g.S.Store c.what_is_taken.new.conn) =
-    omega (arith, c.in_ok-number.ensures.follows.survives.clean, clean2) in
-    let clean0 : HasCleanDisk old = omega (arith, c.in_ok-taken.ensures.follows.survives.clean, clean1) in
+    omega (arith, c.in_ok-number.ensures.looks.follows.survives.clean, clean2) in
+    let clean0 : HasCleanDisk old = omega (arith, c.in_ok-taken.ensures.looks.follows.survives.clean, clean1) in
     let serves = (c.requires clean0).needs in
     let number = c.in_ok-number.number in
     let least = subst (λ (db : Database). IsLeastFree number db.trees)
-    (c.in_ok-taken.ensures.same clean1).0.now_is (c.in_ok-number.ensures.least clean2) in
+    (c.in_ok-taken.ensures.looks.kept clean1).0.now_is (c.in_ok-number.ensures.value clean2) in
     let passed : to_z w64 (of_z w64 c.from-3.result) ≡ pos number =
     to_z-of_z w64 c.from-3.result (search rules) ∙ c.from-3.ensures in
     let written = rw passed at c.in_ok-insert.ensures.updates in record {

@@ -1,0 +1,38 @@
+-- What a call over a connection to ledgers answers and leaves: one word for each kind of call.
+use Rattle.std.specs.Prelude.{◌≢◌, Result, Err, IfOk, IsTrue}
+use Rattle.sqlite_trees.specs.declared.store.Store.{Ghosts}
+use Rattle.sqlite.specs.Effect.{Database}
+use Rattle.sqlite.specs.Held.{Held, state}
+use Rattle.sqlite.specs.State.{State, HasCleanDisk}
+use Rattle.ledger_sql.specs.Frames.{Live}
+use Rattle.stored_ledgers.specs.DueSets.{DueSets}
+use Rattle.stored_ledgers.specs.Looks.{Looks, ReadsAtRest}
+use Rattle.stored_ledgers.specs.Resting.{IsResting}
+
+-- a call that looks at a database and tells something: the answer is so of what is there
+pub record LeavesSeen {A E : Type 0} (Answer : Database → A → Type 0) (old new : State)
+    (result : Result A E) : Type 0 where
+  pub value : HasCleanDisk new → IfOk result (Answer old.now)
+  pub looks : Looks old new result
+
+-- the same of a call between two batches
+pub record LeavesToldAtRest {A E : Type 0} (disk : E) (Answer : Database → A → Type 0)
+    (old new : State) (result : Result A E) : Type 0 where
+  pub value : HasCleanDisk new → IfOk result (Answer old.now)
+  pub reads : ReadsAtRest disk old new result
+
+-- whatever a change answers, the sets cover the ledgers, and unless this fault is told the database
+-- is open
+pub record ServesOn {A E : Type 0} (disk : E) (sets : DueSets) (new : State)
+    (result : Result A E) : Type 0 where
+  pub resting : Live new → IsResting sets new
+  pub is_open : HasCleanDisk new → result ≢ Err disk → IsTrue new.is_open
+
+abbrev pub Sees : {S A E : Type 0} → (Database → A → Type 0) → Ghosts S → Held S → Held S
+    → Result A E → Type 0
+Sees Answer store old new result = LeavesSeen Answer (state store old) (state store new) result
+
+abbrev pub TellsAtRest : {S A E : Type 0} → E → (Database → A → Type 0) → Ghosts S → Held S
+    → Held S → Result A E → Type 0
+TellsAtRest disk Answer store old new result =
+    LeavesToldAtRest disk Answer (state store old) (state store new) result
