@@ -3,6 +3,7 @@ use Rattle.std.proofs.Common.{◌≡◌, ◌≤◌, ◌<◌, ◌+◌, refl, sym,
 use Rattle.std.proofs.lemmas.List.{append-nil}
 use Rattle.clients.specs.Deeds.{Deed}
 use Rattle.polling.specs.Peers.{Said}
+use Rattle.polling.specs.Standing.{stands_behind}
 use Rattle.polling.specs.declared.peers.Told.{Told}
 use Rattle.polling.specs.declared.peers.Told.TheVariants as told
 use Rattle.polling.specs.Serving.{Hall, Rules, Tells, Serves, Begin, Then, tellings, tellings_of}
@@ -10,6 +11,7 @@ use Rattle.polling.specs.Seating.{Held, Keeps, ServesAll, replies_in}
 use Rattle.polling.specs.Ending.{HasTurn, IsQuiet, Turns, Start, Turn, most_turns, Ends, Enough, Quiet, Long}
 use Rattle.polling.specs.Laws.{ServedOn}
 use Rattle.polling.proofs.OneLemmas.{replies_both}
+use Rattle.polling.proofs.StandLemmas.{told_stand}
 use Rattle.polling.proofs.AllLemmas.{keeps_peers}
 use Rattle.polling.proofs.TurnLemmas.{turns_serve}
 
@@ -74,11 +76,14 @@ module _ {S C P : Type 0} (r : Rules S C P) where
       ServedOn served (record old { peers = peers }) 0 1
   tells_on first mid before served old told peers keeps said = record {
     deeds = before ++ [];
-    last = record mid { peers = peers };
+    last = record mid { peers = peers; stands = stands_behind (Said told) mid.stands };
     all =
-        Then before mid [] (record mid { peers = peers }) served
+        Then before mid []
+        (record mid { peers = peers; stands = stands_behind (Said told) mid.stands }) served
         (Tells told peers (subst (λ (p : P). r.does p (Said told) peers) (sym keeps.peers) said));
-    keeps = keeps_peers old mid peers keeps;
+    keeps =
+        keeps_peers old mid peers (stands_behind (Said told) mid.stands)
+        (told_stand told old.seats mid.stands keeps.stands) keeps;
     count = replies_both before [] (replies_in before) 0 (replies_in before + 0) refl refl refl;
     told = omega arith;
   }

@@ -5,6 +5,7 @@ use Rattle.clients.specs.Answering.{MayCome}
 use Rattle.clients.specs.Deeds.{Deed, Lives, come_from, written_to, IsServed}
 use Rattle.polling.specs.Ending.{Ends}
 use Rattle.service.specs.Seen.{Whole}
+use Rattle.polling.specs.Standing.{Away}
 use Rattle.polling.specs.Serving.{Hall, hall, Rules, Serves, tellings, rounds_in}
 use Rattle.polling.specs.Seating.{AreEmpty, Held, held_by, Keeps, ServesAll, replies_in}
 use Rattle.polling.specs.declared.seats.Seats.{Seats}
@@ -34,7 +35,8 @@ AreLives {S} {C} {P} r =
 
 -- a hall in which nobody has sent anything
 abbrev pub empty_hall : {S C P : Type 0} → S → C → P → Hall S C P
-empty_hall ledgers moments peers = hall ledgers moments peers (λ client. new_talk) (λ client. false)
+empty_hall ledgers moments peers =
+    hall ledgers moments peers (λ client. new_talk) (λ client. false) (λ client. Away)
 
 -- what is held before anybody has come is of such a hall
 abbrev pub BeginsEmpty : (S C P : Type 0) → Type 0
