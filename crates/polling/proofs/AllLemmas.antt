@@ -4,10 +4,10 @@ use Rattle.std.proofs.lemmas.Bool.{ne_eqb}
 use Rattle.std.proofs.Math.Path.{fun_ext}
 use Rattle.clients.specs.Talk.{Talk}
 use Rattle.polling.specs.Peers.{Doing, Asked, Closed, Said}
-use Rattle.polling.specs.Standing.{Standing, Away, Owed, rested, stands_behind, MayStir, StandsIn, told_of, AreAmong, OwesOnly}
+use Rattle.polling.specs.Standing.{Standing, Away, Owed, rested, stands_behind, StandsIn, told_of, AreAmong, OwesOnly}
 use Rattle.polling.specs.declared.peers.Told.{Told}
-use Rattle.polling.specs.Serving.{Hall, hall, Rules, gone_with, Happens, Tells, Stirs, Again, Serves, Begin}
-use Rattle.polling.specs.Seating.{with_talk, SeatsNow, AreSame, HadNone, held, Held, Keeps, ServesAll, ServesOwed, ServesEach}
+use Rattle.polling.specs.Serving.{Hall, hall, Rules, gone_with, Happens, Tells, Stirs, Again, Begin}
+use Rattle.polling.specs.Seating.{with_talk, AreSame, HadNone, held, Held, Keeps, ServesAll, ServesOwed, ServesEach}
 use Rattle.polling.proofs.OneLemmas.{once, serves_on, replies_both, with_talk-own, with_talk-other}
 use Rattle.polling.proofs.StandLemmas.{by_client, AllStand, rested_in, rested_unowed, one_stands, told_stand, owes_still, owes_none, owes_then, owes_beside, owes_fewer, owes_one, owes_nobody, owes_told}
 

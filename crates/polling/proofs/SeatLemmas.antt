@@ -1,5 +1,5 @@
 -- Clients who take their seats, are served in them and go.
-use Rattle.std.proofs.Common.{◌≡◌, ◌≢◌, ◌≤◌, ◌<◌, ◌+◌, inl, inr, refl, ap, sym, ◌∙◌, subst, ℕ, false, List, [], ◌∷◌, ◌++◌, Option, Some, None, is_some, arith}
+use Rattle.std.proofs.Common.{◌≡◌, ◌≢◌, ◌≤◌, ◌<◌, ◌+◌, inl, inr, refl, ap, sym, ◌∙◌, subst, ℕ, false, [], ◌∷◌, ◌++◌, Option, Some, None, is_some, arith}
 use Rattle.std.specs.Option.{unwrap_or}
 use Rattle.std.proofs.lemmas.Bool.{false≢true}
 use Rattle.clients.specs.Talk.{Talk, new_talk}
@@ -10,7 +10,7 @@ use Rattle.polling.specs.Seating.{with_talk, ServesOne, SeatsNow, HadTurn, IsFol
 use Rattle.polling.specs.Ending.{IsToldAs}
 use Rattle.polling.specs.declared.step.Step.{Step}
 use Rattle.polling.specs.declared.step.Step.TheVariants as step
-use Rattle.polling.proofs.OneLemmas.{Stays, goes, once, serves_on, replies_both, with_talk-own, with_talk-other}
+use Rattle.polling.proofs.OneLemmas.{Stays, goes, once, replies_both, with_talk-own, with_talk-other}
 use Rattle.polling.proofs.StandLemmas.{by_client, AllStand, rested_in, rested_unowed, other_talk, nobody_away, one_stands, owes_none, owes_fewer, owes_one}
 use Rattle.polling.proofs.AllLemmas.{gone_with-other, used, same_hall, keeps_peers, closes_all, each_of, serves_all}
 
@@ -70,45 +70,45 @@ module _ {S C P : Type 0} where
       (subst (λ (seat : Option Talk). StandsIn seat (first.stands next)) nobody (keeps.stands next)) in
       let stands = with_standing next Awaited first.stands in
       let after = record first { stands = stands } in (
-    [],
-    after,
-    once r first after [] (Joins next away),
-    record {
-      ledgers = keeps.ledgers;
-      moments = keeps.moments;
-      peers = keeps.peers;
-      seated =
-          by_client
-          (λ client. (talk : Talk) → seats_now client ≡ Some talk → first.room.talks client ≡ talk)
-          next
-          (λ talk is.
-          keeps.unused next (omega arith)
-          ∙ ap (λ seat. unwrap_or seat new_talk) (sym now.0 ∙ is))
-          (λ other differ talk is. keeps.seated other talk (sym (now.1 other differ) ∙ is));
-      there =
-          by_client
-          (λ client. (talk : Talk) → seats_now client ≡ Some talk → first.gone client ≡ false)
-          next (λ talk is. keeps.not_gone next (omega arith))
-          (λ other differ talk is. keeps.there other talk (sym (now.1 other differ) ∙ is));
-      below =
-          by_client (λ client. (talk : Talk) → seats_now client ≡ Some talk → client < next + 1) next
-          (λ talk is. omega arith)
-          (λ other differ talk is.
-          let before : other < next = keeps.below other talk (sym (now.1 other differ) ∙ is) in
-          omega arith);
-      unused = λ client (beyond : next + 1 ≤ client). keeps.unused client (omega arith);
-      not_gone = λ client (beyond : next + 1 ≤ client). keeps.not_gone client (omega arith);
-      stands =
-          one_stands seats_now first.stands next Awaited
-          (subst (λ (seat : Option Talk). StandsIn seat Awaited) (sym now.0) tt)
-          (λ other differ.
-          subst (λ (seat : Option Talk). StandsIn seat (first.stands other))
-          (sym (now.1 other differ)) (keeps.stands other));
-    },
-    refl,
-    owes_fewer (next ∷ []) first.stands stands
-        (owes_one next Awaited first.stands (λ (owed : Awaited ≡ Owed). cc)),
-  )
+        [],
+        after,
+        once r first after [] (Joins next away),
+        record {
+          ledgers = keeps.ledgers;
+          moments = keeps.moments;
+          peers = keeps.peers;
+          seated =
+              by_client
+              (λ client. (talk : Talk) → seats_now client ≡ Some talk → first.room.talks client ≡ talk)
+              next
+              (λ talk is.
+              keeps.unused next (omega arith)
+              ∙ ap (λ seat. unwrap_or seat new_talk) (sym now.0 ∙ is))
+              (λ other differ talk is. keeps.seated other talk (sym (now.1 other differ) ∙ is));
+          there =
+              by_client
+              (λ client. (talk : Talk) → seats_now client ≡ Some talk → first.gone client ≡ false)
+              next (λ talk is. keeps.not_gone next (omega arith))
+              (λ other differ talk is. keeps.there other talk (sym (now.1 other differ) ∙ is));
+          below =
+              by_client (λ client. (talk : Talk) → seats_now client ≡ Some talk → client < next + 1) next
+              (λ talk is. omega arith)
+              (λ other differ talk is.
+              let before : other < next = keeps.below other talk (sym (now.1 other differ) ∙ is) in
+              omega arith);
+          unused = λ client (beyond : next + 1 ≤ client). keeps.unused client (omega arith);
+          not_gone = λ client (beyond : next + 1 ≤ client). keeps.not_gone client (omega arith);
+          stands =
+              one_stands seats_now first.stands next Awaited
+              (subst (λ (seat : Option Talk). StandsIn seat Awaited) (sym now.0) tt)
+              (λ other differ.
+              subst (λ (seat : Option Talk). StandsIn seat (first.stands other))
+              (sym (now.1 other differ)) (keeps.stands other));
+        },
+        refl,
+        owes_fewer (next ∷ []) first.stands stands
+            (owes_one next Awaited first.stands (λ (owed : Awaited ≡ Owed). cc)),
+      )
 
   -- what is held behind a turn of the client in one seat
   pub keeps_at :

@@ -1,4 +1,4 @@
-use Rattle.std.proofs.Common.{◌+◌, refl, subst, ℕ, List, [], ◌∷◌, drop, arith}
+use Rattle.std.proofs.Common.{◌+◌, refl, subst, ℕ, List, [], ◌∷◌, drop, slice_index_or, arith}
 use Rattle.std.proofs.lemmas.List.{at_drop_more, at_drop_all}
 use Rattle.polling.specs.Serving.{rules}
 use Rattle.polling.specs.Seating.{ServesOwed, held_by}
@@ -25,14 +25,15 @@ loop-number-preserved g c =
     held_by c.loop-number.ledgers c.loop-number.moments c.loop-number.peers c.loop-number.seats in
     let one = c.finish_one-replies in
     let new = held_by one.new.ledgers one.new.moments one.new.peers one.new.seats in
-    let number = ? in
+    let number = slice_index_or numbers c.loop-number.number-index 0 in
     record {
       serves =
           then_owed r numbers (number ∷ rest) rest first old new c.loop-number.replies one.result
           (c.loop-number.replies + one.result) refl
           (subst
           (λ (left : List ℕ). ServesOwed r numbers left first old c.loop-number.replies)
-          (at_drop_more (λ (left : List ℕ). left) numbers c.loop-number.number-index 0 (?))
+          (at_drop_more (λ (left : List ℕ). left) numbers c.loop-number.number-index 0
+          c.loop-number-test.true)
           c.loop-number.invariant.serves)
           (beside r (number ∷ []) [] rest old new one.result one.ensures.serves);
       few =
@@ -43,4 +44,13 @@ loop-number-preserved g c =
     }
 
 pub returns-clause-serves : goal.returns-clause-serves
-returns-clause-serves g c = ?
+returns-clause-serves g c =
+    subst
+    (λ (left : List ℕ).
+    ServesOwed (rules g.L.Ledgers.means g.C.Moments.gives g.H.Steward.renews g.P.Peers.does) c.args.numbers.now left
+    (held_by c.args.ledgers.now c.args.moments.now c.args.peers.now c.args.seats.now)
+    (held_by c.loop-number.ledgers c.loop-number.moments c.loop-number.peers c.loop-number.seats)
+    c.loop-number.replies)
+    (at_drop_all (λ (left : List ℕ). left) c.args.numbers.now c.loop-number.number-index
+    c.loop-number-test.false)
+    c.loop-number.invariant.serves
