@@ -103,7 +103,7 @@ told_stand (Late client) seats stands all =
     (woken_in (seats client) (stands client) (all client)) (λ other differ. all other)
 told_stand Nothing seats stands all = all
 
-none_in : (client : ℕ) → Contains [] client → ⊥
+pub none_in : (client : ℕ) → Contains [] client → ⊥
 none_in client found = let below = found.1 in omega arith
 
 one_in : (only client : ℕ) → Contains (only ∷ []) client → only ≡ client
