@@ -9,8 +9,8 @@ use Rattle.clients.specs.Answering.{IsUnmoved, IsWanting, HasReplied}
 use Rattle.clients.specs.Deeds.{Deed, Came, Replied, Wrote, client_of, Does, told_in, all_told}
 use Rattle.clients.specs.Deeds as deed
 use Rattle.service.specs.Seen.{Whole}
-use Rattle.polling.specs.Peers.{Gave, Ended, Took, Waited, Stirred, Hands}
-use Rattle.polling.specs.Standing.{Standing, rested, with_standing, MayWait}
+use Rattle.polling.specs.Peers.{Gave, Gave_none, Ended, Took, Took_none, Stirred, Hands}
+use Rattle.polling.specs.Standing.{Standing, rested, with_standing}
 use Rattle.service.specs.Openings.{run_meaning, IsSettled}
 use Rattle.polling.specs.Serving.{Hall, hall, Rules, Settles, IsDueOf, gone_with, Happens, Did, Stirs, Goes, Loses, Serves, Begin, Then}
 use Rattle.polling.specs.Seating.{with_talk, ServesOne, gone_by, stands_by, replies_in}
@@ -169,21 +169,44 @@ module _ {S C P : Type 0} (r : Rules S C P) (client : ℕ) where
         refl,
       ))
 
-  -- reading or writing waits
-  pub waits :
-      (ledgers : S) (moments : C) (peers peers_now : P) (talk : Talk) → MayWait talk →
-      r.does peers (Waited client) peers_now →
+  -- a client is let wait
+  waits :
+      (ledgers : S) (moments : C) (peers peers_now : P) (talk : Talk) →
+      ((talks : ℕ → Talk) (gone : ℕ → Bool) (stands : ℕ → Standing) →
+      Happens S C P r (hall ledgers moments peers (with_talk client talk talks) gone stands) []
+      (hall ledgers moments peers_now (with_talk client talk talks) gone
+      (with_standing client (rested (stands client)) stands))) →
       ServesOne r client ledgers moments peers talk ledgers moments peers_now talk step.Waits 0
-  waits ledgers moments peers peers_now talk may does talks gone stands stays = (
+  waits ledgers moments peers peers_now talk happens talks gone stands stays = (
     [],
     once r (hall ledgers moments peers (with_talk client talk talks) gone stands)
         (hall ledgers moments peers_now (with_talk client talk talks) gone
         (with_standing client (rested (stands client)) stands))
-        []
-        (Stirs (Waited client) peers_now
-        (subst (λ (t : Talk). MayWait t) (sym (with_talk-own client talk talks)) may) does),
+        [] (happens talks gone stands),
     refl,
   )
+
+  -- it sends nothing for now
+  pub gave_none :
+      (ledgers : S) (moments : C) (peers peers_now : P) (talk : Talk) → IsWanting talk.unread →
+      r.does peers (Gave_none client) peers_now →
+      ServesOne r client ledgers moments peers talk ledgers moments peers_now talk step.Waits 0
+  gave_none ledgers moments peers peers_now talk wanting does =
+      waits ledgers moments peers peers_now talk
+      (λ talks gone stands.
+      Stirs (Gave_none client) peers_now
+      (subst (λ (t : Talk). IsWanting t.unread) (sym (with_talk-own client talk talks)) wanting) does)
+
+  -- it takes nothing for now
+  pub took_none :
+      (ledgers : S) (moments : C) (peers peers_now : P) (talk : Talk) → talk.unsent ≢ [] →
+      r.does peers (Took_none client) peers_now →
+      ServesOne r client ledgers moments peers talk ledgers moments peers_now talk step.Waits 0
+  took_none ledgers moments peers peers_now talk some does =
+      waits ledgers moments peers peers_now talk
+      (λ talks gone stands.
+      Stirs (Took_none client) peers_now
+      (subst (λ (t : Talk). t.unsent ≢ []) (sym (with_talk-own client talk talks)) some) does)
 
   -- something else happens among peers
   pub stirred :

@@ -167,7 +167,8 @@ module _ {S C P : Type 0} where
   served_at r client ledgers ledgers_now moments moments_now peers peers_now seats seats_now next talk
       talk_now replies was now served first keeps =
       let talks = first.room.talks in
-      let after = hall ledgers_now moments_now peers_now (with_talk client talk_now talks) first.gone first.stands in
+      let after =
+      hall ledgers_now moments_now peers_now (with_talk client talk_now talks) first.gone first.stands in
       let did = served talks first.gone first.stands (keeps.there client talk was) in (
         did.0,
         after,
@@ -199,7 +200,8 @@ module _ {S C P : Type 0} where
       seats_now next talk talk_now first was now refl keeps in
       let standing = rested (first.stands client) in
       let stands = with_standing client standing first.stands in
-      let after = hall ledgers_now moments_now peers_now (with_talk client talk_now talks) first.gone stands in
+      let after =
+      hall ledgers_now moments_now peers_now (with_talk client talk_now talks) first.gone stands in
       let did = served talks first.gone first.stands (keeps.there client talk was) in (
         did.0,
         after,

@@ -116,8 +116,8 @@ abbrev pub held_by : {S C P : Type 0} → S → C → P → Seats → Held (Seen
 held_by ledgers moments peers seats =
     held (Whole ledgers) moments peers (seats_in seats.clients) seats.next
 
--- what is held is of this hall: whoever is seated has its talk there, has not gone and is not away, and
--- of numbers that were not used nothing has come
+-- what is held is of this hall: whoever is seated has its talk there, has not gone and is not
+-- away, and of numbers that were not used nothing has come
 pub record Keeps {S C P : Type 0} (held : Held S C P) (all : Hall S C P) : Type 0 where
   pub ledgers : all.room.ledgers ≡ held.ledgers
   pub moments : all.room.moments ≡ held.moments
@@ -142,7 +142,8 @@ ServesAll {S} {C} {P} r old new replies =
     × Keeps new last
     × (replies_in deeds ≡ replies)
 
--- so too, and who is owed a turn behind it is one of `to`, or was owed one before and none of `from`
+-- so too, and who is owed a turn behind it is one of `to`, or was owed one before and is none of
+-- `from`
 abbrev pub ServesOwed :
     {S C P : Type 0} → Rules S C P → List ℕ → List ℕ → Held S C P → Held S C P → ℕ → Type 0
 ServesOwed {S} {C} {P} r from to old new replies =

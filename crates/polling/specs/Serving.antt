@@ -133,10 +133,11 @@ module _ {S C : Type 0} {t : LedgersMeaning S} {gives : C → ℕ → C → Type
   AreToldUnavailable gone (life.Then deeds last deed next lives done) =
       AreToldUnavailable gone lives × IsToldUnavailable gone deed
 
--- a deed of a client in its turn, with what peers did of it; peers tell something; anything
--- else among them; a new client has a seat; a client goes; it goes, and what was read of it last is
--- lost; a steward attends to the ledgers; a round begins, ends or is taken back; moments were given for a round that was not
--- kept; or the disk fails with a round, and all its clients are told that the ledgers are unavailable
+-- a deed of a client in its turn, with what peers did of it; peers tell something; anything else
+-- among them; a new client has a seat; a client goes; it goes, and what was read of it last is lost;
+-- a steward attends to the ledgers; a round begins, ends or is taken back; moments were given for a
+-- round that was not kept; or the disk fails with a round, and all its clients are told that the
+-- ledgers are unavailable
 pub data Happens (S C P : Type 0) (r : Rules S C P) (old : Hall S C P) :
     List Deed → Hall S C P → Type 0 where
   Did :

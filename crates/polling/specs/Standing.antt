@@ -3,7 +3,7 @@ use Rattle.std.specs.Prelude.{◌≡◌, ◌≢◌, ◌⊎◌, ℕ, List, [], �
 use Rattle.std.specs.List.{Contains}
 use Rattle.clients.specs.Talk.{Talk}
 use Rattle.clients.specs.Answering.{IsWanting}
-use Rattle.polling.specs.Peers.{Doing, Waited, Asked, Closed, Said, Stirred}
+use Rattle.polling.specs.Peers.{Doing, Gave_none, Took_none, Asked, Closed, Said, Stirred}
 use Rattle.polling.specs.declared.peers.Told.{Told}
 use Rattle.polling.specs.declared.peers.Told.TheVariants.{Joined, Ready, Late, Nothing}
 
@@ -31,23 +31,22 @@ abbrev pub with_standing : ℕ → Standing → (ℕ → Standing) → ℕ → S
 with_standing client standing stands other =
     if nat_eq client other then standing else stands other
 
--- behind a doing: who is told as ready or late is owed; of whom reading or writing waits, or who is to
--- be told again, is not; and who is closed has no seat
+-- behind a doing: who is told as ready or late is owed a turn or its end; who sends or takes
+-- nothing for now, or is to be told again, is owed none; and who is closed has no seat
 abbrev pub stands_behind : Doing → (ℕ → Standing) → ℕ → Standing
 stands_behind (Said (Ready client)) stands = with_standing client (woken (stands client)) stands
 stands_behind (Said (Late client)) stands = with_standing client (woken (stands client)) stands
-stands_behind (Waited client) stands = with_standing client (rested (stands client)) stands
+stands_behind (Gave_none client) stands = with_standing client (rested (stands client)) stands
+stands_behind (Took_none client) stands = with_standing client (rested (stands client)) stands
 stands_behind (Asked client) stands = with_standing client (rested (stands client)) stands
 stands_behind (Closed client) stands = with_standing client Away stands
 stands_behind doing stands = stands
 
--- a client waits for what it sends, or for what is not written to it
-abbrev pub MayWait : Talk → Type 0
-MayWait talk = IsWanting talk.unread ⊎ (talk.unsent ≢ [])
-
--- what happens among peers beside deeds, and what they tell
+-- what happens among peers beside deeds and what they tell: reading from a client is tried only
+-- where its next message is not whole, and writing only where something is to be written
 abbrev pub MayStir : Doing → (ℕ → Talk) → Type 0
-MayStir (Waited client) talks = MayWait (talks client)
+MayStir (Gave_none client) talks = IsWanting (talks client).unread
+MayStir (Took_none client) talks = (talks client).unsent ≢ []
 MayStir (Asked client) talks = Unit {0}
 MayStir (Closed client) talks = Unit {0}
 MayStir Stirred talks = Unit {0}
@@ -67,11 +66,11 @@ told_of (Ready client) = client ∷ []
 told_of (Late client) = client ∷ []
 told_of Nothing = []
 
--- each of these is one of those
+-- each of these clients is one of those
 abbrev pub AreAmong : List ℕ → List ℕ → Type 0
 AreAmong clients others = (client : ℕ) → Contains clients client → Contains others client
 
--- who is owed a turn behind something is one of `to`; or was owed one before, and none of `from`
+-- who is owed a turn behind something is one of `to`; or was owed one before, and is none of `from`
 abbrev pub OwesOnly : List ℕ → List ℕ → (ℕ → Standing) → (ℕ → Standing) → Type 0
 OwesOnly from to old new =
     (client : ℕ) → new client ≡ Owed

@@ -180,7 +180,8 @@ impl Gathered {
     /// Whether those who are gathered are to be served now, where so many replies are wanted, and there
     /// is more to be told without waiting, or not.
     pub(crate) fn is_due(&self, has_more: bool, most: u64) -> bool
-        ensures { result ≡ false → (self.now.numbers.items ≡ []) ⊎ (length self.now.numbers.items < most) }
+        ensures { result ≡ false →
+            (self.now.numbers.items ≡ []) ⊎ (length self.now.numbers.items < most) }
     {
         let count = self.numbers.len();
         count > 0

@@ -8,7 +8,8 @@ use Rattle.polling.proofs.gathered.finish_each.Goals as goal
 pub loop-number-init : goal.loop-number-init
 loop-number-init g c = record {
   serves =
-      none_owed (rules g.L.Ledgers.means g.C.Moments.gives g.H.Steward.renews g.P.Peers.does) c.args.numbers.now c.args.numbers.now
+      none_owed (rules g.L.Ledgers.means g.C.Moments.gives g.H.Steward.renews g.P.Peers.does)
+      c.args.numbers.now c.args.numbers.now
       (held_by c.args.ledgers.now c.args.moments.now c.args.peers.now c.args.seats.now)
       (λ client found. found);
   few = omega arith;
@@ -45,9 +46,10 @@ loop-number-preserved g c =
 
 pub returns-clause-serves : goal.returns-clause-serves
 returns-clause-serves g c =
+    let r = rules g.L.Ledgers.means g.C.Moments.gives g.H.Steward.renews g.P.Peers.does in
     subst
     (λ (left : List ℕ).
-    ServesOwed (rules g.L.Ledgers.means g.C.Moments.gives g.H.Steward.renews g.P.Peers.does) c.args.numbers.now left
+    ServesOwed r c.args.numbers.now left
     (held_by c.args.ledgers.now c.args.moments.now c.args.peers.now c.args.seats.now)
     (held_by c.loop-number.ledgers c.loop-number.moments c.loop-number.peers c.loop-number.seats)
     c.loop-number.replies)

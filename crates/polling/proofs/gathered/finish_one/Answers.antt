@@ -10,7 +10,8 @@ returns-then-turned-clause-serves g c =
     let r = rules g.L.Ledgers.means g.C.Moments.gives g.H.Steward.renews g.P.Peers.does in
     subst
     (λ (replied : Bool).
-    ServesOwed r (c.args.number ∷ []) [] (held_by c.args.ledgers.now c.args.moments.now c.args.peers.now c.args.seats.now)
+    ServesOwed r (c.args.number ∷ []) []
+    (held_by c.args.ledgers.now c.args.moments.now c.args.peers.now c.args.seats.now)
     (held_by c.finish_in.new.ledgers c.finish_in.new.moments c.follow.new.peers
     (record c.args.seats.now { clients = c.follow.new.clients })) (count_of replied))
     c.if-turned.true
@@ -23,7 +24,8 @@ returns-else-turned-clause-serves g c =
     let r = rules g.L.Ledgers.means g.C.Moments.gives g.H.Steward.renews g.P.Peers.does in
     subst
     (λ (replied : Bool).
-    ServesOwed r (c.args.number ∷ []) [] (held_by c.args.ledgers.now c.args.moments.now c.args.peers.now c.args.seats.now)
+    ServesOwed r (c.args.number ∷ []) []
+    (held_by c.args.ledgers.now c.args.moments.now c.args.peers.now c.args.seats.now)
     (held_by c.finish_in.new.ledgers c.finish_in.new.moments c.follow.new.peers
     (record c.args.seats.now { clients = c.follow.new.clients })) (count_of replied))
     c.if-turned.false

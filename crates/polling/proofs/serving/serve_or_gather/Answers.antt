@@ -8,9 +8,10 @@ use Rattle.polling.proofs.serving.serve_or_gather.Goals as goal
 
 pub returns-in-Gathered-clause-serves : goal.returns-in-Gathered-clause-serves
 returns-in-Gathered-clause-serves g c =
+    let r = rules g.L.Ledgers.means g.C.Moments.gives g.H.Steward.renews g.P.Peers.does in
     let gathered = c.args.gathered.now.numbers.items in
     let gathered_now = c.place.new.self.numbers.items in
-    unchanged (rules g.L.Ledgers.means g.C.Moments.gives g.H.Steward.renews g.P.Peers.does) (c.args.number ∷ gathered) gathered_now (Whole c.args.ledgers.now)
+    unchanged r (c.args.number ∷ gathered) gathered_now (Whole c.args.ledgers.now)
     c.args.moments.now c.args.peers.now (seats_in c.args.seats.now.clients)
     (seats_in c.place.new.clients) c.args.seats.now.next c.place.ensures.same
     (among_first c.args.number gathered gathered_now (c.in-Gathered.ensures.gathered refl)

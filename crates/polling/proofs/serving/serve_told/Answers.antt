@@ -6,8 +6,9 @@ use Rattle.polling.proofs.serving.serve_told.Goals as goal
 
 pub returns-in-Joined-clause-serves : goal.returns-in-Joined-clause-serves
 returns-in-Joined-clause-serves g c =
+    let r = rules g.L.Ledgers.means g.C.Moments.gives g.H.Steward.renews g.P.Peers.does in
     rw c.in-Joined.is
-    (beside (rules g.L.Ledgers.means g.C.Moments.gives g.H.Steward.renews g.P.Peers.does) [] [] c.args.gathered.now.numbers.items
+    (beside r [] [] c.args.gathered.now.numbers.items
     (held_by c.args.ledgers.now c.args.moments.now c.args.peers.now c.args.seats.now)
     (held_by c.args.ledgers.now c.args.moments.now c.join.new.peers c.join.new.seats) 0
     (c.join.ensures c.args.ledgers.now c.args.moments.now))
@@ -17,15 +18,17 @@ returns-in-Ready-clause-serves g c = rw c.in-Ready.is c.serve_or_gather.ensures.
 
 pub returns-in-Late-clause-serves : goal.returns-in-Late-clause-serves
 returns-in-Late-clause-serves g c =
+    let r = rules g.L.Ledgers.means g.C.Moments.gives g.H.Steward.renews g.P.Peers.does in
     rw c.in-Late.is
-    (beside (rules g.L.Ledgers.means g.C.Moments.gives g.H.Steward.renews g.P.Peers.does) (c.in-Late.number ∷ []) [] c.args.gathered.now.numbers.items
+    (beside r (c.in-Late.number ∷ []) [] c.args.gathered.now.numbers.items
     (held_by c.args.ledgers.now c.args.moments.now c.args.peers.now c.args.seats.now)
     (held_by c.args.ledgers.now c.args.moments.now c.let_go.new.peers c.let_go.new.seats) 0
     (c.let_go.ensures c.args.ledgers.now c.args.moments.now))
 
 pub returns-in-Nothing-clause-serves : goal.returns-in-Nothing-clause-serves
 returns-in-Nothing-clause-serves g c =
+    let r = rules g.L.Ledgers.means g.C.Moments.gives g.H.Steward.renews g.P.Peers.does in
     rw (c.in-Nothing.is, c.close.ensures)
-    (none_owed (rules g.L.Ledgers.means g.C.Moments.gives g.H.Steward.renews g.P.Peers.does) c.args.gathered.now.numbers.items c.args.gathered.now.numbers.items
+    (none_owed r c.args.gathered.now.numbers.items c.args.gathered.now.numbers.items
     (held_by c.args.ledgers.now c.args.moments.now c.args.peers.now c.args.seats.now)
     (λ client found. found))
