@@ -12,10 +12,10 @@ use Rattle.service.specs.Seen.{Whole, Within}
 use Rattle.service.specs.Turns.{TakeTurns}
 use Rattle.polling.specs.Peers.{Doing}
 use Rattle.polling.specs.Serving.{rules, AreGiven, IsFoundAgain}
-use Rattle.polling.specs.Seating.{held, AreSame, ServesAll}
+use Rattle.polling.specs.Seating.{held, AreSame, ServesEach}
 use Rattle.polling.specs.Round.{IsCopyOf, IsCopied, IsNoneOf, AreCopied, moments_of, AreGathered}
 use Rattle.polling.specs.Round.{ArePut, IsLost, AreTold}
-use Rattle.polling.proofs.AllLemmas.{then_all, unchanged}
+use Rattle.polling.proofs.AllLemmas.{then_each, unchanged}
 use Rattle.polling.proofs.RestLemmas.{passes_all, rests_all}
 use Rattle.polling.specs.declared.round.Member.{Member}
 
@@ -117,14 +117,14 @@ module _ {S C P : Type 0} (t : LedgersMeaning S) (gives : C → ℕ → C → Ty
       (ledgers : S) (moments moments_now : C) (peers : P) (seats seats_now : ℕ → Option Talk)
       (next : ℕ) (messages : List Message) → AreSame seats seats_now →
       AreGiven gives moments (moments_of messages) moments_now →
-      ServesAll (rules t gives renews does) (held (Whole ledgers) moments peers seats next)
+      ServesEach (rules t gives renews does) (held (Whole ledgers) moments peers seats next)
       (held (Whole ledgers) moments_now peers seats_now next) 0
   only_copied ledgers moments moments_now peers seats seats_now next messages same given =
       let r = rules t gives renews does in
-      then_all r (held (Whole ledgers) moments peers seats next)
+      then_each r (held (Whole ledgers) moments peers seats next)
       (held (Whole ledgers) moments peers seats_now next)
       (held (Whole ledgers) moments_now peers seats_now next) 0 0 0 refl
-      (unchanged r (Whole ledgers) moments peers seats seats_now next same)
+      (unchanged r [] [] (Whole ledgers) moments peers seats seats_now next same (λ client found. found))
       (passes_all r (Whole ledgers) moments moments_now (moments_of messages) peers seats_now next
       given)
 
@@ -136,15 +136,15 @@ module _ {S C P : Type 0} (t : LedgersMeaning S) (gives : C → ℕ → C → Ty
       (t.is_live ledgers_now → t.is_live ledgers) →
       (t.is_live ledgers_now → KeepsAll (t.tenants ledgers) (t.tenants ledgers_now)) →
       IsFoundAgain t ledgers_now →
-      ServesAll (rules t gives renews does) (held (Whole ledgers) moments peers seats next)
+      ServesEach (rules t gives renews does) (held (Whole ledgers) moments peers seats next)
       (held (Whole ledgers_now) moments_now peers seats_now next) 0
   taken_back ledgers ledgers_now moments moments_now peers seats seats_now next messages same given
       lived kept found =
       let r = rules t gives renews does in
-      then_all r (held (Whole ledgers) moments peers seats next)
+      then_each r (held (Whole ledgers) moments peers seats next)
       (held (Whole ledgers) moments peers seats_now next)
       (held (Whole ledgers_now) moments_now peers seats_now next) 0 0 0 refl
-      (unchanged r (Whole ledgers) moments peers seats seats_now next same)
+      (unchanged r [] [] (Whole ledgers) moments peers seats seats_now next same (λ client found. found))
       (rests_all r (Whole ledgers) (Whole ledgers_now) moments moments_now (moments_of messages) peers
       seats_now next (record { lived = lived; same = kept; found = found }) given)
 
@@ -159,17 +159,17 @@ module _ {S C P : Type 0} (t : LedgersMeaning S) (gives : C → ℕ → C → Ty
       TakeTurns messages (t.tenants ledgers) replies (t.tenants ledgers_now)) →
       IsFoundAgain t ledgers_now →
       ArePut t gives renews does messages replies seats_now seats_then count →
-      ServesAll (rules t gives renews does) (held (Whole ledgers) moments peers seats next)
+      ServesEach (rules t gives renews does) (held (Whole ledgers) moments peers seats next)
       (held (Whole ledgers_now) moments_now peers seats_then next) count
   kept_and_put ledgers ledgers_now moments moments_now peers seats seats_now seats_then next messages
       replies count same given lived stays turns found put =
       let r = rules t gives renews does in
       let begun = Within ledgers_now (t.tenants ledgers) in
-      then_all r (held (Whole ledgers) moments peers seats next)
+      then_each r (held (Whole ledgers) moments peers seats next)
       (held (Whole ledgers) moments peers seats_now next)
       (held (Whole ledgers_now) moments_now peers seats_then next) 0 count count (omega arith)
-      (unchanged r (Whole ledgers) moments peers seats seats_now next same)
-      (then_all r (held (Whole ledgers) moments peers seats_now next)
+      (unchanged r [] [] (Whole ledgers) moments peers seats seats_now next same (λ client found. found))
+      (then_each r (held (Whole ledgers) moments peers seats_now next)
       (held begun moments peers seats_now next)
       (held (Whole ledgers_now) moments_now peers seats_then next) 0 count count (omega arith)
       (rests_all r (Whole ledgers) begun moments moments [] peers seats_now next
@@ -185,13 +185,13 @@ module _ {S C P : Type 0} (t : LedgersMeaning S) (gives : C → ℕ → C → Ty
       AreGiven gives moments (moments_of messages) moments_now → t.follows ledgers ledgers →
       IsLost t ledgers messages ledgers_now →
       AreTold t gives renews does messages seats_now seats_then count →
-      ServesAll (rules t gives renews does) (held (Whole ledgers) moments peers seats next)
+      ServesEach (rules t gives renews does) (held (Whole ledgers) moments peers seats next)
       (held (Whole ledgers_now) moments_now peers seats_then next) count
   lost_and_told ledgers ledgers_now moments moments_now peers seats seats_now seats_then next messages
       count same given stays lost told =
       let r = rules t gives renews does in
-      then_all r (held (Whole ledgers) moments peers seats next)
+      then_each r (held (Whole ledgers) moments peers seats next)
       (held (Whole ledgers) moments peers seats_now next)
       (held (Whole ledgers_now) moments_now peers seats_then next) 0 count count (omega arith)
-      (unchanged r (Whole ledgers) moments peers seats seats_now next same)
+      (unchanged r [] [] (Whole ledgers) moments peers seats seats_now next same (λ client found. found))
       (told ledgers ledgers_now moments moments_now peers next stays given lost)

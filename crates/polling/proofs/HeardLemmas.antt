@@ -12,7 +12,7 @@ use Rattle.clients.specs.Answering.{MayCome}
 use Rattle.clients.specs.Turns.{Sent, Told, if_told, told_to, Hears, Nothing_yet, One_more, HearTheirOwn}
 use Rattle.clients.specs.Deeds.{Room, Deed, IsDone, Lives, if_own, come_from, written_in, written_to, told_in, all_told, came_in, sent_with, clients_of, MightCome, AreExchanges, AreWritten}
 use Rattle.clients.specs.Deeds as life
-use Rattle.polling.specs.Serving.{Hall, Rules, Happens, Did, Tells, Stirs, Goes, Loses, Again, Rests, Passes, Fails, Serves, Begin, Then}
+use Rattle.polling.specs.Serving.{Hall, Rules, Happens, Did, Tells, Stirs, Joins, Goes, Loses, Again, Rests, Passes, Fails, Serves, Begin, Then}
 use Rattle.polling.specs.Laws.{EachIsServed}
 
 -- what is heard behind what was heard
@@ -101,7 +101,8 @@ module _ {S C P : Type 0} (r : Rules S C P) where
       deeds_heard hear exchanges last.room room (deed ∷ []) (one_deed last.room room deed done) client
       later may
   step_heard hear exchanges last next more (Tells told peers does) client later may = Nothing_yet
-  step_heard hear exchanges last next more (Stirs peers does) client later may = Nothing_yet
+  step_heard hear exchanges last next more (Stirs doing peers may_stir does) client later may = Nothing_yet
+  step_heard hear exchanges last next more (Joins who away) client later may = Nothing_yet
   step_heard hear exchanges last next more (Goes who) client later may = Nothing_yet
   step_heard hear exchanges last next more (Loses who piece peers does) client later may = Nothing_yet
   step_heard hear exchanges last next more (Again ledgers renews) client later may = Nothing_yet
@@ -148,7 +149,8 @@ module _ {S C P : Type 0} (r : Rules S C P) where
   step_may might last next more (Did deed room peers live done settled hands) client later may =
       deeds_may might last.room room (deed ∷ []) (one_deed last.room room deed done) client later may
   step_may might last next more (Tells told peers does) client later may = may
-  step_may might last next more (Stirs peers does) client later may = may
+  step_may might last next more (Stirs doing peers may_stir does) client later may = may
+  step_may might last next more (Joins who away) client later may = may
   step_may might last next more (Goes who) client later may = may
   step_may might last next more (Loses who piece peers does) client later may = may
   step_may might last next more (Again ledgers renews) client later may = may
@@ -200,7 +202,9 @@ module _ {S C P : Type 0} (r : Rules S C P) where
       written last.room room (deed ∷ []) (one_deed last.room room deed done) client
   step_written written last next more (Tells told peers does) client =
       sym (append-nil (last.room.talks client).unsent)
-  step_written written last next more (Stirs peers does) client =
+  step_written written last next more (Stirs doing peers may_stir does) client =
+      sym (append-nil (last.room.talks client).unsent)
+  step_written written last next more (Joins who away) client =
       sym (append-nil (last.room.talks client).unsent)
   step_written written last next more (Goes who) client =
       sym (append-nil (last.room.talks client).unsent)

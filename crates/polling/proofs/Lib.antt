@@ -1,5 +1,7 @@
+pub mod StandLemmas
 pub mod OneLemmas
 pub mod AllLemmas
+pub mod SeatLemmas
 pub mod TurnLemmas
 pub mod LifeLemmas
 pub mod HeardLemmas

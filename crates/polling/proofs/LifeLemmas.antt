@@ -1,12 +1,13 @@
 -- Serving as a run of deeds.
-use Rattle.std.proofs.Common.{◌≡◌, refl, sym, ap, ◌∙◌, subst, ℕ, List, [], ◌++◌, Some, is_some, arith}
+use Rattle.std.proofs.Common.{◌≡◌, refl, sym, ap, ◌∙◌, subst, ℕ, List, [], ◌++◌, Option, Some, is_some, arith}
 use Rattle.std.proofs.lemmas.Bool.{false≢true}
 use Rattle.std.proofs.lemmas.List.{append-nil}
 use Rattle.clients.specs.Deeds.{Room, Deed, Lives}
 use Rattle.clients.specs.Deeds as life
 use Rattle.clients.specs.Talk.{Talk}
-use Rattle.polling.specs.Serving.{Hall, Rules, Happens, Did, Tells, Stirs, Goes, Loses, Again, Rests, Passes, Fails, Begin, Then}
+use Rattle.polling.specs.Serving.{Hall, Rules, Happens, Did, Tells, Stirs, Joins, Goes, Loses, Again, Rests, Passes, Fails, Begin, Then}
 use Rattle.polling.specs.Serving.{rounds_of, rounds_in}
+use Rattle.polling.specs.Standing.{Away, StandsIn}
 use Rattle.polling.specs.Laws.{AreLives, BeginsEmpty}
 use Rattle.polling.specs.Seating.{seats_in}
 
@@ -28,7 +29,9 @@ one_more r same first last next deeds more lives (Did deed room peers live done 
     life.Then deeds last.room deed room lives done
 one_more r same first last next deeds more lives (Tells told peers does) none =
     stays r first last.room deeds lives
-one_more r same first last next deeds more lives (Stirs peers does) none =
+one_more r same first last next deeds more lives (Stirs doing peers may does) none =
+    stays r first last.room deeds lives
+one_more r same first last next deeds more lives (Joins client away) none =
     stays r first last.room deeds lives
 one_more r same first last next deeds more lives (Goes client) none =
     stays r first last.room deeds lives
@@ -66,4 +69,6 @@ begins_empty ledgers moments peers seats empty =
       below = λ client talk is. absurd (nobody client talk is);
       unused = λ client beyond. refl;
       not_gone = λ client beyond. refl;
+      stands = λ client.
+          subst (λ (seat : Option Talk). StandsIn seat Away) (sym (empty.0 client)) tt;
     }

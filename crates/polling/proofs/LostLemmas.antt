@@ -30,7 +30,8 @@ use Rattle.polling.specs.Seating.{with_talk, SeatsNow, held, Keeps, replies_in}
 use Rattle.polling.specs.Round.{AreCopied, moments_of, AreTold}
 use Rattle.polling.specs.declared.round.Member.{Member}
 use Rattle.polling.proofs.OneLemmas.{once, replies_both, with_talk-own, with_talk-other}
-use Rattle.polling.proofs.AllLemmas.{keeps_at}
+use Rattle.polling.proofs.StandLemmas.{owes_none}
+use Rattle.polling.proofs.SeatLemmas.{keeps_at}
 use Rattle.polling.proofs.RoundLemmas.{copied_still}
 
 -- what was answered was done
@@ -193,6 +194,7 @@ module _ {S C P : Type 0} (t : LedgersMeaning S) (gives : C → ℕ → C → Ty
         below = keeps.below;
         unused = keeps.unused;
         not_gone = keeps.not_gone;
+        stands = keeps.stands;
       };
       replies = refl;
       given = given;
@@ -378,6 +380,8 @@ module _ {S C P : Type 0} (t : LedgersMeaning S) (gives : C → ℕ → C → Ty
           below = so.keeps.below;
           unused = so.keeps.unused;
           not_gone = so.keeps.not_gone;
+          stands = so.keeps.stands;
         },
         so.replies,
+        owes_none first.stands,
       )

@@ -9,10 +9,11 @@ use Rattle.clients.specs.Answering.{IsUnmoved, IsWanting, HasReplied}
 use Rattle.clients.specs.Deeds.{Deed, Came, Replied, Wrote, client_of, Does, told_in, all_told}
 use Rattle.clients.specs.Deeds as deed
 use Rattle.service.specs.Seen.{Whole}
-use Rattle.polling.specs.Peers.{Gave, Ended, Took, Stirred, Hands}
+use Rattle.polling.specs.Peers.{Gave, Gave_none, Ended, Took, Took_none, Stirred, Hands}
+use Rattle.polling.specs.Standing.{Standing, rested, with_standing}
 use Rattle.service.specs.Openings.{run_meaning, IsSettled}
 use Rattle.polling.specs.Serving.{Hall, hall, Rules, Settles, IsDueOf, gone_with, Happens, Did, Stirs, Goes, Loses, Serves, Begin, Then}
-use Rattle.polling.specs.Seating.{with_talk, ServesOne, gone_by, replies_in}
+use Rattle.polling.specs.Seating.{with_talk, ServesOne, gone_by, stands_by, replies_in}
 use Rattle.polling.specs.declared.step.Step.{Step}
 use Rattle.polling.specs.declared.step.Step.TheVariants as step
 
@@ -57,17 +58,17 @@ with_talk-other client other talk talks differ =
 -- a deed of one client
 pub did_one :
     {S C P : Type 0} (r : Rules S C P) (deed : Deed) (ledgers ledgers_now : S) (moments moments_now : C)
-    (peers peers_now : P) (talk talk_now : Talk) (talks : ℕ → Talk) (gone : ℕ → Bool) →
-    gone (client_of deed) ≡ false → IsDueOf deed talk →
+    (peers peers_now : P) (talk talk_now : Talk) (talks : ℕ → Talk) (gone : ℕ → Bool)
+    (stands : ℕ → Standing) → gone (client_of deed) ≡ false → IsDueOf deed talk →
     Does r.means r.gives deed ledgers moments talk ledgers_now moments_now talk_now →
     Settles r.means deed ledgers_now → Hands r.does deed peers peers_now →
-    Serves S C P r (hall ledgers moments peers (with_talk (client_of deed) talk talks) gone) (deed ∷ [])
-    (hall ledgers_now moments_now peers_now (with_talk (client_of deed) talk_now talks) gone)
+    Serves S C P r (hall ledgers moments peers (with_talk (client_of deed) talk talks) gone stands) (deed ∷ [])
+    (hall ledgers_now moments_now peers_now (with_talk (client_of deed) talk_now talks) gone stands)
 did_one {S} {C} {P} r deed ledgers ledgers_now moments moments_now peers peers_now talk talk_now talks
-    gone stays due does settled hands =
+    gone stands stays due does settled hands =
     let client = client_of deed in
-    once r (hall ledgers moments peers (with_talk client talk talks) gone)
-    (hall ledgers_now moments_now peers_now (with_talk client talk_now talks) gone) (deed ∷ [])
+    once r (hall ledgers moments peers (with_talk client talk talks) gone stands)
+    (hall ledgers_now moments_now peers_now (with_talk client talk_now talks) gone stands) (deed ∷ [])
     (Did deed
     (record {
       ledgers = ledgers_now;
@@ -112,7 +113,7 @@ whole_unmoved unmoved = record {
 abbrev pub Stays :
     {S C P : Type 0} → Rules S C P → ℕ → S → C → P → Talk → S → C → P → Talk → ℕ → Type 0
 Stays r client ledgers moments peers talk ledgers_now moments_now peers_now talk_now replies =
-    ServesOne r client ledgers moments peers talk ledgers_now moments_now peers_now talk_now step.Waits
+    ServesOne r client ledgers moments peers talk ledgers_now moments_now peers_now talk_now step.More
     replies
 
 module _ {S C P : Type 0} (r : Rules S C P) (client : ℕ) where
@@ -120,7 +121,7 @@ module _ {S C P : Type 0} (r : Rules S C P) (client : ℕ) where
   pub nothing :
       (ledgers : S) (moments : C) (peers : P) (talk : Talk) →
       Stays r client ledgers moments peers talk ledgers moments peers talk 0
-  nothing ledgers moments peers talk talks gone stays = ([], Begin, refl)
+  nothing ledgers moments peers talk talks gone stands stays = ([], Begin, refl)
 
   -- nothing has changed
   pub unmoved :
@@ -142,10 +143,10 @@ module _ {S C P : Type 0} (r : Rules S C P) (client : ℕ) where
   pub goes :
       (ledgers : S) (moments : C) (peers : P) (talk : Talk) →
       ServesOne r client ledgers moments peers talk ledgers moments peers talk step.Goes 0
-  goes ledgers moments peers talk talks gone stays = (
+  goes ledgers moments peers talk talks gone stands stays = (
     [],
-    once r (hall ledgers moments peers (with_talk client talk talks) gone)
-        (hall ledgers moments peers (with_talk client talk talks) (gone_with client gone)) []
+    once r (hall ledgers moments peers (with_talk client talk talks) gone stands)
+        (hall ledgers moments peers (with_talk client talk talks) (gone_with client gone) stands) []
         (Goes client),
     refl,
   )
@@ -160,24 +161,63 @@ module _ {S C P : Type 0} (r : Rules S C P) (client : ℕ) where
       (λ (now : Talk).
       ServesOne r client ledgers moments peers talk ledgers moments peers_now now step.Goes 0)
       (sym same)
-      (λ talks gone stays. (
+      (λ talks gone stands stays. (
         [],
-        once r (hall ledgers moments peers (with_talk client talk talks) gone)
-            (hall ledgers moments peers_now (with_talk client talk talks) (gone_with client gone)) []
+        once r (hall ledgers moments peers (with_talk client talk talks) gone stands)
+            (hall ledgers moments peers_now (with_talk client talk talks) (gone_with client gone) stands) []
             (Loses client piece peers_now does),
         refl,
       ))
+
+  -- a client is let wait
+  waits :
+      (ledgers : S) (moments : C) (peers peers_now : P) (talk : Talk) →
+      ((talks : ℕ → Talk) (gone : ℕ → Bool) (stands : ℕ → Standing) →
+      Happens S C P r (hall ledgers moments peers (with_talk client talk talks) gone stands) []
+      (hall ledgers moments peers_now (with_talk client talk talks) gone
+      (with_standing client (rested (stands client)) stands))) →
+      ServesOne r client ledgers moments peers talk ledgers moments peers_now talk step.Waits 0
+  waits ledgers moments peers peers_now talk happens talks gone stands stays = (
+    [],
+    once r (hall ledgers moments peers (with_talk client talk talks) gone stands)
+        (hall ledgers moments peers_now (with_talk client talk talks) gone
+        (with_standing client (rested (stands client)) stands))
+        [] (happens talks gone stands),
+    refl,
+  )
+
+  -- it sends nothing for now
+  pub gave_none :
+      (ledgers : S) (moments : C) (peers peers_now : P) (talk : Talk) → IsWanting talk.unread →
+      r.does peers (Gave_none client) peers_now →
+      ServesOne r client ledgers moments peers talk ledgers moments peers_now talk step.Waits 0
+  gave_none ledgers moments peers peers_now talk wanting does =
+      waits ledgers moments peers peers_now talk
+      (λ talks gone stands.
+      Stirs (Gave_none client) peers_now
+      (subst (λ (t : Talk). IsWanting t.unread) (sym (with_talk-own client talk talks)) wanting) does)
+
+  -- it takes nothing for now
+  pub took_none :
+      (ledgers : S) (moments : C) (peers peers_now : P) (talk : Talk) → talk.unsent ≢ [] →
+      r.does peers (Took_none client) peers_now →
+      ServesOne r client ledgers moments peers talk ledgers moments peers_now talk step.Waits 0
+  took_none ledgers moments peers peers_now talk some does =
+      waits ledgers moments peers peers_now talk
+      (λ talks gone stands.
+      Stirs (Took_none client) peers_now
+      (subst (λ (t : Talk). t.unsent ≢ []) (sym (with_talk-own client talk talks)) some) does)
 
   -- something else happens among peers
   pub stirred :
       (ledgers : S) (moments : C) (peers peers_now : P) (talk : Talk) →
       r.does peers Stirred peers_now →
       Stays r client ledgers moments peers talk ledgers moments peers_now talk 0
-  stirred ledgers moments peers peers_now talk does talks gone stays = (
+  stirred ledgers moments peers peers_now talk does talks gone stands stays = (
     [],
-    once r (hall ledgers moments peers (with_talk client talk talks) gone)
-        (hall ledgers moments peers_now (with_talk client talk talks) gone) []
-        (Stirs peers_now does),
+    once r (hall ledgers moments peers (with_talk client talk talks) gone stands)
+        (hall ledgers moments peers_now (with_talk client talk talks) gone stands) []
+        (Stirs Stirred peers_now tt does),
     refl,
   )
 
@@ -187,10 +227,10 @@ module _ {S C P : Type 0} (r : Rules S C P) (client : ℕ) where
       IsWanting talk.unread → talk_now ≡ received piece talk →
       r.does peers (Gave client piece) peers_now →
       Stays r client ledgers moments peers talk ledgers moments peers_now talk_now 0
-  came ledgers moments peers peers_now talk talk_now piece more is does talks gone stays = (
+  came ledgers moments peers peers_now talk talk_now piece more is does talks gone stands stays = (
     Came client piece ∷ [],
     did_one r (Came client piece) ledgers ledgers moments moments peers peers_now talk talk_now talks
-        gone stays more (record { ledgers_same = refl; moments_same = refl; same = is }, more.0) tt
+        gone stands stays more (record { ledgers_same = refl; moments_same = refl; same = is }, more.0) tt
         does,
     refl,
   )
@@ -200,10 +240,10 @@ module _ {S C P : Type 0} (r : Rules S C P) (client : ℕ) where
       (ledgers : S) (moments : C) (peers peers_now : P) (talk talk_now : Talk) →
       IsWanting talk.unread → talk_now ≡ input_ended talk → r.does peers (Ended client) peers_now →
       Stays r client ledgers moments peers talk ledgers moments peers_now talk_now 0
-  ended ledgers moments peers peers_now talk talk_now more is does talks gone stays = (
+  ended ledgers moments peers peers_now talk talk_now more is does talks gone stands stays = (
     deed.Ended client ∷ [],
     did_one r (deed.Ended client) ledgers ledgers moments moments peers peers_now talk talk_now talks
-        gone stays more (record { ledgers_same = refl; moments_same = refl; same = is }) tt does,
+        gone stands stays more (record { ledgers_same = refl; moments_same = refl; same = is }) tt does,
     refl,
   )
 
@@ -212,11 +252,11 @@ module _ {S C P : Type 0} (r : Rules S C P) (client : ℕ) where
       (ledgers : S) (moments : C) (peers peers_now : P) (talk talk_now : Talk) (count : ℕ) →
       talk_now ≡ written count talk → r.does peers (Took client (take count talk.unsent)) peers_now →
       Stays r client ledgers moments peers talk ledgers moments peers_now talk_now 0
-  taken ledgers moments peers peers_now talk talk_now count is does talks gone stays =
+  taken ledgers moments peers peers_now talk talk_now count is does talks gone stands stays =
       let bytes = take count talk.unsent in (
         Wrote client bytes ∷ [],
         did_one r (Wrote client bytes) ledgers ledgers moments moments peers peers_now talk talk_now
-            talks gone stays tt
+            talks gone stands stays tt
             (record {
               ledgers_same = refl;
               moments_same = refl;
@@ -236,10 +276,10 @@ module _ {S C P : Type 0} (r : Rules S C P) (client : ℕ) where
       HasReplied r.means r.gives ledgers moments talk reply ledgers_now moments_now talk_now →
       IsSettled (run_meaning r.means) ledgers_now →
       Stays r client ledgers moments peers talk ledgers_now moments_now peers talk_now 1
-  replied ledgers ledgers_now moments moments_now peers talk talk_now reply may has settled talks gone stays = (
+  replied ledgers ledgers_now moments moments_now peers talk talk_now reply may has settled talks gone stands stays = (
     Replied client reply ∷ [],
     did_one r (Replied client reply) ledgers ledgers_now moments moments_now peers peers talk
-        talk_now talks gone stays tt (has, may) settled refl,
+        talk_now talks gone stands stays tt (has, may) settled refl,
     refl,
   )
 
@@ -253,14 +293,14 @@ module _ {S C P : Type 0} (r : Rules S C P) (client : ℕ) where
       peers_now talk_now last behind →
       ServesOne r client ledgers moments peers talk ledgers_now moments_now peers_now talk_now last all
   then_one ledgers ledgers_then ledgers_now moments moments_then moments_now peers peers_then
-      peers_now talk talk_then talk_now last before behind all sum first second talks gone stays =
-      let did = first talks gone stays in
-      let does = second talks gone stays in (
+      peers_now talk talk_then talk_now last before behind all sum first second talks gone stands stays =
+      let did = first talks gone stands stays in
+      let does = second talks gone stands stays in (
         did.0 ++ does.0,
-        serves_on r (hall ledgers moments peers (with_talk client talk talks) gone)
-            (hall ledgers_then moments_then peers_then (with_talk client talk_then talks) gone)
+        serves_on r (hall ledgers moments peers (with_talk client talk talks) gone stands)
+            (hall ledgers_then moments_then peers_then (with_talk client talk_then talks) gone stands)
             (hall ledgers_now moments_now peers_now (with_talk client talk_now talks)
-            (gone_by last client gone))
+            (gone_by last client gone) (stands_by last client stands))
             did.0 does.0 did.1 does.1,
         replies_both did.0 does.0 before behind all did.2 does.2 sum,
       )

@@ -1,15 +1,17 @@
 -- Serving behind what was done, and how often peers tell something in it.
-use Rattle.std.proofs.Common.{◌≡◌, ◌≤◌, ◌<◌, ◌+◌, refl, sym, subst, ℕ, List, [], ◌++◌, append_assoc, arith}
+use Rattle.std.proofs.Common.{◌≡◌, ◌⊎◌, ◌≤◌, ◌<◌, ◌+◌, inl, inr, refl, sym, subst, ℕ, List, [], ◌++◌, append_assoc, arith}
 use Rattle.std.proofs.lemmas.List.{append-nil}
 use Rattle.clients.specs.Deeds.{Deed}
 use Rattle.polling.specs.Peers.{Said}
+use Rattle.polling.specs.Standing.{stands_behind}
 use Rattle.polling.specs.declared.peers.Told.{Told}
 use Rattle.polling.specs.declared.peers.Told.TheVariants as told
 use Rattle.polling.specs.Serving.{Hall, Rules, Tells, Serves, Begin, Then, tellings, tellings_of}
 use Rattle.polling.specs.Seating.{Held, Keeps, ServesAll, replies_in}
-use Rattle.polling.specs.Ending.{HasTurn, IsQuiet, Turns, Start, Turn, most_turns, Ends, Enough, Quiet, Long}
-use Rattle.polling.specs.Laws.{ServedOn}
+use Rattle.polling.specs.Ending.{HasTurn, IsQuiet, Turns, Start, Turn, most_turns, GivesTurns, Ends, Enough, Quiet, Long}
+use Rattle.polling.specs.Laws.{ServedOn, OwesNobody}
 use Rattle.polling.proofs.OneLemmas.{replies_both}
+use Rattle.polling.proofs.StandLemmas.{told_stand, none_in}
 use Rattle.polling.proofs.AllLemmas.{keeps_peers}
 use Rattle.polling.proofs.TurnLemmas.{turns_serve}
 
@@ -51,6 +53,35 @@ module _ {S C P : Type 0} (r : Rules S C P) where
         told = omega (arith, both.1);
       }
 
+  -- nobody is owed a turn behind turns that are given
+  pub gives_on :
+      (first mid : Hall S C P) (before : List Deed) (served : Serves S C P r first before mid)
+      (old new : Held S C P) (replies : ℕ) → Keeps old mid → OwesNobody mid →
+      GivesTurns S C P r old new replies →
+      ((on : ServedOn served new replies 0) × OwesNobody on.last)
+      ⊎ Turns S C P r old most_turns replies new
+  gives_on first mid before served old new replies keeps nobody (inr turns) = inr turns
+  gives_on first mid before served old new replies keeps nobody (inl serves) =
+      let did = serves mid keeps in
+      let both = both_told first mid did.1 before did.0 served did.2 in
+      inl (
+        record {
+          deeds = before ++ did.0;
+          last = did.1;
+          all = both.0;
+          keeps = did.3;
+          count =
+              replies_both before did.0 (replies_in before) replies (replies_in before + replies)
+              refl did.4 refl;
+          told = omega (arith, both.1);
+        },
+        λ client owed.
+            elim (did.5 client owed) [
+              | inl found ↦ none_in client found
+              | inr was ↦ nobody client was.0
+            ],
+      )
+
   -- one after the other
   then_on :
       (first mid : Hall S C P) (before : List Deed) (served : Serves S C P r first before mid)
@@ -74,11 +105,14 @@ module _ {S C P : Type 0} (r : Rules S C P) where
       ServedOn served (record old { peers = peers }) 0 1
   tells_on first mid before served old told peers keeps said = record {
     deeds = before ++ [];
-    last = record mid { peers = peers };
+    last = record mid { peers = peers; stands = stands_behind (Said told) mid.stands };
     all =
-        Then before mid [] (record mid { peers = peers }) served
+        Then before mid []
+        (record mid { peers = peers; stands = stands_behind (Said told) mid.stands }) served
         (Tells told peers (subst (λ (p : P). r.does p (Said told) peers) (sym keeps.peers) said));
-    keeps = keeps_peers old mid peers keeps;
+    keeps =
+        keeps_peers old mid peers (stands_behind (Said told) mid.stands)
+        (told_stand told old.seats mid.stands keeps.stands) keeps;
     count = replies_both before [] (replies_in before) 0 (replies_in before + 0) refl refl refl;
     told = omega arith;
   }

@@ -13,11 +13,12 @@ use Rattle.clients.specs.Talk.{Talk}
 use Rattle.clients.specs.Within.{replied_to, Asks, after_asking, AnswersLeave, RepliesWithin}
 use Rattle.polling.specs.Peers.{Doing}
 use Rattle.polling.specs.Serving.{rules}
-use Rattle.polling.specs.Seating.{SeatsNow, held, ServesAll}
+use Rattle.polling.specs.Seating.{SeatsNow, held, ServesEach}
 use Rattle.polling.specs.Round.{IsCopyOf, IsNoneOf, AreCopied, moments_of, AreToBePut, ArePut}
 use Rattle.polling.specs.declared.round.Member.{Member}
 use Rattle.polling.proofs.OneLemmas.{replied}
-use Rattle.polling.proofs.AllLemmas.{then_all, served_at, none_served}
+use Rattle.polling.proofs.AllLemmas.{then_each, none_served}
+use Rattle.polling.proofs.SeatLemmas.{served_at}
 use Rattle.polling.proofs.RestLemmas.{rests_all}
 
 -- what one client is put does not touch the messages of others
@@ -118,7 +119,7 @@ pub record ArePutSoFar {S C P : Type 0} (t : LedgersMeaning S) (gives : C → �
       → AreToBePut t gives ledgers last machines moments messages replies
       → (mid : Tenants)
       × (now : C)
-      × ServesAll (rules t gives renews does)
+      × ServesEach (rules t gives renews does)
       (held (Within ledgers machines) moments peers seats next)
       (held (Within ledgers mid) now peers seats_now next) count
       × AreToBePut t gives ledgers last mid now left replies_left
@@ -134,7 +135,7 @@ module _ {S C P : Type 0} (t : LedgersMeaning S) (gives : C → ℕ → C → Ty
       t.follows ledgers ledgers → gives moments message.moment moments_now →
       (t.is_live ledgers →
       RespondsTo machines message reply (after_asking copy.question message.moment machines)) →
-      ServesAll (rules t gives renews does)
+      ServesEach (rules t gives renews does)
       (held (Within ledgers machines) moments peers seats next)
       (held (Within ledgers (after_asking copy.question message.moment machines)) moments_now peers
       seats_now next) 1
@@ -198,7 +199,7 @@ module _ {S C P : Type 0} (t : LedgersMeaning S) (gives : C → ℕ → C → Ty
             let behind = after_asking copy.question message.moment mid in (
               behind,
               rest.given.0,
-              then_all (rules t gives renews does)
+              then_each (rules t gives renews does)
                   (held (Within ledgers machines) moments peers seats next)
                   (held (Within ledgers mid) so.1 peers seats_now next)
                   (held (Within ledgers behind) rest.given.0 peers seats_then next) count 1
@@ -270,7 +271,7 @@ module _ {S C P : Type 0} (t : LedgersMeaning S) (gives : C → ℕ → C → Ty
   put_over messages replies seats members replies_left seats_now count so_far over ledgers machines
       moments last peers next follows again all =
       let so = so_far.put ledgers machines moments last peers next follows all in
-      then_all (rules t gives renews does) (held (Within ledgers machines) moments peers seats next)
+      then_each (rules t gives renews does) (held (Within ledgers machines) moments peers seats next)
       (held (Within ledgers so.0) so.1 peers seats_now next)
       (held (Whole ledgers) last peers seats_now next) count 0 count (omega arith) so.2
       (rests_all (rules t gives renews does) (Within ledgers so.0) (Whole ledgers) so.1 last

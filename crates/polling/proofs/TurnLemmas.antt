@@ -4,7 +4,7 @@ use Rattle.polling.specs.Serving.{Rules}
 use Rattle.polling.specs.Seating.{Held, ServesAll}
 use Rattle.polling.specs.Ending.{HasTurn, IsQuiet, Turns, Start, Turn, most_turns, Ends, Long}
 use Rattle.polling.specs.declared.peers.Told.TheVariants as told
-use Rattle.polling.proofs.AllLemmas.{none_served, then_all, tells_all}
+use Rattle.polling.proofs.AllLemmas.{nothing_done, then_all, tells_all}
 
 module _ {S C P : Type 0} (r : Rules S C P) where
   pub turn_serves :
@@ -21,7 +21,7 @@ module _ {S C P : Type 0} (r : Rules S C P) where
   pub turns_serve :
       (first last : Held S C P) (turns replies : ℕ) → Turns S C P r first turns replies last →
       ServesAll r first last replies
-  turns_serve first last turns replies Start = none_served r first
+  turns_serve first last turns replies Start = nothing_done r first
   turns_serve first last turns replies (Turn count so_far mid more next before turn) =
       then_all r first mid next so_far more (so_far + more) refl
       (turns_serve first mid count so_far before) (turn_serves mid next more turn)
@@ -34,14 +34,19 @@ module _ {S C P : Type 0} (r : Rules S C P) where
       subst (λ (n : ℕ). Turns S C P r first (turns + 1) n new) (sym sum)
       (Turn turns replies old more new before turn)
 
+  pub all_turns :
+      (old new : Held S C P) (turns replies : ℕ) → turns ≤ most_turns → most_turns ≤ turns →
+      Turns S C P r old turns replies new → Turns S C P r old most_turns replies new
+  all_turns old new turns replies within beyond all =
+      subst (λ (n : ℕ). Turns S C P r old n replies new)
+      (let is : turns ≡ most_turns = grind arith in is) all
+
   pub too_long :
       (is_enough : Type 0) (old new : Held S C P) (turns replies : ℕ) → turns ≤ most_turns →
       most_turns ≤ turns → Turns S C P r old turns replies new →
       Ends S C P r is_enough old new replies
   too_long is_enough old new turns replies within beyond all =
-      Long
-      (subst (λ (n : ℕ). Turns S C P r old n replies new)
-      (let is : turns ≡ most_turns = grind arith in is) all)
+      Long (all_turns old new turns replies within beyond all)
 
   pub quiet_serves :
       (old new : Held S C P) (replies : ℕ) → IsQuiet r old new replies → ServesAll r old new replies

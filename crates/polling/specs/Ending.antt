@@ -1,14 +1,20 @@
 -- The turns of serving clients, and when it ends.
-use Rattle.std.specs.Prelude.{◌≡◌, ℕ, ◌+◌, ◌-◌, ◌^◌, [], IfSome}
+use Rattle.std.specs.Prelude.{◌≡◌, ◌⊎◌, ℕ, ◌+◌, ◌-◌, ◌^◌, [], IfSome}
 use Rattle.std.specs.BTreeMap.{BTreeMap}
 use Rattle.clients.specs.Talk.{Talk}
 use Rattle.polling.specs.Peers.{Said}
 use Rattle.polling.specs.Serving.{Rules}
-use Rattle.polling.specs.Seating.{Held, ServesAll, seats_in}
+use Rattle.polling.specs.Seating.{Held, ServesAll, ServesEach, seats_in}
 use Rattle.polling.specs.declared.peers.Told.{Told}
 use Rattle.polling.specs.declared.peers.Told.TheVariants as told
+use Rattle.polling.specs.declared.step.Step.{Step}
+use Rattle.polling.specs.declared.step.Step.TheVariants.{More, Waits}
 use Rattle.polling.specs.declared.serving.Done.{Done}
 use Rattle.polling.specs.declared.serving.Done.TheVariants.{Nothing, Served}
+
+-- a step is told so; where nothing more is read, a client may be let wait for whom more may be done
+abbrev pub IsToldAs : Step → Step → Type 0
+IsToldAs done told = (told ≡ done) ⊎ ((done ≡ More) × (told ≡ Waits))
 
 -- a turn: nobody is replied to before peers tell something, and then what it asks for is done
 pub record HasTurn {S C P : Type 0} (r : Rules S C P) (old new : Held S C P) (replies : ℕ) :
@@ -46,6 +52,12 @@ pub data Ends (S C P : Type 0) (r : Rules S C P) (is_enough : Type 0) (old new :
   Enough : is_enough → Ends S C P r is_enough old new replies
   Quiet : IsQuiet r old new replies → Ends S C P r is_enough old new replies
   Long : Turns S C P r old most_turns replies new → Ends S C P r is_enough old new replies
+
+-- whoever was told as ready or late had its turn or its end; or no more turns are made
+abbrev pub GivesTurns :
+    (S C P : Type 0) → Rules S C P → Held S C P → Held S C P → ℕ → Type 0
+GivesTurns S C P r old new replies =
+    ServesEach r old new replies ⊎ Turns S C P r old most_turns replies new
 
 -- nothing is left of any reply
 abbrev pub AreWritten : BTreeMap ℕ Talk → Type 0

@@ -1,10 +1,11 @@
 -- What serving many clients comes to.
-use Rattle.std.specs.Prelude.{◌≡◌, ◌≤◌, ◌+◌, ℕ, false, List}
+use Rattle.std.specs.Prelude.{◌≡◌, ◌≢◌, ◌⊎◌, ◌≤◌, ◌+◌, ℕ, false, List}
 use Rattle.clients.specs.Talk.{new_talk}
 use Rattle.clients.specs.Answering.{MayCome}
 use Rattle.clients.specs.Deeds.{Deed, Lives, come_from, written_to, IsServed}
-use Rattle.polling.specs.Ending.{Ends}
+use Rattle.polling.specs.Ending.{Ends, GivesTurns, Turns, most_turns}
 use Rattle.service.specs.Seen.{Whole}
+use Rattle.polling.specs.Standing.{Away, Owed}
 use Rattle.polling.specs.Serving.{Hall, hall, Rules, Serves, tellings, rounds_in}
 use Rattle.polling.specs.Seating.{AreEmpty, Held, held_by, Keeps, ServesAll, replies_in}
 use Rattle.polling.specs.declared.seats.Seats.{Seats}
@@ -34,7 +35,8 @@ AreLives {S} {C} {P} r =
 
 -- a hall in which nobody has sent anything
 abbrev pub empty_hall : {S C P : Type 0} → S → C → P → Hall S C P
-empty_hall ledgers moments peers = hall ledgers moments peers (λ client. new_talk) (λ client. false)
+empty_hall ledgers moments peers =
+    hall ledgers moments peers (λ client. new_talk) (λ client. false) (λ client. Away)
 
 -- what is held before anybody has come is of such a hall
 abbrev pub BeginsEmpty : (S C P : Type 0) → Type 0
@@ -62,6 +64,21 @@ GoesOn {S} {C} {P} r =
     → Keeps old mid
     → ServesAll r old new replies
     → ServedOn served new replies 0
+
+-- nobody is owed a turn
+abbrev pub OwesNobody : {S C P : Type 0} → Hall S C P → Type 0
+OwesNobody all = (client : ℕ) → all.stands client ≢ Owed
+
+-- where nobody was owed a turn and turns are given, nobody is owed one; or no more turns are made
+abbrev pub GivesOn : {S C P : Type 0} → Rules S C P → Type 0
+GivesOn {S} {C} {P} r =
+    (first mid : Hall S C P) (before : List Deed) (served : Serves S C P r first before mid)
+    (old new : Held S C P) (replies : ℕ)
+    → Keeps old mid
+    → OwesNobody mid
+    → GivesTurns S C P r old new replies
+    → ((on : ServedOn served new replies 0) × OwesNobody on.last)
+    ⊎ Turns S C P r old most_turns replies new
 
 -- where it ended though not enough was done, peers told something in it
 abbrev pub EndsTold : {S C P : Type 0} → Rules S C P → Type 0

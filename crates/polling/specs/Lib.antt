@@ -1,4 +1,5 @@
 pub mod Peers
+pub mod Standing
 pub mod Serving
 pub mod Seating
 pub mod Ending

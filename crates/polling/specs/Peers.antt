@@ -8,12 +8,17 @@ use Rattle.polling.specs.declared.peers.Read.TheVariants as read
 use Rattle.polling.specs.declared.peers.Written.{Written}
 use Rattle.polling.specs.declared.peers.Written.TheVariants as written
 
--- bytes of a client were read; its input ended; bytes to it were taken; waiting told this; or
+-- bytes of a client were read, or there were none for now; its input ended; bytes to it were
+-- taken, or none for now; it is to be told as ready again; it was closed; waiting told this; or
 -- anything else
 pub data Doing : Type 0 where
   Gave : ℕ → List ℕ → Doing
+  Gave_none : ℕ → Doing
   Ended : ℕ → Doing
   Took : ℕ → List ℕ → Doing
+  Took_none : ℕ → Doing
+  Asked : ℕ → Doing
+  Closed : ℕ → Doing
   Said : Told → Doing
   Stirred : Doing
 
@@ -30,7 +35,7 @@ abbrev pub HasRead :
 HasRead does client old piece new (read.Gave count) =
     (count ≤ length piece) × does old (Gave client (take count piece)) new
 HasRead does client old piece new read.Ended = does old (Ended client) new
-HasRead does client old piece new read.Waits = does old Stirred new
+HasRead does client old piece new read.Waits = does old (Gave_none client) new
 HasRead does client old piece new read.Broken = does old Stirred new
 
 -- what writing to a client gave
@@ -38,5 +43,5 @@ abbrev pub HasWritten :
     {P : Type 0} → (P → Doing → P → Type 0) → ℕ → List ℕ → P → P → Written → Type 0
 HasWritten does client bytes old new (written.Took count) =
     (count ≤ length bytes) × does old (Took client (take count bytes)) new
-HasWritten does client bytes old new written.Waits = does old Stirred new
+HasWritten does client bytes old new written.Waits = does old (Took_none client) new
 HasWritten does client bytes old new written.Broken = does old Stirred new

@@ -11,7 +11,7 @@ use Rattle.clients.specs.Talk.{Talk}
 use Rattle.clients.specs.Within.{IsReady}
 use Rattle.polling.specs.Peers.{Doing}
 use Rattle.polling.specs.Serving.{rules, AreGiven, IsFoundAgain}
-use Rattle.polling.specs.Seating.{held, ServesAll}
+use Rattle.polling.specs.Seating.{held, ServesEach}
 use Rattle.polling.specs.declared.round.Member.{Member}
 
 -- these bytes are a client's next message
@@ -66,7 +66,7 @@ ArePut {S} {C} {P} t gives renews does messages replies seats seats_now count =
     → t.follows ledgers ledgers
     → IsFoundAgain t ledgers
     → AreToBePut t gives ledgers last machines moments messages replies
-    → ServesAll (rules t gives renews does) (held (Within ledgers machines) moments peers seats next)
+    → ServesEach (rules t gives renews does) (held (Within ledgers machines) moments peers seats next)
     (held (Whole ledgers) last peers seats_now next) count
 
 -- the disk failed with a round of these messages
@@ -90,5 +90,5 @@ AreTold {S} {C} {P} t gives renews does messages seats seats_now count =
     → t.follows ledgers ledgers
     → AreGiven gives moments (moments_of messages) last
     → IsLost t ledgers messages ledgers_now
-    → ServesAll (rules t gives renews does) (held (Whole ledgers) moments peers seats next)
+    → ServesEach (rules t gives renews does) (held (Whole ledgers) moments peers seats next)
     (held (Whole ledgers_now) last peers seats_now next) count

@@ -1,10 +1,11 @@
 -- Who is seated, and what one client and all of them were served.
-use Rattle.std.specs.Prelude.{◌≡◌, ◌≢◌, ◌≤◌, ◌<◌, ℕ, Bool, false, List, length, Option, Some, None, nat_eq, if◌then◌else◌}
+use Rattle.std.specs.Prelude.{◌≡◌, ◌≢◌, ◌≤◌, ◌<◌, ℕ, Bool, false, List, [], ◌∷◌, length, Option, Some, None, nat_eq, if◌then◌else◌}
 use Rattle.std.specs.BTreeMap.{BTreeMap, get}
 use Rattle.std.specs.Ordering.{nat_cmp}
 use Rattle.clients.specs.Talk.{Talk, new_talk}
 use Rattle.service.specs.Seen.{Seen, Whole}
 use Rattle.clients.specs.Deeds.{Deed, all_told}
+use Rattle.polling.specs.Standing.{Standing, rested, with_standing, StandsIn, OwesOnly}
 use Rattle.polling.specs.Serving.{Hall, hall, Rules, Serves, gone_with}
 use Rattle.polling.specs.declared.seats.Seats.{Seats}
 use Rattle.polling.specs.declared.step.Step.{Step}
@@ -20,6 +21,12 @@ gone_by More client gone = gone
 gone_by Waits client gone = gone
 gone_by Goes client gone = gone_with client gone
 
+-- how all stand behind a step of one client: it rests only where it has to wait
+abbrev pub stands_by : Step → ℕ → (ℕ → Standing) → ℕ → Standing
+stands_by More client stands = stands
+stands_by Waits client stands = with_standing client (rested (stands client)) stands
+stands_by Goes client stands = stands
+
 -- how many messages were replied to
 abbrev pub replies_in : List Deed → ℕ
 replies_in deeds = length (all_told deeds)
@@ -34,12 +41,12 @@ abbrev pub ServesOne :
     → Type 0
 ServesOne {S} {C} {P} r client ledgers moments peers talk ledgers_now moments_now peers_now talk_now
     step replies =
-    (talks : ℕ → Talk) (gone : ℕ → Bool)
+    (talks : ℕ → Talk) (gone : ℕ → Bool) (stands : ℕ → Standing)
     → gone client ≡ false
     → (deeds : List Deed)
-    × Serves S C P r (hall ledgers moments peers (with_talk client talk talks) gone) deeds
+    × Serves S C P r (hall ledgers moments peers (with_talk client talk talks) gone stands) deeds
     (hall ledgers_now moments_now peers_now (with_talk client talk_now talks)
-    (gone_by step client gone))
+    (gone_by step client gone) (stands_by step client stands))
     × (replies_in deeds ≡ replies)
 
 -- one seat is this now, and every other as it was
@@ -77,9 +84,10 @@ pub record HadTurn {S C P : Type 0} (r : Rules S C P) (client : ℕ) (ledgers : 
       replies
 
 -- nobody is in that seat, and nothing was done
-pub record HadNone {S C P : Type 0} (ledgers : S) (moments : C) (peers : P)
+pub record HadNone {S C P : Type 0} (client : ℕ) (ledgers : S) (moments : C) (peers : P)
     (seats : ℕ → Option Talk) (ledgers_now : S) (moments_now : C) (peers_now : P)
     (seats_now : ℕ → Option Talk) : Type 0 where
+  pub nobody : seats client ≡ None
   pub ledgers_same : ledgers_now ≡ ledgers
   pub moments_same : moments_now ≡ moments
   pub peers_same : peers_now ≡ peers
@@ -108,8 +116,8 @@ abbrev pub held_by : {S C P : Type 0} → S → C → P → Seats → Held (Seen
 held_by ledgers moments peers seats =
     held (Whole ledgers) moments peers (seats_in seats.clients) seats.next
 
--- what is held is of this hall: whoever is seated has its talk there and has not gone, and of
--- numbers that were not used nothing has come
+-- what is held is of this hall: whoever is seated has its talk there, has not gone and is not
+-- away, and of numbers that were not used nothing has come
 pub record Keeps {S C P : Type 0} (held : Held S C P) (all : Hall S C P) : Type 0 where
   pub ledgers : all.room.ledgers ≡ held.ledgers
   pub moments : all.room.moments ≡ held.moments
@@ -121,6 +129,7 @@ pub record Keeps {S C P : Type 0} (held : Held S C P) (all : Hall S C P) : Type 
   pub below : (client : ℕ) (talk : Talk) → held.seats client ≡ Some talk → client < held.next
   pub unused : (client : ℕ) → held.next ≤ client → all.room.talks client ≡ new_talk
   pub not_gone : (client : ℕ) → held.next ≤ client → all.gone client ≡ false
+  pub stands : (client : ℕ) → StandsIn (held.seats client) (all.stands client)
 
 -- clients were served: deeds lead from any hall of what was held to one of what is
 abbrev pub ServesAll : {S C P : Type 0} → Rules S C P → Held S C P → Held S C P → ℕ → Type 0
@@ -133,7 +142,25 @@ ServesAll {S} {C} {P} r old new replies =
     × Keeps new last
     × (replies_in deeds ≡ replies)
 
--- behind a turn of one client, what its step asks for was done
+-- so too, and who is owed a turn behind it is one of `to`, or was owed one before and is none of
+-- `from`
+abbrev pub ServesOwed :
+    {S C P : Type 0} → Rules S C P → List ℕ → List ℕ → Held S C P → Held S C P → ℕ → Type 0
+ServesOwed {S} {C} {P} r from to old new replies =
+    (first : Hall S C P)
+    → Keeps old first
+    → (deeds : List Deed)
+    × (last : Hall S C P)
+    × Serves S C P r first deeds last
+    × Keeps new last
+    × (replies_in deeds ≡ replies)
+    × OwesOnly from to first.stands last.stands
+
+-- so too, and who is owed a turn behind it was owed one before
+abbrev pub ServesEach : {S C P : Type 0} → Rules S C P → Held S C P → Held S C P → ℕ → Type 0
+ServesEach r old new replies = ServesOwed r [] [] old new replies
+
+-- behind a turn of one client, what its step asks for was done, and it is owed no other
 abbrev pub IsFollowed :
     {S C P : Type 0} → Rules S C P → ℕ → Step → P → (ℕ → Option Talk) → P → (ℕ → Option Talk)
     → Type 0
@@ -142,5 +169,5 @@ IsFollowed {S} {C} {P} r client step peers_then seats_then peers_now seats_now =
     (next replies : ℕ)
     → HadTurn r client ledgers moments peers seats ledgers_now moments_now peers_then seats_then step
     replies
-    → ServesAll r (held ledgers moments peers seats next)
+    → ServesOwed r (client ∷ []) [] (held ledgers moments peers seats next)
     (held ledgers_now moments_now peers_now seats_now next) replies

@@ -12,20 +12,24 @@ use Rattle.clients.specs.Answering.{IsWanting}
 use Rattle.clients.specs.Talk.{Talk}
 use Rattle.clients.specs.Deeds.{Room, Deed, Came, Ended, Replied, Wrote, client_of, IsDone, Lives}
 use Rattle.clients.specs.Deeds as life
-use Rattle.polling.specs.Peers.{Doing, Gave, Said, Stirred, Hands}
+use Rattle.polling.specs.Peers.{Doing, Gave, Said, Hands}
+use Rattle.polling.specs.Standing.{Standing, Away, Awaited, with_standing, stands_behind, MayStir}
 use Rattle.polling.specs.declared.peers.Told.{Told}
 
--- a room of clients, those who are connected, and which clients have gone for good
+-- a room of clients, those who are connected, which clients have gone for good, and how each stands
 pub record Hall (S C P : Type 0) : Type 0 where
   pub room : Room S C
   pub peers : P
   pub gone : ℕ → Bool
+  pub stands : ℕ → Standing
 
-abbrev pub hall : {S C P : Type 0} → S → C → P → (ℕ → Talk) → (ℕ → Bool) → Hall S C P
-hall ledgers moments peers talks gone = record {
+abbrev pub hall :
+    {S C P : Type 0} → S → C → P → (ℕ → Talk) → (ℕ → Bool) → (ℕ → Standing) → Hall S C P
+hall ledgers moments peers talks gone stands = record {
   room = record { ledgers = ledgers; moments = moments; talks = talks };
   peers = peers;
   gone = gone;
+  stands = stands;
 }
 
 -- what ledgers mean, which moments are given, what a steward makes of ledgers, and what each
@@ -129,10 +133,11 @@ module _ {S C : Type 0} {t : LedgersMeaning S} {gives : C → ℕ → C → Type
   AreToldUnavailable gone (life.Then deeds last deed next lives done) =
       AreToldUnavailable gone lives × IsToldUnavailable gone deed
 
--- a deed of a client in its turn, with what peers did of it; peers tell something; anything
--- else among them; a client goes; it goes, and what was read of it last is lost; a steward attends to
--- the ledgers; a round begins, ends or is taken back; moments were given for a round that was not
--- kept; or the disk fails with a round, and all its clients are told that the ledgers are unavailable
+-- a deed of a client in its turn, with what peers did of it; peers tell something; anything else
+-- among them; a new client has a seat; a client goes; it goes, and what was read of it last is lost;
+-- a steward attends to the ledgers; a round begins, ends or is taken back; moments were given for a
+-- round that was not kept; or the disk fails with a round, and all its clients are told that the
+-- ledgers are unavailable
 pub data Happens (S C P : Type 0) (r : Rules S C P) (old : Hall S C P) :
     List Deed → Hall S C P → Type 0 where
   Did :
@@ -142,10 +147,15 @@ pub data Happens (S C P : Type 0) (r : Rules S C P) (old : Hall S C P) :
       Happens S C P r old (deed ∷ []) (record old { room = room; peers = peers })
   Tells :
       (told : Told) (peers : P) → r.does old.peers (Said told) peers →
-      Happens S C P r old [] (record old { peers = peers })
+      Happens S C P r old []
+      (record old { peers = peers; stands = stands_behind (Said told) old.stands })
   Stirs :
-      (peers : P) → r.does old.peers Stirred peers →
-      Happens S C P r old [] (record old { peers = peers })
+      (doing : Doing) (peers : P) → MayStir doing old.room.talks → r.does old.peers doing peers →
+      Happens S C P r old []
+      (record old { peers = peers; stands = stands_behind doing old.stands })
+  Joins :
+      (client : ℕ) → old.stands client ≡ Away →
+      Happens S C P r old [] (record old { stands = with_standing client Awaited old.stands })
   Goes :
       (client : ℕ) → Happens S C P r old [] (record old { gone = gone_with client old.gone })
   Loses :

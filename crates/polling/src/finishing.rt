@@ -2,8 +2,8 @@
 ghost use Rattle.std.specs.Prelude.{◌≡◌, ◌↔◌, false, [], IsTrue, IfSome, IfNone};
 ghost use Rattle.service.specs.Seen.{Seen};
 ghost use Rattle.polling.specs.Serving.{rules};
-ghost use Rattle.polling.specs.Seating.{HadTurn, HadNone, ServesOne, ServesAll, seats_in, held_by};
-ghost use Rattle.polling.specs.Ending.{HasTurn, IsQuiet, AreWritten, Ends};
+ghost use Rattle.polling.specs.Seating.{HadTurn, HadNone, ServesOne, ServesAll, ServesEach, seats_in, held_by};
+ghost use Rattle.polling.specs.Ending.{IsToldAs, HasTurn, IsQuiet, AreWritten, Ends};
 
 use crate::seats::Seats;
 use crate::serving::{follow, let_go};
@@ -35,9 +35,9 @@ fn write_left<L: Ledgers, H: Steward<L>, C: Moments, P: Peers>(
     number: u64,
     client: &mut Client,
 ) -> Step
-    ensures { (ledgers : Seen L) → (moments : C) →
+    ensures { (done : Step) × IsToldAs done result × ((ledgers : Seen L) → (moments : C) →
         ServesOne (rules L.means C.gives H.renews P.does) number
-        ledgers moments peers.old client.old ledgers moments peers.new client.new result 0 }
+        ledgers moments peers.old client.old ledgers moments peers.new client.new done 0) }
 {
     match write_all::<L, H, C, P>(peers, number, client) {
         Step::More => {
@@ -57,11 +57,12 @@ fn write_in<L: Ledgers, H: Steward<L>, C: Moments, P: Peers>(
     clients: &mut BTreeMap<u64, Client>,
     number: u64,
 ) -> Option<Step>
-    ensures written { IfSome result (λ step. (ledgers : Seen L) → (moments : C) →
+    ensures written { IfSome result (λ step. (done : Step) × IsToldAs done step ×
+        ((ledgers : Seen L) → (moments : C) →
         HadTurn (rules L.means C.gives H.renews P.does) number
         ledgers moments peers.old (seats_in clients.old)
-        ledgers moments peers.new (seats_in clients.new) step 0) }
-    ensures none { IfNone result ((ledgers : Seen L) → (moments : C) → HadNone
+        ledgers moments peers.new (seats_in clients.new) done 0)) }
+    ensures none { IfNone result ((ledgers : Seen L) → (moments : C) → HadNone number
         ledgers moments peers.old (seats_in clients.old)
         ledgers moments peers.new (seats_in clients.new)) }
 {
@@ -91,7 +92,7 @@ fn write_one<L: Ledgers, H: Steward<L>, C: Moments, P: Peers>(
 /// Lets a new client go, which has come too late.
 fn turn_away<L: Ledgers, H: Steward<L>, C: Moments, P: Peers>(peers: &mut P, seats: &mut Seats)
     ensures { (ledgers : L) → (moments : C) →
-        ServesAll (rules L.means C.gives H.renews P.does)
+        ServesEach (rules L.means C.gives H.renews P.does)
         (held_by ledgers moments peers.old seats.old)
         (held_by ledgers moments peers.new seats.new) 0 }
 {

@@ -1,8 +1,8 @@
 //! Serving those who are gathered.
-ghost use Rattle.std.specs.Prelude.{◌≡◌, ◌≤◌, ℕ, false, IfSome, IfNone};
+ghost use Rattle.std.specs.Prelude.{◌≡◌, ◌≤◌, ℕ, false, [], ◌∷◌, IfSome, IfNone};
 ghost use Rattle.service.specs.Seen.{Whole};
 ghost use Rattle.polling.specs.Serving.{rules};
-ghost use Rattle.polling.specs.Seating.{HadTurn, HadNone, ServesAll, count_of, held, held_by, seats_in};
+ghost use Rattle.polling.specs.Seating.{HadTurn, HadNone, ServesOwed, ServesEach, count_of, held, held_by, seats_in};
 
 use crate::gathering::Gathered;
 use crate::seats::Seats;
@@ -34,7 +34,7 @@ fn finish_in<L: Rounds, H: Steward<L>, C: Moments, P: Peers>(
         (Whole ledgers.new) moments.new peers.new (seats_in clients.new)
         turned.step (count_of turned.replied)) }
     ensures few { IfSome result (λ turned. answers ≡ false → turned.replied ≡ false) }
-    ensures none { IfNone result (HadNone
+    ensures none { IfNone result (HadNone number
         (Whole ledgers.old) moments.old peers.old (seats_in clients.old)
         (Whole ledgers.new) moments.new peers.new (seats_in clients.new)) }
     ensures usable { L.means.is_usable ledgers.new }
@@ -60,7 +60,7 @@ fn finish_one<L: Rounds, H: Steward<L>, C: Moments, P: Peers>(
     most: u64,
 ) -> u64
     requires { L.means.is_usable ledgers.old }
-    ensures serves { ServesAll (rules L.means C.gives H.renews P.does)
+    ensures serves { ServesOwed (rules L.means C.gives H.renews P.does) (number ∷ []) []
         (held_by ledgers.old moments.old peers.old seats.old)
         (held_by ledgers.new moments.new peers.new seats.new) result }
     ensures few { result ≤ most }
@@ -96,7 +96,7 @@ fn finish_each<L: Rounds, H: Steward<L>, C: Moments, P: Peers>(
     most: u64,
 ) -> u64
     requires { L.means.is_usable ledgers.old }
-    ensures serves { ServesAll (rules L.means C.gives H.renews P.does)
+    ensures serves { ServesOwed (rules L.means C.gives H.renews P.does) numbers.now []
         (held_by ledgers.old moments.old peers.old seats.old)
         (held_by ledgers.new moments.new peers.new seats.new) result }
     ensures few { result ≤ most }
@@ -132,10 +132,11 @@ fn share<L: Rounds, H: Steward<L>, C: Moments, P: Peers>(
 ) -> u64
     requires { L.means.is_usable ledgers.old }
     ensures serves { (peers : P) → (next : ℕ) →
-        ServesAll (rules L.means C.gives H.renews P.does)
+        ServesEach (rules L.means C.gives H.renews P.does)
         (held (Whole ledgers.old) moments.old peers (seats_in clients.old) next)
         (held (Whole ledgers.new) moments.new peers (seats_in clients.new) next) result }
     ensures few { result ≤ most }
+    ensures same { gathered.new.numbers ≡ gathered.old.numbers }
     ensures usable { L.means.is_usable ledgers.new }
 {
     if numbers.len() < 2 {
@@ -161,10 +162,12 @@ pub(crate) fn serve_due<L: Rounds, H: Steward<L>, C: Moments, P: Peers>(
     most: u64,
 ) -> u64
     requires { L.means.is_usable ledgers.old }
-    ensures serves { ServesAll (rules L.means C.gives H.renews P.does)
+    ensures serves { ServesOwed (rules L.means C.gives H.renews P.does)
+        gathered.old.numbers.items gathered.new.numbers.items
         (held_by ledgers.old moments.old peers.old seats.old)
         (held_by ledgers.new moments.new peers.new seats.new) result }
     ensures few { result ≤ most }
+    ensures all { result ≡ most → gathered.new.numbers.items ≡ [] }
     ensures usable { L.means.is_usable ledgers.new }
 {
     let has_more = peers.has_more();

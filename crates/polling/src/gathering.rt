@@ -1,6 +1,7 @@
 //! Clients who are to share a round.
-ghost use Rattle.std.specs.Prelude.{◌≡◌};
+ghost use Rattle.std.specs.Prelude.{◌≡◌, ◌⊎◌, ◌<◌, [], false, Contains, IsTrue, length};
 ghost use Rattle.polling.specs.Seating.{AreSame, seats_in};
+ghost use Rattle.polling.specs.Standing.{AreAmong};
 
 use crate::{Batch, Steward};
 use chain::Ledgers;
@@ -87,7 +88,9 @@ fn next_kind<L: Ledgers, H: Steward<L>>(client: &mut Client, steward: &H) -> Kin
 }
 
 impl Gathered {
-    pub(crate) fn new(alloc: Global) -> Gathered {
+    pub(crate) fn new(alloc: Global) -> Gathered
+        ensures { result.numbers.items ≡ [] }
+    {
         Gathered {
             numbers: Vec::new(alloc),
             bytes: 0,
@@ -97,16 +100,22 @@ impl Gathered {
         }
     }
 
-    pub(crate) fn is_empty(&self) -> bool {
+    pub(crate) fn is_empty(&self) -> bool
+        ensures { IsTrue result → self.now.numbers.items ≡ [] }
+    {
         self.numbers.is_empty()
     }
 
     /// Nobody more is to be waited for.
-    pub(crate) fn close(&mut self) {
+    pub(crate) fn close(&mut self)
+        ensures { self.new.numbers ≡ self.old.numbers }
+    {
         self.is_closed = true;
     }
 
-    fn holds(&self, number: u64) -> bool {
+    fn holds(&self, number: u64) -> bool
+        ensures { IsTrue result → Contains self.now.numbers.items number }
+    {
         self.numbers.iter().any(|member| *member == number)
     }
 
@@ -117,7 +126,9 @@ impl Gathered {
         number: u64,
         steward: &H,
     ) -> Place
-        ensures { AreSame (seats_in clients.old) (seats_in clients.new) }
+        ensures same { AreSame (seats_in clients.old) (seats_in clients.new) }
+        ensures kept { AreAmong self.old.numbers.items self.new.numbers.items }
+        ensures gathered { result ≡ Place.Gathered → Contains self.new.numbers.items number }
     {
         if self.holds(number) {
             self.is_closed = true;
@@ -137,7 +148,10 @@ impl Gathered {
         }
     }
 
-    fn place_of_query(&mut self) -> Place {
+    fn place_of_query(&mut self) -> Place
+        ensures kept { self.new.numbers ≡ self.old.numbers }
+        ensures gathered { result ≡ Place.Gathered → ⊥ }
+    {
         if self.queries >= MOST_QUERIES {
             return Place::Later;
         }
@@ -145,7 +159,10 @@ impl Gathered {
         Place::Now
     }
 
-    fn place_of_batch(&mut self, number: u64, size: usize) -> Place {
+    fn place_of_batch(&mut self, number: u64, size: usize) -> Place
+        ensures kept { AreAmong self.old.numbers.items self.new.numbers.items }
+        ensures gathered { result ≡ Place.Gathered → Contains self.new.numbers.items number }
+    {
         self.bytes = self.bytes.saturating_add(size);
         match self.numbers.push(number) {
             Ok(()) => Place::Gathered,
@@ -154,13 +171,18 @@ impl Gathered {
     }
 
     /// All who are ready have had their turn.
-    pub(crate) fn end_turn(&mut self) {
+    pub(crate) fn end_turn(&mut self)
+        ensures { self.new.numbers ≡ self.old.numbers }
+    {
         self.queries = 0;
     }
 
     /// Whether those who are gathered are to be served now, where so many replies are wanted, and there
     /// is more to be told without waiting, or not.
-    pub(crate) fn is_due(&self, has_more: bool, most: u64) -> bool {
+    pub(crate) fn is_due(&self, has_more: bool, most: u64) -> bool
+        ensures { result ≡ false →
+            (self.now.numbers.items ≡ []) ⊎ (length self.now.numbers.items < most) }
+    {
         let count = self.numbers.len();
         count > 0
             && (self.is_closed
@@ -171,14 +193,19 @@ impl Gathered {
     }
 
     /// Lets those go who are gathered, and hands them out.
-    pub(crate) fn take(&mut self, alloc: Global) -> Vec<u64> {
+    pub(crate) fn take(&mut self, alloc: Global) -> Vec<u64>
+        ensures taken { result.items ≡ self.old.numbers.items }
+        ensures none { self.new.numbers.items ≡ [] }
+    {
         self.bytes = 0;
         self.is_closed = false;
         mem::replace(&mut self.numbers, Vec::new(alloc))
     }
 
     /// The next clients are served alone.
-    pub(crate) fn serve_alone(&mut self) {
+    pub(crate) fn serve_alone(&mut self)
+        ensures { self.new.numbers ≡ self.old.numbers }
+    {
         self.alone = ALONE;
     }
 }

@@ -1,6 +1,6 @@
 //! Laws of serving many clients. The functions do nothing; their contracts are the laws.
 ghost use Rattle.polling.specs.Courses.{IsCourse, ServesEachAlone};
-ghost use Rattle.polling.specs.Laws.{EachIsServed, AreLives, BeginsEmpty, GoesOn, EndsTold};
+ghost use Rattle.polling.specs.Laws.{EachIsServed, AreLives, BeginsEmpty, GivesOn, GoesOn, EndsTold};
 ghost use Rattle.polling.specs.Serving.{rules};
 
 use crate::{Peers, Steward};
@@ -40,9 +40,11 @@ pub fn serving_begins_empty<L: Ledgers, C: Moments, P: Peers>()
     ensures { BeginsEmpty L C P }
 {}
 
-/// What is done behind what was done leads on from the hall in which that began. Where it ended
-/// though not enough was done, those who are connected told something in it.
+/// What is done behind what was done leads on from the hall in which that began. Where nobody was owed
+/// a turn, nobody is behind turns that are given. Where it ended though not enough was done, those who
+/// are connected told something in it.
 pub fn serving_goes_on<L: Ledgers, H: Steward<L>, C: Moments, P: Peers>()
     ensures served { GoesOn (rules L.means C.gives H.renews P.does) }
+    ensures turns { GivesOn (rules L.means C.gives H.renews P.does) }
     ensures told { EndsTold (rules L.means C.gives H.renews P.does) }
 {}

@@ -1,7 +1,7 @@
 //! Those who are connected, and what they do.
 ghost use Rattle.std.specs.Prelude.{◌≡◌, ◌≤◌, length};
 ghost use Rattle.ledger_http.specs.Limits.{longest_message};
-ghost use Rattle.polling.specs.Peers.{Doing, Said, Stirred, HasRead, HasWritten};
+ghost use Rattle.polling.specs.Peers.{Doing, Asked, Closed, Said, Stirred, HasRead, HasWritten};
 
 use crate::Batch;
 
@@ -77,9 +77,9 @@ pub trait Peers {
 
     /// A client has more to do: it is told as ready again, behind those that are.
     fn again(&mut self, client: u64)
-        ensures { does self.old Stirred self.new };
+        ensures { does self.old (Asked client) self.new };
 
     /// Lets a client go.
     fn close(&mut self, client: u64)
-        ensures { does self.old Stirred self.new };
+        ensures { does self.old (Closed client) self.new };
 }

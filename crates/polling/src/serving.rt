@@ -1,9 +1,10 @@
 //! Serving all who are ready.
-ghost use Rattle.std.specs.Prelude.{◌≡◌, ◌≤◌, ◌<◌, IfSome, IfNone, IsTrue};
+ghost use Rattle.std.specs.Prelude.{◌≡◌, ◌⊎◌, ◌≤◌, ◌<◌, [], ◌∷◌, ◌++◌, IfSome, IfNone, IsTrue};
 ghost use Rattle.service.specs.Seen.{Seen, Whole};
 ghost use Rattle.polling.specs.Serving.{rules};
-ghost use Rattle.polling.specs.Seating.{HadTurn, HadNone, IsFollowed, ServesAll, count_of, seats_in, held_by};
-ghost use Rattle.polling.specs.Ending.{HasDone, Ends, replies_of};
+ghost use Rattle.polling.specs.Standing.{told_of};
+ghost use Rattle.polling.specs.Seating.{HadTurn, HadNone, IsFollowed, ServesAll, ServesOwed, ServesEach, count_of, seats_in, held_by};
+ghost use Rattle.polling.specs.Ending.{HasDone, Ends, GivesTurns, replies_of};
 ghost use Rattle.polling.specs.declared.peers.Told.TheVariants.{Nothing};
 
 use crate::gathered::serve_due;
@@ -33,7 +34,7 @@ fn turn_in<L: Ledgers, H: Steward<L>, C: Moments, P: Peers>(
         (Whole ledgers.old) moments.old peers.old (seats_in clients.old)
         (Whole ledgers.new) moments.new peers.new (seats_in clients.new)
         turned.step (count_of turned.replied)) }
-    ensures none { IfNone result (HadNone
+    ensures none { IfNone result (HadNone number
         (Whole ledgers.old) moments.old peers.old (seats_in clients.old)
         (Whole ledgers.new) moments.new peers.new (seats_in clients.new)) }
     ensures usable { L.means.is_usable ledgers.new }
@@ -53,8 +54,9 @@ pub(crate) fn follow<L: Ledgers, H: Steward<L>, C: Moments, P: Peers>(
     number: u64,
     step: Step,
 )
-    ensures { IsFollowed (rules L.means C.gives H.renews P.does) number step
+    ensures followed { IsFollowed (rules L.means C.gives H.renews P.does) number step
         peers.old (seats_in clients.old) peers.new (seats_in clients.new) }
+    ensures waits { step ≡ Step.Waits → (peers.new ≡ peers.old) × (clients.new ≡ clients.old) }
 {
     match step {
         Step::More => peers.again(number),
@@ -77,7 +79,7 @@ fn serve_one<L: Ledgers, H: Steward<L>, C: Moments, P: Peers>(
     piece: &mut [u8],
 ) -> bool
     requires { L.means.is_usable ledgers.old }
-    ensures serves { ServesAll (rules L.means C.gives H.renews P.does)
+    ensures serves { ServesOwed (rules L.means C.gives H.renews P.does) (number ∷ []) []
         (held_by ledgers.old moments.old peers.old seats.old)
         (held_by ledgers.new moments.new peers.new seats.new) (count_of result) }
     ensures usable { L.means.is_usable ledgers.new }
@@ -106,7 +108,7 @@ fn join<L: Ledgers, H: Steward<L>, C: Moments, P: Peers>(
     seats: &mut Seats,
 )
     ensures { (ledgers : L) → (moments : C) →
-        ServesAll (rules L.means C.gives H.renews P.does)
+        ServesEach (rules L.means C.gives H.renews P.does)
         (held_by ledgers moments peers.old seats.old)
         (held_by ledgers moments peers.new seats.new) 0 }
 {
@@ -129,7 +131,7 @@ pub(crate) fn let_go<L: Ledgers, H: Steward<L>, C: Moments, P: Peers>(
     number: u64,
 )
     ensures { (ledgers : L) → (moments : C) →
-        ServesAll (rules L.means C.gives H.renews P.does)
+        ServesOwed (rules L.means C.gives H.renews P.does) (number ∷ []) []
         (held_by ledgers moments peers.old seats.old)
         (held_by ledgers moments peers.new seats.new) 0 }
 {
@@ -162,7 +164,8 @@ fn serve_or_gather<L: Rounds, H: Steward<L>, C: Moments, P: Peers>(
     gathered: &mut Gathered,
 ) -> u64
     requires { L.means.is_usable ledgers.old }
-    ensures serves { ServesAll (rules L.means C.gives H.renews P.does)
+    ensures serves { ServesOwed (rules L.means C.gives H.renews P.does)
+        (number ∷ gathered.old.numbers.items) gathered.new.numbers.items
         (held_by ledgers.old moments.old peers.old seats.old)
         (held_by ledgers.new moments.new peers.new seats.new) result }
     ensures few { result ≤ 1 }
@@ -197,7 +200,8 @@ fn serve_told<L: Rounds, H: Steward<L>, C: Moments, P: Peers>(
     told: Told,
 ) -> u64
     requires { L.means.is_usable ledgers.old }
-    ensures serves { ServesAll (rules L.means C.gives H.renews P.does)
+    ensures serves { ServesOwed (rules L.means C.gives H.renews P.does)
+        (told_of told ++ gathered.old.numbers.items) gathered.new.numbers.items
         (held_by ledgers.old moments.old peers.old seats.old)
         (held_by ledgers.new moments.new peers.new seats.new) result }
     ensures few { result ≤ 1 }
@@ -224,7 +228,7 @@ fn serve_told<L: Rounds, H: Steward<L>, C: Moments, P: Peers>(
 
 /// Whether nothing had happened, and nobody is gathered.
 fn is_over(told: Told, gathered: &Gathered) -> bool
-    ensures { IsTrue result → told ≡ Nothing }
+    ensures { IsTrue result → (told ≡ Nothing) × (gathered.now.numbers.items ≡ []) }
 {
     gathered.is_empty() && matches!(told, Told::Nothing)
 }
@@ -247,6 +251,12 @@ fn serve_next<L: Rounds, H: Steward<L>, C: Moments, P: Peers>(
     ensures does { HasDone (rules L.means C.gives H.renews P.does)
         (held_by ledgers.old moments.old peers.old seats.old)
         (held_by ledgers.new moments.new peers.new seats.new) result }
+    ensures turns { ServesOwed (rules L.means C.gives H.renews P.does)
+        gathered.old.numbers.items gathered.new.numbers.items
+        (held_by ledgers.old moments.old peers.old seats.old)
+        (held_by ledgers.new moments.new peers.new seats.new) (replies_of result) }
+    ensures all { (result ≡ Done.Nothing) ⊎ (replies_of result ≡ most) →
+        gathered.new.numbers.items ≡ [] }
     ensures few { replies_of result ≤ most }
     ensures usable { L.means.is_usable ledgers.new }
 {
@@ -284,6 +294,9 @@ pub fn serve_ready<L: Rounds, H: Steward<L>, C: Moments, P: Peers>(
         (held_by ledgers.old moments.old peers.old seats.old)
         (held_by ledgers.new moments.new peers.new seats.new) result }
     ensures ends { Ends (Seen L) C P (rules L.means C.gives H.renews P.does) (result ≡ most)
+        (held_by ledgers.old moments.old peers.old seats.old)
+        (held_by ledgers.new moments.new peers.new seats.new) result }
+    ensures turns { GivesTurns (Seen L) C P (rules L.means C.gives H.renews P.does)
         (held_by ledgers.old moments.old peers.old seats.old)
         (held_by ledgers.new moments.new peers.new seats.new) result }
     ensures few { result ≤ most }

@@ -2,7 +2,7 @@
 ghost use Rattle.std.specs.Prelude.{◌≤◌, ℕ};
 ghost use Rattle.service.specs.Seen.{Whole};
 ghost use Rattle.polling.specs.Serving.{rules};
-ghost use Rattle.polling.specs.Seating.{ServesAll, held, seats_in};
+ghost use Rattle.polling.specs.Seating.{ServesEach, held, seats_in};
 
 use crate::putting::{put_all, tell_all};
 use crate::round::{Round, copy_all};
@@ -38,7 +38,7 @@ pub(crate) fn share_round<L: Rounds, H: Steward<L>, C: Moments, P: Peers>(
 ) -> u64
     requires { L.means.is_usable ledgers.old }
     ensures serves { (peers : P) → (next : ℕ) →
-        ServesAll (rules L.means C.gives H.renews P.does)
+        ServesEach (rules L.means C.gives H.renews P.does)
         (held (Whole ledgers.old) moments.old peers (seats_in clients.old) next)
         (held (Whole ledgers.new) moments.new peers (seats_in clients.new) next) result }
     ensures few { result ≤ most }

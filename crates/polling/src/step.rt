@@ -1,5 +1,5 @@
 //! Steps of serving one client.
-ghost use Rattle.std.specs.Prelude.{◌≤◌};
+ghost use Rattle.std.specs.Prelude.{◌≢◌, ◌≤◌, []};
 ghost use Rattle.clients.specs.Answering.{IsWanting};
 ghost use Rattle.ledger_http.specs.Limits.{longest_message};
 ghost use Rattle.service.specs.Seen.{Seen};
@@ -81,6 +81,7 @@ pub(crate) fn write_some<L: Ledgers, H: Steward<L>, C: Moments, P: Peers>(
     number: u64,
     client: &mut Client,
 ) -> Step
+    requires { client.old.unsent ≢ [] }
     ensures { (ledgers : Seen L) → (moments : C) →
         ServesOne (rules L.means C.gives H.renews P.does) number
         ledgers moments peers.old client.old ledgers moments peers.new client.new result 0 }

@@ -2,10 +2,15 @@ use Rattle.std.proofs.Common.{rules}
 use Rattle.polling.proofs.finishing.write_in.Goals as goal
 
 pub returns-in-Some-clause-written : goal.returns-in-Some-clause-written
-returns-in-Some-clause-written g c ledgers moments = record {
-  talk = c.in-Some.client.now;
-  talk_now = c.write_left.new.client;
-  was = search rules;
-  now = search rules;
-  served = c.write_left.ensures ledgers moments;
-}
+returns-in-Some-clause-written g c =
+    let written = c.write_left.ensures in (
+      written.0,
+      written.1,
+      λ ledgers moments. record {
+        talk = c.in-Some.client.now;
+        talk_now = c.write_left.new.client;
+        was = search rules;
+        now = search rules;
+        served = written.2 ledgers moments;
+      },
+    )

@@ -1,7 +1,7 @@
-use Rattle.std.proofs.Common.{refl}
+use Rattle.std.proofs.Common.{[], ◌∷◌, refl}
 use Rattle.polling.specs.Serving.{rules}
 use Rattle.polling.specs.Seating.{held_by}
-use Rattle.polling.proofs.AllLemmas.{none_served}
+use Rattle.polling.proofs.AllLemmas.{nothing_done, serves_all}
 use Rattle.polling.proofs.finishing.write_next.Goals as goal
 
 pub returns-in-Joined-clause-turn : goal.returns-in-Joined-clause-turn
@@ -11,9 +11,12 @@ returns-in-Joined-clause-turn g c is ledgers moments =
       before = held_by ledgers moments c.args.peers.now c.args.seats.now;
       told = c.told.result;
       peers = c.told.new.self;
-      first = none_served r (held_by ledgers moments c.args.peers.now c.args.seats.now);
+      first = nothing_done r (held_by ledgers moments c.args.peers.now c.args.seats.now);
       said = c.told.ensures;
-      served = c.turn_away.ensures ledgers moments;
+      served =
+          serves_all r [] [] (held_by ledgers moments c.told.new.self c.args.seats.now)
+          (held_by ledgers moments c.turn_away.new.peers c.turn_away.new.seats) 0
+          (c.turn_away.ensures ledgers moments);
     }
 
 pub returns-in-Ready-clause-turn : goal.returns-in-Ready-clause-turn
@@ -23,7 +26,7 @@ returns-in-Ready-clause-turn g c is ledgers moments =
       before = held_by ledgers moments c.args.peers.now c.args.seats.now;
       told = c.told.result;
       peers = c.told.new.self;
-      first = none_served r (held_by ledgers moments c.args.peers.now c.args.seats.now);
+      first = nothing_done r (held_by ledgers moments c.args.peers.now c.args.seats.now);
       said = c.told.ensures;
       served = c.write_one.ensures ledgers moments;
     }
@@ -35,9 +38,13 @@ returns-in-Late-clause-turn g c is ledgers moments =
       before = held_by ledgers moments c.args.peers.now c.args.seats.now;
       told = c.told.result;
       peers = c.told.new.self;
-      first = none_served r (held_by ledgers moments c.args.peers.now c.args.seats.now);
+      first = nothing_done r (held_by ledgers moments c.args.peers.now c.args.seats.now);
       said = c.told.ensures;
-      served = c.let_go.ensures ledgers moments;
+      served =
+          serves_all r (c.in-Late.number ∷ []) []
+          (held_by ledgers moments c.told.new.self c.args.seats.now)
+          (held_by ledgers moments c.let_go.new.peers c.let_go.new.seats) 0
+          (c.let_go.ensures ledgers moments);
     }
 
 pub returns-in-Nothing-clause-quiet : goal.returns-in-Nothing-clause-quiet
@@ -45,7 +52,7 @@ returns-in-Nothing-clause-quiet g c is ledgers moments =
     let r = rules g.L.Ledgers.means g.C.Moments.gives g.H.Steward.renews g.P.Peers.does in
     record {
       before = held_by ledgers moments c.args.peers.now c.args.seats.now;
-      served = none_served r (held_by ledgers moments c.args.peers.now c.args.seats.now);
+      served = nothing_done r (held_by ledgers moments c.args.peers.now c.args.seats.now);
       said = c.in-Nothing.ensures;
       same = refl {a = held_by ledgers moments c.told.new.self c.args.seats.now};
     }

@@ -1,23 +1,40 @@
-use Rattle.std.proofs.Common.{◌+◌, refl}
+use Rattle.std.proofs.Common.{◌≡◌, ◌+◌, refl, sym, ◌∙◌, subst, ℕ, List, []}
 use Rattle.polling.specs.Serving.{rules}
-use Rattle.polling.specs.Seating.{held_by}
-use Rattle.polling.proofs.AllLemmas.{none_served, then_all}
+use Rattle.polling.specs.Seating.{ServesOwed, held_by}
+use Rattle.polling.proofs.AllLemmas.{beside, none_owed, then_owed}
+use Rattle.polling.proofs.gathered.serve_due.Goals.{then-not-has_more, else-not-has_more}
 use Rattle.polling.proofs.gathered.serve_due.Goals as goal
 
 pub returns-then-not-is_due-clause-serves : goal.returns-then-not-is_due-clause-serves
 returns-then-not-is_due-clause-serves g c =
-    none_served (rules g.L.Ledgers.means g.C.Moments.gives g.H.Steward.renews g.P.Peers.does)
-    (held_by c.args.ledgers.now c.args.moments.now c.args.peers.now c.args.seats.now)
+    let started = c.args.gathered.now.numbers.items in
+    let same : c.if-not-has_more.gathered.numbers.items ≡ started =
+    elim c.if-not-has_more.branch [ then-not-has_more w ↦ cc | else-not-has_more w ↦ cc ] in
+    let now = held_by c.args.ledgers.now c.args.moments.now c.args.peers.now c.args.seats.now in
+    let r = rules g.L.Ledgers.means g.C.Moments.gives g.H.Steward.renews g.P.Peers.does in
+    subst (λ (left : List ℕ). ServesOwed r started left now now 0) (sym same)
+    (none_owed r started started now (λ client found. found))
 
 pub returns-clause-serves : goal.returns-clause-serves
 returns-clause-serves g c =
-    then_all (rules g.L.Ledgers.means g.C.Moments.gives g.H.Steward.renews g.P.Peers.does)
-    (held_by c.args.ledgers.now c.args.moments.now c.args.peers.now c.args.seats.now)
-    (held_by c.share-shared.new.ledgers c.share-shared.new.moments c.args.peers.now
-    (record c.args.seats.now { clients = c.share-shared.new.clients }))
-    (held_by c.finish_each-more.new.ledgers c.finish_each-more.new.moments
-    c.finish_each-more.new.peers c.finish_each-more.new.seats)
-    c.share-shared.result c.finish_each-more.result
-    (c.share-shared.result + c.finish_each-more.result) refl
-    (c.share-shared.ensures.serves c.args.peers.now c.args.seats.now.next)
-    c.finish_each-more.ensures.serves
+    let r = rules g.L.Ledgers.means g.C.Moments.gives g.H.Steward.renews g.P.Peers.does in
+    let started = c.args.gathered.now.numbers.items in
+    let same : c.if-not-has_more.gathered.numbers.items ≡ started =
+    elim c.if-not-has_more.branch [ then-not-has_more w ↦ cc | else-not-has_more w ↦ cc ] in
+    let taken = c.deref-2.ensures.value ∙ c.take-numbers.ensures.taken ∙ same in
+    let left = c.share-shared.new.gathered.numbers.items in
+    let none : left ≡ [] = cc in
+    let shared = c.share-shared in
+    let more = c.finish_each-more in
+    let old = held_by c.args.ledgers.now c.args.moments.now c.args.peers.now c.args.seats.now in
+    let mid =
+    held_by shared.new.ledgers shared.new.moments c.args.peers.now
+    (record c.args.seats.now { clients = shared.new.clients }) in
+    let new = held_by more.new.ledgers more.new.moments more.new.peers more.new.seats in
+    let replies = shared.result + more.result in
+    subst (λ (clients : List ℕ). ServesOwed r started clients old new replies) (sym none)
+    (then_owed r started started [] old mid new shared.result more.result replies refl
+    (beside r [] [] started old mid shared.result
+    (shared.ensures.serves c.args.peers.now c.args.seats.now.next))
+    (subst (λ (clients : List ℕ). ServesOwed r clients [] mid new more.result) taken
+    more.ensures.serves))

@@ -2,14 +2,15 @@ use Rattle.std.proofs.Common.{refl, ◌+◌}
 use Rattle.service.specs.Seen.{Whole}
 use Rattle.polling.specs.Serving.{rules}
 use Rattle.polling.specs.Seating.{held, seats_in}
-use Rattle.polling.proofs.AllLemmas.{then_all, stirs_all, passed_over, joined}
+use Rattle.polling.proofs.AllLemmas.{then_each, passed_over}
+use Rattle.polling.proofs.SeatLemmas.{closes_next, joined}
 use Rattle.polling.proofs.serving.join.Goals as goal
 
 pub returns-then-number : goal.returns-then-number
 returns-then-number g c ledgers moments =
     let r = rules g.L.Ledgers.means g.C.Moments.gives g.H.Steward.renews g.P.Peers.does in
-    stirs_all r (Whole ledgers) moments c.args.peers.now c.close.new.self (seats_in c.args.seats.now.clients)
-    c.args.seats.now.next c.close.ensures
+    closes_next r (Whole ledgers) moments c.args.peers.now c.close.new.self
+    (seats_in c.args.seats.now.clients) c.args.seats.now.next c.close.ensures
 
 pub returns-in-Ok : goal.returns-in-Ok
 returns-in-Ok g c ledgers moments =
@@ -23,9 +24,10 @@ returns-in-Err g c ledgers moments =
     let next = c.args.seats.now.next in
     let seats = seats_in c.args.seats.now.clients in
     let seats_now = seats_in c.seat.new.clients in
-    then_all r (held (Whole ledgers) moments c.args.peers.now seats next)
-    (held (Whole ledgers) moments c.args.peers.now seats_now (next + 1))
+    then_each r (held (Whole ledgers) moments c.args.peers.now seats next)
+    (held (Whole ledgers) moments c.close-in-Err.new.self seats next)
     (held (Whole ledgers) moments c.close-in-Err.new.self seats_now (next + 1)) 0 0 0 refl
-    (passed_over r (Whole ledgers) moments c.args.peers.now seats seats_now next c.in-Err.ensures.err)
-    (stirs_all r (Whole ledgers) moments c.args.peers.now c.close-in-Err.new.self seats_now (next + 1)
+    (closes_next r (Whole ledgers) moments c.args.peers.now c.close-in-Err.new.self seats next
     c.close-in-Err.ensures)
+    (passed_over r (Whole ledgers) moments c.close-in-Err.new.self seats seats_now next
+    c.in-Err.ensures.err)

@@ -1,16 +1,21 @@
-use Rattle.std.proofs.Common.{refl}
+use Rattle.std.proofs.Common.{refl, [], ◌∷◌}
 use Rattle.service.specs.Seen.{Whole}
 use Rattle.polling.specs.Serving.{rules}
 use Rattle.polling.specs.Seating.{held, held_by, seats_in}
-use Rattle.polling.proofs.AllLemmas.{unchanged, stirs_all, then_all}
+use Rattle.polling.proofs.StandLemmas.{among_first, among_beside}
+use Rattle.polling.proofs.AllLemmas.{unchanged, then_owed, beside, asks_all}
 use Rattle.polling.proofs.serving.serve_or_gather.Goals as goal
 
 pub returns-in-Gathered-clause-serves : goal.returns-in-Gathered-clause-serves
 returns-in-Gathered-clause-serves g c =
-    unchanged (rules g.L.Ledgers.means g.C.Moments.gives g.H.Steward.renews g.P.Peers.does)
-    (Whole c.args.ledgers.now) c.args.moments.now c.args.peers.now
-    (seats_in c.args.seats.now.clients) (seats_in c.place.new.clients) c.args.seats.now.next
-    c.place.ensures
+    let r = rules g.L.Ledgers.means g.C.Moments.gives g.H.Steward.renews g.P.Peers.does in
+    let gathered = c.args.gathered.now.numbers.items in
+    let gathered_now = c.place.new.self.numbers.items in
+    unchanged r (c.args.number ∷ gathered) gathered_now (Whole c.args.ledgers.now)
+    c.args.moments.now c.args.peers.now (seats_in c.args.seats.now.clients)
+    (seats_in c.place.new.clients) c.args.seats.now.next c.place.ensures.same
+    (among_first c.args.number gathered gathered_now (c.in-Gathered.ensures.gathered refl)
+    c.place.ensures.kept)
 
 pub returns-in-Later-clause-serves : goal.returns-in-Later-clause-serves
 returns-in-Later-clause-serves g c =
@@ -20,38 +25,54 @@ returns-in-Later-clause-serves g c =
     let next = c.args.seats.now.next in
     let seats = seats_in c.args.seats.now.clients in
     let seats_now = seats_in c.place.new.clients in
-    then_all r (held ledgers moments c.args.peers.now seats next)
-    (held ledgers moments c.args.peers.now seats_now next)
+    let gathered = c.args.gathered.now.numbers.items in
+    let gathered_now = c.place.new.self.numbers.items in
+    let mid = held ledgers moments c.again.new.self seats next in
+    let old = held ledgers moments c.args.peers.now seats next in
+    then_owed r (c.args.number ∷ gathered) gathered gathered_now old mid
     (held ledgers moments c.again.new.self seats_now next) 0 0 0 refl
-    (unchanged r ledgers moments c.args.peers.now seats seats_now next c.place.ensures)
-    (stirs_all r ledgers moments c.args.peers.now c.again.new.self seats_now next c.again.ensures)
+    (beside r (c.args.number ∷ []) [] gathered old mid 0
+    (asks_all r c.args.number ledgers moments c.args.peers.now c.again.new.self seats next
+    c.again.ensures))
+    (unchanged r gathered gathered_now ledgers moments c.again.new.self seats seats_now next
+    c.place.ensures.same c.place.ensures.kept)
 
 pub returns-then-serve_one-clause-serves : goal.returns-then-serve_one-clause-serves
 returns-then-serve_one-clause-serves g c =
-    then_all (rules g.L.Ledgers.means g.C.Moments.gives g.H.Steward.renews g.P.Peers.does)
-    (held_by c.args.ledgers.now c.args.moments.now c.args.peers.now c.args.seats.now)
-    (held_by c.args.ledgers.now c.args.moments.now c.args.peers.now
-    (record c.args.seats.now { clients = c.place.new.clients }))
-    (held_by c.serve_one.new.ledgers c.serve_one.new.moments c.serve_one.new.peers
-    c.serve_one.new.seats)
-    0 1 1 refl
-    (unchanged (rules g.L.Ledgers.means g.C.Moments.gives g.H.Steward.renews g.P.Peers.does)
-    (Whole c.args.ledgers.now) c.args.moments.now c.args.peers.now
-    (seats_in c.args.seats.now.clients) (seats_in c.place.new.clients) c.args.seats.now.next
-    c.place.ensures)
-    c.if-serve_one.ensures.serves
+    let r = rules g.L.Ledgers.means g.C.Moments.gives g.H.Steward.renews g.P.Peers.does in
+    let number = c.args.number in
+    let gathered = c.args.gathered.now.numbers.items in
+    let gathered_now = c.place.new.self.numbers.items in
+    let seats_now = record c.args.seats.now { clients = c.place.new.clients } in
+    let mid = held_by c.args.ledgers.now c.args.moments.now c.args.peers.now seats_now in
+    let new =
+    held_by c.serve_one.new.ledgers c.serve_one.new.moments c.serve_one.new.peers
+    c.serve_one.new.seats in
+    then_owed r (number ∷ gathered) (number ∷ gathered_now) gathered_now
+    (held_by c.args.ledgers.now c.args.moments.now c.args.peers.now c.args.seats.now) mid new 0 1 1
+    refl
+    (unchanged r (number ∷ gathered) (number ∷ gathered_now) (Whole c.args.ledgers.now)
+    c.args.moments.now c.args.peers.now (seats_in c.args.seats.now.clients)
+    (seats_in c.place.new.clients) c.args.seats.now.next c.place.ensures.same
+    (among_beside number gathered gathered_now c.place.ensures.kept))
+    (beside r (number ∷ []) [] gathered_now mid new 1 c.if-serve_one.ensures.serves)
 
 pub returns-else-serve_one-clause-serves : goal.returns-else-serve_one-clause-serves
 returns-else-serve_one-clause-serves g c =
-    then_all (rules g.L.Ledgers.means g.C.Moments.gives g.H.Steward.renews g.P.Peers.does)
-    (held_by c.args.ledgers.now c.args.moments.now c.args.peers.now c.args.seats.now)
-    (held_by c.args.ledgers.now c.args.moments.now c.args.peers.now
-    (record c.args.seats.now { clients = c.place.new.clients }))
-    (held_by c.serve_one.new.ledgers c.serve_one.new.moments c.serve_one.new.peers
-    c.serve_one.new.seats)
-    0 0 0 refl
-    (unchanged (rules g.L.Ledgers.means g.C.Moments.gives g.H.Steward.renews g.P.Peers.does)
-    (Whole c.args.ledgers.now) c.args.moments.now c.args.peers.now
-    (seats_in c.args.seats.now.clients) (seats_in c.place.new.clients) c.args.seats.now.next
-    c.place.ensures)
-    c.if-serve_one.ensures.serves
+    let r = rules g.L.Ledgers.means g.C.Moments.gives g.H.Steward.renews g.P.Peers.does in
+    let number = c.args.number in
+    let gathered = c.args.gathered.now.numbers.items in
+    let gathered_now = c.place.new.self.numbers.items in
+    let seats_now = record c.args.seats.now { clients = c.place.new.clients } in
+    let mid = held_by c.args.ledgers.now c.args.moments.now c.args.peers.now seats_now in
+    let new =
+    held_by c.serve_one.new.ledgers c.serve_one.new.moments c.serve_one.new.peers
+    c.serve_one.new.seats in
+    then_owed r (number ∷ gathered) (number ∷ gathered_now) gathered_now
+    (held_by c.args.ledgers.now c.args.moments.now c.args.peers.now c.args.seats.now) mid new 0 0 0
+    refl
+    (unchanged r (number ∷ gathered) (number ∷ gathered_now) (Whole c.args.ledgers.now)
+    c.args.moments.now c.args.peers.now (seats_in c.args.seats.now.clients)
+    (seats_in c.place.new.clients) c.args.seats.now.next c.place.ensures.same
+    (among_beside number gathered gathered_now c.place.ensures.kept))
+    (beside r (number ∷ []) [] gathered_now mid new 0 c.if-serve_one.ensures.serves)

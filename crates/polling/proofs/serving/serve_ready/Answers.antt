@@ -1,12 +1,24 @@
-use Rattle.std.proofs.Common.{◌≡◌, ◌+◌, refl, arith}
+use Rattle.std.proofs.Common.{◌≡◌, ◌+◌, inl, inr, refl, sym, subst, ℕ, List, [], arith}
 use Rattle.polling.specs.Serving.{rules}
-use Rattle.polling.specs.Seating.{held_by}
+use Rattle.polling.specs.Seating.{held_by, ServesOwed}
 use Rattle.polling.specs.Ending.{Start, Enough, Quiet}
-use Rattle.polling.proofs.TurnLemmas.{turns_serve, next_turn, too_long, quiet_serves, quiet_then}
+use Rattle.polling.proofs.TurnLemmas.{turns_serve, next_turn, all_turns, too_long, quiet_serves, quiet_then}
+use Rattle.polling.proofs.AllLemmas.{none_served, then_owed}
 use Rattle.polling.proofs.serving.serve_ready.Goals as goal
 
 pub loop-init : goal.loop-init
-loop-init g c = record { turns = Start; few = omega arith; usable = c.requires }
+loop-init g c =
+    let r = rules g.L.Ledgers.means g.C.Moments.gives g.H.Steward.renews g.P.Peers.does in
+    let first = held_by c.args.ledgers.now c.args.moments.now c.args.peers.now c.args.seats.now in
+    record {
+      turns = Start;
+      served =
+          subst (λ (gathered : List ℕ). ServesOwed r [] gathered first first 0)
+          (sym c.new-gathered.ensures) (none_served r first);
+      all = λ some. c.new-gathered.ensures;
+      few = omega arith;
+      usable = c.requires;
+    }
 
 pub returns-then-replies-most-clause-serves : goal.returns-then-replies-most-clause-serves
 returns-then-replies-most-clause-serves g c =
@@ -17,6 +29,38 @@ returns-then-replies-most-clause-serves g c =
 
 pub returns-then-replies-most-clause-ends : goal.returns-then-replies-most-clause-ends
 returns-then-replies-most-clause-ends g c = Enough c.if-replies-most.true
+
+pub returns-then-replies-most-clause-turns : goal.returns-then-replies-most-clause-turns
+returns-then-replies-most-clause-turns g c =
+    let r = rules g.L.Ledgers.means g.C.Moments.gives g.H.Steward.renews g.P.Peers.does in
+    let first = held_by c.args.ledgers.now c.args.moments.now c.args.peers.now c.args.seats.now in
+    let now = held_by c.loop.ledgers c.loop.moments c.loop.peers c.loop.seats in
+    inl
+    (subst (λ (gathered : List ℕ). ServesOwed r [] gathered first now c.loop.replies)
+    (c.loop.invariant.all c.if-replies-most.true) c.loop.invariant.served)
+
+pub returns-in-Nothing-clause-turns : goal.returns-in-Nothing-clause-turns
+returns-in-Nothing-clause-turns g c =
+    let r = rules g.L.Ledgers.means g.C.Moments.gives g.H.Steward.renews g.P.Peers.does in
+    let first = held_by c.args.ledgers.now c.args.moments.now c.args.peers.now c.args.seats.now in
+    let old = held_by c.loop.ledgers c.loop.moments c.loop.peers c.loop.seats in
+    let new =
+    held_by c.serve_next.new.ledgers c.serve_next.new.moments c.serve_next.new.peers
+    c.serve_next.new.seats in
+    inl
+    (subst (λ (gathered : List ℕ). ServesOwed r [] gathered first new c.loop.replies)
+    (c.in-Nothing.ensures.all (inl refl))
+    (then_owed r [] c.loop.gathered.numbers.items c.serve_next.new.gathered.numbers.items first old
+    new c.loop.replies 0 c.loop.replies (omega arith) c.loop.invariant.served
+    c.in-Nothing.ensures.turns))
+
+pub returns-clause-turns : goal.returns-clause-turns
+returns-clause-turns g c =
+    inr
+    (all_turns (rules g.L.Ledgers.means g.C.Moments.gives g.H.Steward.renews g.P.Peers.does)
+    (held_by c.args.ledgers.now c.args.moments.now c.args.peers.now c.args.seats.now)
+    (held_by c.loop.ledgers c.loop.moments c.loop.peers c.loop.seats) c.loop.counter
+    c.loop.replies c.loop.auto.counter-end c.loop-test.false c.loop.invariant.turns)
 
 pub returns-in-Nothing-clause-ends : goal.returns-in-Nothing-clause-ends
 returns-in-Nothing-clause-ends g c =
@@ -72,6 +116,13 @@ loop-preserved g c =
           next_turn r first old new c.loop.counter c.loop.replies c.in-Served.more
           (c.loop.replies + c.in-Served.more) refl c.loop.invariant.turns
           c.in-Served.ensures.does;
+      served =
+          then_owed r [] c.loop.gathered.numbers.items c.serve_next.new.gathered.numbers.items first
+          old new c.loop.replies c.in-Served.more (c.loop.replies + c.in-Served.more) refl
+          c.loop.invariant.served c.in-Served.ensures.turns;
+      all = λ all.
+          let few = c.loop.invariant.few in
+          c.in-Served.ensures.all (inr (omega (arith, few)));
       few =
           let before = c.loop.invariant.few in
           let more = c.in-Served.ensures.few in

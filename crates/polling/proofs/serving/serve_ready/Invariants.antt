@@ -1,11 +1,11 @@
-use Rattle.std.proofs.Common.{◌≤◌}
+use Rattle.std.proofs.Common.{◌≡◌, ◌≤◌, []}
 use Rattle.service.specs.Seen.{Seen}
 use Rattle.polling.specs.Serving.{rules}
-use Rattle.polling.specs.Seating.{held_by}
+use Rattle.polling.specs.Seating.{held_by, ServesOwed}
 use Rattle.polling.specs.Ending.{Turns}
 use Rattle.polling.proofs.serving.serve_ready.Given as goal
 
--- What was done so far was so many turns.
+-- What was done so far was so many turns, and only who is gathered is owed one yet.
 abbrev pub invariant-loop : goal.invariant-loop
 invariant-loop g l = record {
   turns :
@@ -13,6 +13,11 @@ invariant-loop g l = record {
       (rules g.L.Ledgers.means g.C.Moments.gives g.H.Steward.renews g.P.Peers.does)
       (held_by l.fn.ledgers l.fn.moments l.fn.peers l.fn.seats) l.counter l.replies
       (held_by l.ledgers l.moments l.peers l.seats);
+  served :
+      ServesOwed (rules g.L.Ledgers.means g.C.Moments.gives g.H.Steward.renews g.P.Peers.does) []
+      l.gathered.numbers.items (held_by l.fn.ledgers l.fn.moments l.fn.peers l.fn.seats)
+      (held_by l.ledgers l.moments l.peers l.seats) l.replies;
+  all : l.replies ≡ l.most → l.gathered.numbers.items ≡ [];
   few : l.replies ≤ l.most;
   usable : g.L.Ledgers.means.is_usable l.ledgers;
 }

@@ -1,15 +1,34 @@
+use Rattle.std.proofs.Common.{[], ◌∷◌}
 use Rattle.polling.specs.Serving.{rules}
 use Rattle.polling.specs.Seating.{held_by}
-use Rattle.polling.proofs.AllLemmas.{none_served}
+use Rattle.polling.proofs.AllLemmas.{beside, none_owed}
 use Rattle.polling.proofs.serving.serve_told.Goals as goal
 
 pub returns-in-Joined-clause-serves : goal.returns-in-Joined-clause-serves
-returns-in-Joined-clause-serves g c = c.join.ensures c.args.ledgers.now c.args.moments.now
+returns-in-Joined-clause-serves g c =
+    let r = rules g.L.Ledgers.means g.C.Moments.gives g.H.Steward.renews g.P.Peers.does in
+    rw c.in-Joined.is
+    (beside r [] [] c.args.gathered.now.numbers.items
+    (held_by c.args.ledgers.now c.args.moments.now c.args.peers.now c.args.seats.now)
+    (held_by c.args.ledgers.now c.args.moments.now c.join.new.peers c.join.new.seats) 0
+    (c.join.ensures c.args.ledgers.now c.args.moments.now))
+
+pub returns-in-Ready-clause-serves : goal.returns-in-Ready-clause-serves
+returns-in-Ready-clause-serves g c = rw c.in-Ready.is c.serve_or_gather.ensures.serves
 
 pub returns-in-Late-clause-serves : goal.returns-in-Late-clause-serves
-returns-in-Late-clause-serves g c = c.let_go.ensures c.args.ledgers.now c.args.moments.now
+returns-in-Late-clause-serves g c =
+    let r = rules g.L.Ledgers.means g.C.Moments.gives g.H.Steward.renews g.P.Peers.does in
+    rw c.in-Late.is
+    (beside r (c.in-Late.number ∷ []) [] c.args.gathered.now.numbers.items
+    (held_by c.args.ledgers.now c.args.moments.now c.args.peers.now c.args.seats.now)
+    (held_by c.args.ledgers.now c.args.moments.now c.let_go.new.peers c.let_go.new.seats) 0
+    (c.let_go.ensures c.args.ledgers.now c.args.moments.now))
 
 pub returns-in-Nothing-clause-serves : goal.returns-in-Nothing-clause-serves
 returns-in-Nothing-clause-serves g c =
-    none_served (rules g.L.Ledgers.means g.C.Moments.gives g.H.Steward.renews g.P.Peers.does)
+    let r = rules g.L.Ledgers.means g.C.Moments.gives g.H.Steward.renews g.P.Peers.does in
+    rw (c.in-Nothing.is, c.close.ensures)
+    (none_owed r c.args.gathered.now.numbers.items c.args.gathered.now.numbers.items
     (held_by c.args.ledgers.now c.args.moments.now c.args.peers.now c.args.seats.now)
+    (λ client found. found))

@@ -1,6 +1,6 @@
 use Rattle.std.proofs.Common.{refl}
 use Rattle.polling.specs.Serving.{rules}
-use Rattle.polling.proofs.OneLemmas.{goes, loses, stirred, came, ended, then_one}
+use Rattle.polling.proofs.OneLemmas.{goes, loses, stirred, came, ended, gave_none, then_one}
 use Rattle.polling.specs.declared.step.Step.TheVariants as step
 use Rattle.polling.proofs.step.read_piece.Goals as goal
 
@@ -25,8 +25,9 @@ returns-in-Ended g c ledgers moments =
 
 pub returns-in-Waits : goal.returns-in-Waits
 returns-in-Waits g c ledgers moments =
-    stirred (rules g.L.Ledgers.means g.C.Moments.gives g.H.Steward.renews g.P.Peers.does) c.args.number
-    ledgers moments c.args.peers.now c.read.new.self c.args.client.now c.in-Waits.ensures.read
+    gave_none (rules g.L.Ledgers.means g.C.Moments.gives g.H.Steward.renews g.P.Peers.does) c.args.number
+    ledgers moments c.args.peers.now c.read.new.self c.args.client.now c.requires
+    c.in-Waits.ensures.read
 
 pub returns-in-Broken : goal.returns-in-Broken
 returns-in-Broken g c ledgers moments =

@@ -2,7 +2,7 @@ use Rattle.std.proofs.Common.{refl, subst, List, ℕ, take}
 use Rattle.polling.specs.Peers.{Took}
 use Rattle.polling.specs.Serving.{rules}
 use Rattle.polling.specs.declared.step.Step.TheVariants as step
-use Rattle.polling.proofs.OneLemmas.{goes, stirred, taken, then_one}
+use Rattle.polling.proofs.OneLemmas.{goes, stirred, taken, took_none, then_one}
 use Rattle.polling.proofs.step.write_some.Goals as goal
 
 pub returns-in-Took : goal.returns-in-Took
@@ -17,8 +17,9 @@ returns-in-Took g c ledgers moments =
 
 pub returns-in-Waits : goal.returns-in-Waits
 returns-in-Waits g c ledgers moments =
-    stirred (rules g.L.Ledgers.means g.C.Moments.gives g.H.Steward.renews g.P.Peers.does) c.args.number
-    ledgers moments c.args.peers.now c.write.new.self c.args.client.now c.in-Waits.ensures
+    took_none (rules g.L.Ledgers.means g.C.Moments.gives g.H.Steward.renews g.P.Peers.does) c.args.number
+    ledgers moments c.args.peers.now c.write.new.self c.args.client.now c.requires
+    c.in-Waits.ensures
 
 pub returns-in-Broken : goal.returns-in-Broken
 returns-in-Broken g c ledgers moments =

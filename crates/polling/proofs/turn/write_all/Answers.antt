@@ -29,6 +29,6 @@ pub loop-preserved : goal.loop-preserved
 loop-preserved g c ledgers moments =
     then_one (rules g.L.Ledgers.means g.C.Moments.gives g.H.Steward.renews g.P.Peers.does) c.args.number
     ledgers ledgers ledgers moments moments moments c.args.peers.now c.loop.peers
-    c.write_some.new.peers c.args.client.now c.loop.client c.write_some.new.client step.Waits 0 0 0
+    c.write_some.new.peers c.args.client.now c.loop.client c.write_some.new.client step.More 0 0 0
     refl
     (c.loop.invariant ledgers moments) (c.in-More.ensures ledgers moments)

@@ -1,0 +1,352 @@
+-- Clients who take their seats, are served in them and go.
+use Rattle.std.proofs.Common.{◌≡◌, ◌≢◌, ◌≤◌, ◌<◌, ◌+◌, inl, inr, refl, ap, sym, ◌∙◌, subst, ℕ, false, [], ◌∷◌, ◌++◌, Option, Some, None, is_some, arith}
+use Rattle.std.specs.Option.{unwrap_or}
+use Rattle.std.proofs.lemmas.Bool.{false≢true}
+use Rattle.clients.specs.Talk.{Talk, new_talk}
+use Rattle.polling.specs.Peers.{Closed}
+use Rattle.polling.specs.Standing.{Standing, Away, Awaited, Owed, rested, with_standing, StandsIn}
+use Rattle.polling.specs.Serving.{Hall, hall, Rules, gone_with, Stirs, Joins, Serves, Then}
+use Rattle.polling.specs.Seating.{with_talk, ServesOne, SeatsNow, HadTurn, IsFollowed, held, Keeps, ServesAll, ServesOwed, ServesEach}
+use Rattle.polling.specs.Ending.{IsToldAs}
+use Rattle.polling.specs.declared.step.Step.{Step}
+use Rattle.polling.specs.declared.step.Step.TheVariants as step
+use Rattle.polling.proofs.OneLemmas.{Stays, goes, once, replies_both, with_talk-own, with_talk-other}
+use Rattle.polling.proofs.StandLemmas.{by_client, AllStand, rested_in, rested_unowed, other_talk, nobody_away, one_stands, owes_none, owes_fewer, owes_one}
+use Rattle.polling.proofs.AllLemmas.{gone_with-other, used, same_hall, keeps_peers, closes_all, each_of, serves_all}
+
+-- in a seat in which nobody is there is no talk
+free_seat : (seat : Option Talk) → ((talk : Talk) → seat ≡ Some talk → ⊥) → seat ≡ None
+free_seat None nobody = refl
+free_seat (Some talk) nobody = absurd (nobody talk refl)
+
+-- who has another talk stands as before
+seated_still :
+    (client : ℕ) (seats seats_now : ℕ → Option Talk) (talk talk_now : Talk)
+    (stands : ℕ → Standing) → seats client ≡ Some talk →
+    SeatsNow client (Some talk_now) seats seats_now → AllStand seats stands →
+    AllStand seats_now stands
+seated_still client seats seats_now talk talk_now stands was now all =
+    by_client (λ each. StandsIn (seats_now each) (stands each)) client
+    (subst (λ (seat : Option Talk). StandsIn seat (stands client)) (sym now.0)
+    (other_talk talk talk_now (stands client)
+    (subst (λ (seat : Option Talk). StandsIn seat (stands client)) was (all client))))
+    (λ other differ.
+    subst (λ (seat : Option Talk). StandsIn seat (stands other)) (sym (now.1 other differ))
+    (all other))
+
+module _ {S C P : Type 0} where
+  -- the next number has no seat
+  next_free :
+      (ledgers : S) (moments : C) (peers : P) (seats : ℕ → Option Talk) (next : ℕ)
+      (first : Hall S C P) → Keeps (held ledgers moments peers seats next) first →
+      seats next ≡ None
+  next_free ledgers moments peers seats next first keeps =
+      free_seat (seats next)
+      (λ talk is. let below : next < next = keeps.below next talk is in omega arith)
+
+  -- a client with the next number is closed
+  pub closes_next :
+      (r : Rules S C P) (ledgers : S) (moments : C) (peers peers_now : P)
+      (seats : ℕ → Option Talk) (next : ℕ) → r.does peers (Closed next) peers_now →
+      ServesEach r (held ledgers moments peers seats next)
+      (held ledgers moments peers_now seats next) 0
+  closes_next r ledgers moments peers peers_now seats next does first keeps =
+      each_of r (next ∷ []) (held ledgers moments peers seats next)
+      (held ledgers moments peers_now seats next) 0
+      (closes_all r next ledgers moments peers peers_now seats next
+      (next_free ledgers moments peers seats next first keeps) does)
+      first keeps
+
+  -- a client takes the seat of the next number
+  pub joined :
+      (r : Rules S C P) (ledgers : S) (moments : C) (peers : P) (seats seats_now : ℕ → Option Talk)
+      (next : ℕ) → SeatsNow next (Some new_talk) seats seats_now →
+      ServesEach r (held ledgers moments peers seats next)
+      (held ledgers moments peers seats_now (next + 1)) 0
+  joined r ledgers moments peers seats seats_now next now first keeps =
+      let nobody = next_free ledgers moments peers seats next first keeps in
+      let away =
+      nobody_away (first.stands next)
+      (subst (λ (seat : Option Talk). StandsIn seat (first.stands next)) nobody (keeps.stands next)) in
+      let stands = with_standing next Awaited first.stands in
+      let after = record first { stands = stands } in (
+        [],
+        after,
+        once r first after [] (Joins next away),
+        record {
+          ledgers = keeps.ledgers;
+          moments = keeps.moments;
+          peers = keeps.peers;
+          seated =
+              by_client
+              (λ client. (talk : Talk) → seats_now client ≡ Some talk → first.room.talks client ≡ talk)
+              next
+              (λ talk is.
+              keeps.unused next (omega arith)
+              ∙ ap (λ seat. unwrap_or seat new_talk) (sym now.0 ∙ is))
+              (λ other differ talk is. keeps.seated other talk (sym (now.1 other differ) ∙ is));
+          there =
+              by_client
+              (λ client. (talk : Talk) → seats_now client ≡ Some talk → first.gone client ≡ false)
+              next (λ talk is. keeps.not_gone next (omega arith))
+              (λ other differ talk is. keeps.there other talk (sym (now.1 other differ) ∙ is));
+          below =
+              by_client (λ client. (talk : Talk) → seats_now client ≡ Some talk → client < next + 1) next
+              (λ talk is. omega arith)
+              (λ other differ talk is.
+              let before : other < next = keeps.below other talk (sym (now.1 other differ) ∙ is) in
+              omega arith);
+          unused = λ client (beyond : next + 1 ≤ client). keeps.unused client (omega arith);
+          not_gone = λ client (beyond : next + 1 ≤ client). keeps.not_gone client (omega arith);
+          stands =
+              one_stands seats_now first.stands next Awaited
+              (subst (λ (seat : Option Talk). StandsIn seat Awaited) (sym now.0) tt)
+              (λ other differ.
+              subst (λ (seat : Option Talk). StandsIn seat (first.stands other))
+              (sym (now.1 other differ)) (keeps.stands other));
+        },
+        refl,
+        owes_fewer (next ∷ []) first.stands stands
+            (owes_one next Awaited first.stands (λ (owed : Awaited ≡ Owed). cc)),
+      )
+
+  -- what is held behind a turn of the client in one seat
+  pub keeps_at :
+      (client : ℕ) (ledgers ledgers_now : S) (moments moments_now : C) (peers peers_now each : P)
+      (seats seats_now : ℕ → Option Talk) (next : ℕ) (talk talk_now : Talk) (first : Hall S C P) →
+      seats client ≡ Some talk → SeatsNow client (Some talk_now) seats seats_now →
+      each ≡ peers_now → Keeps (held ledgers moments peers seats next) first →
+      Keeps (held ledgers_now moments_now peers_now seats_now next)
+      (hall ledgers_now moments_now each (with_talk client talk_now first.room.talks) first.gone
+      first.stands)
+  keeps_at client ledgers ledgers_now moments moments_now peers peers_now each seats seats_now next
+      talk talk_now first was now are keeps =
+      let talks = first.room.talks in
+      record {
+        ledgers = refl;
+        moments = refl;
+        peers = are;
+        seated =
+            by_client
+            (λ other.
+            (seat : Talk) → seats_now other ≡ Some seat
+            → with_talk client talk_now talks other ≡ seat)
+            client
+            (λ seat is.
+            with_talk-own client talk_now talks
+            ∙ ap (λ found. unwrap_or found talk_now) (sym now.0 ∙ is))
+            (λ other differ seat is.
+            with_talk-other client other talk_now talks differ
+            ∙ keeps.seated other seat (sym (now.1 other differ) ∙ is));
+        there =
+            by_client (λ other. (seat : Talk) → seats_now other ≡ Some seat → first.gone other ≡ false)
+            client (λ seat is. keeps.there client talk was)
+            (λ other differ seat is. keeps.there other seat (sym (now.1 other differ) ∙ is));
+        below =
+            by_client (λ other. (seat : Talk) → seats_now other ≡ Some seat → other < next) client
+            (λ seat is. keeps.below client talk was)
+            (λ other differ seat is. keeps.below other seat (sym (now.1 other differ) ∙ is));
+        unused =
+            λ other beyond.
+            with_talk-other client other talk_now talks
+            (used client next other (keeps.below client talk was) beyond)
+            ∙ keeps.unused other beyond;
+        not_gone = keeps.not_gone;
+        stands = seated_still client seats seats_now talk talk_now first.stands was now keeps.stands;
+      }
+
+  -- the client in one seat was served, and stays
+  pub served_at :
+      (r : Rules S C P) (client : ℕ) (ledgers ledgers_now : S) (moments moments_now : C)
+      (peers peers_now : P) (seats seats_now : ℕ → Option Talk) (next : ℕ) (talk talk_now : Talk)
+      (replies : ℕ) →
+      seats client ≡ Some talk → SeatsNow client (Some talk_now) seats seats_now →
+      Stays r client ledgers moments peers talk ledgers_now moments_now peers_now talk_now replies →
+      ServesEach r (held ledgers moments peers seats next)
+      (held ledgers_now moments_now peers_now seats_now next) replies
+  served_at r client ledgers ledgers_now moments moments_now peers peers_now seats seats_now next talk
+      talk_now replies was now served first keeps =
+      let talks = first.room.talks in
+      let after =
+      hall ledgers_now moments_now peers_now (with_talk client talk_now talks) first.gone first.stands in
+      let did = served talks first.gone first.stands (keeps.there client talk was) in (
+        did.0,
+        after,
+        subst (λ (from : Hall S C P). Serves S C P r from did.0 after)
+            (same_hall ledgers moments peers client talk first keeps.ledgers keeps.moments
+            keeps.peers (keeps.seated client talk was))
+            did.1,
+        keeps_at client ledgers ledgers_now moments moments_now peers peers_now peers_now seats
+            seats_now next talk talk_now first was now refl keeps,
+        did.2,
+        owes_none first.stands,
+      )
+
+  -- the client in one seat was served, and waits
+  pub rested_at :
+      (r : Rules S C P) (client : ℕ) (ledgers ledgers_now : S) (moments moments_now : C)
+      (peers peers_now : P) (seats seats_now : ℕ → Option Talk) (next : ℕ) (talk talk_now : Talk)
+      (replies : ℕ) →
+      seats client ≡ Some talk → SeatsNow client (Some talk_now) seats seats_now →
+      ServesOne r client ledgers moments peers talk ledgers_now moments_now peers_now talk_now
+      step.Waits replies →
+      ServesOwed r (client ∷ []) [] (held ledgers moments peers seats next)
+      (held ledgers_now moments_now peers_now seats_now next) replies
+  rested_at r client ledgers ledgers_now moments moments_now peers peers_now seats seats_now next talk
+      talk_now replies was now served first keeps =
+      let talks = first.room.talks in
+      let there =
+      keeps_at client ledgers ledgers_now moments moments_now peers peers_now peers_now seats
+      seats_now next talk talk_now first was now refl keeps in
+      let standing = rested (first.stands client) in
+      let stands = with_standing client standing first.stands in
+      let after =
+      hall ledgers_now moments_now peers_now (with_talk client talk_now talks) first.gone stands in
+      let did = served talks first.gone first.stands (keeps.there client talk was) in (
+        did.0,
+        after,
+        subst (λ (from : Hall S C P). Serves S C P r from did.0 after)
+            (same_hall ledgers moments peers client talk first keeps.ledgers keeps.moments
+            keeps.peers (keeps.seated client talk was))
+            did.1,
+        keeps_peers (held ledgers_now moments_now peers_now seats_now next)
+            (hall ledgers_now moments_now peers_now (with_talk client talk_now talks) first.gone
+            first.stands)
+            peers_now stands
+            (one_stands seats_now first.stands client standing
+            (rested_in (seats_now client) (first.stands client) (there.stands client))
+            (λ other differ. there.stands other))
+            there,
+        did.2,
+        owes_one client standing first.stands (rested_unowed (first.stands client)),
+      )
+
+  -- the client in one seat was served, has gone and is closed
+  pub went_at :
+      (r : Rules S C P) (client : ℕ) (ledgers ledgers_now : S) (moments moments_now : C)
+      (peers peers_then peers_now : P) (seats seats_then seats_now : ℕ → Option Talk) (next : ℕ)
+      (talk talk_now : Talk)
+      (replies : ℕ) → seats client ≡ Some talk →
+      SeatsNow client (Some talk_now) seats seats_then → SeatsNow client None seats_then seats_now →
+      ServesOne r client ledgers moments peers talk ledgers_now moments_now peers_then talk_now
+      step.Goes replies →
+      r.does peers_then (Closed client) peers_now →
+      ServesOwed r (client ∷ []) [] (held ledgers moments peers seats next)
+      (held ledgers_now moments_now peers_now seats_now next) replies
+  went_at r client ledgers ledgers_now moments moments_now peers peers_then peers_now seats seats_then
+      seats_now next talk talk_now replies was mid now served closed first keeps =
+      let talks = first.room.talks in
+      let gone = gone_with client first.gone in
+      let stands = with_standing client Away first.stands in
+      let then_hall =
+      hall ledgers_now moments_now peers_then (with_talk client talk_now talks) gone first.stands in
+      let after =
+      hall ledgers_now moments_now peers_now (with_talk client talk_now talks) gone stands in
+      let did = served talks first.gone first.stands (keeps.there client talk was) in
+      let before : (other : ℕ) → other ≢ client → seats_now other ≡ seats other =
+      λ other differ. now.1 other differ ∙ mid.1 other differ in
+      let empty : (seat : Talk) → seats_now client ≡ Some seat → ⊥ =
+      λ seat is. false≢true (ap is_some (sym now.0 ∙ is)) in (
+        did.0 ++ [],
+        after,
+        Then did.0 then_hall [] after
+            (subst (λ (from : Hall S C P). Serves S C P r from did.0 then_hall)
+            (same_hall ledgers moments peers client talk first keeps.ledgers keeps.moments
+            keeps.peers (keeps.seated client talk was))
+            did.1)
+            (Stirs (Closed client) peers_now tt closed),
+        record {
+          ledgers = refl;
+          moments = refl;
+          peers = refl;
+          seated =
+              by_client
+              (λ each.
+              (seat : Talk) → seats_now each ≡ Some seat
+              → with_talk client talk_now talks each ≡ seat)
+              client (λ seat is. absurd (empty seat is))
+              (λ other differ seat is.
+              with_talk-other client other talk_now talks differ
+              ∙ keeps.seated other seat (sym (before other differ) ∙ is));
+          there =
+              by_client (λ each. (seat : Talk) → seats_now each ≡ Some seat → gone each ≡ false)
+              client (λ seat is. absurd (empty seat is))
+              (λ other differ seat is.
+              gone_with-other client other first.gone differ
+              ∙ keeps.there other seat (sym (before other differ) ∙ is));
+          below =
+              by_client (λ each. (seat : Talk) → seats_now each ≡ Some seat → each < next) client
+              (λ seat is. absurd (empty seat is))
+              (λ other differ seat is. keeps.below other seat (sym (before other differ) ∙ is));
+          unused =
+              λ other beyond.
+              with_talk-other client other talk_now talks
+              (used client next other (keeps.below client talk was) beyond)
+              ∙ keeps.unused other beyond;
+          not_gone =
+              λ other beyond.
+              gone_with-other client other first.gone
+              (used client next other (keeps.below client talk was) beyond)
+              ∙ keeps.not_gone other beyond;
+          stands =
+              one_stands seats_now first.stands client Away
+              (subst (λ (seat : Option Talk). StandsIn seat Away) (sym now.0) tt)
+              (λ other differ.
+              subst (λ (seat : Option Talk). StandsIn seat (first.stands other))
+              (sym (before other differ)) (keeps.stands other));
+        },
+        replies_both did.0 [] replies 0 replies did.2 refl (omega arith),
+        owes_one client Away first.stands (λ (owed : Away ≡ Owed). cc),
+      )
+
+  -- a client was written to, and may be let wait
+  pub left_all :
+      (r : Rules S C P) (client : ℕ) (done told : Step) (ledgers : S) (moments : C)
+      (peers peers_then peers_now : P) (seats seats_then seats_now : ℕ → Option Talk) (next : ℕ) →
+      IsToldAs done told →
+      HadTurn r client ledgers moments peers seats ledgers moments peers_then seats_then done 0 →
+      IsFollowed r client told peers_then seats_then peers_now seats_now →
+      (told ≡ step.Waits → (peers_now ≡ peers_then) × (seats_now ≡ seats_then)) →
+      ServesAll r (held ledgers moments peers seats next)
+      (held ledgers moments peers_now seats_now next) 0
+  left_all r client done told ledgers moments peers peers_then peers_now seats seats_then seats_now
+      next (inl as_done) had followed same =
+      serves_all r (client ∷ []) [] (held ledgers moments peers seats next)
+      (held ledgers moments peers_now seats_now next) 0
+      (followed ledgers ledgers moments moments peers seats next 0
+      (subst
+      (λ (step : Step).
+      HadTurn r client ledgers moments peers seats ledgers moments peers_then seats_then step 0)
+      (sym as_done) had))
+  left_all r client done told ledgers moments peers peers_then peers_now seats seats_then seats_now
+      next (inr left) had followed same =
+      let is = same left.1 in
+      let turn =
+      subst
+      (λ (step : Step).
+      HadTurn r client ledgers moments peers seats ledgers moments peers_then seats_then step 0)
+      left.0 had in
+      subst
+      (λ (now : P).
+      ServesAll r (held ledgers moments peers seats next) (held ledgers moments now seats_now next) 0)
+      (sym is.0)
+      (subst
+      (λ (now : ℕ → Option Talk).
+      ServesAll r (held ledgers moments peers seats next)
+      (held ledgers moments peers_then now next) 0)
+      (sym is.1)
+      (serves_all r [] [] (held ledgers moments peers seats next)
+      (held ledgers moments peers_then seats_then next) 0
+      (served_at r client ledgers ledgers moments moments peers peers_then seats seats_then next
+      turn.talk turn.talk_now 0 turn.was turn.now turn.served)))
+
+  -- a client goes from its seat, and is closed
+  pub unseated :
+      (r : Rules S C P) (client : ℕ) (ledgers : S) (moments : C) (peers peers_now : P)
+      (seats seats_now : ℕ → Option Talk) (next : ℕ) (talk : Talk) → seats client ≡ Some talk →
+      SeatsNow client None seats seats_now → r.does peers (Closed client) peers_now →
+      ServesOwed r (client ∷ []) [] (held ledgers moments peers seats next)
+      (held ledgers moments peers_now seats_now next) 0
+  unseated r client ledgers moments peers peers_now seats seats_now next talk was now closed =
+      went_at r client ledgers ledgers moments moments peers peers peers_now seats seats seats_now next
+      talk talk 0 was (was, λ other differ. refl) now (goes r client ledgers moments peers talk) closed
