@@ -1,11 +1,16 @@
 """Memory and calls of the disk, refused one by one to the running service."""
 
+import time
+
 import pages
 from control import ALL, DISK, MEMORY, Control, places
 from drawn import LEDGER, account, moves, transfer
 from routes import look_at_routes
 from runs import House
 from service import Lost, body_of, message, want
+
+# How many seconds a hold is open, and by when behind it its tenant has been settled.
+HOLD, SETTLED = 9, 5
 
 
 class Cases:
@@ -28,11 +33,11 @@ class Cases:
         return self.last, True
 
     def fallen_chain(self):
-        return [self.moved(flags=1), self.moved(flags=3, timeout=9), self.moved(flags=1),
+        return [self.moved(flags=1), self.moved(flags=3, timeout=HOLD), self.moved(flags=1),
                 self.moved(credit_account_id=9), self.moved()], True
 
     def hold_and_post(self):
-        hold = self.moved(flags=2, timeout=60)
+        hold = self.moved(flags=2, timeout=HOLD)
         return [hold, self.moved(debit_account_id=0, credit_account_id=0, ledger=0, code=0,
                                  pending_id=hold["id"], amount=3, flags=4)], True
 
@@ -72,6 +77,8 @@ def refused_memory(trial):
             if not was_refused:
                 break
         house.compare()
+    # A tenant that is settled has another clock, which its reads tell.
+    time.sleep(HOLD + SETTLED)
     for read in cases.reads():
         refused += refuse_memory_of_read(trial, house, control, read)
     refused += refuse_connections(trial, house, control)
