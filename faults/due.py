@@ -122,13 +122,17 @@ def send_behind(house):
 
 
 def look(house):
-    """The accounts, the open holds, and what became of the last thousand of them."""
-    desk = house.take_turn(0)
-    ids = sorted(desk.ledger.transfers)[-pages.MOST_IDS:]
+    """The accounts, the open holds, and what became of the last thousand of them. Each is asked by a
+    connection of its own, since the plain ledger may take longer between two than a client may be
+    idle."""
+    ids = sorted(house.desks[0].ledger.transfers)[-pages.MOST_IDS:]
     for path, asked in ((pages.OPEN, {"limit": 1000}), (pages.HOLDS, ids)):
+        desk = house.take_turn(0)
         told = desk.ask(*pages.request(path, asked))
+        desk.leave()
         look_at((path, asked), told, pages.reply(desk.ledger, path, asked))
-    request, reply = desk.accounts()
+    request, reply = house.desks[0].accounts()
+    desk = house.take_turn(0)
     look_at(request, desk.ask(*request), reply)
     desk.leave()
 
