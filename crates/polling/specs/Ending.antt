@@ -53,7 +53,8 @@ pub data Ends (S C P : Type 0) (r : Rules S C P) (is_enough : Type 0) (old new :
   Quiet : IsQuiet r old new replies → Ends S C P r is_enough old new replies
   Long : Turns S C P r old most_turns replies new → Ends S C P r is_enough old new replies
 
--- whoever was told as ready or late had its turn or its end; or no more turns are made
+-- whoever was told as ready or late had its turn or its end, or keeps its place; or no more turns
+-- are made
 abbrev pub GivesTurns :
     (S C P : Type 0) → Rules S C P → Held S C P → Held S C P → ℕ → Type 0
 GivesTurns S C P r old new replies =
