@@ -245,7 +245,10 @@ class Tenant(Player, Client):
     # Reads.
 
     def read(self, _events):
+        """Beside others the plain ledger may take longer before a question than a client may be
+        silent, so each has a connection that is not old."""
         for request, reply in self.reads():
+            self.connect()
             told = self.desk.ask(*request)
             if told is None:
                 return False

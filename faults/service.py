@@ -20,8 +20,9 @@ from pages import shown
 TOP = pathlib.Path(__file__).resolve().parent.parent
 # Seconds behind which something hangs: a busy machine may take minutes for a long file.
 PATIENCE = 300
-# So many seconds a connection is kept that is not used. A service lets it go after 75.
-KEPT = 30
+# So many seconds a connection is kept that is not used. A service lets it go after 75, or after 12
+# where a trial asks for that.
+KEPT = 5
 # What a service tells that cannot listen for its operator.
 NO_DESK = "no commands while it is served: "
 # What a command tells that memory or the disk has failed; a file whose first page cannot be read is
@@ -376,8 +377,8 @@ class Desk:
         for request, reply in self.expected():
             if time.monotonic() - asked > KEPT:
                 self.connect(service)
-            look_at(request, self.ask(*request), reply)
-            asked = time.monotonic()
+            told, asked = self.ask(*request), time.monotonic()
+            look_at(request, told, reply)
 
 
 def look_at(request, told, reply):

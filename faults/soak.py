@@ -163,8 +163,9 @@ class Soak:
             self.look()
             time.sleep(0.02)
         for desk in self.compared():
-            desk.connect(self.house.service)
+            # Each on a connection of its own: before it the plain ledger may take long.
             for request, reply in kinds.all_of(desk):
+                desk.connect(self.house.service)
                 look_at(request, desk.ask(*request), reply)
             desk.leave()
         for each in self.followers:
