@@ -41,6 +41,7 @@ impl Guests {
         };
         match self.peers.get_mut(&number) {
             Some(peer) => {
+                peer.is_told = false;
                 let read = peer.receive(&mut piece[..room]);
                 peer.has_read(&mut self.stages, number, read, &self.limits, now)
             }
@@ -58,6 +59,7 @@ impl Guests {
         let Some(peer) = self.peers.get_mut(&number) else {
             return Written::Broken;
         };
+        peer.is_told = false;
         let written = write_to(&mut peer.stream, bytes);
         let size = bytes.len();
         let room = peer.reading.wrote(written, size);

@@ -106,6 +106,7 @@ impl Guests {
             Some(peer) => {
                 let is_new = !peer.is_queued;
                 peer.is_queued = true;
+                peer.is_told = false;
                 is_new
             }
             None => self.lingering.wake(number),
@@ -174,6 +175,7 @@ impl Guests {
         match self.peers.get_mut(&number) {
             Some(peer) => {
                 peer.is_queued = false;
+                peer.is_told = true;
                 true
             }
             None => {
@@ -225,7 +227,7 @@ impl Guests {
     fn is_let_go(&mut self, number: u64) -> bool {
         match self.peers.get_mut(&number) {
             Some(peer) => {
-                if peer.is_queued {
+                if peer.is_queued || peer.is_told {
                     return false;
                 }
                 peer.is_over = true;

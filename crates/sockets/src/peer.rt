@@ -16,6 +16,8 @@ pub(crate) struct Peer {
     pub(crate) stream: TcpStream,
     /// Whether it stands in the queue of those who are ready.
     pub(crate) is_queued: bool,
+    /// Whether it was told as ready, and has had no turn since.
+    pub(crate) is_told: bool,
     /// Whether something may have come that was not read.
     pub(crate) can_read: bool,
     /// Whether its input ends, so that something is left to read whatever was read before.
@@ -33,6 +35,7 @@ impl Peer {
         Peer {
             stream,
             is_queued: false,
+            is_told: false,
             can_read: true,
             is_ending: false,
             reading: Reading::new(),

@@ -227,8 +227,10 @@ impl<K: Clock, O: Operator> Sockets<'_, K, O> {
 
     // What has happened since it was told last, or what happens now.
     fn told_next(&mut self, fresh: u64) -> Told {
+        let had_turns = self.guests.has_turns();
         let told = self.next(fresh);
-        if told != Told::Nothing {
+        // Where turns were left `has_more` has said that it is not waited.
+        if told != Told::Nothing || had_turns {
             return told;
         }
         if self.looks_again() {

@@ -1,8 +1,10 @@
 //! Clients that were written their last reply.
 use super::scene::Allowed;
-use super::steps::Step::{Closes, Connects, Hears, IsReset, Sends, Shuts, Tells, Writes};
+use super::steps::Step::{
+    Closes, Connects, HasMore, Hears, IsReset, Reads, Sends, Shuts, Tells, Writes,
+};
 use super::steps::{Step, take_steps};
-use polling::{Told, Written};
+use polling::{Read, Told, Written};
 use std::test::Fail;
 
 const LONG: u64 = 60_000;
@@ -38,4 +40,33 @@ const SENDS_ON: [Step; 6] = [
 #[test]
 fn reads_on_for_a_second(rt: HostRuntime) -> Result<(), Fail> {
     take_steps(&rt, 1_000, Allowed(9, 9, LONG, LONG, LONG), &SENDS_ON)
+}
+
+// Where nobody else is left whose turn it is, nothing is waited for: so it was said.
+const LEFT_ALONE: [Step; 20] = [
+    Connects(0),
+    Connects(0),
+    Connects(0),
+    Tells(0, 3, Told::Joined),
+    Tells(1, 3, Told::Joined),
+    Tells(2, 3, Told::Joined),
+    Tells(3, 3, Told::Ready(0)),
+    Closes(0),
+    Tells(3, 3, Told::Ready(1)),
+    Reads(1, 0, Read::Waits),
+    Tells(3, 3, Told::Ready(2)),
+    Reads(2, 0, Read::Waits),
+    Tells(3, 1, Told::Nothing),
+    Sends(1, 1),
+    Sends(0, 1),
+    Tells(3, 2, Told::Ready(1)),
+    Sends(2, 1),
+    HasMore(true),
+    Tells(3, 1, Told::Nothing),
+    Tells(3, 1, Told::Ready(2)),
+];
+
+#[test]
+fn waits_for_nothing_where_turns_were_left(rt: HostRuntime) -> Result<(), Fail> {
+    take_steps(&rt, 0, Allowed(9, 9, LONG, LONG, LONG), &LEFT_ALONE)
 }

@@ -1,6 +1,8 @@
 //! How long each may take, and how many there may be.
 use super::scene::Allowed;
-use super::steps::Step::{Closes, Connects, Hears, Passes, Reads, Sends, Tells, WasTold, Writes};
+use super::steps::Step::{
+    Again, Closes, Connects, Hears, Passes, Reads, Sends, Tells, WasTold, Writes,
+};
 use super::steps::{Step, take_steps};
 use polling::{Read, Told, Written};
 use std::test::Fail;
@@ -40,6 +42,33 @@ const SLOW: [Step; 9] = [
 #[test]
 fn lets_a_client_go_whose_message_takes_too_long(rt: HostRuntime) -> Result<(), Fail> {
     take_steps(&rt, 150, Allowed(9, 9, LONG, SHORT, LONG), &SLOW)
+}
+
+// Nor is who was told as ready, until it has its turn.
+const TOLD: [Step; 18] = [
+    Connects(1),
+    Connects(1),
+    Tells(0, 3, Told::Joined),
+    Tells(1, 3, Told::Joined),
+    Tells(2, 3, Told::Ready(0)),
+    Reads(0, 1, Read::Waits),
+    Tells(2, 3, Told::Ready(1)),
+    Reads(1, 1, Read::Waits),
+    Sends(0, 1),
+    Tells(2, 3, Told::Ready(0)),
+    Again(1),
+    Tells(2, 1, Told::Ready(1)),
+    Again(1),
+    Tells(2, 1, Told::Ready(1)),
+    Again(1),
+    Tells(2, 1, Told::Ready(1)),
+    Again(1),
+    Tells(2, 1, Told::Ready(1)),
+];
+
+#[test]
+fn keeps_a_client_that_was_told(rt: HostRuntime) -> Result<(), Fail> {
+    take_steps(&rt, 45, Allowed(9, 9, LONG, SHORT, LONG), &TOLD)
 }
 
 // An hour that something else took makes nobody late.
