@@ -28,6 +28,10 @@ abbrev pub IsPutOff : List ℕ → Behind → Type 0
 IsPutOff bytes behind =
     (asked : Asked) × IsAsked bytes (Ok asked) × IsTrue (is_waiting (sha256 asked.key) behind)
 
+-- they ask for one that is among some that were found
+abbrev pub MayWait : List ℕ → Type 0
+MayWait bytes = (behind : Behind) × IsPutOff bytes behind
+
 -- a tenant with another number
 abbrev pub is_other : ℤ → Tenant → Bool
 is_other number tenant = not (int_eq tenant.number number)

@@ -17,6 +17,7 @@ use Rattle.polling.specs.Seating.{replies_in}
 use Rattle.polling.specs.Serving.{Hall, Rules, Serves, rules, tellings}
 use Rattle.store.specs.StoreLaws.{store_meaning}
 use Rattle.store.specs.declared.store.Store.{Store}
+use Rattle.commands.specs.Behind.{MayWait}
 use Rattle.commands.specs.Kept.{kept_meaning, kept_store, IsLiveKept, Renews, renewal_seen}
 use Rattle.commands.specs.declared.serving.Served.{Served}
 use Rattle.commands.specs.declared.serving.Served.TheVariants.{Enough}
@@ -60,9 +61,9 @@ module _ {D : Type 0} {g : disk.Ghosts D} {C P : Type 0}
     (opens : Option (Files D) → Tenants → Type 0) (gives : C → ℕ → C → Type 0)
     (does : P → Doing → P → Type 0) where
   -- messages are answered by a store, or by ledgers that are not there; a store that answers calls
-  -- stays as it is
+  -- stays as it is; and only a batch waits of which a tenant is behind
   abbrev pub store_rules : Rules (Seen (Kept (Store D g))) C P
-  store_rules = rules (kept_meaning store_meaning) gives (Renews opens) does
+  store_rules = rules (kept_meaning store_meaning) gives (Renews opens) MayWait does
 
   -- clients were served by a store, whenever it was opened again, or by what stood in its place; and
   -- if it was live when this began, all that was done is a course of what happened to it, begun anew

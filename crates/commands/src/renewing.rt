@@ -4,6 +4,7 @@ ghost use Rattle.std.specs.Prelude.{◌≡◌, ◌≤◌, ◌*◌, min, false, I
 ghost use Rattle.service.specs.Openings.{run_meaning, IsSettled, IsOpened};
 ghost use Rattle.store.specs.Stores.{IsLive, IsReady, IsUsable};
 ghost use Rattle.store.specs.StoreLaws.{store_meaning};
+ghost use Rattle.commands.specs.Behind.{MayWait};
 ghost use Rattle.commands.specs.Kept.{answers, kept_store, IsLiveKept, MayBeCalled};
 ghost use Rattle.commands.specs.Kept.{Attends, GivesFiles, IsAnew, IsRefusedAgain, Renews};
 ghost use Rattle.commands.specs.Openings.{IsOpeningFault};
@@ -132,6 +133,8 @@ impl<H, K: Clock, O: Orders> Stops for Renewing<'_, H, K, O> {
 impl<D: Disk + Drop, H: Home<D>, K: Clock, O: Orders> Steward<Kept<Store<D>>>
     for Renewing<'_, H, K, O> {
     ghost renews = { λ old new. Renews H.opens old new };
+
+    ghost waits = { MayWait };
 
     fn is_settled(kept: &Kept<Store<D>>) {
         match kept {

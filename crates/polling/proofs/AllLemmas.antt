@@ -1,15 +1,17 @@
 -- What is held, and the hall that it is of.
-use Rattle.std.proofs.Common.{◌≡◌, ◌≢◌, ◌≤◌, ◌<◌, ◌+◌, refl, ap, sym, ◌∙◌, subst, ℕ, Bool, true, List, [], ◌∷◌, ◌++◌, if◌then◌else◌, Option, None, arith}
+use Rattle.std.proofs.Common.{◌≡◌, ◌≢◌, ◌≤◌, ◌<◌, ◌+◌, inl, inr, refl, ap, sym, ◌∙◌, subst, ℕ, Bool, true, List, [], ◌∷◌, ◌++◌, if◌then◌else◌, Option, Some, None, is_some, arith}
 use Rattle.std.proofs.lemmas.Bool.{ne_eqb}
 use Rattle.std.proofs.Math.Path.{fun_ext}
 use Rattle.clients.specs.Talk.{Talk}
 use Rattle.polling.specs.Peers.{Doing, Asked, Closed, Said}
-use Rattle.polling.specs.Standing.{Standing, Away, Owed, rested, stands_behind, StandsIn, told_of, AreAmong, OwesOnly}
+use Rattle.polling.specs.Standing.{Standing, Away, Owed, Kept, Debt, A_seat, A_turn, Owing, owing, has_seat, asked, rested, with_standing, stands_behind, StandsIn, IsOwed, told_of, AreAmong, OwesOnly, KeepsOnly}
+use Rattle.polling.specs.Kinds.{IsPutOff}
 use Rattle.polling.specs.declared.peers.Told.{Told}
-use Rattle.polling.specs.Serving.{Hall, hall, Rules, gone_with, Happens, Tells, Stirs, Again, Begin}
+use Rattle.polling.specs.Serving.{Hall, hall, Rules, gone_with, IsFree, Happens, Tells, Stirs, Puts_off, Again, Begin}
 use Rattle.polling.specs.Seating.{with_talk, AreSame, HadNone, held, Held, Keeps, ServesAll, ServesOwed, ServesEach}
 use Rattle.polling.proofs.OneLemmas.{once, serves_on, replies_both, with_talk-own, with_talk-other}
-use Rattle.polling.proofs.StandLemmas.{by_client, AllStand, rested_in, rested_unowed, one_stands, told_stand, owes_still, owes_none, owes_then, owes_beside, owes_fewer, owes_one, owes_nobody, owes_told}
+use Rattle.polling.proofs.StandLemmas.{by_client, AllStand, asked_seat, asked_unowed, asked_owed, asked_kept, rested_seat, rested_unowed, rested_owed, rested_kept, one_stands, one_stands_on, told_stand}
+use Rattle.polling.proofs.StandLemmas.{owes_still, owes_none, owes_less, owes_then, owes_beside, owes_fewer, owes_nobody, owes_told, keeps_still, keeps_one, keeps_then, keeps_for, keeps_told}
 
 -- a client's talk, put where it is
 with_talk-same :
@@ -25,6 +27,11 @@ pub gone_with-other :
 gone_with-other client other gone differ =
     ap (λ b. if b then true else gone other)
     (ne_eqb client other (λ (same : client ≡ other). differ (sym same)))
+
+-- in a seat in which nobody is there is no talk
+pub free_seat : (seat : Option Talk) → ((talk : Talk) → seat ≡ Some talk → ⊥) → seat ≡ None
+free_seat None nobody = refl
+free_seat (Some talk) nobody = absurd (nobody talk refl)
 
 pub used : (client next other : ℕ) → client < next → next ≤ other → other ≢ client
 used client next other below beyond same = absurd (omega arith)
@@ -65,18 +72,19 @@ module _ {S C P : Type 0} where
         replies_both did.0 does.0 before behind all did.4 does.4 sum,
       )
 
-  -- so too, whoever is owed a turn
+  -- so too, whatever is owed
   pub serves_all :
-      (r : Rules S C P) (from to : List ℕ) (old new : Held S C P) (replies : ℕ) →
-      ServesOwed r from to old new replies → ServesAll r old new replies
-  serves_all r from to old new replies serves first keeps =
+      (r : Rules S C P) (why : Type 0) (from to : List Owing) (old new : Held S C P) (replies : ℕ) →
+      ServesOwed r why from to old new replies → ServesAll r old new replies
+  serves_all r why from to old new replies serves first keeps =
       let did = serves first keeps in (did.0, did.1, did.2, did.3, did.4)
 
   pub then_owed :
-      (r : Rules S C P) (from mid_owed to : List ℕ) (old mid new : Held S C P)
-      (before behind all : ℕ) → before + behind ≡ all → ServesOwed r from mid_owed old mid before →
-      ServesOwed r mid_owed to mid new behind → ServesOwed r from to old new all
-  then_owed r from mid_owed to old mid new before behind all sum first_part second_part first keeps =
+      (r : Rules S C P) (why : Type 0) (from mid_owed to : List Owing) (old mid new : Held S C P)
+      (before behind all : ℕ) → before + behind ≡ all →
+      ServesOwed r why from mid_owed old mid before → ServesOwed r why mid_owed to mid new behind →
+      ServesOwed r why from to old new all
+  then_owed r why from mid_owed to old mid new before behind all sum first_part second_part first keeps =
       let did = first_part first keeps in
       let does = second_part did.1 did.3 in (
         did.0 ++ does.0,
@@ -85,19 +93,36 @@ module _ {S C P : Type 0} where
         does.3,
         replies_both did.0 does.0 before behind all did.4 does.4 sum,
         owes_then from mid_owed to first.stands did.1.stands does.1.stands did.5 does.5,
+        keeps_then why first.stands did.1.stands does.1.stands did.6 does.6,
       )
 
   pub then_each :
       (r : Rules S C P) (old mid new : Held S C P) (before behind all : ℕ) → before + behind ≡ all →
       ServesEach r old mid before → ServesEach r mid new behind → ServesEach r old new all
-  then_each r = then_owed r [] [] []
+  then_each r = then_owed r ⊥ [] [] []
 
-  -- whoever else is owed a turn
+  -- for another reason
+  pub owed_for :
+      (r : Rules S C P) (why all : Type 0) (from to : List Owing) (old new : Held S C P)
+      (replies : ℕ) → (why → all) → ServesOwed r why from to old new replies →
+      ServesOwed r all from to old new replies
+  owed_for r why all from to old new replies for serves first keeps =
+      let did = serves first keeps in (
+        did.0,
+        did.1,
+        did.2,
+        did.3,
+        did.4,
+        did.5,
+        keeps_for why all first.stands did.1.stands for did.6,
+      )
+
+  -- whatever else is owed
   pub beside :
-      (r : Rules S C P) (from to others : List ℕ) (old new : Held S C P) (replies : ℕ) →
-      ServesOwed r from to old new replies →
-      ServesOwed r (from ++ others) (to ++ others) old new replies
-  beside r from to others old new replies serves first keeps =
+      (r : Rules S C P) (why : Type 0) (from to others : List Owing) (old new : Held S C P)
+      (replies : ℕ) → ServesOwed r why from to old new replies →
+      ServesOwed r why (from ++ others) (to ++ others) old new replies
+  beside r why from to others old new replies serves first keeps =
       let did = serves first keeps in (
         did.0,
         did.1,
@@ -105,12 +130,13 @@ module _ {S C P : Type 0} where
         did.3,
         did.4,
         owes_beside from to others first.stands did.1.stands did.5,
+        did.6,
       )
 
   -- where less is asked
   pub each_of :
-      (r : Rules S C P) (from : List ℕ) (old new : Held S C P) (replies : ℕ) →
-      ServesOwed r from [] old new replies → ServesEach r old new replies
+      (r : Rules S C P) (from : List Owing) (old new : Held S C P) (replies : ℕ) →
+      ServesOwed r ⊥ from [] old new replies → ServesEach r old new replies
   each_of r from old new replies serves first keeps =
       let did = serves first keeps in (
         did.0,
@@ -119,43 +145,51 @@ module _ {S C P : Type 0} where
         did.3,
         did.4,
         owes_fewer from first.stands did.1.stands did.5,
+        did.6,
       )
 
   -- nothing is done
   pub none_owed :
-      (r : Rules S C P) (from to : List ℕ) (old : Held S C P) → AreAmong from to →
-      ServesOwed r from to old old 0
-  none_owed r from to old among first keeps =
-      ([], first, Begin, keeps, refl, owes_still from to first.stands among)
+      (r : Rules S C P) (why : Type 0) (from to : List Owing) (old : Held S C P) →
+      AreAmong from to → ServesOwed r why from to old old 0
+  none_owed r why from to old among first keeps = (
+    [],
+    first,
+    Begin,
+    keeps,
+    refl,
+    owes_still from to first.stands among,
+    keeps_still why first.stands,
+  )
 
   pub none_served : (r : Rules S C P) (old : Held S C P) → ServesEach r old old 0
-  none_served r old = none_owed r [] [] old (λ client found. found)
+  none_served r old = none_owed r ⊥ [] [] old (λ one found. found)
 
   pub nothing_done : (r : Rules S C P) (old : Held S C P) → ServesAll r old old 0
-  nothing_done r old = serves_all r [] [] old old 0 (none_served r old)
+  nothing_done r old = serves_all r ⊥ [] [] old old 0 (none_served r old)
 
   -- every seat is as it was
   pub unchanged :
-      (r : Rules S C P) (from to : List ℕ) (ledgers : S) (moments : C) (peers : P)
+      (r : Rules S C P) (why : Type 0) (from to : List Owing) (ledgers : S) (moments : C) (peers : P)
       (seats seats_now : ℕ → Option Talk) (next : ℕ) → AreSame seats seats_now → AreAmong from to →
-      ServesOwed r from to (held ledgers moments peers seats next)
+      ServesOwed r why from to (held ledgers moments peers seats next)
       (held ledgers moments peers seats_now next) 0
-  unchanged r from to ledgers moments peers seats seats_now next same among =
+  unchanged r why from to ledgers moments peers seats seats_now next same among =
       subst
       (λ (now : ℕ → Option Talk).
-      ServesOwed r from to (held ledgers moments peers seats next)
+      ServesOwed r why from to (held ledgers moments peers seats next)
       (held ledgers moments peers now next) 0)
-      (sym (fun_ext same)) (none_owed r from to (held ledgers moments peers seats next) among)
+      (sym (fun_ext same)) (none_owed r why from to (held ledgers moments peers seats next) among)
 
   -- nobody is in a seat
   pub had_none :
-      (r : Rules S C P) (client : ℕ) (ledgers ledgers_now : S) (moments moments_now : C)
-      (peers peers_now : P) (seats seats_now : ℕ → Option Talk) (next : ℕ) →
+      (r : Rules S C P) (debt : Debt) (client : ℕ) (ledgers ledgers_now : S) (moments moments_now : C)
+      (peers peers_now : P) (seats seats_now : ℕ → Option Talk) (next : ℕ) → debt ≢ A_seat →
       HadNone client ledgers moments peers seats ledgers_now moments_now peers_now seats_now →
-      ServesOwed r (client ∷ []) [] (held ledgers moments peers seats next)
+      ServesOwed r ⊥ (owing debt client ∷ []) [] (held ledgers moments peers seats next)
       (held ledgers_now moments_now peers_now seats_now next) 0
-  had_none r client ledgers ledgers_now moments moments_now peers peers_now seats seats_now next same
-      first keeps = (
+  had_none r debt client ledgers ledgers_now moments moments_now peers peers_now seats seats_now next
+      other same first keeps = (
         [],
         first,
         Begin,
@@ -173,7 +207,9 @@ module _ {S C P : Type 0} where
               (sym (same.seats_same client)) (keeps.stands client);
         },
         refl,
-        owes_nobody seats first.stands client keeps.stands same.nobody,
+        owes_nobody debt first.stands client other
+            (sym (keeps.stands client) ∙ ap (λ (seat : Option Talk). is_some seat) same.nobody),
+        keeps_still ⊥ first.stands,
       )
 
   -- whoever is connected, and however they stand
@@ -195,84 +231,107 @@ module _ {S C P : Type 0} where
 
   -- something happens among peers alone
   among_peers :
-      (r : Rules S C P) (from to : List ℕ) (doing : Doing) (ledgers : S) (moments : C)
-      (peers peers_now : P) (seats : ℕ → Option Talk) (next : ℕ) →
-      ((all : Hall S C P) → all.peers ≡ peers →
-      Happens S C P r all []
-      (record all { peers = peers_now; stands = stands_behind doing all.stands })) →
-      ((stands : ℕ → Standing) → AllStand seats stands →
-      AllStand seats (stands_behind doing stands)) →
-      ((stands : ℕ → Standing) → OwesOnly from to stands (stands_behind doing stands)) →
-      ServesOwed r from to (held ledgers moments peers seats next)
+      (r : Rules S C P) (why : Type 0) (from to : List Owing) (behind : (ℕ → Standing) → ℕ → Standing)
+      (ledgers : S) (moments : C) (peers peers_now : P) (seats : ℕ → Option Talk) (next : ℕ) →
+      ((all : Hall S C P) → Keeps (held ledgers moments peers seats next) all →
+      Happens S C P r all [] (record all { peers = peers_now; stands = behind all.stands })) →
+      ((stands : ℕ → Standing) → AllStand seats stands → AllStand seats (behind stands)) →
+      ((stands : ℕ → Standing) → OwesOnly from to stands (behind stands)) →
+      ((stands : ℕ → Standing) → KeepsOnly why stands (behind stands)) →
+      ServesOwed r why from to (held ledgers moments peers seats next)
       (held ledgers moments peers_now seats next) 0
-  among_peers r from to doing ledgers moments peers peers_now seats next happens stand owes first
-      keeps =
-      let stands = stands_behind doing first.stands in
+  among_peers r why from to behind ledgers moments peers peers_now seats next happens stand owes spares
+      first keeps =
+      let stands = behind first.stands in
       let after = record first { peers = peers_now; stands = stands } in (
         [],
         after,
-        once r first after [] (happens first keeps.peers),
+        once r first after [] (happens first keeps),
         keeps_peers (held ledgers moments peers seats next) first peers_now stands
             (stand first.stands keeps.stands) keeps,
         refl,
         owes first.stands,
+        spares first.stands,
       )
 
-  -- a client is to be told as ready again
-  pub asks_all :
-      (r : Rules S C P) (client : ℕ) (ledgers : S) (moments : C) (peers peers_now : P)
-      (seats : ℕ → Option Talk) (next : ℕ) → r.does peers (Asked client) peers_now →
-      ServesOwed r (client ∷ []) [] (held ledgers moments peers seats next)
+  -- a client is put off, and is to be told as ready again
+  pub puts_off_all :
+      (r : Rules S C P) (client : ℕ) (talk : Talk) (ledgers : S) (moments : C) (peers peers_now : P)
+      (seats : ℕ → Option Talk) (next : ℕ) → seats client ≡ Some talk → IsPutOff r.waits talk →
+      r.does peers (Asked client) peers_now →
+      ServesOwed r ⊥ (owing A_turn client ∷ []) [] (held ledgers moments peers seats next)
       (held ledgers moments peers_now seats next) 0
-  asks_all r client ledgers moments peers peers_now seats next does =
-      among_peers r (client ∷ []) [] (Asked client) ledgers moments peers peers_now seats next
-      (λ all are.
-      Stirs (Asked client) peers_now tt
-      (subst (λ (p : P). r.does p (Asked client) peers_now) (sym are) does))
-      (λ stands stand.
-      one_stands seats stands client (rested (stands client))
-      (rested_in (seats client) (stands client) (stand client)) (λ other differ. stand other))
-      (λ stands. owes_one client (rested (stands client)) stands (rested_unowed (stands client)))
+  puts_off_all r client talk ledgers moments peers peers_now seats next seated is does =
+      among_peers r ⊥ (owing A_turn client ∷ []) []
+      (λ stands. with_standing client (rested (stands client)) stands) ledgers moments peers peers_now
+      seats next
+      (λ all keeps.
+      Puts_off client peers_now
+      (subst (λ (t : Talk). IsPutOff r.waits t) (sym (keeps.seated client talk seated)) is)
+      (subst (λ (p : P). r.does p (Asked client) peers_now) (sym keeps.peers) does))
+      (λ stands. one_stands_on seats stands client (rested (stands client)) (rested_seat (stands client)))
+      (λ stands.
+      owes_less A_turn client (rested (stands client)) stands (rested_unowed (stands client))
+      (rested_owed (stands client)))
+      (λ stands.
+      keeps_one ⊥ client (rested (stands client)) stands
+      (λ kept. absurd (rested_kept (stands client) kept)))
 
   -- a client that has no seat is closed
   pub closes_all :
-      (r : Rules S C P) (client : ℕ) (ledgers : S) (moments : C) (peers peers_now : P)
+      (r : Rules S C P) (debt : Debt) (client : ℕ) (ledgers : S) (moments : C) (peers peers_now : P)
       (seats : ℕ → Option Talk) (next : ℕ) → seats client ≡ None →
       r.does peers (Closed client) peers_now →
-      ServesOwed r (client ∷ []) [] (held ledgers moments peers seats next)
+      ServesOwed r ⊥ (owing debt client ∷ []) [] (held ledgers moments peers seats next)
       (held ledgers moments peers_now seats next) 0
-  closes_all r client ledgers moments peers peers_now seats next nobody does =
-      among_peers r (client ∷ []) [] (Closed client) ledgers moments peers peers_now seats next
-      (λ all are.
+  closes_all r debt client ledgers moments peers peers_now seats next nobody does =
+      among_peers r ⊥ (owing debt client ∷ []) [] (λ stands. with_standing client Away stands) ledgers
+      moments peers peers_now seats next
+      (λ all keeps.
       Stirs (Closed client) peers_now tt
-      (subst (λ (p : P). r.does p (Closed client) peers_now) (sym are) does))
+      (subst (λ (p : P). r.does p (Closed client) peers_now) (sym keeps.peers) does))
       (λ stands stand.
       one_stands seats stands client Away
-      (subst (λ (seat : Option Talk). StandsIn seat Away) (sym nobody) tt)
+      (subst (λ (seat : Option Talk). StandsIn seat Away) (sym nobody) refl)
       (λ other differ. stand other))
-      (λ stands. owes_one client Away stands (λ (owed : Away ≡ Owed). cc))
+      (λ stands. owes_none debt client Away stands (λ each owed. owed))
+      (λ stands. keeps_one ⊥ client Away stands (λ (kept : Away ≡ Kept). cc))
+
+  -- the next number is nobody's
+  pub next_free :
+      (old : Held S C P) (all : Hall S C P) → Keeps old all → IsFree all old.next
+  next_free old all keeps = record {
+    nobody =
+        sym (keeps.stands old.next)
+        ∙ ap (λ (seat : Option Talk). is_some seat) (free_seat (old.seats old.next)
+        (λ talk is. let below : old.next < old.next = keeps.below old.next talk is in omega arith));
+    there = keeps.not_gone old.next (let same : old.next ≤ old.next = omega arith in same);
+    silent = keeps.unused old.next (let same : old.next ≤ old.next = omega arith in same);
+  }
 
   -- peers tell something
   pub tells_owed :
-      (r : Rules S C P) (clients : List ℕ) (ledgers : S) (moments : C) (peers peers_now : P)
-      (seats : ℕ → Option Talk) (next : ℕ) (told : Told) → r.does peers (Said told) peers_now →
-      ServesOwed r clients (told_of told ++ clients) (held ledgers moments peers seats next)
+      (r : Rules S C P) (why : Type 0) (debts : List Owing) (ledgers : S) (moments : C)
+      (peers peers_now : P) (seats : ℕ → Option Talk) (next : ℕ) (told : Told) →
+      r.does peers (Said next told) peers_now →
+      ServesOwed r why debts (told_of next told ++ debts) (held ledgers moments peers seats next)
       (held ledgers moments peers_now seats next) 0
-  tells_owed r clients ledgers moments peers peers_now seats next told does =
-      among_peers r clients (told_of told ++ clients) (Said told) ledgers moments peers peers_now
-      seats next
-      (λ all are.
-      Tells told peers_now (subst (λ (p : P). r.does p (Said told) peers_now) (sym are) does))
-      (told_stand told seats) (owes_told told clients)
+  tells_owed r why debts ledgers moments peers peers_now seats next told does =
+      among_peers r why debts (told_of next told ++ debts) (stands_behind (Said next told)) ledgers
+      moments peers peers_now seats next
+      (λ all keeps.
+      Tells next told peers_now (next_free (held ledgers moments peers seats next) all keeps)
+      (subst (λ (p : P). r.does p (Said next told) peers_now) (sym keeps.peers) does))
+      (told_stand next told seats) (owes_told next told debts) (keeps_told why next told)
 
   pub tells_all :
       (r : Rules S C P) (ledgers : S) (moments : C) (peers peers_now : P)
-      (seats : ℕ → Option Talk) (next : ℕ) (told : Told) → r.does peers (Said told) peers_now →
+      (seats : ℕ → Option Talk) (next : ℕ) (told : Told) → r.does peers (Said next told) peers_now →
       ServesAll r (held ledgers moments peers seats next) (held ledgers moments peers_now seats next) 0
   tells_all r ledgers moments peers peers_now seats next told does =
-      serves_all r [] (told_of told ++ []) (held ledgers moments peers seats next)
+      serves_all r ⊥ [] (told_of next told ++ []) (held ledgers moments peers seats next)
       (held ledgers moments peers_now seats next) 0
-      (tells_owed r [] ledgers moments peers peers_now seats next told does)
+      (tells_owed r ⊥ [] ledgers moments peers peers_now seats next told does)
 
   -- a steward has attended to the ledgers
   pub again_all :
@@ -296,7 +355,8 @@ module _ {S C P : Type 0} where
       stands = keeps.stands;
     },
     refl,
-    owes_none first.stands,
+    owes_still [] [] first.stands (λ one found. found),
+    keeps_still ⊥ first.stands,
   )
 
   -- a number is passed over
@@ -325,5 +385,6 @@ module _ {S C P : Type 0} where
           (keeps.stands client);
     },
     refl,
-    owes_none first.stands,
+    owes_still [] [] first.stands (λ one found. found),
+    keeps_still ⊥ first.stands,
   )

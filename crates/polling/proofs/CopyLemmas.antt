@@ -111,20 +111,20 @@ copied_as_before seats seats_now members messages same copied =
     (fun_ext (λ client. sym (same client))) copied
 
 module _ {S C P : Type 0} (t : LedgersMeaning S) (gives : C → ℕ → C → Type 0)
-    (renews : S → S → Type 0) (does : P → Doing → P → Type 0) where
+    (renews : S → S → Type 0) (waits : List ℕ → Type 0) (does : P → Doing → P → Type 0) where
   -- moments were given for messages that are answered otherwise
   pub only_copied :
       (ledgers : S) (moments moments_now : C) (peers : P) (seats seats_now : ℕ → Option Talk)
       (next : ℕ) (messages : List Message) → AreSame seats seats_now →
       AreGiven gives moments (moments_of messages) moments_now →
-      ServesEach (rules t gives renews does) (held (Whole ledgers) moments peers seats next)
+      ServesEach (rules t gives renews waits does) (held (Whole ledgers) moments peers seats next)
       (held (Whole ledgers) moments_now peers seats_now next) 0
   only_copied ledgers moments moments_now peers seats seats_now next messages same given =
-      let r = rules t gives renews does in
+      let r = rules t gives renews waits does in
       then_each r (held (Whole ledgers) moments peers seats next)
       (held (Whole ledgers) moments peers seats_now next)
       (held (Whole ledgers) moments_now peers seats_now next) 0 0 0 refl
-      (unchanged r [] [] (Whole ledgers) moments peers seats seats_now next same (λ client found. found))
+      (unchanged r ⊥ [] [] (Whole ledgers) moments peers seats seats_now next same (λ one found. found))
       (passes_all r (Whole ledgers) moments moments_now (moments_of messages) peers seats_now next
       given)
 
@@ -136,15 +136,15 @@ module _ {S C P : Type 0} (t : LedgersMeaning S) (gives : C → ℕ → C → Ty
       (t.is_live ledgers_now → t.is_live ledgers) →
       (t.is_live ledgers_now → KeepsAll (t.tenants ledgers) (t.tenants ledgers_now)) →
       IsFoundAgain t ledgers_now →
-      ServesEach (rules t gives renews does) (held (Whole ledgers) moments peers seats next)
+      ServesEach (rules t gives renews waits does) (held (Whole ledgers) moments peers seats next)
       (held (Whole ledgers_now) moments_now peers seats_now next) 0
   taken_back ledgers ledgers_now moments moments_now peers seats seats_now next messages same given
       lived kept found =
-      let r = rules t gives renews does in
+      let r = rules t gives renews waits does in
       then_each r (held (Whole ledgers) moments peers seats next)
       (held (Whole ledgers) moments peers seats_now next)
       (held (Whole ledgers_now) moments_now peers seats_now next) 0 0 0 refl
-      (unchanged r [] [] (Whole ledgers) moments peers seats seats_now next same (λ client found. found))
+      (unchanged r ⊥ [] [] (Whole ledgers) moments peers seats seats_now next same (λ one found. found))
       (rests_all r (Whole ledgers) (Whole ledgers_now) moments moments_now (moments_of messages) peers
       seats_now next (record { lived = lived; same = kept; found = found }) given)
 
@@ -158,17 +158,17 @@ module _ {S C P : Type 0} (t : LedgersMeaning S) (gives : C → ℕ → C → Ty
       (t.is_live ledgers_now →
       TakeTurns messages (t.tenants ledgers) replies (t.tenants ledgers_now)) →
       IsFoundAgain t ledgers_now →
-      ArePut t gives renews does messages replies seats_now seats_then count →
-      ServesEach (rules t gives renews does) (held (Whole ledgers) moments peers seats next)
+      ArePut t gives renews waits does messages replies seats_now seats_then count →
+      ServesEach (rules t gives renews waits does) (held (Whole ledgers) moments peers seats next)
       (held (Whole ledgers_now) moments_now peers seats_then next) count
   kept_and_put ledgers ledgers_now moments moments_now peers seats seats_now seats_then next messages
       replies count same given lived stays turns found put =
-      let r = rules t gives renews does in
+      let r = rules t gives renews waits does in
       let begun = Within ledgers_now (t.tenants ledgers) in
       then_each r (held (Whole ledgers) moments peers seats next)
       (held (Whole ledgers) moments peers seats_now next)
       (held (Whole ledgers_now) moments_now peers seats_then next) 0 count count (omega arith)
-      (unchanged r [] [] (Whole ledgers) moments peers seats seats_now next same (λ client found. found))
+      (unchanged r ⊥ [] [] (Whole ledgers) moments peers seats seats_now next same (λ one found. found))
       (then_each r (held (Whole ledgers) moments peers seats_now next)
       (held begun moments peers seats_now next)
       (held (Whole ledgers_now) moments_now peers seats_then next) 0 count count (omega arith)
@@ -184,14 +184,14 @@ module _ {S C P : Type 0} (t : LedgersMeaning S) (gives : C → ℕ → C → Ty
       (count : ℕ) → AreSame seats seats_now →
       AreGiven gives moments (moments_of messages) moments_now → t.follows ledgers ledgers →
       IsLost t ledgers messages ledgers_now →
-      AreTold t gives renews does messages seats_now seats_then count →
-      ServesEach (rules t gives renews does) (held (Whole ledgers) moments peers seats next)
+      AreTold t gives renews waits does messages seats_now seats_then count →
+      ServesEach (rules t gives renews waits does) (held (Whole ledgers) moments peers seats next)
       (held (Whole ledgers_now) moments_now peers seats_then next) count
   lost_and_told ledgers ledgers_now moments moments_now peers seats seats_now seats_then next messages
       count same given stays lost told =
-      let r = rules t gives renews does in
+      let r = rules t gives renews waits does in
       then_each r (held (Whole ledgers) moments peers seats next)
       (held (Whole ledgers) moments peers seats_now next)
       (held (Whole ledgers_now) moments_now peers seats_then next) 0 count count (omega arith)
-      (unchanged r [] [] (Whole ledgers) moments peers seats seats_now next same (λ client found. found))
+      (unchanged r ⊥ [] [] (Whole ledgers) moments peers seats seats_now next same (λ one found. found))
       (told ledgers ledgers_now moments moments_now peers next stays given lost)

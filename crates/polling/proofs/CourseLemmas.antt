@@ -19,7 +19,7 @@ use Rattle.service.specs.Replies.{unavailable}
 use Rattle.service.specs.OwnDeeds.{EachSeesItself}
 use Rattle.clients.specs.Deeds.{Room, Deed, Came, Ended, Replied, Wrote, IsDone, Lives}
 use Rattle.clients.specs.Deeds as life
-use Rattle.polling.specs.Serving.{Hall, Rules, Happens, Did, Tells, Stirs, Joins, Goes, Loses, Again, Rests, Passes, Fails, Serves, Begin, Then}
+use Rattle.polling.specs.Serving.{Hall, Rules, Happens, Did, Tells, Stirs, Puts_off, Joins, Goes, Loses, Again, Rests, Passes, Fails, Serves, Begin, Then}
 use Rattle.polling.specs.Serving.{AreAsBefore, HasFailed, IsToldUnavailable, AreToldUnavailable}
 use Rattle.polling.specs.Serving.{events_by, events_of}
 use Rattle.polling.specs.Courses.{Renewed, Stayed, Opened, Anew, Refused, Tried, Rested, IsAtRest, AreOfOpening, IsAnew}
@@ -203,9 +203,11 @@ module _ {S C P : Type 0} (r : Rules S C P) (move : ResponsesMove r.means) (rene
   one_more Since Now last next more (Did (Wrote client bytes) room peers stays done settled hands)
       on anew led =
       unmoved_more Since Now last.room.ledgers room.ledgers done.does.ledgers_same (on [] refl) led
-  one_more Since Now last next more (Tells told peers does) on anew led =
+  one_more Since Now last next more (Tells fresh told peers free does) on anew led =
       same_more Since Now (run_meaning r.means) last.room.ledgers (on [] refl) led
   one_more Since Now last next more (Stirs doing peers may does) on anew led =
+      same_more Since Now (run_meaning r.means) last.room.ledgers (on [] refl) led
+  one_more Since Now last next more (Puts_off client peers is does) on anew led =
       same_more Since Now (run_meaning r.means) last.room.ledgers (on [] refl) led
   one_more Since Now last next more (Joins client away) on anew led =
       same_more Since Now (run_meaning r.means) last.room.ledgers (on [] refl) led
@@ -221,7 +223,7 @@ module _ {S C P : Type 0} (r : Rules S C P) (move : ResponsesMove r.means) (rene
       same_more Since Now (run_meaning r.means) last.room.ledgers (on [] refl) led
   one_more Since Now last next more (Rests ledgers same) on anew led =
       as_before_more r.means Since Now last.room.ledgers ledgers same (on [] refl) led
-  one_more Since Now last next more (Fails deeds room ledgers lives told failed) on anew led =
+  one_more Since Now last next more (Fails deeds room ledgers stands lives told failed begun) on anew led =
       let still = still_deeds r.means r.gives last.gone last.room room deeds lives told in
       failed_more r.means Since Now last.room.ledgers ledgers (events_of lives) still.0 still.1 failed
       (on (events_of lives) refl) led

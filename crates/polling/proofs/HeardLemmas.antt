@@ -12,7 +12,7 @@ use Rattle.clients.specs.Answering.{MayCome}
 use Rattle.clients.specs.Turns.{Sent, Told, if_told, told_to, Hears, Nothing_yet, One_more, HearTheirOwn}
 use Rattle.clients.specs.Deeds.{Room, Deed, IsDone, Lives, if_own, come_from, written_in, written_to, told_in, all_told, came_in, sent_with, clients_of, MightCome, AreExchanges, AreWritten}
 use Rattle.clients.specs.Deeds as life
-use Rattle.polling.specs.Serving.{Hall, Rules, Happens, Did, Tells, Stirs, Joins, Goes, Loses, Again, Rests, Passes, Fails, Serves, Begin, Then}
+use Rattle.polling.specs.Serving.{Hall, Rules, Happens, Did, Tells, Stirs, Puts_off, Joins, Goes, Loses, Again, Rests, Passes, Fails, Serves, Begin, Then}
 use Rattle.polling.specs.Laws.{EachIsServed}
 
 -- what is heard behind what was heard
@@ -100,15 +100,16 @@ module _ {S C P : Type 0} (r : Rules S C P) where
   step_heard hear exchanges last next more (Did deed room peers live done settled hands) client later may =
       deeds_heard hear exchanges last.room room (deed ∷ []) (one_deed last.room room deed done) client
       later may
-  step_heard hear exchanges last next more (Tells told peers does) client later may = Nothing_yet
+  step_heard hear exchanges last next more (Tells fresh told peers free does) client later may = Nothing_yet
   step_heard hear exchanges last next more (Stirs doing peers may_stir does) client later may = Nothing_yet
+  step_heard hear exchanges last next more (Puts_off who peers is does) client later may = Nothing_yet
   step_heard hear exchanges last next more (Joins who away) client later may = Nothing_yet
   step_heard hear exchanges last next more (Goes who) client later may = Nothing_yet
   step_heard hear exchanges last next more (Loses who piece peers does) client later may = Nothing_yet
   step_heard hear exchanges last next more (Again ledgers renews) client later may = Nothing_yet
   step_heard hear exchanges last next more (Rests ledgers same) client later may = Nothing_yet
   step_heard hear exchanges last next more (Passes moments given passed) client later may = Nothing_yet
-  step_heard hear exchanges last next more (Fails deeds room ledgers lives told failed) client later
+  step_heard hear exchanges last next more (Fails deeds room ledgers stands lives told failed begun) client later
       may =
       deeds_heard hear exchanges last.room room deeds lives client later may
 
@@ -148,15 +149,16 @@ module _ {S C P : Type 0} (r : Rules S C P) where
       MayCome (last.room.talks client).unread (come_from client more ++ later)
   step_may might last next more (Did deed room peers live done settled hands) client later may =
       deeds_may might last.room room (deed ∷ []) (one_deed last.room room deed done) client later may
-  step_may might last next more (Tells told peers does) client later may = may
+  step_may might last next more (Tells fresh told peers free does) client later may = may
   step_may might last next more (Stirs doing peers may_stir does) client later may = may
+  step_may might last next more (Puts_off who peers is does) client later may = may
   step_may might last next more (Joins who away) client later may = may
   step_may might last next more (Goes who) client later may = may
   step_may might last next more (Loses who piece peers does) client later may = may
   step_may might last next more (Again ledgers renews) client later may = may
   step_may might last next more (Rests ledgers same) client later may = may
   step_may might last next more (Passes moments given passed) client later may = may
-  step_may might last next more (Fails deeds room ledgers lives told failed) client later may =
+  step_may might last next more (Fails deeds room ledgers stands lives told failed begun) client later may =
       deeds_may might last.room room deeds lives client later may
 
   all_heard :
@@ -200,9 +202,11 @@ module _ {S C P : Type 0} (r : Rules S C P) where
       Happens S C P r last more next → (client : ℕ) → WritesBy last.room more next.room client
   step_written written last next more (Did deed room peers live done settled hands) client =
       written last.room room (deed ∷ []) (one_deed last.room room deed done) client
-  step_written written last next more (Tells told peers does) client =
+  step_written written last next more (Tells fresh told peers free does) client =
       sym (append-nil (last.room.talks client).unsent)
   step_written written last next more (Stirs doing peers may_stir does) client =
+      sym (append-nil (last.room.talks client).unsent)
+  step_written written last next more (Puts_off who peers is does) client =
       sym (append-nil (last.room.talks client).unsent)
   step_written written last next more (Joins who away) client =
       sym (append-nil (last.room.talks client).unsent)
@@ -216,7 +220,7 @@ module _ {S C P : Type 0} (r : Rules S C P) where
       sym (append-nil (last.room.talks client).unsent)
   step_written written last next more (Passes moments given passed) client =
       sym (append-nil (last.room.talks client).unsent)
-  step_written written last next more (Fails deeds room ledgers lives told failed) client =
+  step_written written last next more (Fails deeds room ledgers stands lives told failed begun) client =
       written last.room room deeds lives client
 
   all_written :

@@ -1,4 +1,7 @@
 pub mod StandLemmas
+pub mod KindLemmas
+pub mod WrittenLemmas
+pub mod FinishLemmas
 pub mod OneLemmas
 pub mod AllLemmas
 pub mod SeatLemmas

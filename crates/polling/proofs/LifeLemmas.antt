@@ -5,7 +5,7 @@ use Rattle.std.proofs.lemmas.List.{append-nil}
 use Rattle.clients.specs.Deeds.{Room, Deed, Lives}
 use Rattle.clients.specs.Deeds as life
 use Rattle.clients.specs.Talk.{Talk}
-use Rattle.polling.specs.Serving.{Hall, Rules, Happens, Did, Tells, Stirs, Joins, Goes, Loses, Again, Rests, Passes, Fails, Begin, Then}
+use Rattle.polling.specs.Serving.{Hall, Rules, Happens, Did, Tells, Stirs, Puts_off, Joins, Goes, Loses, Again, Rests, Passes, Fails, Begin, Then}
 use Rattle.polling.specs.Serving.{rounds_of, rounds_in}
 use Rattle.polling.specs.Standing.{Away, StandsIn}
 use Rattle.polling.specs.Laws.{AreLives, BeginsEmpty}
@@ -27,9 +27,11 @@ one_more :
     Lives S C r.means r.gives first (deeds ++ more) next.room
 one_more r same first last next deeds more lives (Did deed room peers live done settled hands) none =
     life.Then deeds last.room deed room lives done
-one_more r same first last next deeds more lives (Tells told peers does) none =
+one_more r same first last next deeds more lives (Tells fresh told peers free does) none =
     stays r first last.room deeds lives
 one_more r same first last next deeds more lives (Stirs doing peers may does) none =
+    stays r first last.room deeds lives
+one_more r same first last next deeds more lives (Puts_off client peers is does) none =
     stays r first last.room deeds lives
 one_more r same first last next deeds more lives (Joins client away) none =
     stays r first last.room deeds lives
@@ -46,7 +48,7 @@ one_more r same first last next deeds more lives (Rests ledgers before) none =
     absurd (omega (arith, none))
 one_more r same first last next deeds more lives (Passes moments given passed) none =
     absurd (omega (arith, none))
-one_more r same first last next deeds more lives (Fails also room ledgers lived told failed) none =
+one_more r same first last next deeds more lives (Fails also room ledgers stands lived told failed begun) none =
     absurd (omega (arith, none))
 
 pub are_lives : {S C P : Type 0} (r : Rules S C P) → AreLives r
@@ -70,5 +72,5 @@ begins_empty ledgers moments peers seats empty =
       unused = λ client beyond. refl;
       not_gone = λ client beyond. refl;
       stands = λ client.
-          subst (λ (seat : Option Talk). StandsIn seat Away) (sym (empty.0 client)) tt;
+          subst (λ (seat : Option Talk). StandsIn seat Away) (sym (empty.0 client)) refl;
     }

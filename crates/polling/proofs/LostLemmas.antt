@@ -30,7 +30,8 @@ use Rattle.polling.specs.Seating.{with_talk, SeatsNow, held, Keeps, replies_in}
 use Rattle.polling.specs.Round.{AreCopied, moments_of, AreTold}
 use Rattle.polling.specs.declared.round.Member.{Member}
 use Rattle.polling.proofs.OneLemmas.{once, replies_both, with_talk-own, with_talk-other}
-use Rattle.polling.proofs.StandLemmas.{owes_none}
+use Rattle.polling.specs.Standing.{stands_after}
+use Rattle.polling.proofs.StandLemmas.{after_stand, owes_after, keeps_after}
 use Rattle.polling.proofs.SeatLemmas.{keeps_at}
 use Rattle.polling.proofs.RoundLemmas.{copied_still}
 
@@ -170,7 +171,7 @@ pub record AreToldSoFar {S C P : Type 0} (t : LedgersMeaning S) (gives : C → �
       → HasTold t gives messages left ledgers last peers seats_now next count first
 
 module _ {S C P : Type 0} (t : LedgersMeaning S) (gives : C → ℕ → C → Type 0)
-    (renews : S → S → Type 0) (does : P → Doing → P → Type 0) where
+    (renews : S → S → Type 0) (waits : List ℕ → Type 0) (does : P → Doing → P → Type 0) where
   -- nobody is told yet
   pub told_none :
       (messages : List Message) (seats : ℕ → Option Talk) (members : List Member) →
@@ -343,17 +344,19 @@ module _ {S C P : Type 0} (t : LedgersMeaning S) (gives : C → ℕ → C → Ty
       (messages : List Message) (seats : ℕ → Option Talk) (members : List Member)
       (seats_now : ℕ → Option Talk) (count : ℕ)
       (so_far : AreToldSoFar t gives does messages seats members seats_now count) →
-      so_far.left ≡ [] → AreTold t gives renews does messages seats seats_now count
+      so_far.left ≡ [] → AreTold t gives renews waits does messages seats seats_now count
   told_over messages seats members seats_now count so_far over ledgers ledgers_now moments last peers
       next follows given lost first keeps =
       let so = so_far.told ledgers moments last peers next first follows given keeps in
-      let after = record first { room = record so.room { ledgers = Whole ledgers_now } } in
+      let stands = stands_after so.deeds first.stands in
+      let after =
+      record first { room = record so.room { ledgers = Whole ledgers_now }; stands = stands } in
       let all_given =
       subst (λ (ms : List Message). AreGiven gives so.moments (moments_of ms) last) over so.given in (
         so.deeds,
         after,
-        once (rules t gives renews does) first after so.deeds
-            (Fails so.deeds so.room (Whole ledgers_now) so.lives so.told
+        once (rules t gives renews waits does) first after so.deeds
+            (Fails so.deeds so.room (Whole ledgers_now) stands so.lives so.told
             (subst
             (λ (l : Seen S). HasFailed (seen t) l (events_of so.lives) (Whole ledgers_now))
             (sym keeps.ledgers)
@@ -370,7 +373,8 @@ module _ {S C P : Type 0} (t : LedgersMeaning S) (gives : C → ℕ → C → Ty
                     subst (λ (ms : List Message). TakeTurns ms done.0 done.1 found) over done.3,
                   ))
                   (lost.found found may);
-            }))),
+            }))
+            refl),
         record {
           ledgers = refl;
           moments = so.keeps.moments ∙ sym all_given;
@@ -380,8 +384,9 @@ module _ {S C P : Type 0} (t : LedgersMeaning S) (gives : C → ℕ → C → Ty
           below = so.keeps.below;
           unused = so.keeps.unused;
           not_gone = so.keeps.not_gone;
-          stands = so.keeps.stands;
+          stands = after_stand so.deeds seats_now first.stands so.keeps.stands;
         },
         so.replies,
-        owes_none first.stands,
+        owes_after so.deeds first.stands,
+        keeps_after ⊥ so.deeds first.stands,
       )

@@ -1,6 +1,6 @@
 -- One client among all: what is done for it is done in a hall.
-use Rattle.std.proofs.Common.{◌≡◌, ◌≢◌, refl, ap, sym, ◌∙◌, subst, ℕ, Bool, true, false, List, [], ◌∷◌, ◌++◌, append_assoc, length, ◌+◌, take, if◌then◌else◌}
-use Rattle.std.proofs.lemmas.Bool.{eq-eqb, ne_eqb}
+use Rattle.std.proofs.Common.{◌≡◌, ◌≢◌, ◌⊎◌, inl, inr, refl, ap, sym, ◌∙◌, subst, ℕ, Bool, true, false, List, [], ◌∷◌, ◌++◌, append_assoc, length, ◌+◌, take, if◌then◌else◌}
+use Rattle.std.proofs.lemmas.Bool.{eq-eqb, ne_eqb, true≢false}
 use Rattle.std.proofs.lemmas.List.{append-nil, take-append-drop, length-append}
 use Rattle.std.proofs.lemmas.Grind.{flat_map-append}
 use Rattle.ledger_http.specs.declared.reply.Reply.{Reply}
@@ -10,12 +10,13 @@ use Rattle.clients.specs.Deeds.{Deed, Came, Replied, Wrote, client_of, Does, tol
 use Rattle.clients.specs.Deeds as deed
 use Rattle.service.specs.Seen.{Whole}
 use Rattle.polling.specs.Peers.{Gave, Gave_none, Ended, Took, Took_none, Stirred, Hands}
-use Rattle.polling.specs.Standing.{Standing, rested, with_standing}
+use Rattle.polling.specs.Standing.{Standing, Owed, begun, rested, with_standing, stands_after}
 use Rattle.service.specs.Openings.{run_meaning, IsSettled}
 use Rattle.polling.specs.Serving.{Hall, hall, Rules, Settles, IsDueOf, gone_with, Happens, Did, Stirs, Goes, Loses, Serves, Begin, Then}
-use Rattle.polling.specs.Seating.{with_talk, ServesOne, gone_by, stands_by, replies_in}
+use Rattle.polling.specs.Seating.{with_talk, ServesOne, HasMoved, gone_by, stands_by, replies_in}
 use Rattle.polling.specs.declared.step.Step.{Step}
 use Rattle.polling.specs.declared.step.Step.TheVariants as step
+use Rattle.polling.proofs.StandLemmas.{by_client, standing-own, standing-other, begun_unowed, after-append}
 
 -- what follows is done behind what was done
 pub serves_on :
@@ -63,12 +64,14 @@ pub did_one :
     Does r.means r.gives deed ledgers moments talk ledgers_now moments_now talk_now →
     Settles r.means deed ledgers_now → Hands r.does deed peers peers_now →
     Serves S C P r (hall ledgers moments peers (with_talk (client_of deed) talk talks) gone stands) (deed ∷ [])
-    (hall ledgers_now moments_now peers_now (with_talk (client_of deed) talk_now talks) gone stands)
+    (hall ledgers_now moments_now peers_now (with_talk (client_of deed) talk_now talks) gone
+    (stands_after (deed ∷ []) stands))
 did_one {S} {C} {P} r deed ledgers ledgers_now moments moments_now peers peers_now talk talk_now talks
     gone stands stays due does settled hands =
     let client = client_of deed in
     once r (hall ledgers moments peers (with_talk client talk talks) gone stands)
-    (hall ledgers_now moments_now peers_now (with_talk client talk_now talks) gone stands) (deed ∷ [])
+    (hall ledgers_now moments_now peers_now (with_talk client talk_now talks) gone
+    (stands_after (deed ∷ []) stands)) (deed ∷ [])
     (Did deed
     (record {
       ledgers = ledgers_now;
@@ -111,55 +114,106 @@ whole_unmoved unmoved = record {
 
 -- one client was served, and stays
 abbrev pub Stays :
-    {S C P : Type 0} → Rules S C P → ℕ → S → C → P → Talk → S → C → P → Talk → ℕ → Type 0
-Stays r client ledgers moments peers talk ledgers_now moments_now peers_now talk_now replies =
+    {S C P : Type 0} → Rules S C P → ℕ → S → C → P → Talk → S → C → P → Talk → Bool → ℕ → Type 0
+Stays r client ledgers moments peers talk ledgers_now moments_now peers_now talk_now idle replies =
     ServesOne r client ledgers moments peers talk ledgers_now moments_now peers_now talk_now step.More
-    replies
+    idle replies
+
+-- behind a deed of a client its turn is begun
+did_begin :
+    (deed : Deed) (stands : ℕ → Standing) → false ≡ false →
+    stands_after (deed ∷ []) stands (client_of deed) ≢ Owed
+did_begin deed stands moved owed =
+    begun_unowed (stands (client_of deed))
+    (sym (standing-own (client_of deed) (begun (stands (client_of deed))) stands) ∙ owed)
+
+-- it stays so
+unowed_still :
+    (deeds : List Deed) (stands : ℕ → Standing) (client : ℕ) → stands client ≢ Owed →
+    stands_after deeds stands client ≢ Owed
+unowed_still [] stands client unowed = unowed
+unowed_still (deed ∷ deeds) stands client unowed =
+    let own = client_of deed in
+    unowed_still deeds (with_standing own (begun (stands own)) stands) client
+    (by_client
+    (λ each. stands each ≢ Owed → with_standing own (begun (stands own)) stands each ≢ Owed) own
+    (λ was owed. begun_unowed (stands own) (sym (standing-own own (begun (stands own)) stands) ∙ owed))
+    (λ other differ was owed.
+    was (sym (standing-other own other (begun (stands own)) stands differ) ∙ owed)) client unowed)
+
+-- what may have been idle in both parts, where the second ends so
+moved_both :
+    (step : Step) (first last idle : Bool) (deeds : List Deed) (stands : ℕ → Standing) (client : ℕ) →
+    (idle ≡ false → (first ≡ false) ⊎ (last ≡ false)) → (first ≡ false → stands client ≢ Owed) →
+    HasMoved step last (stands_after deeds stands client) →
+    HasMoved step idle (stands_after deeds stands client)
+moved_both step.More first last idle deeds stands client either before behind =
+    λ moved.
+    elim (either moved) [
+      | inl one ↦ unowed_still deeds stands client (before one)
+      | inr other ↦ behind other
+    ]
+moved_both step.Waits first last idle deeds stands client either before behind = tt
+moved_both step.Goes first last idle deeds stands client either before behind = tt
+
+-- deeds behind deeds, in the last step
+stands_by-append :
+    (last : Step) (client : ℕ) (before more : List Deed) (stands : ℕ → Standing) →
+    stands_by last client more (stands_after before stands)
+    ≡ stands_by last client (before ++ more) stands
+stands_by-append step.More client before more stands = sym (after-append before more stands)
+stands_by-append step.Waits client before more stands =
+    ap (λ (all : ℕ → Standing). with_standing client (rested (all client)) all)
+    (sym (after-append before more stands))
+stands_by-append step.Goes client before more stands = sym (after-append before more stands)
 
 module _ {S C P : Type 0} (r : Rules S C P) (client : ℕ) where
   -- nothing is done
   pub nothing :
       (ledgers : S) (moments : C) (peers : P) (talk : Talk) →
-      Stays r client ledgers moments peers talk ledgers moments peers talk 0
-  nothing ledgers moments peers talk talks gone stands stays = ([], Begin, refl)
+      Stays r client ledgers moments peers talk ledgers moments peers talk true 0
+  nothing ledgers moments peers talk talks gone stands stays =
+      ([], Begin, refl, λ (moved : true ≡ false). absurd (true≢false moved))
 
   -- nothing has changed
   pub unmoved :
       (ledgers ledgers_now : S) (moments moments_now : C) (peers : P) (talk talk_now : Talk) →
       IsUnmoved ledgers moments talk ledgers_now moments_now talk_now →
-      Stays r client ledgers moments peers talk ledgers_now moments_now peers talk_now 0
+      Stays r client ledgers moments peers talk ledgers_now moments_now peers talk_now true 0
   unmoved ledgers ledgers_now moments moments_now peers talk talk_now same =
       subst
-      (λ (l : S). Stays r client ledgers moments peers talk l moments_now peers talk_now 0)
+      (λ (l : S). Stays r client ledgers moments peers talk l moments_now peers talk_now true 0)
       (sym same.ledgers_same)
       (subst
-      (λ (m : C). Stays r client ledgers moments peers talk ledgers m peers talk_now 0)
+      (λ (m : C). Stays r client ledgers moments peers talk ledgers m peers talk_now true 0)
       (sym same.moments_same)
       (subst
-      (λ (now : Talk). Stays r client ledgers moments peers talk ledgers moments peers now 0)
+      (λ (now : Talk). Stays r client ledgers moments peers talk ledgers moments peers now true 0)
       (sym same.same) (nothing ledgers moments peers talk)))
 
   -- a client goes
   pub goes :
       (ledgers : S) (moments : C) (peers : P) (talk : Talk) →
-      ServesOne r client ledgers moments peers talk ledgers moments peers talk step.Goes 0
+      ServesOne r client ledgers moments peers talk ledgers moments peers talk step.Goes false 0
   goes ledgers moments peers talk talks gone stands stays = (
     [],
     once r (hall ledgers moments peers (with_talk client talk talks) gone stands)
         (hall ledgers moments peers (with_talk client talk talks) (gone_with client gone) stands) []
         (Goes client),
     refl,
+    tt,
   )
 
   -- a client goes, and what was read of it is lost
   pub loses :
       (ledgers : S) (moments : C) (peers peers_now : P) (talk talk_now : Talk) (piece : List ℕ) →
       talk_now ≡ talk → r.does peers (Gave client piece) peers_now →
-      ServesOne r client ledgers moments peers talk ledgers moments peers_now talk_now step.Goes 0
+      ServesOne r client ledgers moments peers talk ledgers moments peers_now talk_now step.Goes false
+      0
   loses ledgers moments peers peers_now talk talk_now piece same does =
       subst
       (λ (now : Talk).
-      ServesOne r client ledgers moments peers talk ledgers moments peers_now now step.Goes 0)
+      ServesOne r client ledgers moments peers talk ledgers moments peers_now now step.Goes false 0)
       (sym same)
       (λ talks gone stands stays. (
         [],
@@ -167,6 +221,7 @@ module _ {S C P : Type 0} (r : Rules S C P) (client : ℕ) where
             (hall ledgers moments peers_now (with_talk client talk talks) (gone_with client gone) stands) []
             (Loses client piece peers_now does),
         refl,
+        tt,
       ))
 
   -- a client is let wait
@@ -176,7 +231,7 @@ module _ {S C P : Type 0} (r : Rules S C P) (client : ℕ) where
       Happens S C P r (hall ledgers moments peers (with_talk client talk talks) gone stands) []
       (hall ledgers moments peers_now (with_talk client talk talks) gone
       (with_standing client (rested (stands client)) stands))) →
-      ServesOne r client ledgers moments peers talk ledgers moments peers_now talk step.Waits 0
+      ServesOne r client ledgers moments peers talk ledgers moments peers_now talk step.Waits false 0
   waits ledgers moments peers peers_now talk happens talks gone stands stays = (
     [],
     once r (hall ledgers moments peers (with_talk client talk talks) gone stands)
@@ -184,13 +239,14 @@ module _ {S C P : Type 0} (r : Rules S C P) (client : ℕ) where
         (with_standing client (rested (stands client)) stands))
         [] (happens talks gone stands),
     refl,
+    tt,
   )
 
   -- it sends nothing for now
   pub gave_none :
       (ledgers : S) (moments : C) (peers peers_now : P) (talk : Talk) → IsWanting talk.unread →
       r.does peers (Gave_none client) peers_now →
-      ServesOne r client ledgers moments peers talk ledgers moments peers_now talk step.Waits 0
+      ServesOne r client ledgers moments peers talk ledgers moments peers_now talk step.Waits false 0
   gave_none ledgers moments peers peers_now talk wanting does =
       waits ledgers moments peers peers_now talk
       (λ talks gone stands.
@@ -201,7 +257,7 @@ module _ {S C P : Type 0} (r : Rules S C P) (client : ℕ) where
   pub took_none :
       (ledgers : S) (moments : C) (peers peers_now : P) (talk : Talk) → talk.unsent ≢ [] →
       r.does peers (Took_none client) peers_now →
-      ServesOne r client ledgers moments peers talk ledgers moments peers_now talk step.Waits 0
+      ServesOne r client ledgers moments peers talk ledgers moments peers_now talk step.Waits false 0
   took_none ledgers moments peers peers_now talk some does =
       waits ledgers moments peers peers_now talk
       (λ talks gone stands.
@@ -212,13 +268,14 @@ module _ {S C P : Type 0} (r : Rules S C P) (client : ℕ) where
   pub stirred :
       (ledgers : S) (moments : C) (peers peers_now : P) (talk : Talk) →
       r.does peers Stirred peers_now →
-      Stays r client ledgers moments peers talk ledgers moments peers_now talk 0
+      Stays r client ledgers moments peers talk ledgers moments peers_now talk true 0
   stirred ledgers moments peers peers_now talk does talks gone stands stays = (
     [],
     once r (hall ledgers moments peers (with_talk client talk talks) gone stands)
         (hall ledgers moments peers_now (with_talk client talk talks) gone stands) []
         (Stirs Stirred peers_now tt does),
     refl,
+    λ (moved : true ≡ false). absurd (true≢false moved),
   )
 
   -- a piece came
@@ -226,37 +283,40 @@ module _ {S C P : Type 0} (r : Rules S C P) (client : ℕ) where
       (ledgers : S) (moments : C) (peers peers_now : P) (talk talk_now : Talk) (piece : List ℕ) →
       IsWanting talk.unread → talk_now ≡ received piece talk →
       r.does peers (Gave client piece) peers_now →
-      Stays r client ledgers moments peers talk ledgers moments peers_now talk_now 0
+      Stays r client ledgers moments peers talk ledgers moments peers_now talk_now false 0
   came ledgers moments peers peers_now talk talk_now piece more is does talks gone stands stays = (
     Came client piece ∷ [],
     did_one r (Came client piece) ledgers ledgers moments moments peers peers_now talk talk_now talks
         gone stands stays more (record { ledgers_same = refl; moments_same = refl; same = is }, more.0) tt
         does,
     refl,
+    did_begin (Came client piece) stands,
   )
 
   -- the input ended
   pub ended :
       (ledgers : S) (moments : C) (peers peers_now : P) (talk talk_now : Talk) →
       IsWanting talk.unread → talk_now ≡ input_ended talk → r.does peers (Ended client) peers_now →
-      Stays r client ledgers moments peers talk ledgers moments peers_now talk_now 0
+      Stays r client ledgers moments peers talk ledgers moments peers_now talk_now false 0
   ended ledgers moments peers peers_now talk talk_now more is does talks gone stands stays = (
     deed.Ended client ∷ [],
     did_one r (deed.Ended client) ledgers ledgers moments moments peers peers_now talk talk_now talks
         gone stands stays more (record { ledgers_same = refl; moments_same = refl; same = is }) tt does,
     refl,
+    did_begin (deed.Ended client) stands,
   )
 
   -- bytes were taken
   pub taken :
       (ledgers : S) (moments : C) (peers peers_now : P) (talk talk_now : Talk) (count : ℕ) →
-      talk_now ≡ written count talk → r.does peers (Took client (take count talk.unsent)) peers_now →
-      Stays r client ledgers moments peers talk ledgers moments peers_now talk_now 0
-  taken ledgers moments peers peers_now talk talk_now count is does talks gone stands stays =
+      talk.unsent ≢ [] → talk_now ≡ written count talk →
+      r.does peers (Took client (take count talk.unsent)) peers_now →
+      Stays r client ledgers moments peers talk ledgers moments peers_now talk_now false 0
+  taken ledgers moments peers peers_now talk talk_now count some is does talks gone stands stays =
       let bytes = take count talk.unsent in (
         Wrote client bytes ∷ [],
         did_one r (Wrote client bytes) ledgers ledgers moments moments peers peers_now talk talk_now
-            talks gone stands stays tt
+            talks gone stands stays some
             (record {
               ledgers_same = refl;
               moments_same = refl;
@@ -267,6 +327,7 @@ module _ {S C P : Type 0} (r : Rules S C P) (client : ℕ) where
             })
             tt does,
         refl,
+        did_begin (Wrote client bytes) stands,
       )
 
   -- a message was replied to
@@ -275,32 +336,88 @@ module _ {S C P : Type 0} (r : Rules S C P) (client : ℕ) where
       (reply : Reply) → may_answer talk ≡ true →
       HasReplied r.means r.gives ledgers moments talk reply ledgers_now moments_now talk_now →
       IsSettled (run_meaning r.means) ledgers_now →
-      Stays r client ledgers moments peers talk ledgers_now moments_now peers talk_now 1
+      Stays r client ledgers moments peers talk ledgers_now moments_now peers talk_now false 1
   replied ledgers ledgers_now moments moments_now peers talk talk_now reply may has settled talks gone stands stays = (
     Replied client reply ∷ [],
     did_one r (Replied client reply) ledgers ledgers_now moments moments_now peers peers talk
         talk_now talks gone stands stays tt (has, may) settled refl,
     refl,
+    did_begin (Replied client reply) stands,
   )
 
   -- one step behind another
   pub then_one :
       (ledgers ledgers_then ledgers_now : S) (moments moments_then moments_now : C)
       (peers peers_then peers_now : P) (talk talk_then talk_now : Talk) (last : Step)
-      (before behind all : ℕ) → before + behind ≡ all →
-      Stays r client ledgers moments peers talk ledgers_then moments_then peers_then talk_then before →
+      (idle idle_last idle_all : Bool) (before behind all : ℕ) →
+      (idle_all ≡ false → (idle ≡ false) ⊎ (idle_last ≡ false)) → before + behind ≡ all →
+      Stays r client ledgers moments peers talk ledgers_then moments_then peers_then talk_then idle
+      before →
       ServesOne r client ledgers_then moments_then peers_then talk_then ledgers_now moments_now
-      peers_now talk_now last behind →
-      ServesOne r client ledgers moments peers talk ledgers_now moments_now peers_now talk_now last all
+      peers_now talk_now last idle_last behind →
+      ServesOne r client ledgers moments peers talk ledgers_now moments_now peers_now talk_now last
+      idle_all all
   then_one ledgers ledgers_then ledgers_now moments moments_then moments_now peers peers_then
-      peers_now talk talk_then talk_now last before behind all sum first second talks gone stands stays =
+      peers_now talk talk_then talk_now last idle idle_last idle_all before behind all either sum first
+      second talks gone stands stays =
       let did = first talks gone stands stays in
-      let does = second talks gone stands stays in (
+      let mid = stands_after did.0 stands in
+      let does = second talks gone mid stays in (
         did.0 ++ does.0,
-        serves_on r (hall ledgers moments peers (with_talk client talk talks) gone stands)
-            (hall ledgers_then moments_then peers_then (with_talk client talk_then talks) gone stands)
+        subst
+            (λ (now : ℕ → Standing).
+            Serves S C P r (hall ledgers moments peers (with_talk client talk talks) gone stands)
+            (did.0 ++ does.0)
             (hall ledgers_now moments_now peers_now (with_talk client talk_now talks)
-            (gone_by last client gone) (stands_by last client stands))
-            did.0 does.0 did.1 does.1,
+            (gone_by last client gone) now))
+            (stands_by-append last client did.0 does.0 stands)
+            (serves_on r (hall ledgers moments peers (with_talk client talk talks) gone stands)
+            (hall ledgers_then moments_then peers_then (with_talk client talk_then talks) gone mid)
+            (hall ledgers_now moments_now peers_now (with_talk client talk_now talks)
+            (gone_by last client gone) (stands_by last client does.0 mid))
+            did.0 does.0 did.1 does.1),
         replies_both did.0 does.0 before behind all did.2 does.2 sum,
+        subst (λ (now : ℕ → Standing). HasMoved last idle_all (now client))
+            (sym (after-append did.0 does.0 stands))
+            (moved_both last idle idle_last idle_all does.0 mid client either did.3 does.3),
+      )
+
+  -- where nothing more may be done, that is not asked
+  pub other_idle :
+      (ledgers ledgers_now : S) (moments moments_now : C) (peers peers_now : P)
+      (talk talk_now : Talk) (last : Step) (idle idle_all : Bool) (replies : ℕ) → last ≢ step.More →
+      ServesOne r client ledgers moments peers talk ledgers_now moments_now peers_now talk_now last
+      idle replies →
+      ServesOne r client ledgers moments peers talk ledgers_now moments_now peers_now talk_now last
+      idle_all replies
+  other_idle ledgers ledgers_now moments moments_now peers peers_now talk talk_now step.More idle
+      idle_all replies other serves =
+      absurd (other refl)
+  other_idle ledgers ledgers_now moments moments_now peers peers_now talk talk_now step.Waits idle
+      idle_all replies other serves =
+      λ talks gone stands stays.
+      let did = serves talks gone stands stays in (did.0, did.1, did.2, tt)
+  other_idle ledgers ledgers_now moments moments_now peers peers_now talk talk_now step.Goes idle
+      idle_all replies other serves =
+      λ talks gone stands stays.
+      let did = serves talks gone stands stays in (did.0, did.1, did.2, tt)
+
+  -- where less is told of what may have been idle
+  pub idle_too :
+      (ledgers ledgers_now : S) (moments moments_now : C) (peers peers_now : P)
+      (talk talk_now : Talk) (last : Step) (idle idle_all : Bool) (replies : ℕ) →
+      (idle_all ≡ false → idle ≡ false) →
+      ServesOne r client ledgers moments peers talk ledgers_now moments_now peers_now talk_now last
+      idle replies →
+      ServesOne r client ledgers moments peers talk ledgers_now moments_now peers_now talk_now last
+      idle_all replies
+  idle_too ledgers ledgers_now moments moments_now peers peers_now talk talk_now last idle idle_all
+      replies less serves talks gone stands stays =
+      let did = serves talks gone stands stays in (
+        did.0,
+        did.1,
+        did.2,
+        moved_both last true idle idle_all [] (stands_after did.0 stands) client
+            (λ (none : idle_all ≡ false). inr (less none))
+            (λ (never : true ≡ false). absurd (true≢false never)) did.3,
       )

@@ -3,7 +3,7 @@ use Rattle.std.proofs.Common.{◌≡◌, ◌⊎◌, ◌≤◌, ◌<◌, ◌+◌,
 use Rattle.std.proofs.lemmas.List.{append-nil}
 use Rattle.clients.specs.Deeds.{Deed}
 use Rattle.polling.specs.Peers.{Said}
-use Rattle.polling.specs.Standing.{stands_behind}
+use Rattle.polling.specs.Standing.{owing, stands_behind, KeepsOnly}
 use Rattle.polling.specs.declared.peers.Told.{Told}
 use Rattle.polling.specs.declared.peers.Told.TheVariants as told
 use Rattle.polling.specs.Serving.{Hall, Rules, Tells, Serves, Begin, Then, tellings, tellings_of}
@@ -12,7 +12,7 @@ use Rattle.polling.specs.Ending.{HasTurn, IsQuiet, Turns, Start, Turn, most_turn
 use Rattle.polling.specs.Laws.{ServedOn, OwesNobody}
 use Rattle.polling.proofs.OneLemmas.{replies_both}
 use Rattle.polling.proofs.StandLemmas.{told_stand, none_in}
-use Rattle.polling.proofs.AllLemmas.{keeps_peers}
+use Rattle.polling.proofs.AllLemmas.{keeps_peers, next_free}
 use Rattle.polling.proofs.TurnLemmas.{turns_serve}
 
 module _ {S C P : Type 0} (r : Rules S C P) where
@@ -53,15 +53,17 @@ module _ {S C P : Type 0} (r : Rules S C P) where
         told = omega (arith, both.1);
       }
 
-  -- nobody is owed a turn behind turns that are given
+  -- nobody is owed anything behind turns that are given
   pub gives_on :
       (first mid : Hall S C P) (before : List Deed) (served : Serves S C P r first before mid)
-      (old new : Held S C P) (replies : ℕ) → Keeps old mid → OwesNobody mid →
-      GivesTurns S C P r old new replies →
-      ((on : ServedOn served new replies 0) × OwesNobody on.last)
+      (old new : Held S C P) (replies most : ℕ) → Keeps old mid → OwesNobody mid →
+      GivesTurns S C P r most old new replies →
+      ((on : ServedOn served new replies 0)
+      × OwesNobody on.last
+      × KeepsOnly (replies ≡ most) mid.stands on.last.stands)
       ⊎ Turns S C P r old most_turns replies new
-  gives_on first mid before served old new replies keeps nobody (inr turns) = inr turns
-  gives_on first mid before served old new replies keeps nobody (inl serves) =
+  gives_on first mid before served old new replies most keeps nobody (inr turns) = inr turns
+  gives_on first mid before served old new replies most keeps nobody (inl serves) =
       let did = serves mid keeps in
       let both = both_told first mid did.1 before did.0 served did.2 in
       inl (
@@ -75,11 +77,12 @@ module _ {S C P : Type 0} (r : Rules S C P) where
               refl did.4 refl;
           told = omega (arith, both.1);
         },
-        λ client owed.
-            elim (did.5 client owed) [
-              | inl found ↦ none_in client found
-              | inr was ↦ nobody client was.0
+        λ client debt owed.
+            elim (did.5 client debt owed).1 [
+              | inl was ↦ nobody client debt was
+              | inr found ↦ none_in (owing debt client) found
             ],
+        did.6,
       )
 
   -- one after the other
@@ -101,18 +104,20 @@ module _ {S C P : Type 0} (r : Rules S C P) where
   -- peers tell something
   tells_on :
       (first mid : Hall S C P) (before : List Deed) (served : Serves S C P r first before mid)
-      (old : Held S C P) (told : Told) (peers : P) → Keeps old mid → r.does old.peers (Said told) peers →
+      (old : Held S C P) (told : Told) (peers : P) → Keeps old mid →
+      r.does old.peers (Said old.next told) peers →
       ServedOn served (record old { peers = peers }) 0 1
   tells_on first mid before served old told peers keeps said = record {
     deeds = before ++ [];
-    last = record mid { peers = peers; stands = stands_behind (Said told) mid.stands };
+    last = record mid { peers = peers; stands = stands_behind (Said old.next told) mid.stands };
     all =
         Then before mid []
-        (record mid { peers = peers; stands = stands_behind (Said told) mid.stands }) served
-        (Tells told peers (subst (λ (p : P). r.does p (Said told) peers) (sym keeps.peers) said));
+        (record mid { peers = peers; stands = stands_behind (Said old.next told) mid.stands }) served
+        (Tells old.next told peers (next_free old mid keeps)
+        (subst (λ (p : P). r.does p (Said old.next told) peers) (sym keeps.peers) said));
     keeps =
-        keeps_peers old mid peers (stands_behind (Said told) mid.stands)
-        (told_stand told old.seats mid.stands keeps.stands) keeps;
+        keeps_peers old mid peers (stands_behind (Said old.next told) mid.stands)
+        (told_stand old.next told old.seats mid.stands keeps.stands) keeps;
     count = replies_both before [] (replies_in before) 0 (replies_in before + 0) refl refl refl;
     told = omega arith;
   }

@@ -4,7 +4,7 @@ use Rattle.clients.specs.Talk.{Talk}
 use Rattle.polling.specs.Serving.{Rules, Rests, Passes, AreAsBefore, AreGiven}
 use Rattle.polling.specs.Seating.{held, ServesEach}
 use Rattle.polling.proofs.OneLemmas.{once}
-use Rattle.polling.proofs.StandLemmas.{owes_none}
+use Rattle.polling.proofs.StandLemmas.{owes_still, keeps_still}
 use Rattle.polling.proofs.AllLemmas.{then_each}
 
 module _ {S C P : Type 0} where
@@ -32,7 +32,8 @@ module _ {S C P : Type 0} where
           stands = keeps.stands;
         },
         refl,
-        owes_none first.stands,
+        owes_still [] [] first.stands (λ one found. found),
+        keeps_still ⊥ first.stands,
       )
 
   -- a round begins, ends or is taken back
@@ -59,7 +60,8 @@ module _ {S C P : Type 0} where
           stands = keeps.stands;
         },
         refl,
-        owes_none first.stands,
+        owes_still [] [] first.stands (λ one found. found),
+        keeps_still ⊥ first.stands,
       )
 
   pub rests_all :

@@ -1,5 +1,5 @@
 -- Replies of a round that was kept.
-use Rattle.std.proofs.Common.{◌≡◌, ◌⊎◌, ◌+◌, inl, inr, refl, ap, sym, ◌∙◌, subst, ℕ, List, [], ◌∷◌}
+use Rattle.std.proofs.Common.{◌≡◌, ◌⊎◌, ◌+◌, inl, inr, refl, ap, sym, ◌∙◌, subst, ℕ, false, List, [], ◌∷◌}
 use Rattle.std.proofs.Common.{Option, Some, IfSome, arith, ◌<◌, ◌≤◌, length, drop, slice_index_or}
 use Rattle.std.proofs.lemmas.List.{at_drop_more, at_drop_all}
 use Rattle.chain.specs.Ledgers.{LedgersMeaning, Tenants}
@@ -108,7 +108,7 @@ turns_over last machines (message ∷ messages) (reply ∷ replies) (inr over) r
 
 -- the replies so far were put, and these are left
 pub record ArePutSoFar {S C P : Type 0} (t : LedgersMeaning S) (gives : C → ℕ → C → Type 0)
-    (renews : S → S → Type 0) (does : P → Doing → P → Type 0) (messages : List Message)
+    (renews : S → S → Type 0) (waits : List ℕ → Type 0) (does : P → Doing → P → Type 0) (messages : List Message)
     (replies : List Reply) (seats : ℕ → Option Talk) (members : List Member)
     (replies_left : List Reply) (seats_now : ℕ → Option Talk) (count : ℕ) : Type 0 where
   pub left : List Message
@@ -119,13 +119,13 @@ pub record ArePutSoFar {S C P : Type 0} (t : LedgersMeaning S) (gives : C → �
       → AreToBePut t gives ledgers last machines moments messages replies
       → (mid : Tenants)
       × (now : C)
-      × ServesEach (rules t gives renews does)
+      × ServesEach (rules t gives renews waits does)
       (held (Within ledgers machines) moments peers seats next)
       (held (Within ledgers mid) now peers seats_now next) count
       × AreToBePut t gives ledgers last mid now left replies_left
 
 module _ {S C P : Type 0} (t : LedgersMeaning S) (gives : C → ℕ → C → Type 0)
-    (renews : S → S → Type 0) (does : P → Doing → P → Type 0) where
+    (renews : S → S → Type 0) (waits : List ℕ → Type 0) (does : P → Doing → P → Type 0) where
   put_one_more :
       RepliesWithin t gives → (ledgers : S) (machines : Tenants) (moments moments_now : C)
       (peers : P) (seats seats_now : ℕ → Option Talk) (next : ℕ) (member : Member)
@@ -135,18 +135,18 @@ module _ {S C P : Type 0} (t : LedgersMeaning S) (gives : C → ℕ → C → Ty
       t.follows ledgers ledgers → gives moments message.moment moments_now →
       (t.is_live ledgers →
       RespondsTo machines message reply (after_asking copy.question message.moment machines)) →
-      ServesEach (rules t gives renews does)
+      ServesEach (rules t gives renews waits does)
       (held (Within ledgers machines) moments peers seats next)
       (held (Within ledgers (after_asking copy.question message.moment machines)) moments_now peers
       seats_now next) 1
   put_one_more within ledgers machines moments moments_now peers seats seats_now next member message
       reply talk copy was now follows given responds =
-      let r = rules t gives renews does in
+      let r = rules t gives renews waits does in
       let before = Within ledgers machines in
       let behind = Within ledgers (after_asking copy.question message.moment machines) in
       let talk_now = replied_to member.size reply talk in
       served_at r member.number before behind moments moments_now peers peers seats seats_now next
-      talk talk_now 1 was now
+      talk talk_now false 1 was now
       (replied r member.number before behind moments moments_now peers talk talk_now reply
       copy.ready.may
       (within ledgers machines moments moments_now talk member.size copy.question message.moment
@@ -166,12 +166,12 @@ module _ {S C P : Type 0} (t : LedgersMeaning S) (gives : C → ℕ → C → Ty
       (replies_left : List Reply) (seats_now seats_then : ℕ → Option Talk) (count : ℕ)
       (left : List Message) →
       (so_far :
-      ArePutSoFar t gives renews does messages replies seats (member ∷ members)
+      ArePutSoFar t gives renews waits does messages replies seats (member ∷ members)
       (reply ∷ replies_left) seats_now count) →
       so_far.left ≡ left → AreCopied seats_now (member ∷ members) left →
       ((talk : Talk) → seats_now member.number ≡ Some talk →
       SeatsNow member.number (Some (replied_to member.size reply talk)) seats_now seats_then) →
-      ArePutSoFar t gives renews does messages replies seats members replies_left seats_then
+      ArePutSoFar t gives renews waits does messages replies seats members replies_left seats_then
       (count + 1)
   put_more_of leave within messages replies seats member members reply replies_left seats_now
       seats_then count [] so_far is copied now =
@@ -199,7 +199,7 @@ module _ {S C P : Type 0} (t : LedgersMeaning S) (gives : C → ℕ → C → Ty
             let behind = after_asking copy.question message.moment mid in (
               behind,
               rest.given.0,
-              then_each (rules t gives renews does)
+              then_each (rules t gives renews waits does)
                   (held (Within ledgers machines) moments peers seats next)
                   (held (Within ledgers mid) so.1 peers seats_now next)
                   (held (Within ledgers behind) rest.given.0 peers seats_then next) count 1
@@ -224,21 +224,21 @@ module _ {S C P : Type 0} (t : LedgersMeaning S) (gives : C → ℕ → C → Ty
       (replies_before : List Reply) (reply : Reply) (replies_left : List Reply)
       (seats_now seats_then : ℕ → Option Talk) (count : ℕ) →
       before ≡ member ∷ members → replies_before ≡ reply ∷ replies_left →
-      ArePutSoFar t gives renews does messages replies seats before replies_before seats_now count →
+      ArePutSoFar t gives renews waits does messages replies seats before replies_before seats_now count →
       ((talk : Talk) → seats_now member.number ≡ Some talk →
       SeatsNow member.number (Some (replied_to member.size reply talk)) seats_now seats_then) →
-      ArePutSoFar t gives renews does messages replies seats members replies_left seats_then
+      ArePutSoFar t gives renews waits does messages replies seats members replies_left seats_then
       (count + 1)
   put_more leave within messages replies seats before member members replies_before reply replies_left
       seats_now seats_then count here next so_far now =
       let so =
       subst
       (λ (ms : List Member).
-      ArePutSoFar t gives renews does messages replies seats ms (reply ∷ replies_left) seats_now count)
+      ArePutSoFar t gives renews waits does messages replies seats ms (reply ∷ replies_left) seats_now count)
       here
       (subst
       (λ (rs : List Reply).
-      ArePutSoFar t gives renews does messages replies seats before rs seats_now count)
+      ArePutSoFar t gives renews waits does messages replies seats before rs seats_now count)
       next so_far) in
       put_more_of leave within messages replies seats member members reply replies_left seats_now
       seats_then count so.left so refl so.copied now
@@ -247,14 +247,14 @@ module _ {S C P : Type 0} (t : LedgersMeaning S) (gives : C → ℕ → C → Ty
   pub put_none :
       (messages : List Message) (replies : List Reply) (seats : ℕ → Option Talk)
       (members : List Member) → AreCopied seats members messages →
-      ArePutSoFar t gives renews does messages replies seats members replies seats 0
+      ArePutSoFar t gives renews waits does messages replies seats members replies seats 0
   put_none messages replies seats members copied = record {
     left = messages;
     copied = copied;
     put = λ ledgers machines moments last peers next follows all. (
       machines,
       moments,
-      none_served (rules t gives renews does)
+      none_served (rules t gives renews waits does)
           (held (Within ledgers machines) moments peers seats next),
       all,
     );
@@ -265,16 +265,16 @@ module _ {S C P : Type 0} (t : LedgersMeaning S) (gives : C → ℕ → C → Ty
       (messages : List Message) (replies : List Reply) (seats : ℕ → Option Talk)
       (members : List Member) (replies_left : List Reply) (seats_now : ℕ → Option Talk) (count : ℕ)
       (so_far :
-      ArePutSoFar t gives renews does messages replies seats members replies_left seats_now count) →
+      ArePutSoFar t gives renews waits does messages replies seats members replies_left seats_now count) →
       (so_far.left ≡ []) ⊎ (replies_left ≡ []) →
-      ArePut t gives renews does messages replies seats seats_now count
+      ArePut t gives renews waits does messages replies seats seats_now count
   put_over messages replies seats members replies_left seats_now count so_far over ledgers machines
       moments last peers next follows again all =
       let so = so_far.put ledgers machines moments last peers next follows all in
-      then_each (rules t gives renews does) (held (Within ledgers machines) moments peers seats next)
+      then_each (rules t gives renews waits does) (held (Within ledgers machines) moments peers seats next)
       (held (Within ledgers so.0) so.1 peers seats_now next)
       (held (Whole ledgers) last peers seats_now next) count 0 count (omega arith) so.2
-      (rests_all (rules t gives renews does) (Within ledgers so.0) (Whole ledgers) so.1 last
+      (rests_all (rules t gives renews waits does) (Within ledgers so.0) (Whole ledgers) so.1 last
       (moments_of so_far.left) peers seats_now next
       (record {
         lived = λ live. live;

@@ -1,23 +1,27 @@
 -- Clients who take their seats, are served in them and go.
-use Rattle.std.proofs.Common.{◌≡◌, ◌≢◌, ◌≤◌, ◌<◌, ◌+◌, inl, inr, refl, ap, sym, ◌∙◌, subst, ℕ, false, [], ◌∷◌, ◌++◌, Option, Some, None, is_some, arith}
+use Rattle.std.proofs.Common.{◌≡◌, ◌≢◌, ◌≤◌, ◌<◌, ◌+◌, inl, inr, refl, ap, sym, ◌∙◌, subst, ℕ, Bool, true, false, [], ◌∷◌, ◌++◌, Option, Some, None, is_some, arith}
 use Rattle.std.specs.Option.{unwrap_or}
 use Rattle.std.proofs.lemmas.Bool.{false≢true}
 use Rattle.clients.specs.Talk.{Talk, new_talk}
-use Rattle.polling.specs.Peers.{Closed}
-use Rattle.polling.specs.Standing.{Standing, Away, Awaited, Owed, rested, with_standing, StandsIn}
+use Rattle.polling.specs.Peers.{Asked, Closed}
+use Rattle.polling.specs.Standing.{Standing, Away, Awaited, Owed, Kept, rested, asked, with_standing, stands_after, has_seat, StandsIn}
+use Rattle.polling.specs.Standing.{Debt, A_seat, A_turn, An_end, Owing, owing}
 use Rattle.polling.specs.Serving.{Hall, hall, Rules, gone_with, Stirs, Joins, Serves, Then}
 use Rattle.polling.specs.Seating.{with_talk, ServesOne, SeatsNow, HadTurn, IsFollowed, held, Keeps, ServesAll, ServesOwed, ServesEach}
 use Rattle.polling.specs.Ending.{IsToldAs}
 use Rattle.polling.specs.declared.step.Step.{Step}
 use Rattle.polling.specs.declared.step.Step.TheVariants as step
 use Rattle.polling.proofs.OneLemmas.{Stays, goes, once, replies_both, with_talk-own, with_talk-other}
-use Rattle.polling.proofs.StandLemmas.{by_client, AllStand, rested_in, rested_unowed, other_talk, nobody_away, one_stands, owes_none, owes_fewer, owes_one}
-use Rattle.polling.proofs.AllLemmas.{gone_with-other, used, same_hall, keeps_peers, closes_all, each_of, serves_all}
+use Rattle.polling.proofs.StandLemmas.{by_client, AllStand, asked_seat, asked_unowed, asked_owed, asked_kept, rested_seat, rested_unowed, rested_owed, rested_kept}
+use Rattle.polling.proofs.StandLemmas.{one_stands, one_stands_on, after_stand, owes_none, owes_less, owes_then, owes_beside, owes_after, keeps_one, keeps_then, keeps_after}
+use Rattle.polling.proofs.AllLemmas.{gone_with-other, free_seat, used, same_hall, keeps_peers, closes_all, serves_all}
 
--- in a seat in which nobody is there is no talk
-free_seat : (seat : Option Talk) → ((talk : Talk) → seat ≡ Some talk → ⊥) → seat ≡ None
-free_seat None nobody = refl
-free_seat (Some talk) nobody = absurd (nobody talk refl)
+-- nothing was done, since it may be so
+idle_was :
+    (idle : Bool) (standing : Standing) → (idle ≡ false → standing ≢ Owed) → standing ≡ Owed →
+    idle ≡ true
+idle_was true standing moved owed = refl
+idle_was false standing moved owed = absurd (moved refl owed)
 
 -- who has another talk stands as before
 seated_still :
@@ -28,19 +32,18 @@ seated_still :
 seated_still client seats seats_now talk talk_now stands was now all =
     by_client (λ each. StandsIn (seats_now each) (stands each)) client
     (subst (λ (seat : Option Talk). StandsIn seat (stands client)) (sym now.0)
-    (other_talk talk talk_now (stands client)
-    (subst (λ (seat : Option Talk). StandsIn seat (stands client)) was (all client))))
+    (subst (λ (seat : Option Talk). StandsIn seat (stands client)) was (all client)))
     (λ other differ.
     subst (λ (seat : Option Talk). StandsIn seat (stands other)) (sym (now.1 other differ))
     (all other))
 
 module _ {S C P : Type 0} where
   -- the next number has no seat
-  next_free :
+  no_seat :
       (ledgers : S) (moments : C) (peers : P) (seats : ℕ → Option Talk) (next : ℕ)
       (first : Hall S C P) → Keeps (held ledgers moments peers seats next) first →
       seats next ≡ None
-  next_free ledgers moments peers seats next first keeps =
+  no_seat ledgers moments peers seats next first keeps =
       free_seat (seats next)
       (λ talk is. let below : next < next = keeps.below next talk is in omega arith)
 
@@ -48,26 +51,22 @@ module _ {S C P : Type 0} where
   pub closes_next :
       (r : Rules S C P) (ledgers : S) (moments : C) (peers peers_now : P)
       (seats : ℕ → Option Talk) (next : ℕ) → r.does peers (Closed next) peers_now →
-      ServesEach r (held ledgers moments peers seats next)
+      ServesOwed r ⊥ (owing A_seat next ∷ []) [] (held ledgers moments peers seats next)
       (held ledgers moments peers_now seats next) 0
   closes_next r ledgers moments peers peers_now seats next does first keeps =
-      each_of r (next ∷ []) (held ledgers moments peers seats next)
-      (held ledgers moments peers_now seats next) 0
-      (closes_all r next ledgers moments peers peers_now seats next
-      (next_free ledgers moments peers seats next first keeps) does)
-      first keeps
+      closes_all r A_seat next ledgers moments peers peers_now seats next
+      (no_seat ledgers moments peers seats next first keeps) does first keeps
 
   -- a client takes the seat of the next number
   pub joined :
       (r : Rules S C P) (ledgers : S) (moments : C) (peers : P) (seats seats_now : ℕ → Option Talk)
       (next : ℕ) → SeatsNow next (Some new_talk) seats seats_now →
-      ServesEach r (held ledgers moments peers seats next)
+      ServesOwed r ⊥ (owing A_seat next ∷ []) [] (held ledgers moments peers seats next)
       (held ledgers moments peers seats_now (next + 1)) 0
   joined r ledgers moments peers seats seats_now next now first keeps =
-      let nobody = next_free ledgers moments peers seats next first keeps in
-      let away =
-      nobody_away (first.stands next)
-      (subst (λ (seat : Option Talk). StandsIn seat (first.stands next)) nobody (keeps.stands next)) in
+      let nobody = no_seat ledgers moments peers seats next first keeps in
+      let away : has_seat (first.stands next) ≡ false =
+      sym (keeps.stands next) ∙ ap (λ (seat : Option Talk). is_some seat) nobody in
       let stands = with_standing next Awaited first.stands in
       let after = record first { stands = stands } in (
         [],
@@ -100,14 +99,14 @@ module _ {S C P : Type 0} where
           not_gone = λ client (beyond : next + 1 ≤ client). keeps.not_gone client (omega arith);
           stands =
               one_stands seats_now first.stands next Awaited
-              (subst (λ (seat : Option Talk). StandsIn seat Awaited) (sym now.0) tt)
+              (subst (λ (seat : Option Talk). StandsIn seat Awaited) (sym now.0) refl)
               (λ other differ.
               subst (λ (seat : Option Talk). StandsIn seat (first.stands other))
               (sym (now.1 other differ)) (keeps.stands other));
         },
         refl,
-        owes_fewer (next ∷ []) first.stands stands
-            (owes_one next Awaited first.stands (λ (owed : Awaited ≡ Owed). cc)),
+        owes_none A_seat next Awaited first.stands (λ each owed. owed),
+        keeps_one ⊥ next Awaited first.stands (λ (kept : Awaited ≡ Kept). cc),
       )
 
   -- what is held behind a turn of the client in one seat
@@ -159,50 +158,117 @@ module _ {S C P : Type 0} where
   pub served_at :
       (r : Rules S C P) (client : ℕ) (ledgers ledgers_now : S) (moments moments_now : C)
       (peers peers_now : P) (seats seats_now : ℕ → Option Talk) (next : ℕ) (talk talk_now : Talk)
-      (replies : ℕ) →
+      (idle : Bool) (replies : ℕ) →
       seats client ≡ Some talk → SeatsNow client (Some talk_now) seats seats_now →
-      Stays r client ledgers moments peers talk ledgers_now moments_now peers_now talk_now replies →
+      Stays r client ledgers moments peers talk ledgers_now moments_now peers_now talk_now idle
+      replies →
       ServesEach r (held ledgers moments peers seats next)
       (held ledgers_now moments_now peers_now seats_now next) replies
   served_at r client ledgers ledgers_now moments moments_now peers peers_now seats seats_now next talk
-      talk_now replies was now served first keeps =
+      talk_now idle replies was now served first keeps =
       let talks = first.room.talks in
+      let there =
+      keeps_at client ledgers ledgers_now moments moments_now peers peers_now peers_now seats
+      seats_now next talk talk_now first was now refl keeps in
+      let did = served talks first.gone first.stands (keeps.there client talk was) in
+      let stands = stands_after did.0 first.stands in
       let after =
-      hall ledgers_now moments_now peers_now (with_talk client talk_now talks) first.gone first.stands in
-      let did = served talks first.gone first.stands (keeps.there client talk was) in (
+      hall ledgers_now moments_now peers_now (with_talk client talk_now talks) first.gone stands in (
         did.0,
         after,
         subst (λ (from : Hall S C P). Serves S C P r from did.0 after)
             (same_hall ledgers moments peers client talk first keeps.ledgers keeps.moments
             keeps.peers (keeps.seated client talk was))
             did.1,
-        keeps_at client ledgers ledgers_now moments moments_now peers peers_now peers_now seats
-            seats_now next talk talk_now first was now refl keeps,
+        keeps_peers (held ledgers_now moments_now peers_now seats_now next)
+            (hall ledgers_now moments_now peers_now (with_talk client talk_now talks) first.gone
+            first.stands)
+            peers_now stands (after_stand did.0 seats_now first.stands there.stands) there,
         did.2,
-        owes_none first.stands,
+        owes_after did.0 first.stands,
+        keeps_after ⊥ did.0 first.stands,
+      )
+
+  -- the client in one seat was served, and is to be told as ready again
+  pub asked_at :
+      (r : Rules S C P) (client : ℕ) (ledgers ledgers_now : S) (moments moments_now : C)
+      (peers peers_then peers_now : P) (seats seats_now : ℕ → Option Talk) (next : ℕ)
+      (talk talk_now : Talk) (idle : Bool) (replies : ℕ) →
+      seats client ≡ Some talk → SeatsNow client (Some talk_now) seats seats_now →
+      Stays r client ledgers moments peers talk ledgers_now moments_now peers_then talk_now idle
+      replies →
+      r.does peers_then (Asked client) peers_now →
+      ServesOwed r (idle ≡ true) (owing A_turn client ∷ []) []
+      (held ledgers moments peers seats next)
+      (held ledgers_now moments_now peers_now seats_now next) replies
+  asked_at r client ledgers ledgers_now moments moments_now peers peers_then peers_now seats seats_now
+      next talk talk_now idle replies was now served does first keeps =
+      let talks = first.room.talks in
+      let there =
+      keeps_at client ledgers ledgers_now moments moments_now peers peers_then peers_then seats
+      seats_now next talk talk_now first was now refl keeps in
+      let did = served talks first.gone first.stands (keeps.there client talk was) in
+      let mid = stands_after did.0 first.stands in
+      let standing = asked (mid client) in
+      let stands = with_standing client standing mid in
+      let why = idle ≡ true in
+      let turn = owing A_turn client ∷ [] in
+      let then_hall =
+      hall ledgers_now moments_now peers_then (with_talk client talk_now talks) first.gone mid in
+      let after =
+      hall ledgers_now moments_now peers_now (with_talk client talk_now talks) first.gone stands in (
+        did.0 ++ [],
+        after,
+        Then did.0 then_hall [] after
+            (subst (λ (from : Hall S C P). Serves S C P r from did.0 then_hall)
+            (same_hall ledgers moments peers client talk first keeps.ledgers keeps.moments
+            keeps.peers (keeps.seated client talk was))
+            did.1)
+            (Stirs (Asked client) peers_now tt does),
+        keeps_peers (held ledgers_now moments_now peers_then seats_now next)
+            (hall ledgers_now moments_now peers_then (with_talk client talk_now talks) first.gone
+            first.stands)
+            peers_now stands
+            (one_stands_on seats_now mid client standing (asked_seat (mid client))
+            (after_stand did.0 seats_now first.stands there.stands))
+            there,
+        replies_both did.0 [] replies 0 replies did.2 refl (omega arith),
+        owes_then turn turn [] first.stands mid stands
+            (owes_beside [] [] turn first.stands mid (owes_after did.0 first.stands))
+            (owes_less A_turn client standing mid (asked_unowed (mid client))
+            (asked_owed (mid client))),
+        keeps_then why first.stands mid stands (keeps_after why did.0 first.stands)
+            (keeps_one why client standing mid
+            (λ kept.
+            elim (asked_kept (mid client) kept) [
+              | inl before ↦ inl before
+              | inr owed ↦ inr (idle_was idle (mid client) did.3 owed)
+            ])),
       )
 
   -- the client in one seat was served, and waits
   pub rested_at :
       (r : Rules S C P) (client : ℕ) (ledgers ledgers_now : S) (moments moments_now : C)
       (peers peers_now : P) (seats seats_now : ℕ → Option Talk) (next : ℕ) (talk talk_now : Talk)
-      (replies : ℕ) →
+      (idle : Bool) (replies : ℕ) →
       seats client ≡ Some talk → SeatsNow client (Some talk_now) seats seats_now →
       ServesOne r client ledgers moments peers talk ledgers_now moments_now peers_now talk_now
-      step.Waits replies →
-      ServesOwed r (client ∷ []) [] (held ledgers moments peers seats next)
+      step.Waits idle replies →
+      ServesOwed r ⊥ (owing A_turn client ∷ []) [] (held ledgers moments peers seats next)
       (held ledgers_now moments_now peers_now seats_now next) replies
   rested_at r client ledgers ledgers_now moments moments_now peers peers_now seats seats_now next talk
-      talk_now replies was now served first keeps =
+      talk_now idle replies was now served first keeps =
       let talks = first.room.talks in
       let there =
       keeps_at client ledgers ledgers_now moments moments_now peers peers_now peers_now seats
       seats_now next talk talk_now first was now refl keeps in
-      let standing = rested (first.stands client) in
-      let stands = with_standing client standing first.stands in
+      let did = served talks first.gone first.stands (keeps.there client talk was) in
+      let mid = stands_after did.0 first.stands in
+      let standing = rested (mid client) in
+      let stands = with_standing client standing mid in
+      let turn = owing A_turn client ∷ [] in
       let after =
-      hall ledgers_now moments_now peers_now (with_talk client talk_now talks) first.gone stands in
-      let did = served talks first.gone first.stands (keeps.there client talk was) in (
+      hall ledgers_now moments_now peers_now (with_talk client talk_now talks) first.gone stands in (
         did.0,
         after,
         subst (λ (from : Hall S C P). Serves S C P r from did.0 after)
@@ -213,36 +279,43 @@ module _ {S C P : Type 0} where
             (hall ledgers_now moments_now peers_now (with_talk client talk_now talks) first.gone
             first.stands)
             peers_now stands
-            (one_stands seats_now first.stands client standing
-            (rested_in (seats_now client) (first.stands client) (there.stands client))
-            (λ other differ. there.stands other))
+            (one_stands_on seats_now mid client standing (rested_seat (mid client))
+            (after_stand did.0 seats_now first.stands there.stands))
             there,
         did.2,
-        owes_one client standing first.stands (rested_unowed (first.stands client)),
+        owes_then turn turn [] first.stands mid stands
+            (owes_beside [] [] turn first.stands mid (owes_after did.0 first.stands))
+            (owes_less A_turn client standing mid (rested_unowed (mid client))
+            (rested_owed (mid client))),
+        keeps_then ⊥ first.stands mid stands (keeps_after ⊥ did.0 first.stands)
+            (keeps_one ⊥ client standing mid (λ kept. absurd (rested_kept (mid client) kept))),
       )
 
   -- the client in one seat was served, has gone and is closed
   pub went_at :
-      (r : Rules S C P) (client : ℕ) (ledgers ledgers_now : S) (moments moments_now : C)
-      (peers peers_then peers_now : P) (seats seats_then seats_now : ℕ → Option Talk) (next : ℕ)
-      (talk talk_now : Talk)
+      (r : Rules S C P) (debt : Debt) (client : ℕ) (ledgers ledgers_now : S)
+      (moments moments_now : C) (peers peers_then peers_now : P)
+      (seats seats_then seats_now : ℕ → Option Talk) (next : ℕ) (talk talk_now : Talk) (idle : Bool)
       (replies : ℕ) → seats client ≡ Some talk →
       SeatsNow client (Some talk_now) seats seats_then → SeatsNow client None seats_then seats_now →
       ServesOne r client ledgers moments peers talk ledgers_now moments_now peers_then talk_now
-      step.Goes replies →
+      step.Goes idle replies →
       r.does peers_then (Closed client) peers_now →
-      ServesOwed r (client ∷ []) [] (held ledgers moments peers seats next)
+      ServesOwed r ⊥ (owing debt client ∷ []) [] (held ledgers moments peers seats next)
       (held ledgers_now moments_now peers_now seats_now next) replies
-  went_at r client ledgers ledgers_now moments moments_now peers peers_then peers_now seats seats_then
-      seats_now next talk talk_now replies was mid now served closed first keeps =
+  went_at r debt client ledgers ledgers_now moments moments_now peers peers_then peers_now seats
+      seats_then seats_now next talk talk_now idle replies was mid now served closed first keeps =
       let talks = first.room.talks in
       let gone = gone_with client first.gone in
-      let stands = with_standing client Away first.stands in
+      let did = served talks first.gone first.stands (keeps.there client talk was) in
+      let stands_then = stands_after did.0 first.stands in
+      let stands = with_standing client Away stands_then in
+      let owed = owing debt client ∷ [] in
       let then_hall =
-      hall ledgers_now moments_now peers_then (with_talk client talk_now talks) gone first.stands in
+      hall ledgers_now moments_now peers_then (with_talk client talk_now talks) gone stands_then in
       let after =
       hall ledgers_now moments_now peers_now (with_talk client talk_now talks) gone stands in
-      let did = served talks first.gone first.stands (keeps.there client talk was) in
+      let stand = after_stand did.0 seats first.stands keeps.stands in
       let before : (other : ℕ) → other ≢ client → seats_now other ≡ seats other =
       λ other differ. now.1 other differ ∙ mid.1 other differ in
       let empty : (seat : Talk) → seats_now client ≡ Some seat → ⊥ =
@@ -289,42 +362,46 @@ module _ {S C P : Type 0} where
               (used client next other (keeps.below client talk was) beyond)
               ∙ keeps.not_gone other beyond;
           stands =
-              one_stands seats_now first.stands client Away
-              (subst (λ (seat : Option Talk). StandsIn seat Away) (sym now.0) tt)
+              one_stands seats_now stands_then client Away
+              (subst (λ (seat : Option Talk). StandsIn seat Away) (sym now.0) refl)
               (λ other differ.
-              subst (λ (seat : Option Talk). StandsIn seat (first.stands other))
-              (sym (before other differ)) (keeps.stands other));
+              subst (λ (seat : Option Talk). StandsIn seat (stands_then other))
+              (sym (before other differ)) (stand other));
         },
         replies_both did.0 [] replies 0 replies did.2 refl (omega arith),
-        owes_one client Away first.stands (λ (owed : Away ≡ Owed). cc),
+        owes_then owed owed [] first.stands stands_then stands
+            (owes_beside [] [] owed first.stands stands_then (owes_after did.0 first.stands))
+            (owes_none debt client Away stands_then (λ each is. is)),
+        keeps_then ⊥ first.stands stands_then stands (keeps_after ⊥ did.0 first.stands)
+            (keeps_one ⊥ client Away stands_then (λ (kept : Away ≡ Kept). cc)),
       )
 
   -- a client was written to, and may be let wait
   pub left_all :
-      (r : Rules S C P) (client : ℕ) (done told : Step) (ledgers : S) (moments : C)
-      (peers peers_then peers_now : P) (seats seats_then seats_now : ℕ → Option Talk) (next : ℕ) →
-      IsToldAs done told →
-      HadTurn r client ledgers moments peers seats ledgers moments peers_then seats_then done 0 →
+      (r : Rules S C P) (client : ℕ) (done : Step) (idle : Bool) (told : Step) (ledgers : S)
+      (moments : C) (peers peers_then peers_now : P) (seats seats_then seats_now : ℕ → Option Talk)
+      (next : ℕ) → IsToldAs done idle told →
+      HadTurn r client ledgers moments peers seats ledgers moments peers_then seats_then done idle 0 →
       IsFollowed r client told peers_then seats_then peers_now seats_now →
       (told ≡ step.Waits → (peers_now ≡ peers_then) × (seats_now ≡ seats_then)) →
       ServesAll r (held ledgers moments peers seats next)
       (held ledgers moments peers_now seats_now next) 0
-  left_all r client done told ledgers moments peers peers_then peers_now seats seats_then seats_now
-      next (inl as_done) had followed same =
-      serves_all r (client ∷ []) [] (held ledgers moments peers seats next)
+  left_all r client done idle told ledgers moments peers peers_then peers_now seats seats_then
+      seats_now next (inl as_done) had followed same =
+      serves_all r (idle ≡ true) (owing A_turn client ∷ []) [] (held ledgers moments peers seats next)
       (held ledgers moments peers_now seats_now next) 0
-      (followed ledgers ledgers moments moments peers seats next 0
+      (followed ledgers ledgers moments moments peers seats next idle 0
       (subst
       (λ (step : Step).
-      HadTurn r client ledgers moments peers seats ledgers moments peers_then seats_then step 0)
-      (sym as_done) had))
-  left_all r client done told ledgers moments peers peers_then peers_now seats seats_then seats_now
-      next (inr left) had followed same =
+      HadTurn r client ledgers moments peers seats ledgers moments peers_then seats_then step idle 0)
+      (sym as_done.0) had))
+  left_all r client done idle told ledgers moments peers peers_then peers_now seats seats_then
+      seats_now next (inr left) had followed same =
       let is = same left.1 in
       let turn =
       subst
       (λ (step : Step).
-      HadTurn r client ledgers moments peers seats ledgers moments peers_then seats_then step 0)
+      HadTurn r client ledgers moments peers seats ledgers moments peers_then seats_then step idle 0)
       left.0 had in
       subst
       (λ (now : P).
@@ -335,18 +412,18 @@ module _ {S C P : Type 0} where
       ServesAll r (held ledgers moments peers seats next)
       (held ledgers moments peers_then now next) 0)
       (sym is.1)
-      (serves_all r [] [] (held ledgers moments peers seats next)
+      (serves_all r ⊥ [] [] (held ledgers moments peers seats next)
       (held ledgers moments peers_then seats_then next) 0
       (served_at r client ledgers ledgers moments moments peers peers_then seats seats_then next
-      turn.talk turn.talk_now 0 turn.was turn.now turn.served)))
+      turn.talk turn.talk_now idle 0 turn.was turn.now turn.served)))
 
   -- a client goes from its seat, and is closed
   pub unseated :
       (r : Rules S C P) (client : ℕ) (ledgers : S) (moments : C) (peers peers_now : P)
       (seats seats_now : ℕ → Option Talk) (next : ℕ) (talk : Talk) → seats client ≡ Some talk →
       SeatsNow client None seats seats_now → r.does peers (Closed client) peers_now →
-      ServesOwed r (client ∷ []) [] (held ledgers moments peers seats next)
+      ServesOwed r ⊥ (owing An_end client ∷ []) [] (held ledgers moments peers seats next)
       (held ledgers moments peers_now seats_now next) 0
   unseated r client ledgers moments peers peers_now seats seats_now next talk was now closed =
-      went_at r client ledgers ledgers moments moments peers peers peers_now seats seats seats_now next
-      talk talk 0 was (was, λ other differ. refl) now (goes r client ledgers moments peers talk) closed
+      went_at r An_end client ledgers ledgers moments moments peers peers peers_now seats seats seats_now
+      next talk talk false 0 was (was, λ other differ. refl) now (goes r client ledgers moments peers talk) closed

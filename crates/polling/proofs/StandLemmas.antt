@@ -1,11 +1,16 @@
--- How clients stand, and who is owed a turn.
-use Rattle.std.proofs.Common.{◌≡◌, ◌≢◌, ◌⊎◌, inl, inr, ⊎_elim, refl, ap, sym, ◌∙◌, subst, ℕ, List, [], ◌∷◌, ◌++◌, Option, Some, None, if◌then◌else◌, arith}
+-- How clients stand, and what is owed to them.
+use Rattle.std.proofs.Common.{◌≡◌, ◌≢◌, ◌⊎◌, inl, inr, ⊎_elim, refl, ap, sym, ◌∙◌, subst, ℕ, Bool, true, false, List, [], ◌∷◌, ◌++◌, Option, Some, None, if◌then◌else◌, arith}
 use Rattle.std.specs.List.{Contains}
-use Rattle.std.proofs.lemmas.Bool.{cases_eq, eq-eqb, ne_eqb}
+use Rattle.std.proofs.lemmas.Bool.{cases_eq, eq-eqb, ne_eqb, true≢false, false≢true}
 use Rattle.std.proofs.lemmas.List.Elements.{Contains-append_cases, Contains-append_left, Contains-append_right, Contains-push, Contains-push_cases}
+use Rattle.clients.specs.Deeds.{Deed, client_of}
 use Rattle.clients.specs.Talk.{Talk}
 use Rattle.polling.specs.Peers.{Said}
-use Rattle.polling.specs.Standing.{Standing, Away, Awaited, Owed, woken, rested, with_standing, stands_behind, StandsIn, told_of, AreAmong, OwesOnly}
+use Rattle.polling.specs.Standing.{Standing, Away, New, Awaited, Owed, Begun, Kept, Overdue}
+use Rattle.polling.specs.Standing.{has_seat, greeted, woken, expired, begun, rested, asked}
+use Rattle.polling.specs.Standing.{with_standing, stands_behind, stands_after, StandsIn}
+use Rattle.polling.specs.Standing.{Debt, A_seat, A_turn, An_end, Owing, owing, turns_of, IsOwed, told_of}
+use Rattle.polling.specs.Standing.{AreAmong, OwesOnly, KeepsOnly}
 use Rattle.polling.specs.declared.peers.Told.{Told}
 use Rattle.polling.specs.declared.peers.Told.TheVariants.{Joined, Ready, Late, Nothing}
 
@@ -17,64 +22,86 @@ by_client P client own others each =
     ⊎_elim (λ (same : each ≡ client). subst P (sym same) own) (λ (other : each ≢ client). others each other)
     (cases_eq each client)
 
-standing-own :
+pub standing-own :
     (client : ℕ) (standing : Standing) (stands : ℕ → Standing) →
     with_standing client standing stands client ≡ standing
 standing-own client standing stands =
     ap (λ b. if b then standing else stands client) (eq-eqb client client refl)
 
-standing-other :
+pub standing-other :
     (client other : ℕ) (standing : Standing) (stands : ℕ → Standing) → other ≢ client →
     with_standing client standing stands other ≡ stands other
 standing-other client other standing stands differ =
     ap (λ b. if b then standing else stands other)
     (ne_eqb client other (λ (same : client ≡ other). differ (sym same)))
 
+-- deeds behind deeds
+pub after-append :
+    (before more : List Deed) (stands : ℕ → Standing) →
+    stands_after (before ++ more) stands ≡ stands_after more (stands_after before stands)
+after-append [] more stands = refl
+after-append (deed ∷ before) more stands =
+    after-append before more
+    (with_standing (client_of deed) (begun (stands (client_of deed))) stands)
+
 -- all stand in their seats
 abbrev pub AllStand : (ℕ → Option Talk) → (ℕ → Standing) → Type 0
 AllStand seats stands = (client : ℕ) → StandsIn (seats client) (stands client)
 
-woken_in :
-    (seat : Option Talk) (standing : Standing) → StandsIn seat standing →
-    StandsIn seat (woken standing)
-woken_in None Away is = tt
-woken_in None Awaited is = absurd is
-woken_in None Owed is = absurd is
-woken_in (Some talk) Away is = absurd is
-woken_in (Some talk) Awaited is = tt
-woken_in (Some talk) Owed is = tt
+-- who has a seat keeps it
+greeted_seat : (standing : Standing) → has_seat standing ≡ has_seat (greeted standing)
+greeted_seat Away = refl
+greeted_seat New = refl
+greeted_seat Awaited = refl
+greeted_seat Owed = refl
+greeted_seat Begun = refl
+greeted_seat Kept = refl
+greeted_seat Overdue = refl
 
-pub rested_in :
-    (seat : Option Talk) (standing : Standing) → StandsIn seat standing →
-    StandsIn seat (rested standing)
-rested_in None Away is = tt
-rested_in None Awaited is = absurd is
-rested_in None Owed is = absurd is
-rested_in (Some talk) Away is = absurd is
-rested_in (Some talk) Awaited is = tt
-rested_in (Some talk) Owed is = tt
+woken_seat : (standing : Standing) → has_seat standing ≡ has_seat (woken standing)
+woken_seat Away = refl
+woken_seat New = refl
+woken_seat Awaited = refl
+woken_seat Owed = refl
+woken_seat Begun = refl
+woken_seat Kept = refl
+woken_seat Overdue = refl
 
--- with another talk it stands as well
-pub other_talk :
-    (talk talk_now : Talk) (standing : Standing) → StandsIn (Some talk) standing →
-    StandsIn (Some talk_now) standing
-other_talk talk talk_now Away is = absurd is
-other_talk talk talk_now Awaited is = tt
-other_talk talk talk_now Owed is = tt
+expired_seat : (standing : Standing) → has_seat standing ≡ has_seat (expired standing)
+expired_seat Away = refl
+expired_seat New = refl
+expired_seat Awaited = refl
+expired_seat Owed = refl
+expired_seat Begun = refl
+expired_seat Kept = refl
+expired_seat Overdue = refl
 
-pub nobody_away : (standing : Standing) → StandsIn None standing → standing ≡ Away
-nobody_away Away is = refl
-nobody_away Awaited is = absurd is
-nobody_away Owed is = absurd is
+begun_seat : (standing : Standing) → has_seat standing ≡ has_seat (begun standing)
+begun_seat Away = refl
+begun_seat New = refl
+begun_seat Awaited = refl
+begun_seat Owed = refl
+begun_seat Begun = refl
+begun_seat Kept = refl
+begun_seat Overdue = refl
 
-nobody_owed : (standing : Standing) → StandsIn None standing → standing ≡ Owed → ⊥
-nobody_owed standing is owed =
-    subst (λ (s : Standing). StandsIn None s) owed is
+pub rested_seat : (standing : Standing) → has_seat standing ≡ has_seat (rested standing)
+rested_seat Away = refl
+rested_seat New = refl
+rested_seat Awaited = refl
+rested_seat Owed = refl
+rested_seat Begun = refl
+rested_seat Kept = refl
+rested_seat Overdue = refl
 
-pub rested_unowed : (standing : Standing) → rested standing ≡ Owed → ⊥
-rested_unowed Away is = cc
-rested_unowed Awaited is = cc
-rested_unowed Owed is = cc
+pub asked_seat : (standing : Standing) → has_seat standing ≡ has_seat (asked standing)
+asked_seat Away = refl
+asked_seat New = refl
+asked_seat Awaited = refl
+asked_seat Owed = refl
+asked_seat Begun = refl
+asked_seat Kept = refl
+asked_seat Overdue = refl
 
 -- one client stands otherwise
 pub one_stands :
@@ -90,174 +117,515 @@ one_stands seats stands client standing own others =
     subst (λ (s : Standing). StandsIn (seats other) s)
     (sym (standing-other client other standing stands differ)) (others other differ))
 
+-- so it does in its seat
+pub one_stands_on :
+    (seats : ℕ → Option Talk) (stands : ℕ → Standing) (client : ℕ) (standing : Standing) →
+    has_seat (stands client) ≡ has_seat standing → AllStand seats stands →
+    AllStand seats (with_standing client standing stands)
+one_stands_on seats stands client standing same all =
+    one_stands seats stands client standing (all client ∙ same) (λ other differ. all other)
+
 -- behind what peers tell
 pub told_stand :
-    (told : Told) (seats : ℕ → Option Talk) (stands : ℕ → Standing) → AllStand seats stands →
-    AllStand seats (stands_behind (Said told) stands)
-told_stand Joined seats stands all = all
-told_stand (Ready client) seats stands all =
-    one_stands seats stands client (woken (stands client))
-    (woken_in (seats client) (stands client) (all client)) (λ other differ. all other)
-told_stand (Late client) seats stands all =
-    one_stands seats stands client (woken (stands client))
-    (woken_in (seats client) (stands client) (all client)) (λ other differ. all other)
-told_stand Nothing seats stands all = all
+    (fresh : ℕ) (told : Told) (seats : ℕ → Option Talk) (stands : ℕ → Standing) →
+    AllStand seats stands → AllStand seats (stands_behind (Said fresh told) stands)
+told_stand fresh Joined seats stands all =
+    one_stands_on seats stands fresh (greeted (stands fresh)) (greeted_seat (stands fresh)) all
+told_stand fresh (Ready client) seats stands all =
+    one_stands_on seats stands client (woken (stands client)) (woken_seat (stands client)) all
+told_stand fresh (Late client) seats stands all =
+    one_stands_on seats stands client (expired (stands client)) (expired_seat (stands client)) all
+told_stand fresh Nothing seats stands all = all
 
-pub none_in : (client : ℕ) → Contains [] client → ⊥
-none_in client found = let below = found.1 in omega arith
+-- behind deeds
+pub after_stand :
+    (deeds : List Deed) (seats : ℕ → Option Talk) (stands : ℕ → Standing) →
+    AllStand seats stands → AllStand seats (stands_after deeds stands)
+after_stand [] seats stands all = all
+after_stand (deed ∷ deeds) seats stands all =
+    let own = client_of deed in
+    after_stand deeds seats (with_standing own (begun (stands own)) stands)
+    (one_stands_on seats stands own (begun (stands own)) (begun_seat (stands own)) all)
 
-one_in : (only client : ℕ) → Contains (only ∷ []) client → only ≡ client
-one_in only client found =
-    elim (Contains-push_cases [] only client found) [
-      | inl none ↦ absurd (none_in client none)
+-- a turn that is begun, and one who keeps its place
+pub begun_unowed : (standing : Standing) → begun standing ≡ Owed → ⊥
+begun_unowed Away is = cc
+begun_unowed New is = cc
+begun_unowed Awaited is = cc
+begun_unowed Owed is = cc
+begun_unowed Begun is = cc
+begun_unowed Kept is = cc
+begun_unowed Overdue is = cc
+
+begun_owed :
+    (standing : Standing) (debt : Debt) → IsOwed (begun standing) debt → IsOwed standing debt
+begun_owed Away debt is = is
+begun_owed New debt is = is
+begun_owed Awaited debt is = is
+begun_owed Owed A_seat is = is
+begun_owed Owed A_turn is = is
+begun_owed Owed An_end is = is
+begun_owed Begun debt is = is
+begun_owed Kept debt is = is
+begun_owed Overdue debt is = is
+
+begun_kept : (standing : Standing) → begun standing ≡ Kept → standing ≡ Kept
+begun_kept Away is = cc
+begun_kept New is = cc
+begun_kept Awaited is = cc
+begun_kept Owed is = cc
+begun_kept Begun is = cc
+begun_kept Kept is = refl
+begun_kept Overdue is = cc
+
+-- who waits is owed no turn, and what else it is owed it was
+pub rested_unowed : (standing : Standing) → IsOwed (rested standing) A_turn → ⊥
+rested_unowed Away is = is
+rested_unowed New is = is
+rested_unowed Awaited is = is
+rested_unowed Owed is = is
+rested_unowed Begun is = is
+rested_unowed Kept is = is
+rested_unowed Overdue is = is
+
+pub rested_owed :
+    (standing : Standing) (debt : Debt) → IsOwed (rested standing) debt → IsOwed standing debt
+rested_owed Away debt is = is
+rested_owed New debt is = is
+rested_owed Awaited debt is = is
+rested_owed Owed debt is = absurd is
+rested_owed Begun debt is = absurd is
+rested_owed Kept debt is = absurd is
+rested_owed Overdue debt is = is
+
+pub rested_kept : (standing : Standing) → rested standing ≡ Kept → ⊥
+rested_kept Away is = cc
+rested_kept New is = cc
+rested_kept Awaited is = cc
+rested_kept Owed is = cc
+rested_kept Begun is = cc
+rested_kept Kept is = cc
+rested_kept Overdue is = cc
+
+-- so it is with who is to be told again; and it keeps its place alone only where its turn was owed, or
+-- it did before
+pub asked_unowed : (standing : Standing) → IsOwed (asked standing) A_turn → ⊥
+asked_unowed Away is = is
+asked_unowed New is = is
+asked_unowed Awaited is = is
+asked_unowed Owed is = is
+asked_unowed Begun is = is
+asked_unowed Kept is = is
+asked_unowed Overdue is = is
+
+pub asked_owed :
+    (standing : Standing) (debt : Debt) → IsOwed (asked standing) debt → IsOwed standing debt
+asked_owed Away debt is = is
+asked_owed New debt is = is
+asked_owed Awaited debt is = is
+asked_owed Owed debt is = absurd is
+asked_owed Begun debt is = absurd is
+asked_owed Kept debt is = is
+asked_owed Overdue debt is = is
+
+pub asked_kept :
+    (standing : Standing) → asked standing ≡ Kept → (standing ≡ Kept) ⊎ (standing ≡ Owed)
+asked_kept Away is = cc
+asked_kept New is = cc
+asked_kept Awaited is = cc
+asked_kept Owed is = inr refl
+asked_kept Begun is = cc
+asked_kept Kept is = inl refl
+asked_kept Overdue is = cc
+
+-- what is told is owed, or was
+greeted_owed :
+    (standing : Standing) (debt : Debt) → IsOwed (greeted standing) debt →
+    IsOwed standing debt ⊎ (debt ≡ A_seat)
+greeted_owed Away A_seat is = inr refl
+greeted_owed Away A_turn is = absurd is
+greeted_owed Away An_end is = absurd is
+greeted_owed New debt is = inl is
+greeted_owed Awaited debt is = inl is
+greeted_owed Owed debt is = inl is
+greeted_owed Begun debt is = inl is
+greeted_owed Kept debt is = inl is
+greeted_owed Overdue debt is = inl is
+
+owed_turn : (debt : Debt) → IsOwed Owed debt → debt ≡ A_turn
+owed_turn A_seat is = absurd is
+owed_turn A_turn is = refl
+owed_turn An_end is = absurd is
+
+overdue_end : (debt : Debt) → IsOwed Overdue debt → debt ≡ An_end
+overdue_end A_seat is = absurd is
+overdue_end A_turn is = absurd is
+overdue_end An_end is = refl
+
+woken_owed :
+    (standing : Standing) (debt : Debt) → IsOwed (woken standing) debt →
+    IsOwed standing debt ⊎ (debt ≡ A_turn)
+woken_owed Away debt is = inl is
+woken_owed New debt is = inl is
+woken_owed Awaited debt is = inr (owed_turn debt is)
+woken_owed Owed debt is = inl is
+woken_owed Begun debt is = inr (owed_turn debt is)
+woken_owed Kept debt is = inr (owed_turn debt is)
+woken_owed Overdue debt is = inl is
+
+expired_owed :
+    (standing : Standing) (debt : Debt) → IsOwed (expired standing) debt →
+    IsOwed standing debt ⊎ (debt ≡ An_end)
+expired_owed Away debt is = inl is
+expired_owed New debt is = inl is
+expired_owed Awaited debt is = inr (overdue_end debt is)
+expired_owed Owed debt is = inr (overdue_end debt is)
+expired_owed Begun debt is = inr (overdue_end debt is)
+expired_owed Kept debt is = inr (overdue_end debt is)
+expired_owed Overdue debt is = inl is
+
+greeted_kept : (standing : Standing) → greeted standing ≡ Kept → standing ≡ Kept
+greeted_kept Away is = cc
+greeted_kept New is = cc
+greeted_kept Awaited is = cc
+greeted_kept Owed is = cc
+greeted_kept Begun is = cc
+greeted_kept Kept is = refl
+greeted_kept Overdue is = cc
+
+woken_kept : (standing : Standing) → woken standing ≡ Kept → standing ≡ Kept
+woken_kept Away is = cc
+woken_kept New is = cc
+woken_kept Awaited is = cc
+woken_kept Owed is = cc
+woken_kept Begun is = cc
+woken_kept Kept is = refl
+woken_kept Overdue is = cc
+
+expired_kept : (standing : Standing) → expired standing ≡ Kept → standing ≡ Kept
+expired_kept Away is = cc
+expired_kept New is = cc
+expired_kept Awaited is = cc
+expired_kept Owed is = cc
+expired_kept Begun is = cc
+expired_kept Kept is = refl
+expired_kept Overdue is = cc
+
+-- who has no seat is owed nothing but that
+pub unseated_owed :
+    (standing : Standing) (debt : Debt) → has_seat standing ≡ false → debt ≢ A_seat →
+    IsOwed standing debt → ⊥
+unseated_owed Away debt none other is = is
+unseated_owed New A_seat none other is = other refl
+unseated_owed New A_turn none other is = is
+unseated_owed New An_end none other is = is
+unseated_owed Awaited debt none other is = true≢false none
+unseated_owed Owed debt none other is = true≢false none
+unseated_owed Begun debt none other is = true≢false none
+unseated_owed Kept debt none other is = true≢false none
+unseated_owed Overdue debt none other is = true≢false none
+
+pub none_in : {A : Type 0} (one : A) → Contains [] one → ⊥
+none_in one found = let below = found.1 in omega arith
+
+pub one_in : {A : Type 0} (only one : A) → Contains (only ∷ []) one → only ≡ one
+one_in {A} only one found =
+    elim (Contains-push_cases {X = A} [] only one found) [
+      | inl none ↦ absurd (none_in one none)
       | inr same ↦ same
     ]
 
--- a client is one of these or none of them
-in_or_out : (clients : List ℕ) (client : ℕ) → Contains clients client ⊎ (Contains clients client → ⊥)
-in_or_out [] client = inr (none_in client)
-in_or_out (first ∷ clients) client =
-    ⊎_elim (λ (same : first ≡ client). inl (0, omega arith, same))
-    (λ (differ : first ≢ client).
-    elim (in_or_out clients client) [
-      | inl found ↦ inl (Contains-append_right (first ∷ []) clients client found)
-      | inr none ↦
-          inr
-          (λ all.
-          elim (Contains-append_cases (first ∷ []) clients client all) [
-            | inl one ↦ differ (one_in first client one)
-            | inr rest ↦ none rest
-          ])
-    ])
-    (cases_eq first client)
+pub first_in : {A : Type 0} (first : A) (rest : List A) → Contains (first ∷ rest) first
+first_in {A} first rest =
+    Contains-append_left {X = A} (first ∷ []) rest first (Contains-push {X = A} [] first)
+
+pub later_in :
+    {A : Type 0} (first : A) (rest : List A) (one : A) → Contains rest one →
+    Contains (first ∷ rest) one
+later_in {A} first rest one found = Contains-append_right {X = A} (first ∷ []) rest one found
+
+pub in_cases :
+    {A : Type 0} (first : A) (rest : List A) (one : A) → Contains (first ∷ rest) one →
+    (first ≡ one) ⊎ Contains rest one
+in_cases {A} first rest one found =
+    elim (Contains-append_cases {X = A} (first ∷ []) rest one found) [
+      | inl own ↦ inl (one_in first one own)
+      | inr other ↦ inr other
+    ]
+
+-- turns of clients
+in_turns :
+    (clients : List ℕ) (client : ℕ) → Contains clients client →
+    Contains (turns_of clients) (owing A_turn client)
+in_turns [] client found = absurd (none_in client found)
+in_turns (first ∷ clients) client found =
+    elim (in_cases first clients client found) [
+      | inl same ↦
+          subst
+          (λ (each : ℕ). Contains (turns_of (first ∷ clients)) (owing A_turn each)) same
+          (first_in (owing A_turn first) (turns_of clients))
+      | inr rest ↦
+          later_in (owing A_turn first) (turns_of clients) (owing A_turn client)
+          (in_turns clients client rest)
+    ]
+
+of_turns :
+    (clients : List ℕ) (one : Owing) → Contains (turns_of clients) one →
+    (owing A_turn one.client ≡ one) × Contains clients one.client
+of_turns [] one found = absurd (none_in one found)
+of_turns (first ∷ clients) one found =
+    elim (in_cases (owing A_turn first) (turns_of clients) one found) [
+      | inl same ↦ (
+        subst (λ (each : Owing). owing A_turn each.client ≡ each) same refl,
+        subst (λ (each : Owing). Contains (first ∷ clients) each.client) same
+            (first_in first clients),
+      )
+      | inr rest ↦
+          let so = of_turns clients one rest in (
+            so.0,
+            later_in first clients one.client so.1,
+          )
+    ]
+
+pub among_turns :
+    (clients others : List ℕ) → AreAmong clients others → AreAmong (turns_of clients) (turns_of others)
+among_turns clients others among one found =
+    let so = of_turns clients one found in
+    subst (λ (each : Owing). Contains (turns_of others) each) so.0
+    (in_turns others one.client (among one.client so.1))
 
 -- these, and the first
 pub among_first :
-    (first : ℕ) (clients others : List ℕ) → Contains others first → AreAmong clients others →
-    AreAmong (first ∷ clients) others
-among_first first clients others found among client all =
-    elim (Contains-append_cases (first ∷ []) clients client all) [
-      | inl one ↦ subst (λ (each : ℕ). Contains others each) (one_in first client one) found
-      | inr rest ↦ among client rest
+    (client : ℕ) (clients others : List ℕ) → Contains others client → AreAmong clients others →
+    AreAmong (owing A_turn client ∷ turns_of clients) (turns_of others)
+among_first client clients others found among one all =
+    elim (in_cases (owing A_turn client) (turns_of clients) one all) [
+      | inl same ↦
+          subst (λ (each : Owing). Contains (turns_of others) each) same
+          (in_turns others client found)
+      | inr rest ↦ among_turns clients others among one rest
     ]
 
 pub among_beside :
-    (first : ℕ) (clients others : List ℕ) → AreAmong clients others →
-    AreAmong (first ∷ clients) (first ∷ others)
-among_beside first clients others among =
-    among_first first clients (first ∷ others)
-    (Contains-append_left (first ∷ []) others first (Contains-push [] first))
-    (λ client found. Contains-append_right (first ∷ []) others client (among client found))
+    (first : Owing) (some others : List Owing) → AreAmong some others →
+    AreAmong (first ∷ some) (first ∷ others)
+among_beside first some others among one all =
+    elim (in_cases first some one all) [
+      | inl same ↦ subst (λ (each : Owing). Contains (first ∷ others) each) same (first_in first others)
+      | inr rest ↦ later_in first others one (among one rest)
+    ]
 
 -- nobody stands otherwise
 pub owes_still :
-    (from to : List ℕ) (stands : ℕ → Standing) → AreAmong from to → OwesOnly from to stands stands
-owes_still from to stands among client owed =
-    elim (in_or_out to client) [
-      | inl found ↦ inl found
-      | inr none ↦ inr (owed, λ was. none (among client was))
-    ]
+    (from to : List Owing) (stands : ℕ → Standing) → AreAmong from to → OwesOnly from to stands stands
+owes_still from to stands among client debt owed = (among (owing debt client), inl owed)
 
-pub owes_none : (stands : ℕ → Standing) → OwesOnly [] [] stands stands
-owes_none stands client owed = inr (owed, none_in client)
+pub keeps_still : (why : Type 0) (stands : ℕ → Standing) → KeepsOnly why stands stands
+keeps_still why stands client kept = inl kept
 
 -- one after the other
 pub owes_then :
-    (from mid to : List ℕ) (old between new : ℕ → Standing) → OwesOnly from mid old between →
+    (from mid to : List Owing) (old between new : ℕ → Standing) → OwesOnly from mid old between →
     OwesOnly mid to between new → OwesOnly from to old new
-owes_then from mid to old between new before behind client owed =
-    elim (behind client owed) [
-      | inl found ↦ inl found
-      | inr still ↦
-          elim (before client still.0) [
-            | inl found ↦ absurd (still.1 found)
-            | inr was ↦ inr was
-          ]
+owes_then from mid to old between new before behind client debt owed =
+    let so = behind client debt owed in
+    elim so.1 [
+      | inl still ↦
+          let was = before client debt still in (
+            λ one. so.0 (was.0 one),
+            elim was.1 [
+              | inl first ↦ inl first
+              | inr middle ↦ inr (so.0 middle)
+            ],
+          )
+      | inr found ↦ (λ one. found, inr found)
     ]
+
+pub keeps_then :
+    (why : Type 0) (old between new : ℕ → Standing) → KeepsOnly why old between →
+    KeepsOnly why between new → KeepsOnly why old new
+keeps_then why old between new before behind client kept =
+    elim (behind client kept) [ inl still ↦ before client still | inr is ↦ inr is ]
+
+pub keeps_for :
+    (why all : Type 0) (old new : ℕ → Standing) → (why → all) → KeepsOnly why old new →
+    KeepsOnly all old new
+keeps_for why all old new for keeps client kept =
+    elim (keeps client kept) [ inl still ↦ inl still | inr is ↦ inr (for is) ]
 
 -- so too beside others
 pub owes_beside :
-    (from to others : List ℕ) (old new : ℕ → Standing) → OwesOnly from to old new →
+    (from to others : List Owing) (old new : ℕ → Standing) → OwesOnly from to old new →
     OwesOnly (from ++ others) (to ++ others) old new
-owes_beside from to others old new owes client owed =
-    elim (in_or_out others client) [
-      | inl found ↦ inl (Contains-append_right to others client found)
-      | inr none ↦
-          elim (owes client owed) [
-            | inl found ↦ inl (Contains-append_left to others client found)
-            | inr was ↦
-                inr (
-                  was.0,
-                  λ all.
-                      elim (Contains-append_cases from others client all) [
-                        | inl first ↦ was.1 first
-                        | inr rest ↦ none rest
-                      ],
-                )
-          ]
-    ]
+owes_beside from to others old new owes client debt owed =
+    let one = owing debt client in
+    let so = owes client debt owed in (
+      λ all.
+          elim (Contains-append_cases {X = Owing} from others one all) [
+            | inl first ↦ Contains-append_left {X = Owing} to others one (so.0 first)
+            | inr rest ↦ Contains-append_right {X = Owing} to others one rest
+          ],
+      elim so.1 [
+        | inl was ↦ inl was
+        | inr found ↦ inr (Contains-append_left {X = Owing} to others one found)
+      ],
+    )
 
 -- where less is asked
 pub owes_fewer :
-    (from : List ℕ) (old new : ℕ → Standing) → OwesOnly from [] old new → OwesOnly [] [] old new
-owes_fewer from old new owes client owed =
-    elim (owes client owed) [
-      | inl found ↦ inl found
-      | inr was ↦ inr (was.0, none_in client)
-    ]
+    (from : List Owing) (old new : ℕ → Standing) → OwesOnly from [] old new → OwesOnly [] [] old new
+owes_fewer from old new owes client debt owed = (λ none. none, (owes client debt owed).1)
 
--- one client is owed nothing
+-- one client stands otherwise: what it is owed so is one of `to`, or it was, and is none of `from`
 pub owes_one :
-    (client : ℕ) (standing : Standing) (stands : ℕ → Standing) → (standing ≡ Owed → ⊥) →
-    OwesOnly (client ∷ []) [] stands (with_standing client standing stands)
-owes_one client standing stands unowed =
+    (from to : List Owing) (client : ℕ) (standing : Standing) (stands : ℕ → Standing) →
+    ((debt : Debt) → IsOwed standing debt →
+    (Contains from (owing debt client) → Contains to (owing debt client))
+    × (IsOwed (stands client) debt ⊎ Contains to (owing debt client))) →
+    ((other : ℕ) (debt : Debt) → other ≢ client → Contains from (owing debt other) →
+    Contains to (owing debt other)) →
+    OwesOnly from to stands (with_standing client standing stands)
+owes_one from to client standing stands own others =
     by_client
     (λ each.
-    with_standing client standing stands each ≡ Owed
-    → Contains [] each ⊎ ((stands each ≡ Owed) × (Contains (client ∷ []) each → ⊥)))
-    client (λ owed. absurd (unowed (sym (standing-own client standing stands) ∙ owed)))
-    (λ other differ owed.
-    inr (
-      sym (standing-other client other standing stands differ) ∙ owed,
-      λ found. differ (sym (one_in client other found)),
+    (debt : Debt) → IsOwed (with_standing client standing stands each) debt
+    → (Contains from (owing debt each) → Contains to (owing debt each))
+    × (IsOwed (stands each) debt ⊎ Contains to (owing debt each)))
+    client
+    (λ debt owed.
+    own debt (subst (λ (s : Standing). IsOwed s debt) (standing-own client standing stands) owed))
+    (λ other differ debt owed. (
+      others other debt differ,
+      inl
+          (subst (λ (s : Standing). IsOwed s debt) (standing-other client other standing stands differ)
+          owed),
     ))
 
--- who has no seat is owed nothing
-pub owes_nobody :
-    (seats : ℕ → Option Talk) (stands : ℕ → Standing) (client : ℕ) → AllStand seats stands →
-    seats client ≡ None → OwesOnly (client ∷ []) [] stands stands
-owes_nobody seats stands client all nobody each owed =
-    inr (
-      owed,
-      λ found.
-          nobody_owed (stands each)
-          (subst (λ (seat : Option Talk). StandsIn seat (stands each))
-          (ap seats (sym (one_in client each found)) ∙ nobody) (all each))
-          owed,
-    )
-
--- who is woken is one of whom something is told
-owes_woken :
-    (client : ℕ) (clients : List ℕ) (stands : ℕ → Standing) →
-    OwesOnly clients (client ∷ clients) stands
-    (with_standing client (woken (stands client)) stands)
-owes_woken client clients stands =
+pub keeps_one :
+    (why : Type 0) (client : ℕ) (standing : Standing) (stands : ℕ → Standing) →
+    (standing ≡ Kept → (stands client ≡ Kept) ⊎ why) →
+    KeepsOnly why stands (with_standing client standing stands)
+keeps_one why client standing stands own =
     by_client
-    (λ each.
-    with_standing client (woken (stands client)) stands each ≡ Owed
-    → Contains (client ∷ clients) each ⊎ ((stands each ≡ Owed) × (Contains clients each → ⊥)))
-    client (λ owed. inl (Contains-append_left (client ∷ []) clients client (Contains-push [] client)))
-    (λ other differ owed.
-    elim (in_or_out clients other) [
-      | inl found ↦ inl (Contains-append_right (client ∷ []) clients other found)
-      | inr none ↦
-          inr (sym (standing-other client other (woken (stands client)) stands differ) ∙ owed, none)
-    ])
+    (λ each. with_standing client standing stands each ≡ Kept → (stands each ≡ Kept) ⊎ why) client
+    (λ kept. own (sym (standing-own client standing stands) ∙ kept))
+    (λ other differ kept. inl (sym (standing-other client other standing stands differ) ∙ kept))
+
+-- nobody else is one of these
+not_other :
+    (debt each : Debt) (client other : ℕ) → other ≢ client →
+    Contains (owing debt client ∷ []) (owing each other) → ⊥
+not_other debt each client other differ found =
+    differ (sym (ap (λ (one : Owing). one.client) (one_in (owing debt client) (owing each other) found)))
+
+own_debt :
+    (debt each : Debt) (client : ℕ) → Contains (owing debt client ∷ []) (owing each client) →
+    debt ≡ each
+own_debt debt each client found =
+    ap (λ (one : Owing). one.debt) (one_in (owing debt client) (owing each client) found)
+
+-- one client is owed this no more
+pub owes_less :
+    (debt : Debt) (client : ℕ) (standing : Standing) (stands : ℕ → Standing) →
+    (IsOwed standing debt → ⊥) →
+    ((each : Debt) → IsOwed standing each → IsOwed (stands client) each) →
+    OwesOnly (owing debt client ∷ []) [] stands (with_standing client standing stands)
+owes_less debt client standing stands unowed was =
+    owes_one (owing debt client ∷ []) [] client standing stands
+    (λ each owed. (
+      λ found.
+          absurd
+          (unowed
+          (subst (λ (d : Debt). IsOwed standing d) (sym (own_debt debt each client found)) owed)),
+      inl (was each owed),
+    ))
+    (λ other each differ found. absurd (not_other debt each client other differ found))
+
+-- one client is owed nothing
+pub owes_none :
+    (debt : Debt) (client : ℕ) (standing : Standing) (stands : ℕ → Standing) →
+    ((each : Debt) → IsOwed standing each → ⊥) →
+    OwesOnly (owing debt client ∷ []) [] stands (with_standing client standing stands)
+owes_none debt client standing stands unowed =
+    owes_less debt client standing stands (unowed debt) (λ each owed. absurd (unowed each owed))
+
+-- who has no seat is owed no turn, and no end
+pub owes_nobody :
+    (debt : Debt) (stands : ℕ → Standing) (client : ℕ) → debt ≢ A_seat →
+    has_seat (stands client) ≡ false → OwesOnly (owing debt client ∷ []) [] stands stands
+owes_nobody debt stands client other nobody each every owed = (
+  λ found.
+      let one = one_in (owing debt client) (owing every each) found in
+      absurd
+      (unseated_owed (stands client) debt nobody other
+      (subst (λ (o : Owing). IsOwed (stands o.client) o.debt) (sym one) owed)),
+  inl owed,
+)
+
+-- behind deeds nothing more is owed
+pub owes_after :
+    (deeds : List Deed) (stands : ℕ → Standing) → OwesOnly [] [] stands (stands_after deeds stands)
+owes_after [] stands = λ client debt owed. (λ none. none, inl owed)
+owes_after (deed ∷ deeds) stands =
+    let own = client_of deed in
+    let next = with_standing own (begun (stands own)) stands in
+    owes_then [] [] [] stands next (stands_after deeds next)
+    (owes_one [] [] own (begun (stands own)) stands
+    (λ debt owed. (λ none. none, inl (begun_owed (stands own) debt owed)))
+    (λ other debt differ none. none))
+    (owes_after deeds next)
+
+pub keeps_after :
+    (why : Type 0) (deeds : List Deed) (stands : ℕ → Standing) →
+    KeepsOnly why stands (stands_after deeds stands)
+keeps_after why [] stands = λ client kept. inl kept
+keeps_after why (deed ∷ deeds) stands =
+    let own = client_of deed in
+    let next = with_standing own (begun (stands own)) stands in
+    keeps_then why stands next (stands_after deeds next)
+    (keeps_one why own (begun (stands own)) stands (λ kept. inl (begun_kept (stands own) kept)))
+    (keeps_after why deeds next)
+
+-- what is told is owed behind it
+owes_more :
+    (debt : Debt) (client : ℕ) (standing : Standing) (debts : List Owing) (stands : ℕ → Standing) →
+    ((each : Debt) → IsOwed standing each → IsOwed (stands client) each ⊎ (each ≡ debt)) →
+    OwesOnly debts (owing debt client ∷ debts) stands (with_standing client standing stands)
+owes_more debt client standing debts stands was =
+    owes_one debts (owing debt client ∷ debts) client standing stands
+    (λ each owed. (
+      λ found. later_in (owing debt client) debts (owing each client) found,
+      elim (was each owed) [
+        | inl before ↦ inl before
+        | inr same ↦
+            inr
+            (subst (λ (d : Debt). Contains (owing debt client ∷ debts) (owing d client)) (sym same)
+            (first_in (owing debt client) debts))
+      ],
+    ))
+    (λ other each differ found. later_in (owing debt client) debts (owing each other) found)
 
 pub owes_told :
-    (told : Told) (clients : List ℕ) (stands : ℕ → Standing) →
-    OwesOnly clients (told_of told ++ clients) stands (stands_behind (Said told) stands)
-owes_told Joined clients stands = owes_still clients clients stands (λ client found. found)
-owes_told (Ready client) clients stands = owes_woken client clients stands
-owes_told (Late client) clients stands = owes_woken client clients stands
-owes_told Nothing clients stands = owes_still clients clients stands (λ client found. found)
+    (fresh : ℕ) (told : Told) (debts : List Owing) (stands : ℕ → Standing) →
+    OwesOnly debts (told_of fresh told ++ debts) stands (stands_behind (Said fresh told) stands)
+owes_told fresh Joined debts stands =
+    owes_more A_seat fresh (greeted (stands fresh)) debts stands (greeted_owed (stands fresh))
+owes_told fresh (Ready client) debts stands =
+    owes_more A_turn client (woken (stands client)) debts stands (woken_owed (stands client))
+owes_told fresh (Late client) debts stands =
+    owes_more An_end client (expired (stands client)) debts stands (expired_owed (stands client))
+owes_told fresh Nothing debts stands = owes_still debts debts stands (λ one found. found)
+
+pub keeps_told :
+    (why : Type 0) (fresh : ℕ) (told : Told) (stands : ℕ → Standing) →
+    KeepsOnly why stands (stands_behind (Said fresh told) stands)
+keeps_told why fresh Joined stands =
+    keeps_one why fresh (greeted (stands fresh)) stands
+    (λ kept. inl (greeted_kept (stands fresh) kept))
+keeps_told why fresh (Ready client) stands =
+    keeps_one why client (woken (stands client)) stands
+    (λ kept. inl (woken_kept (stands client) kept))
+keeps_told why fresh (Late client) stands =
+    keeps_one why client (expired (stands client)) stands
+    (λ kept. inl (expired_kept (stands client) kept))
+keeps_told why fresh Nothing stands = keeps_still why stands

@@ -99,7 +99,7 @@ module _ {S C P : Type 0} {r : Rules S C P} (renewals : AreRenewals r) where
   AreOf (Did deed room peers stays done settled hands) events = events ≡ events_by deed done
   AreOf {old} (Again ledgers renewed) events =
       AreOfOpening (renewals old.room.ledgers ledgers renewed) events
-  AreOf (Fails deeds room ledgers lives told failed) events = events ≡ events_of lives
+  AreOf (Fails deeds room ledgers stands lives told failed begun) events = events ≡ events_of lives
   AreOf happens events = events ≡ []
 
   -- ledgers are opened anew, or that is refused; and then the machines are those that are there, or

@@ -1,10 +1,10 @@
 -- The turns of serving clients, and when it ends.
-use Rattle.std.specs.Prelude.{◌≡◌, ◌⊎◌, ℕ, ◌+◌, ◌-◌, ◌^◌, [], IfSome}
+use Rattle.std.specs.Prelude.{◌≡◌, ◌⊎◌, ℕ, Bool, false, ◌+◌, ◌-◌, ◌^◌, [], IfSome}
 use Rattle.std.specs.BTreeMap.{BTreeMap}
 use Rattle.clients.specs.Talk.{Talk}
 use Rattle.polling.specs.Peers.{Said}
 use Rattle.polling.specs.Serving.{Rules}
-use Rattle.polling.specs.Seating.{Held, ServesAll, ServesEach, seats_in}
+use Rattle.polling.specs.Seating.{Held, ServesAll, ServesOwed, seats_in}
 use Rattle.polling.specs.declared.peers.Told.{Told}
 use Rattle.polling.specs.declared.peers.Told.TheVariants as told
 use Rattle.polling.specs.declared.step.Step.{Step}
@@ -12,9 +12,11 @@ use Rattle.polling.specs.declared.step.Step.TheVariants.{More, Waits}
 use Rattle.polling.specs.declared.serving.Done.{Done}
 use Rattle.polling.specs.declared.serving.Done.TheVariants.{Nothing, Served}
 
--- a step is told so; where nothing more is read, a client may be let wait for whom more may be done
-abbrev pub IsToldAs : Step → Step → Type 0
-IsToldAs done told = (told ≡ done) ⊎ ((done ≡ More) × (told ≡ Waits))
+-- a step is told so, and for whom more may be done something was; where nothing more is read, such a
+-- client may be let wait
+abbrev pub IsToldAs : Step → Bool → Step → Type 0
+IsToldAs done idle told =
+    ((told ≡ done) × (idle ≡ false)) ⊎ ((done ≡ More) × (told ≡ Waits))
 
 -- a turn: nobody is replied to before peers tell something, and then what it asks for is done
 pub record HasTurn {S C P : Type 0} (r : Rules S C P) (old new : Held S C P) (replies : ℕ) :
@@ -23,7 +25,7 @@ pub record HasTurn {S C P : Type 0} (r : Rules S C P) (old new : Held S C P) (re
   pub told : Told
   pub peers : P
   pub first : ServesAll r old before 0
-  pub said : r.does before.peers (Said told) peers
+  pub said : r.does before.peers (Said before.next told) peers
   pub served : ServesAll r (record before { peers = peers }) new replies
 
 -- clients were served, and the last that happened is that peers told that nothing more had
@@ -31,7 +33,7 @@ pub record IsQuiet {S C P : Type 0} (r : Rules S C P) (old new : Held S C P) (re
     Type 0 where
   pub before : Held S C P
   pub served : ServesAll r old before replies
-  pub said : r.does before.peers (Said told.Nothing) new.peers
+  pub said : r.does before.peers (Said before.next told.Nothing) new.peers
   pub same : new ≡ record before { peers = new.peers }
 
 -- turns, one after the other, and how many messages were replied to in them
@@ -53,12 +55,13 @@ pub data Ends (S C P : Type 0) (r : Rules S C P) (is_enough : Type 0) (old new :
   Quiet : IsQuiet r old new replies → Ends S C P r is_enough old new replies
   Long : Turns S C P r old most_turns replies new → Ends S C P r is_enough old new replies
 
--- whoever was told as ready or late had its turn or its end, or keeps its place; or no more turns
--- are made
+-- nothing is owed that was not before: who is new has a seat or was closed, who was told as ready had
+-- its turn or was put off, and who was told as late was closed. A client keeps its place alone, with
+-- nothing done for it, only where so many replies were wanted. Or no more turns are made
 abbrev pub GivesTurns :
-    (S C P : Type 0) → Rules S C P → Held S C P → Held S C P → ℕ → Type 0
-GivesTurns S C P r old new replies =
-    ServesEach r old new replies ⊎ Turns S C P r old most_turns replies new
+    (S C P : Type 0) → Rules S C P → ℕ → Held S C P → Held S C P → ℕ → Type 0
+GivesTurns S C P r most old new replies =
+    ServesOwed r (replies ≡ most) [] [] old new replies ⊎ Turns S C P r old most_turns replies new
 
 -- nothing is left of any reply
 abbrev pub AreWritten : BTreeMap ℕ Talk → Type 0

@@ -1,11 +1,11 @@
 -- What serving many clients comes to.
-use Rattle.std.specs.Prelude.{◌≡◌, ◌≢◌, ◌⊎◌, ◌≤◌, ◌+◌, ℕ, false, List}
+use Rattle.std.specs.Prelude.{◌≡◌, ◌⊎◌, ◌≤◌, ◌+◌, ℕ, false, List}
 use Rattle.clients.specs.Talk.{new_talk}
 use Rattle.clients.specs.Answering.{MayCome}
 use Rattle.clients.specs.Deeds.{Deed, Lives, come_from, written_to, IsServed}
 use Rattle.polling.specs.Ending.{Ends, GivesTurns, Turns, most_turns}
 use Rattle.service.specs.Seen.{Whole}
-use Rattle.polling.specs.Standing.{Away, Owed}
+use Rattle.polling.specs.Standing.{Away, Debt, IsOwed, KeepsOnly}
 use Rattle.polling.specs.Serving.{Hall, hall, Rules, Serves, tellings, rounds_in}
 use Rattle.polling.specs.Seating.{AreEmpty, Held, held_by, Keeps, ServesAll, replies_in}
 use Rattle.polling.specs.declared.seats.Seats.{Seats}
@@ -65,19 +65,22 @@ GoesOn {S} {C} {P} r =
     → ServesAll r old new replies
     → ServedOn served new replies 0
 
--- nobody is owed a turn
+-- nobody is owed a seat, a turn or its end
 abbrev pub OwesNobody : {S C P : Type 0} → Hall S C P → Type 0
-OwesNobody all = (client : ℕ) → all.stands client ≢ Owed
+OwesNobody all = (client : ℕ) (debt : Debt) → IsOwed (all.stands client) debt → ⊥
 
--- where nobody was owed a turn and turns are given, nobody is owed one; or no more turns are made
+-- where nobody was owed anything and turns are given, nobody is, and nobody more keeps its place alone
+-- unless so many replies were wanted; or no more turns are made
 abbrev pub GivesOn : {S C P : Type 0} → Rules S C P → Type 0
 GivesOn {S} {C} {P} r =
     (first mid : Hall S C P) (before : List Deed) (served : Serves S C P r first before mid)
-    (old new : Held S C P) (replies : ℕ)
+    (old new : Held S C P) (replies most : ℕ)
     → Keeps old mid
     → OwesNobody mid
-    → GivesTurns S C P r old new replies
-    → ((on : ServedOn served new replies 0) × OwesNobody on.last)
+    → GivesTurns S C P r most old new replies
+    → ((on : ServedOn served new replies 0)
+    × OwesNobody on.last
+    × KeepsOnly (replies ≡ most) mid.stands on.last.stands)
     ⊎ Turns S C P r old most_turns replies new
 
 -- where it ended though not enough was done, peers told something in it

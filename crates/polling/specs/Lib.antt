@@ -1,5 +1,6 @@
 pub mod Peers
 pub mod Standing
+pub mod Kinds
 pub mod Serving
 pub mod Seating
 pub mod Ending

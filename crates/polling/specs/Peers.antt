@@ -9,8 +9,8 @@ use Rattle.polling.specs.declared.peers.Written.{Written}
 use Rattle.polling.specs.declared.peers.Written.TheVariants as written
 
 -- bytes of a client were read, or there were none for now; its input ended; bytes to it were
--- taken, or none for now; it is to be told as ready again; it was closed; waiting told this; or
--- anything else
+-- taken, or none for now; it is to be told as ready again; it was closed; waiting told this, where
+-- a number was handed in for who is new; or anything else
 pub data Doing : Type 0 where
   Gave : ℕ → List ℕ → Doing
   Gave_none : ℕ → Doing
@@ -19,7 +19,7 @@ pub data Doing : Type 0 where
   Took_none : ℕ → Doing
   Asked : ℕ → Doing
   Closed : ℕ → Doing
-  Said : Told → Doing
+  Said : ℕ → Told → Doing
   Stirred : Doing
 
 -- what peers did of a deed

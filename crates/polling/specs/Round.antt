@@ -59,14 +59,15 @@ pub record AreToBePut {S C : Type 0} (t : LedgersMeaning S) (gives : C → ℕ �
 -- the replies of a round that was kept are put to its clients
 abbrev pub ArePut :
     {S C P : Type 0} → LedgersMeaning S → (C → ℕ → C → Type 0) → (S → S → Type 0)
-    → (P → Doing → P → Type 0) → List Message → List Reply → (ℕ → Option Talk)
-    → (ℕ → Option Talk) → ℕ → Type 0
-ArePut {S} {C} {P} t gives renews does messages replies seats seats_now count =
+    → (List ℕ → Type 0) → (P → Doing → P → Type 0) → List Message → List Reply
+    → (ℕ → Option Talk) → (ℕ → Option Talk) → ℕ → Type 0
+ArePut {S} {C} {P} t gives renews waits does messages replies seats seats_now count =
     (ledgers : S) (machines : Tenants) (moments last : C) (peers : P) (next : ℕ)
     → t.follows ledgers ledgers
     → IsFoundAgain t ledgers
     → AreToBePut t gives ledgers last machines moments messages replies
-    → ServesEach (rules t gives renews does) (held (Within ledgers machines) moments peers seats next)
+    → ServesEach (rules t gives renews waits does)
+    (held (Within ledgers machines) moments peers seats next)
     (held (Whole ledgers) last peers seats_now next) count
 
 -- the disk failed with a round of these messages
@@ -83,12 +84,12 @@ pub record IsLost {S : Type 0} (t : LedgersMeaning S) (old : S) (messages : List
 -- all clients of a round that was lost are told that the ledgers are unavailable
 abbrev pub AreTold :
     {S C P : Type 0} → LedgersMeaning S → (C → ℕ → C → Type 0) → (S → S → Type 0)
-    → (P → Doing → P → Type 0) → List Message → (ℕ → Option Talk) → (ℕ → Option Talk) → ℕ
-    → Type 0
-AreTold {S} {C} {P} t gives renews does messages seats seats_now count =
+    → (List ℕ → Type 0) → (P → Doing → P → Type 0) → List Message → (ℕ → Option Talk)
+    → (ℕ → Option Talk) → ℕ → Type 0
+AreTold {S} {C} {P} t gives renews waits does messages seats seats_now count =
     (ledgers ledgers_now : S) (moments last : C) (peers : P) (next : ℕ)
     → t.follows ledgers ledgers
     → AreGiven gives moments (moments_of messages) last
     → IsLost t ledgers messages ledgers_now
-    → ServesEach (rules t gives renews does) (held (Whole ledgers) moments peers seats next)
+    → ServesEach (rules t gives renews waits does) (held (Whole ledgers) moments peers seats next)
     (held (Whole ledgers_now) last peers seats_now next) count

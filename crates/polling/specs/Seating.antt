@@ -1,11 +1,12 @@
 -- Who is seated, and what one client and all of them were served.
-use Rattle.std.specs.Prelude.{◌≡◌, ◌≢◌, ◌≤◌, ◌<◌, ℕ, Bool, false, List, [], ◌∷◌, length, Option, Some, None, nat_eq, if◌then◌else◌}
+use Rattle.std.specs.Prelude.{◌≡◌, ◌≢◌, ◌≤◌, ◌<◌, ℕ, Bool, true, false, ◌&&◌, List, [], ◌∷◌, length, Option, Some, None, nat_eq, if◌then◌else◌}
 use Rattle.std.specs.BTreeMap.{BTreeMap, get}
 use Rattle.std.specs.Ordering.{nat_cmp}
-use Rattle.clients.specs.Talk.{Talk, new_talk}
+use Rattle.clients.specs.Talk.{Talk, is_empty, new_talk}
 use Rattle.service.specs.Seen.{Seen, Whole}
 use Rattle.clients.specs.Deeds.{Deed, all_told}
-use Rattle.polling.specs.Standing.{Standing, rested, with_standing, StandsIn, OwesOnly}
+use Rattle.polling.specs.Standing.{Standing, Owed, rested, with_standing, stands_after, StandsIn}
+use Rattle.polling.specs.Standing.{Owing, owing, A_turn, OwesOnly, KeepsOnly}
 use Rattle.polling.specs.Serving.{Hall, hall, Rules, Serves, gone_with}
 use Rattle.polling.specs.declared.seats.Seats.{Seats}
 use Rattle.polling.specs.declared.step.Step.{Step}
@@ -21,11 +22,19 @@ gone_by More client gone = gone
 gone_by Waits client gone = gone
 gone_by Goes client gone = gone_with client gone
 
--- how all stand behind a step of one client: it rests only where it has to wait
-abbrev pub stands_by : Step → ℕ → (ℕ → Standing) → ℕ → Standing
-stands_by More client stands = stands
-stands_by Waits client stands = with_standing client (rested (stands client)) stands
-stands_by Goes client stands = stands
+-- how all stand behind a step of one client, and behind these deeds in it: it rests only where it
+-- has to wait
+abbrev pub stands_by : Step → ℕ → List Deed → (ℕ → Standing) → ℕ → Standing
+stands_by More client deeds stands = stands_after deeds stands
+stands_by Waits client deeds stands =
+    with_standing client (rested (stands_after deeds stands client)) (stands_after deeds stands)
+stands_by Goes client deeds stands = stands_after deeds stands
+
+-- where more may be done for a client, its turn is begun, unless it may be that nothing was done
+abbrev pub HasMoved : Step → Bool → Standing → Type 0
+HasMoved More idle standing = idle ≡ false → standing ≢ Owed
+HasMoved Waits idle standing = Unit {0}
+HasMoved Goes idle standing = Unit {0}
 
 -- how many messages were replied to
 abbrev pub replies_in : List Deed → ℕ
@@ -35,19 +44,25 @@ replies_in deeds = length (all_told deeds)
 abbrev pub count_of : Bool → ℕ
 count_of replied = if replied then 1 else 0
 
--- one client was served, whichever others there are, and nothing else was done
+-- nothing was to be written to it, and nothing is
+abbrev pub has_nothing : Talk → Talk → Bool
+has_nothing talk talk_now = is_empty talk.unsent && is_empty talk_now.unsent
+
+-- one client was served, whichever others there are, and nothing else was done; and where more may be
+-- done, something was, or it is told that nothing may have been
 abbrev pub ServesOne :
-    {S C P : Type 0} → Rules S C P → ℕ → S → C → P → Talk → S → C → P → Talk → Step → ℕ
+    {S C P : Type 0} → Rules S C P → ℕ → S → C → P → Talk → S → C → P → Talk → Step → Bool → ℕ
     → Type 0
 ServesOne {S} {C} {P} r client ledgers moments peers talk ledgers_now moments_now peers_now talk_now
-    step replies =
+    step idle replies =
     (talks : ℕ → Talk) (gone : ℕ → Bool) (stands : ℕ → Standing)
     → gone client ≡ false
     → (deeds : List Deed)
     × Serves S C P r (hall ledgers moments peers (with_talk client talk talks) gone stands) deeds
     (hall ledgers_now moments_now peers_now (with_talk client talk_now talks)
-    (gone_by step client gone) (stands_by step client stands))
+    (gone_by step client gone) (stands_by step client deeds stands))
     × (replies_in deeds ≡ replies)
+    × HasMoved step idle (stands_after deeds stands client)
 
 -- one seat is this now, and every other as it was
 abbrev pub SeatsNow : ℕ → Option Talk → (ℕ → Option Talk) → (ℕ → Option Talk) → Type 0
@@ -74,14 +89,14 @@ AreEmpty seats =
 -- the client in one seat was served
 pub record HadTurn {S C P : Type 0} (r : Rules S C P) (client : ℕ) (ledgers : S) (moments : C)
     (peers : P) (seats : ℕ → Option Talk) (ledgers_now : S) (moments_now : C) (peers_now : P)
-    (seats_now : ℕ → Option Talk) (step : Step) (replies : ℕ) : Type 0 where
+    (seats_now : ℕ → Option Talk) (step : Step) (idle : Bool) (replies : ℕ) : Type 0 where
   pub talk : Talk
   pub talk_now : Talk
   pub was : seats client ≡ Some talk
   pub now : SeatsNow client (Some talk_now) seats seats_now
   pub served :
       ServesOne r client ledgers moments peers talk ledgers_now moments_now peers_now talk_now step
-      replies
+      idle replies
 
 -- nobody is in that seat, and nothing was done
 pub record HadNone {S C P : Type 0} (client : ℕ) (ledgers : S) (moments : C) (peers : P)
@@ -116,8 +131,8 @@ abbrev pub held_by : {S C P : Type 0} → S → C → P → Seats → Held (Seen
 held_by ledgers moments peers seats =
     held (Whole ledgers) moments peers (seats_in seats.clients) seats.next
 
--- what is held is of this hall: whoever is seated has its talk there, has not gone and is not
--- away, and of numbers that were not used nothing has come
+-- what is held is of this hall: whoever is seated has its talk there, has not gone and has a seat
+-- there too, and of numbers that were not used nothing has come
 pub record Keeps {S C P : Type 0} (held : Held S C P) (all : Hall S C P) : Type 0 where
   pub ledgers : all.room.ledgers ≡ held.ledgers
   pub moments : all.room.moments ≡ held.moments
@@ -142,11 +157,12 @@ ServesAll {S} {C} {P} r old new replies =
     × Keeps new last
     × (replies_in deeds ≡ replies)
 
--- so too, and who is owed a turn behind it is one of `to`, or was owed one before and is none of
--- `from`
+-- so too; what is owed behind it is one of `to`, or was owed before and is none of `from`; and a
+-- client keeps its place alone, with nothing done for it, only for this reason
 abbrev pub ServesOwed :
-    {S C P : Type 0} → Rules S C P → List ℕ → List ℕ → Held S C P → Held S C P → ℕ → Type 0
-ServesOwed {S} {C} {P} r from to old new replies =
+    {S C P : Type 0} → Rules S C P → Type 0 → List Owing → List Owing → Held S C P → Held S C P → ℕ
+    → Type 0
+ServesOwed {S} {C} {P} r why from to old new replies =
     (first : Hall S C P)
     → Keeps old first
     → (deeds : List Deed)
@@ -155,19 +171,21 @@ ServesOwed {S} {C} {P} r from to old new replies =
     × Keeps new last
     × (replies_in deeds ≡ replies)
     × OwesOnly from to first.stands last.stands
+    × KeepsOnly why first.stands last.stands
 
--- so too, and who is owed a turn behind it was owed one before
+-- so too, and what is owed behind it was owed before
 abbrev pub ServesEach : {S C P : Type 0} → Rules S C P → Held S C P → Held S C P → ℕ → Type 0
-ServesEach r old new replies = ServesOwed r [] [] old new replies
+ServesEach r old new replies = ServesOwed r ⊥ [] [] old new replies
 
--- behind a turn of one client, what its step asks for was done, and it is owed no other
+-- behind a turn of one client, what its step asks for was done, and it is owed no other; it keeps its
+-- place alone only where nothing may have been done for it
 abbrev pub IsFollowed :
     {S C P : Type 0} → Rules S C P → ℕ → Step → P → (ℕ → Option Talk) → P → (ℕ → Option Talk)
     → Type 0
 IsFollowed {S} {C} {P} r client step peers_then seats_then peers_now seats_now =
     (ledgers ledgers_now : S) (moments moments_now : C) (peers : P) (seats : ℕ → Option Talk)
-    (next replies : ℕ)
+    (next : ℕ) (idle : Bool) (replies : ℕ)
     → HadTurn r client ledgers moments peers seats ledgers_now moments_now peers_then seats_then step
-    replies
-    → ServesOwed r (client ∷ []) [] (held ledgers moments peers seats next)
+    idle replies
+    → ServesOwed r (idle ≡ true) (owing A_turn client ∷ []) [] (held ledgers moments peers seats next)
     (held ledgers_now moments_now peers_now seats_now next) replies

@@ -1,5 +1,5 @@
 -- What serving clients at once does.
-use Rattle.std.specs.Prelude.{◌≡◌, ◌⊎◌, ◌+◌, refl, ℕ, Bool, true, false, List, [], ◌∷◌, ◌++◌, nat_eq, if◌then◌else◌}
+use Rattle.std.specs.Prelude.{◌≡◌, ◌≢◌, ◌⊎◌, ◌+◌, refl, ℕ, Bool, true, false, List, [], ◌∷◌, ◌++◌, nat_eq, if◌then◌else◌}
 use Rattle.std.specs.List.{flat_map}
 use Rattle.chain.specs.Ledgers.{LedgersMeaning, Tenants, KeepsAll}
 use Rattle.service.specs.ConnectionEvents.{event_in}
@@ -9,11 +9,12 @@ use Rattle.service.specs.Openings.{run_meaning, IsSettled}
 use Rattle.service.specs.Replies.{unavailable}
 use Rattle.service.specs.Seen.{Seen, Whole, seen}
 use Rattle.clients.specs.Answering.{IsWanting}
-use Rattle.clients.specs.Talk.{Talk}
+use Rattle.clients.specs.Talk.{Talk, new_talk}
 use Rattle.clients.specs.Deeds.{Room, Deed, Came, Ended, Replied, Wrote, client_of, IsDone, Lives}
 use Rattle.clients.specs.Deeds as life
-use Rattle.polling.specs.Peers.{Doing, Gave, Said, Hands}
-use Rattle.polling.specs.Standing.{Standing, Away, Awaited, with_standing, stands_behind, MayStir}
+use Rattle.polling.specs.Peers.{Doing, Gave, Asked, Said, Hands}
+use Rattle.polling.specs.Standing.{Standing, Awaited, has_seat, rested, with_standing, stands_behind, stands_after, MayStir}
+use Rattle.polling.specs.Kinds.{IsPutOff}
 use Rattle.polling.specs.declared.peers.Told.{Told}
 
 -- a room of clients, those who are connected, which clients have gone for good, and how each stands
@@ -32,12 +33,13 @@ hall ledgers moments peers talks gone stands = record {
   stands = stands;
 }
 
--- what ledgers mean, which moments are given, what a steward makes of ledgers, and what each
--- doing makes of peers
+-- what ledgers mean, which moments are given, what a steward makes of ledgers, which messages it
+-- puts off, and what each doing makes of peers
 pub record Rules (S C P : Type 0) : Type 1 where
   pub means : LedgersMeaning S
   pub gives : C → ℕ → C → Type 0
   pub renews : S → S → Type 0
+  pub waits : List ℕ → Type 0
   pub does : P → Doing → P → Type 0
 
 -- a steward attends to ledgers between transactions alone
@@ -48,9 +50,14 @@ renews_seen renews old new = ⊥
 -- the rules for ledgers as they are seen between messages
 abbrev pub rules :
     {S C P : Type 0} → LedgersMeaning S → (C → ℕ → C → Type 0) → (S → S → Type 0)
-    → (P → Doing → P → Type 0) → Rules (Seen S) C P
-rules means gives renews does =
-    record { means = seen means; gives = gives; renews = renews_seen renews; does = does }
+    → (List ℕ → Type 0) → (P → Doing → P → Type 0) → Rules (Seen S) C P
+rules means gives renews waits does = record {
+  means = seen means;
+  gives = gives;
+  renews = renews_seen renews;
+  waits = waits;
+  does = does;
+}
 
 -- these have gone, and this client
 abbrev pub gone_with : ℕ → (ℕ → Bool) → ℕ → Bool
@@ -63,17 +70,24 @@ Settles t (Came client piece) ledgers = Unit {0}
 Settles t (Ended client) ledgers = Unit {0}
 Settles t (Wrote client bytes) ledgers = Unit {0}
 
--- a client is read only where its next message is not whole
+-- a client is read only where its next message is not whole, and written to only where something is
+-- to be written
 abbrev pub IsDueOf : Deed → Talk → Type 0
 IsDueOf (Came client piece) talk = IsWanting talk.unread
 IsDueOf (Ended client) talk = IsWanting talk.unread
 IsDueOf (Replied client reply) talk = Unit {0}
-IsDueOf (Wrote client bytes) talk = Unit {0}
+IsDueOf (Wrote client bytes) talk = talk.unsent ≢ []
 
 -- a deed of a client that has not gone, in its turn
 pub record IsInTurn {S C P : Type 0} (old : Hall S C P) (deed : Deed) : Type 0 where
   pub there : old.gone (client_of deed) ≡ false
   pub due : IsDueOf deed (old.room.talks (client_of deed))
+
+-- nobody has a number: it has no seat, and never was used
+pub record IsFree {S C P : Type 0} (all : Hall S C P) (number : ℕ) : Type 0 where
+  pub nobody : has_seat (all.stands number) ≡ false
+  pub there : all.gone number ≡ false
+  pub silent : all.room.talks number ≡ new_talk
 
 -- these moments were given, one after the other
 abbrev pub AreGiven : {C : Type 0} → (C → ℕ → C → Type 0) → C → List ℕ → C → Type 0
@@ -133,8 +147,9 @@ module _ {S C : Type 0} {t : LedgersMeaning S} {gives : C → ℕ → C → Type
   AreToldUnavailable gone (life.Then deeds last deed next lives done) =
       AreToldUnavailable gone lives × IsToldUnavailable gone deed
 
--- a deed of a client in its turn, with what peers did of it; peers tell something; anything else
--- among them; a new client has a seat; a client goes; it goes, and what was read of it last is lost;
+-- a deed of a client in its turn, with what peers did of it; peers tell something, and are handed a
+-- number that nobody has; anything else among them; a client is put off, for one of the reasons, and
+-- is to be told again; a new client has a seat; a client goes; it goes, and what was read of it last is lost;
 -- a steward attends to the ledgers; a round begins, ends or is taken back; moments were given for a
 -- round that was not kept; or the disk fails with a round, and all its clients are told that the
 -- ledgers are unavailable
@@ -144,17 +159,27 @@ pub data Happens (S C P : Type 0) (r : Rules S C P) (old : Hall S C P) :
       (deed : Deed) (room : Room S C) (peers : P) →
       IsInTurn old deed → IsDone r.means r.gives old.room deed room →
       Settles r.means deed room.ledgers → Hands r.does deed old.peers peers →
-      Happens S C P r old (deed ∷ []) (record old { room = room; peers = peers })
+      Happens S C P r old (deed ∷ [])
+      (record old { room = room; peers = peers; stands = stands_after (deed ∷ []) old.stands })
   Tells :
-      (told : Told) (peers : P) → r.does old.peers (Said told) peers →
+      (fresh : ℕ) (told : Told) (peers : P) → IsFree old fresh →
+      r.does old.peers (Said fresh told) peers →
       Happens S C P r old []
-      (record old { peers = peers; stands = stands_behind (Said told) old.stands })
+      (record old { peers = peers; stands = stands_behind (Said fresh told) old.stands })
   Stirs :
       (doing : Doing) (peers : P) → MayStir doing old.room.talks → r.does old.peers doing peers →
       Happens S C P r old []
       (record old { peers = peers; stands = stands_behind doing old.stands })
+  Puts_off :
+      (client : ℕ) (peers : P) → IsPutOff r.waits (old.room.talks client) →
+      r.does old.peers (Asked client) peers →
+      Happens S C P r old []
+      (record old {
+        peers = peers;
+        stands = with_standing client (rested (old.stands client)) old.stands;
+      })
   Joins :
-      (client : ℕ) → old.stands client ≡ Away →
+      (client : ℕ) → has_seat (old.stands client) ≡ false →
       Happens S C P r old [] (record old { stands = with_standing client Awaited old.stands })
   Goes :
       (client : ℕ) → Happens S C P r old [] (record old { gone = gone_with client old.gone })
@@ -171,10 +196,12 @@ pub data Happens (S C P : Type 0) (r : Rules S C P) (old : Hall S C P) :
       (moments : C) (given : List ℕ) → AreGiven r.gives old.room.moments given moments →
       Happens S C P r old [] (record old { room = record old.room { moments = moments } })
   Fails :
-      (deeds : List Deed) (room : Room S C) (ledgers : S)
+      (deeds : List Deed) (room : Room S C) (ledgers : S) (stands : ℕ → Standing)
       (lives : Lives S C r.means r.gives old.room deeds room) → AreToldUnavailable old.gone lives →
       HasFailed r.means old.room.ledgers (events_of lives) ledgers →
-      Happens S C P r old deeds (record old { room = record room { ledgers = ledgers } })
+      stands ≡ stands_after deeds old.stands →
+      Happens S C P r old deeds
+      (record old { room = record room { ledgers = ledgers }; stands = stands })
 
 -- all that happens, one after the other, and the deeds among it
 pub data Serves (S C P : Type 0) (r : Rules S C P) (first : Hall S C P) :
@@ -189,7 +216,7 @@ module _ {S C P : Type 0} {r : Rules S C P} where
   -- how often peers told something: in what happens, and in all that happened
   abbrev pub tellings_of :
       {old new : Hall S C P} {deeds : List Deed} → Happens S C P r old deeds new → ℕ
-  tellings_of (Tells told peers said) = 1
+  tellings_of (Tells fresh told peers free said) = 1
   tellings_of happens = 0
 
   abbrev pub tellings :
@@ -202,7 +229,7 @@ module _ {S C P : Type 0} {r : Rules S C P} where
       {old new : Hall S C P} {deeds : List Deed} → Happens S C P r old deeds new → ℕ
   rounds_of (Rests ledgers same) = 1
   rounds_of (Passes moments given passed) = 1
-  rounds_of (Fails deeds room ledgers lives told failed) = 1
+  rounds_of (Fails deeds room ledgers stands lives told failed begun) = 1
   rounds_of happens = 0
 
   abbrev pub rounds_in :

@@ -1,46 +1,92 @@
--- How clients stand between their turns, and who is owed one.
-use Rattle.std.specs.Prelude.{◌≡◌, ◌≢◌, ◌⊎◌, ℕ, List, [], ◌∷◌, Option, Some, None, nat_eq, if◌then◌else◌}
+-- How clients stand between their turns, and what is owed to them.
+use Rattle.std.specs.Prelude.{◌≡◌, ◌≢◌, ◌⊎◌, ℕ, Bool, true, false, List, [], ◌∷◌, Option, is_some, nat_eq, if◌then◌else◌}
 use Rattle.std.specs.List.{Contains}
-use Rattle.clients.specs.Talk.{Talk}
 use Rattle.clients.specs.Answering.{IsWanting}
+use Rattle.clients.specs.Deeds.{Deed, client_of}
+use Rattle.clients.specs.Talk.{Talk}
 use Rattle.polling.specs.Peers.{Doing, Gave_none, Took_none, Asked, Closed, Said, Stirred}
 use Rattle.polling.specs.declared.peers.Told.{Told}
 use Rattle.polling.specs.declared.peers.Told.TheVariants.{Joined, Ready, Late, Nothing}
 
--- a client has no seat; or it has one, and waits until peers tell of it; or it was told as ready or
--- late, and is owed a turn or its end
+-- a client has no seat; it is new, and is owed a seat or its end; it has one, and waits until peers
+-- tell of it; it was told as ready, and is owed a turn; in its turn something was done for it; it is
+-- to be told as ready again, though nothing was; or it was told as late, and is owed its end
 pub data Standing : Type 0 where
   Away : Standing
+  New : Standing
   Awaited : Standing
   Owed : Standing
+  Begun : Standing
+  Kept : Standing
+  Overdue : Standing
 
--- as it stands once it is told of
+-- who has a seat
+abbrev pub has_seat : Standing → Bool
+has_seat Away = false
+has_seat New = false
+has_seat standing = true
+
+-- behind the telling that somebody new is there: a number that has no seat is owed one
+abbrev pub greeted : Standing → Standing
+greeted Away = New
+greeted standing = standing
+
+-- behind the telling that a client is ready: it is owed a turn, unless it is owed its end
 abbrev pub woken : Standing → Standing
 woken Away = Away
-woken Awaited = Owed
-woken Owed = Owed
+woken New = New
+woken Overdue = Overdue
+woken standing = Owed
 
--- as it stands once peers are to tell of it
+-- behind the telling that it has had its time: it is owed its end
+abbrev pub expired : Standing → Standing
+expired Away = Away
+expired New = New
+expired standing = Overdue
+
+-- behind a deed of it: what was owed to it is begun
+abbrev pub begun : Standing → Standing
+begun Owed = Begun
+begun standing = standing
+
+-- where it sends or takes nothing for now, or is put off: it waits until peers tell of it again
 abbrev pub rested : Standing → Standing
 rested Away = Away
-rested Awaited = Awaited
-rested Owed = Awaited
+rested New = New
+rested Overdue = Overdue
+rested standing = Awaited
+
+-- where it is to be told as ready again: so it waits behind a turn in which something was done for
+-- it, and where nothing was it has kept its place alone
+abbrev pub asked : Standing → Standing
+asked Owed = Kept
+asked Begun = Awaited
+asked standing = standing
 
 -- all as they stand, but one
 abbrev pub with_standing : ℕ → Standing → (ℕ → Standing) → ℕ → Standing
 with_standing client standing stands other =
     if nat_eq client other then standing else stands other
 
--- behind a doing: who is told as ready or late is owed a turn or its end; who sends or takes
--- nothing for now, or is to be told again, is owed none; and who is closed has no seat
+-- behind a doing among peers; who is closed has no seat
 abbrev pub stands_behind : Doing → (ℕ → Standing) → ℕ → Standing
-stands_behind (Said (Ready client)) stands = with_standing client (woken (stands client)) stands
-stands_behind (Said (Late client)) stands = with_standing client (woken (stands client)) stands
+stands_behind (Said fresh Joined) stands = with_standing fresh (greeted (stands fresh)) stands
+stands_behind (Said fresh (Ready client)) stands =
+    with_standing client (woken (stands client)) stands
+stands_behind (Said fresh (Late client)) stands =
+    with_standing client (expired (stands client)) stands
 stands_behind (Gave_none client) stands = with_standing client (rested (stands client)) stands
 stands_behind (Took_none client) stands = with_standing client (rested (stands client)) stands
-stands_behind (Asked client) stands = with_standing client (rested (stands client)) stands
+stands_behind (Asked client) stands = with_standing client (asked (stands client)) stands
 stands_behind (Closed client) stands = with_standing client Away stands
 stands_behind doing stands = stands
+
+-- behind deeds, one after the other
+abbrev pub stands_after : List Deed → (ℕ → Standing) → ℕ → Standing
+stands_after [] stands = stands
+stands_after (deed ∷ deeds) stands =
+    stands_after deeds
+    (with_standing (client_of deed) (begun (stands (client_of deed))) stands)
 
 -- what happens among peers beside deeds and what they tell: reading from a client is tried only
 -- where its next message is not whole, and writing only where something is to be written
@@ -52,26 +98,56 @@ MayStir (Closed client) talks = Unit {0}
 MayStir Stirred talks = Unit {0}
 MayStir doing talks = ⊥
 
--- who has no seat is away, and nobody else
+-- who has no seat is away or new, and nobody else
 abbrev pub StandsIn : Option Talk → Standing → Type 0
-StandsIn None Away = Unit {0}
-StandsIn (Some talk) Awaited = Unit {0}
-StandsIn (Some talk) Owed = Unit {0}
-StandsIn seat standing = ⊥
+StandsIn seat standing = is_some seat ≡ has_seat standing
 
--- of whom something is told
-abbrev pub told_of : Told → List ℕ
-told_of Joined = []
-told_of (Ready client) = client ∷ []
-told_of (Late client) = client ∷ []
-told_of Nothing = []
+-- what may be owed: a seat, a turn, or the end
+pub data Debt : Type 0 where
+  A_seat : Debt
+  A_turn : Debt
+  An_end : Debt
 
--- each of these clients is one of those
-abbrev pub AreAmong : List ℕ → List ℕ → Type 0
-AreAmong clients others = (client : ℕ) → Contains clients client → Contains others client
+-- what is owed, and to whom
+pub record Owing : Type 0 where
+  pub debt : Debt
+  pub client : ℕ
 
--- who is owed a turn behind something is one of `to`; or was owed one before, and is none of `from`
-abbrev pub OwesOnly : List ℕ → List ℕ → (ℕ → Standing) → (ℕ → Standing) → Type 0
+abbrev pub owing : Debt → ℕ → Owing
+owing debt client = record { debt = debt; client = client }
+
+abbrev pub turns_of : List ℕ → List Owing
+turns_of [] = []
+turns_of (client ∷ clients) = owing A_turn client ∷ turns_of clients
+
+-- a turn that is begun is owed until it ends
+abbrev pub IsOwed : Standing → Debt → Type 0
+IsOwed New A_seat = Unit {0}
+IsOwed Owed A_turn = Unit {0}
+IsOwed Begun A_turn = Unit {0}
+IsOwed Overdue An_end = Unit {0}
+IsOwed standing debt = ⊥
+
+-- what is owed once this is told, where the number is handed in
+abbrev pub told_of : ℕ → Told → List Owing
+told_of fresh Joined = owing A_seat fresh ∷ []
+told_of fresh (Ready client) = owing A_turn client ∷ []
+told_of fresh (Late client) = owing An_end client ∷ []
+told_of fresh Nothing = []
+
+-- each of these is one of those
+abbrev pub AreAmong : {A : Type 0} → List A → List A → Type 0
+AreAmong {A} some others = (one : A) → Contains some one → Contains others one
+
+-- what is owed behind something is one of `to`, or was owed before; and if it was one of `from`, it
+-- is one of `to`
+abbrev pub OwesOnly : List Owing → List Owing → (ℕ → Standing) → (ℕ → Standing) → Type 0
 OwesOnly from to old new =
-    (client : ℕ) → new client ≡ Owed
-    → Contains to client ⊎ ((old client ≡ Owed) × (Contains from client → ⊥))
+    (client : ℕ) (debt : Debt)
+    → IsOwed (new client) debt
+    → (Contains from (owing debt client) → Contains to (owing debt client))
+    × (IsOwed (old client) debt ⊎ Contains to (owing debt client))
+
+-- nobody else is to be told again with nothing done for it, but for this reason
+abbrev pub KeepsOnly : Type 0 → (ℕ → Standing) → (ℕ → Standing) → Type 0
+KeepsOnly why old new = (client : ℕ) → new client ≡ Kept → (old client ≡ Kept) ⊎ why

@@ -1,5 +1,6 @@
 //! Which batch a message is.
-ghost use Rattle.std.specs.Prelude.{◌≡◌};
+ghost use Rattle.std.specs.Prelude.{◌≡◌, IsSome};
+ghost use Rattle.polling.specs.Kinds.{IsBatch};
 
 use clients::Client;
 
@@ -12,7 +13,9 @@ pub enum Batch {
 
 impl Batch {
     /// The batch that a message is, by its beginning.
-    pub(crate) fn of(front: &[u8]) -> Option<Batch> {
+    pub(crate) fn of(front: &[u8]) -> Option<Batch>
+        ensures { IsSome result → IsBatch front.now }
+    {
         if front.starts_with(b"POST /transfers ") {
             Some(Batch::Transfers)
         } else if front.starts_with(b"POST /accounts ") {

@@ -1,8 +1,9 @@
 //! Writing what is left of replies, where no further message is answered.
-ghost use Rattle.std.specs.Prelude.{◌≡◌, ◌↔◌, false, [], IsTrue, IfSome, IfNone};
+ghost use Rattle.std.specs.Prelude.{◌≡◌, ◌↔◌, Bool, false, [], ◌∷◌, IsTrue, IfSome, IfNone};
 ghost use Rattle.service.specs.Seen.{Seen};
 ghost use Rattle.polling.specs.Serving.{rules};
-ghost use Rattle.polling.specs.Seating.{HadTurn, HadNone, ServesOne, ServesAll, ServesEach, seats_in, held_by};
+ghost use Rattle.polling.specs.Standing.{A_seat, owing};
+ghost use Rattle.polling.specs.Seating.{HadTurn, HadNone, ServesOne, ServesAll, ServesOwed, seats_in, held_by};
 ghost use Rattle.polling.specs.Ending.{IsToldAs, HasTurn, IsQuiet, AreWritten, Ends};
 
 use crate::seats::Seats;
@@ -35,9 +36,10 @@ fn write_left<L: Ledgers, H: Steward<L>, C: Moments, P: Peers>(
     number: u64,
     client: &mut Client,
 ) -> Step
-    ensures { (done : Step) × IsToldAs done result × ((ledgers : Seen L) → (moments : C) →
-        ServesOne (rules L.means C.gives H.renews P.does) number
-        ledgers moments peers.old client.old ledgers moments peers.new client.new done 0) }
+    ensures { (done : Step) × ((idle : Bool) × IsToldAs done idle result ×
+        ((ledgers : Seen L) → (moments : C) →
+        ServesOne (rules L.means C.gives H.renews H.waits P.does) number
+        ledgers moments peers.old client.old ledgers moments peers.new client.new done idle 0)) }
 {
     match write_all::<L, H, C, P>(peers, number, client) {
         Step::More => {
@@ -57,11 +59,11 @@ fn write_in<L: Ledgers, H: Steward<L>, C: Moments, P: Peers>(
     clients: &mut BTreeMap<u64, Client>,
     number: u64,
 ) -> Option<Step>
-    ensures written { IfSome result (λ step. (done : Step) × IsToldAs done step ×
-        ((ledgers : Seen L) → (moments : C) →
-        HadTurn (rules L.means C.gives H.renews P.does) number
+    ensures written { IfSome result (λ step. (done : Step) × ((idle : Bool) ×
+        IsToldAs done idle step × ((ledgers : Seen L) → (moments : C) →
+        HadTurn (rules L.means C.gives H.renews H.waits P.does) number
         ledgers moments peers.old (seats_in clients.old)
-        ledgers moments peers.new (seats_in clients.new) done 0)) }
+        ledgers moments peers.new (seats_in clients.new) done idle 0))) }
     ensures none { IfNone result ((ledgers : Seen L) → (moments : C) → HadNone number
         ledgers moments peers.old (seats_in clients.old)
         ledgers moments peers.new (seats_in clients.new)) }
@@ -79,7 +81,7 @@ fn write_one<L: Ledgers, H: Steward<L>, C: Moments, P: Peers>(
     number: u64,
 )
     ensures { (ledgers : L) → (moments : C) →
-        ServesAll (rules L.means C.gives H.renews P.does)
+        ServesAll (rules L.means C.gives H.renews H.waits P.does)
         (held_by ledgers moments peers.old seats.old)
         (held_by ledgers moments peers.new seats.new) 0 }
 {
@@ -92,7 +94,8 @@ fn write_one<L: Ledgers, H: Steward<L>, C: Moments, P: Peers>(
 /// Lets a new client go, which has come too late.
 fn turn_away<L: Ledgers, H: Steward<L>, C: Moments, P: Peers>(peers: &mut P, seats: &mut Seats)
     ensures { (ledgers : L) → (moments : C) →
-        ServesEach (rules L.means C.gives H.renews P.does)
+        ServesOwed (rules L.means C.gives H.renews H.waits P.does) ⊥
+        (owing A_seat seats.old.next ∷ []) []
         (held_by ledgers moments peers.old seats.old)
         (held_by ledgers moments peers.new seats.new) 0 }
 {
@@ -111,11 +114,11 @@ fn write_next<L: Ledgers, H: Steward<L>, C: Moments, P: Peers>(
     seats: &mut Seats,
 ) -> bool
     ensures turn { IsTrue result → (ledgers : L) → (moments : C) →
-        HasTurn (rules L.means C.gives H.renews P.does)
+        HasTurn (rules L.means C.gives H.renews H.waits P.does)
         (held_by ledgers moments peers.old seats.old)
         (held_by ledgers moments peers.new seats.new) 0 }
     ensures quiet { result ≡ false → (ledgers : L) → (moments : C) →
-        IsQuiet (rules L.means C.gives H.renews P.does)
+        IsQuiet (rules L.means C.gives H.renews H.waits P.does)
         (held_by ledgers moments peers.old seats.old)
         (held_by ledgers moments peers.new seats.new) 0 }
 {
@@ -140,11 +143,11 @@ fn write_next<L: Ledgers, H: Steward<L>, C: Moments, P: Peers>(
 /// is answered and nothing is read; who is late is let go, and so is who comes.
 pub fn write_rest<L: Ledgers, H: Steward<L>, C: Moments, P: Peers>(peers: &mut P, seats: &mut Seats)
     ensures serves { (ledgers : L) → (moments : C) →
-        ServesAll (rules L.means C.gives H.renews P.does)
+        ServesAll (rules L.means C.gives H.renews H.waits P.does)
         (held_by ledgers moments peers.old seats.old)
         (held_by ledgers moments peers.new seats.new) 0 }
     ensures ends { (ledgers : L) → (moments : C) →
-        Ends (Seen L) C P (rules L.means C.gives H.renews P.does) (AreWritten seats.new.clients)
+        Ends (Seen L) C P (rules L.means C.gives H.renews H.waits P.does) (AreWritten seats.new.clients)
         (held_by ledgers moments peers.old seats.old)
         (held_by ledgers moments peers.new seats.new) 0 }
 {

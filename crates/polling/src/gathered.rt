@@ -1,7 +1,8 @@
 //! Serving those who are gathered.
-ghost use Rattle.std.specs.Prelude.{◌≡◌, ◌≤◌, ℕ, false, [], ◌∷◌, IfSome, IfNone};
+ghost use Rattle.std.specs.Prelude.{◌≡◌, ◌≤◌, ℕ, false, not, [], ◌∷◌, IfSome, IfNone};
 ghost use Rattle.service.specs.Seen.{Whole};
 ghost use Rattle.polling.specs.Serving.{rules};
+ghost use Rattle.polling.specs.Standing.{A_turn, owing, turns_of};
 ghost use Rattle.polling.specs.Seating.{HadTurn, HadNone, ServesOwed, ServesEach, count_of, held, held_by, seats_in};
 
 use crate::gathering::Gathered;
@@ -29,10 +30,10 @@ fn finish_in<L: Rounds, H: Steward<L>, C: Moments, P: Peers>(
     answers: bool,
 ) -> Option<Turned>
     requires usable { L.means.is_usable ledgers.old }
-    ensures turn { IfSome result (λ turned. HadTurn (rules L.means C.gives H.renews P.does) number
+    ensures turn { IfSome result (λ turned. HadTurn (rules L.means C.gives H.renews H.waits P.does) number
         (Whole ledgers.old) moments.old peers.old (seats_in clients.old)
         (Whole ledgers.new) moments.new peers.new (seats_in clients.new)
-        turned.step (count_of turned.replied)) }
+        turned.step (not answers) (count_of turned.replied)) }
     ensures few { IfSome result (λ turned. answers ≡ false → turned.replied ≡ false) }
     ensures none { IfNone result (HadNone number
         (Whole ledgers.old) moments.old peers.old (seats_in clients.old)
@@ -60,7 +61,8 @@ fn finish_one<L: Rounds, H: Steward<L>, C: Moments, P: Peers>(
     most: u64,
 ) -> u64
     requires { L.means.is_usable ledgers.old }
-    ensures serves { ServesOwed (rules L.means C.gives H.renews P.does) (number ∷ []) []
+    ensures serves { ServesOwed (rules L.means C.gives H.renews H.waits P.does) (result ≡ most)
+        (owing A_turn number ∷ []) []
         (held_by ledgers.old moments.old peers.old seats.old)
         (held_by ledgers.new moments.new peers.new seats.new) result }
     ensures few { result ≤ most }
@@ -96,7 +98,8 @@ fn finish_each<L: Rounds, H: Steward<L>, C: Moments, P: Peers>(
     most: u64,
 ) -> u64
     requires { L.means.is_usable ledgers.old }
-    ensures serves { ServesOwed (rules L.means C.gives H.renews P.does) numbers.now []
+    ensures serves { ServesOwed (rules L.means C.gives H.renews H.waits P.does) (result ≡ most)
+        (turns_of numbers.now) []
         (held_by ledgers.old moments.old peers.old seats.old)
         (held_by ledgers.new moments.new peers.new seats.new) result }
     ensures few { result ≤ most }
@@ -132,7 +135,7 @@ fn share<L: Rounds, H: Steward<L>, C: Moments, P: Peers>(
 ) -> u64
     requires { L.means.is_usable ledgers.old }
     ensures serves { (peers : P) → (next : ℕ) →
-        ServesEach (rules L.means C.gives H.renews P.does)
+        ServesEach (rules L.means C.gives H.renews H.waits P.does)
         (held (Whole ledgers.old) moments.old peers (seats_in clients.old) next)
         (held (Whole ledgers.new) moments.new peers (seats_in clients.new) next) result }
     ensures few { result ≤ most }
@@ -162,8 +165,8 @@ pub(crate) fn serve_due<L: Rounds, H: Steward<L>, C: Moments, P: Peers>(
     most: u64,
 ) -> u64
     requires { L.means.is_usable ledgers.old }
-    ensures serves { ServesOwed (rules L.means C.gives H.renews P.does)
-        gathered.old.numbers.items gathered.new.numbers.items
+    ensures serves { ServesOwed (rules L.means C.gives H.renews H.waits P.does) (result ≡ most)
+        (turns_of gathered.old.numbers.items) (turns_of gathered.new.numbers.items)
         (held_by ledgers.old moments.old peers.old seats.old)
         (held_by ledgers.new moments.new peers.new seats.new) result }
     ensures few { result ≤ most }

@@ -1,5 +1,6 @@
 //! Clients who are to share a round.
-ghost use Rattle.std.specs.Prelude.{◌≡◌, ◌⊎◌, ◌<◌, [], false, Contains, IsTrue, length};
+ghost use Rattle.std.specs.Prelude.{◌≡◌, ◌⊎◌, ◌<◌, ◌≤◌, ◌+◌, [], false, Contains, IsTrue, length};
+ghost use Rattle.polling.specs.Kinds.{IsKind, IsNextKind, IsPlaced, most_questions};
 ghost use Rattle.polling.specs.Seating.{AreSame, seats_in};
 ghost use Rattle.polling.specs.Standing.{AreAmong};
 
@@ -62,7 +63,9 @@ enum Kind {
 }
 
 /// What a message is, by its beginning.
-fn kind_of(front: &[u8]) -> Kind {
+fn kind_of(front: &[u8]) -> Kind
+    ensures { IsKind front.now result }
+{
     if Batch::of(front).is_some() {
         Kind::Batch(front.len())
     } else if front.starts_with(b"POST /query/") || front.starts_with(b"POST /pending/open ") {
@@ -74,7 +77,8 @@ fn kind_of(front: &[u8]) -> Kind {
 
 /// What a client's next message is. A batch waits until the last reply is written.
 fn next_kind<L: Ledgers, H: Steward<L>>(client: &mut Client, steward: &H) -> Kind
-    ensures { client.new ≡ client.old }
+    ensures kind { IsNextKind H.waits client.old result }
+    ensures same { client.new ≡ client.old }
 {
     let Some(size) = client.next_size() else {
         return Kind::Other;
@@ -89,7 +93,8 @@ fn next_kind<L: Ledgers, H: Steward<L>>(client: &mut Client, steward: &H) -> Kin
 
 impl Gathered {
     pub(crate) fn new(alloc: Global) -> Gathered
-        ensures { result.numbers.items ≡ [] }
+        ensures none { result.numbers.items ≡ [] }
+        ensures count { result.queries ≡ 0 }
     {
         Gathered {
             numbers: Vec::new(alloc),
@@ -108,7 +113,8 @@ impl Gathered {
 
     /// Nobody more is to be waited for.
     pub(crate) fn close(&mut self)
-        ensures { self.new.numbers ≡ self.old.numbers }
+        ensures same { self.new.numbers ≡ self.old.numbers }
+        ensures count { self.new.queries ≡ self.old.queries }
     {
         self.is_closed = true;
     }
@@ -129,6 +135,8 @@ impl Gathered {
         ensures same { AreSame (seats_in clients.old) (seats_in clients.new) }
         ensures kept { AreAmong self.old.numbers.items self.new.numbers.items }
         ensures gathered { result ≡ Place.Gathered → Contains self.new.numbers.items number }
+        ensures placed { IsPlaced H.waits (seats_in clients.old number)
+            self.old.queries self.new.queries result }
     {
         if self.holds(number) {
             self.is_closed = true;
@@ -151,6 +159,9 @@ impl Gathered {
     fn place_of_query(&mut self) -> Place
         ensures kept { self.new.numbers ≡ self.old.numbers }
         ensures gathered { result ≡ Place.Gathered → ⊥ }
+        ensures now { result ≡ Place.Now → self.new.queries ≡ self.old.queries + 1 }
+        ensures later { result ≡ Place.Later →
+            (self.new.queries ≡ self.old.queries) × (most_questions ≤ self.old.queries) }
     {
         if self.queries >= MOST_QUERIES {
             return Place::Later;
@@ -162,6 +173,8 @@ impl Gathered {
     fn place_of_batch(&mut self, number: u64, size: usize) -> Place
         ensures kept { AreAmong self.old.numbers.items self.new.numbers.items }
         ensures gathered { result ≡ Place.Gathered → Contains self.new.numbers.items number }
+        ensures count { self.new.queries ≡ self.old.queries }
+        ensures place { result ≡ Place.Later → ⊥ }
     {
         self.bytes = self.bytes.saturating_add(size);
         match self.numbers.push(number) {
@@ -172,7 +185,8 @@ impl Gathered {
 
     /// All who are ready have had their turn.
     pub(crate) fn end_turn(&mut self)
-        ensures { self.new.numbers ≡ self.old.numbers }
+        ensures same { self.new.numbers ≡ self.old.numbers }
+        ensures count { self.new.queries ≡ 0 }
     {
         self.queries = 0;
     }
@@ -196,6 +210,7 @@ impl Gathered {
     pub(crate) fn take(&mut self, alloc: Global) -> Vec<u64>
         ensures taken { result.items ≡ self.old.numbers.items }
         ensures none { self.new.numbers.items ≡ [] }
+        ensures count { self.new.queries ≡ self.old.queries }
     {
         self.bytes = 0;
         self.is_closed = false;
@@ -204,7 +219,8 @@ impl Gathered {
 
     /// The next clients are served alone.
     pub(crate) fn serve_alone(&mut self)
-        ensures { self.new.numbers ≡ self.old.numbers }
+        ensures same { self.new.numbers ≡ self.old.numbers }
+        ensures count { self.new.queries ≡ self.old.queries }
     {
         self.alone = ALONE;
     }

@@ -12,7 +12,7 @@ use service::{Moments, each_tenant_sees_itself, responses_move_within};
 /// ledgers, what is written to a client is a beginning of the replies to its own messages, in
 /// order, one a message.
 pub fn each_is_served<L: Ledgers, H: Steward<L>, C: Moments, P: Peers>()
-    ensures { EachIsServed (rules L.means C.gives H.renews P.does) }
+    ensures { EachIsServed (rules L.means C.gives H.renews H.waits P.does) }
 {
     clients_are_served_in_rounds::<L, C>();
 }
@@ -20,7 +20,7 @@ pub fn each_is_served<L: Ledgers, H: Steward<L>, C: Moments, P: Peers>()
 /// Where the steward changes nothing and no messages share a round, all that was done is a run of
 /// deeds of the same ledgers.
 pub fn serving_is_a_run<L: Ledgers, H: Steward<L>, C: Moments, P: Peers>()
-    ensures { AreLives (rules L.means C.gives H.renews P.does) }
+    ensures { AreLives (rules L.means C.gives H.renews H.waits P.does) }
 {}
 
 /// All that is done over live ledgers, whenever they are opened again and whatever an operator asks
@@ -28,8 +28,8 @@ pub fn serving_is_a_run<L: Ledgers, H: Steward<L>, C: Moments, P: Peers>()
 /// they are opened anew, or where that is refused. In it a tenant's replies and its machine are those
 /// of its own deeds alone.
 pub fn serving_is_a_course<L: Ledgers, H: Steward<L>, C: Moments, P: Peers>()
-    ensures course { IsCourse (rules L.means C.gives H.renews P.does) }
-    ensures alone { ServesEachAlone (rules L.means C.gives H.renews P.does) }
+    ensures course { IsCourse (rules L.means C.gives H.renews H.waits P.does) }
+    ensures alone { ServesEachAlone (rules L.means C.gives H.renews H.waits P.does) }
 {
     responses_move_within::<L>();
     each_tenant_sees_itself();
@@ -44,7 +44,7 @@ pub fn serving_begins_empty<L: Ledgers, C: Moments, P: Peers>()
 /// a turn, nobody is behind turns that are given. Where it ended though not enough was done, those who
 /// are connected told something in it.
 pub fn serving_goes_on<L: Ledgers, H: Steward<L>, C: Moments, P: Peers>()
-    ensures served { GoesOn (rules L.means C.gives H.renews P.does) }
-    ensures turns { GivesOn (rules L.means C.gives H.renews P.does) }
-    ensures told { EndsTold (rules L.means C.gives H.renews P.does) }
+    ensures served { GoesOn (rules L.means C.gives H.renews H.waits P.does) }
+    ensures turns { GivesOn (rules L.means C.gives H.renews H.waits P.does) }
+    ensures told { EndsTold (rules L.means C.gives H.renews H.waits P.does) }
 {}

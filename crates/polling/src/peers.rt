@@ -49,7 +49,7 @@ pub trait Peers {
 
     /// The next thing that has happened. A new client gets the number `fresh`.
     fn told(&mut self, fresh: u64) -> Told
-        ensures { does self.old (Said result) self.new };
+        ensures { does self.old (Said fresh result) self.new };
 
     /// Whether something more has happened that `told` tells without waiting.
     fn has_more(&self) -> bool;

@@ -34,7 +34,7 @@ pub(crate) fn put_all<L: Ledgers, H: Steward<L>, C: Moments, P: Peers>(
     replies: Vec<Reply>,
 ) -> u64
     requires { AreCopied (seats_in clients.old) round.now.members.items round.now.messages.items }
-    ensures put { ArePut L.means C.gives H.renews P.does round.now.messages.items replies.items
+    ensures put { ArePut L.means C.gives H.renews H.waits P.does round.now.messages.items replies.items
         (seats_in clients.old) (seats_in clients.new) result }
     ensures few { result ≤ length round.now.members.items }
 {
@@ -57,7 +57,7 @@ pub(crate) fn tell_all<L: Ledgers, H: Steward<L>, C: Moments, P: Peers>(
     round: &Round,
 ) -> u64
     requires { AreCopied (seats_in clients.old) round.now.members.items round.now.messages.items }
-    ensures told { AreTold L.means C.gives H.renews P.does round.now.messages.items
+    ensures told { AreTold L.means C.gives H.renews H.waits P.does round.now.messages.items
         (seats_in clients.old) (seats_in clients.new) result }
     ensures few { result ≤ length round.now.members.items }
 {

@@ -1,9 +1,9 @@
 //! Serving all who are ready.
-ghost use Rattle.std.specs.Prelude.{◌≡◌, ◌⊎◌, ◌≤◌, ◌<◌, [], ◌∷◌, ◌++◌, IfSome, IfNone, IsTrue};
+ghost use Rattle.std.specs.Prelude.{◌≡◌, false, ◌⊎◌, ◌≤◌, ◌<◌, [], ◌∷◌, ◌++◌, IfSome, IfNone, IsTrue};
 ghost use Rattle.service.specs.Seen.{Seen, Whole};
 ghost use Rattle.polling.specs.Serving.{rules};
-ghost use Rattle.polling.specs.Standing.{told_of};
-ghost use Rattle.polling.specs.Seating.{HadTurn, HadNone, IsFollowed, ServesAll, ServesOwed, ServesEach, count_of, seats_in, held_by};
+ghost use Rattle.polling.specs.Standing.{A_seat, A_turn, An_end, owing, told_of, turns_of};
+ghost use Rattle.polling.specs.Seating.{HadTurn, HadNone, IsFollowed, ServesAll, ServesOwed, count_of, seats_in, held_by};
 ghost use Rattle.polling.specs.Ending.{HasDone, Ends, GivesTurns, replies_of};
 ghost use Rattle.polling.specs.declared.peers.Told.TheVariants.{Nothing};
 
@@ -30,10 +30,10 @@ fn turn_in<L: Ledgers, H: Steward<L>, C: Moments, P: Peers>(
     piece: &mut [u8],
 ) -> Option<Turned>
     requires usable { L.means.is_usable ledgers.old }
-    ensures turn { IfSome result (λ turned. HadTurn (rules L.means C.gives H.renews P.does) number
+    ensures turn { IfSome result (λ turned. HadTurn (rules L.means C.gives H.renews H.waits P.does) number
         (Whole ledgers.old) moments.old peers.old (seats_in clients.old)
         (Whole ledgers.new) moments.new peers.new (seats_in clients.new)
-        turned.step (count_of turned.replied)) }
+        turned.step false (count_of turned.replied)) }
     ensures none { IfNone result (HadNone number
         (Whole ledgers.old) moments.old peers.old (seats_in clients.old)
         (Whole ledgers.new) moments.new peers.new (seats_in clients.new)) }
@@ -54,7 +54,7 @@ pub(crate) fn follow<L: Ledgers, H: Steward<L>, C: Moments, P: Peers>(
     number: u64,
     step: Step,
 )
-    ensures followed { IsFollowed (rules L.means C.gives H.renews P.does) number step
+    ensures followed { IsFollowed (rules L.means C.gives H.renews H.waits P.does) number step
         peers.old (seats_in clients.old) peers.new (seats_in clients.new) }
     ensures waits { step ≡ Step.Waits → (peers.new ≡ peers.old) × (clients.new ≡ clients.old) }
 {
@@ -79,7 +79,8 @@ fn serve_one<L: Ledgers, H: Steward<L>, C: Moments, P: Peers>(
     piece: &mut [u8],
 ) -> bool
     requires { L.means.is_usable ledgers.old }
-    ensures serves { ServesOwed (rules L.means C.gives H.renews P.does) (number ∷ []) []
+    ensures serves { ServesOwed (rules L.means C.gives H.renews H.waits P.does) ⊥
+        (owing A_turn number ∷ []) []
         (held_by ledgers.old moments.old peers.old seats.old)
         (held_by ledgers.new moments.new peers.new seats.new) (count_of result) }
     ensures usable { L.means.is_usable ledgers.new }
@@ -108,7 +109,8 @@ fn join<L: Ledgers, H: Steward<L>, C: Moments, P: Peers>(
     seats: &mut Seats,
 )
     ensures { (ledgers : L) → (moments : C) →
-        ServesEach (rules L.means C.gives H.renews P.does)
+        ServesOwed (rules L.means C.gives H.renews H.waits P.does) ⊥
+        (owing A_seat seats.old.next ∷ []) []
         (held_by ledgers moments peers.old seats.old)
         (held_by ledgers moments peers.new seats.new) 0 }
 {
@@ -131,7 +133,7 @@ pub(crate) fn let_go<L: Ledgers, H: Steward<L>, C: Moments, P: Peers>(
     number: u64,
 )
     ensures { (ledgers : L) → (moments : C) →
-        ServesOwed (rules L.means C.gives H.renews P.does) (number ∷ []) []
+        ServesOwed (rules L.means C.gives H.renews H.waits P.does) ⊥ (owing An_end number ∷ []) []
         (held_by ledgers moments peers.old seats.old)
         (held_by ledgers moments peers.new seats.new) 0 }
 {
@@ -164,8 +166,9 @@ fn serve_or_gather<L: Rounds, H: Steward<L>, C: Moments, P: Peers>(
     gathered: &mut Gathered,
 ) -> u64
     requires { L.means.is_usable ledgers.old }
-    ensures serves { ServesOwed (rules L.means C.gives H.renews P.does)
-        (number ∷ gathered.old.numbers.items) gathered.new.numbers.items
+    ensures serves { ServesOwed (rules L.means C.gives H.renews H.waits P.does) ⊥
+        (owing A_turn number ∷ turns_of gathered.old.numbers.items)
+        (turns_of gathered.new.numbers.items)
         (held_by ledgers.old moments.old peers.old seats.old)
         (held_by ledgers.new moments.new peers.new seats.new) result }
     ensures few { result ≤ 1 }
@@ -200,8 +203,9 @@ fn serve_told<L: Rounds, H: Steward<L>, C: Moments, P: Peers>(
     told: Told,
 ) -> u64
     requires { L.means.is_usable ledgers.old }
-    ensures serves { ServesOwed (rules L.means C.gives H.renews P.does)
-        (told_of told ++ gathered.old.numbers.items) gathered.new.numbers.items
+    ensures serves { ServesOwed (rules L.means C.gives H.renews H.waits P.does) ⊥
+        (told_of seats.old.next told ++ turns_of gathered.old.numbers.items)
+        (turns_of gathered.new.numbers.items)
         (held_by ledgers.old moments.old peers.old seats.old)
         (held_by ledgers.new moments.new peers.new seats.new) result }
     ensures few { result ≤ 1 }
@@ -248,11 +252,12 @@ fn serve_next<L: Rounds, H: Steward<L>, C: Moments, P: Peers>(
 ) -> Done
     requires usable { L.means.is_usable ledgers.old }
     requires some { 0 < most }
-    ensures does { HasDone (rules L.means C.gives H.renews P.does)
+    ensures does { HasDone (rules L.means C.gives H.renews H.waits P.does)
         (held_by ledgers.old moments.old peers.old seats.old)
         (held_by ledgers.new moments.new peers.new seats.new) result }
-    ensures turns { ServesOwed (rules L.means C.gives H.renews P.does)
-        gathered.old.numbers.items gathered.new.numbers.items
+    ensures turns { ServesOwed (rules L.means C.gives H.renews H.waits P.does)
+        (replies_of result ≡ most)
+        (turns_of gathered.old.numbers.items) (turns_of gathered.new.numbers.items)
         (held_by ledgers.old moments.old peers.old seats.old)
         (held_by ledgers.new moments.new peers.new seats.new) (replies_of result) }
     ensures all { (result ≡ Done.Nothing) ⊎ (replies_of result ≡ most) →
@@ -290,13 +295,13 @@ pub fn serve_ready<L: Rounds, H: Steward<L>, C: Moments, P: Peers>(
     most: u64,
 ) -> u64
     requires { L.means.is_usable ledgers.old }
-    ensures serves { ServesAll (rules L.means C.gives H.renews P.does)
+    ensures serves { ServesAll (rules L.means C.gives H.renews H.waits P.does)
         (held_by ledgers.old moments.old peers.old seats.old)
         (held_by ledgers.new moments.new peers.new seats.new) result }
-    ensures ends { Ends (Seen L) C P (rules L.means C.gives H.renews P.does) (result ≡ most)
+    ensures ends { Ends (Seen L) C P (rules L.means C.gives H.renews H.waits P.does) (result ≡ most)
         (held_by ledgers.old moments.old peers.old seats.old)
         (held_by ledgers.new moments.new peers.new seats.new) result }
-    ensures turns { GivesTurns (Seen L) C P (rules L.means C.gives H.renews P.does)
+    ensures turns { GivesTurns (Seen L) C P (rules L.means C.gives H.renews H.waits P.does) most
         (held_by ledgers.old moments.old peers.old seats.old)
         (held_by ledgers.new moments.new peers.new seats.new) result }
     ensures few { result ≤ most }

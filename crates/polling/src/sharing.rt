@@ -38,7 +38,7 @@ pub(crate) fn share_round<L: Rounds, H: Steward<L>, C: Moments, P: Peers>(
 ) -> u64
     requires { L.means.is_usable ledgers.old }
     ensures serves { (peers : P) → (next : ℕ) →
-        ServesEach (rules L.means C.gives H.renews P.does)
+        ServesEach (rules L.means C.gives H.renews H.waits P.does)
         (held (Whole ledgers.old) moments.old peers (seats_in clients.old) next)
         (held (Whole ledgers.new) moments.new peers (seats_in clients.new) next) result }
     ensures few { result ≤ most }

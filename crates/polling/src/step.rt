@@ -1,5 +1,5 @@
 //! Steps of serving one client.
-ghost use Rattle.std.specs.Prelude.{◌≢◌, ◌≤◌, []};
+ghost use Rattle.std.specs.Prelude.{◌≢◌, ◌≤◌, [], false};
 ghost use Rattle.clients.specs.Answering.{IsWanting};
 ghost use Rattle.ledger_http.specs.Limits.{longest_message};
 ghost use Rattle.service.specs.Seen.{Seen};
@@ -41,8 +41,8 @@ fn read_piece<L: Ledgers, H: Steward<L>, C: Moments, P: Peers>(
 ) -> Step
     requires { IsWanting client.old.unread }
     ensures { (ledgers : Seen L) → (moments : C) →
-        ServesOne (rules L.means C.gives H.renews P.does) number
-        ledgers moments peers.old client.old ledgers moments peers.new client.new result 0 }
+        ServesOne (rules L.means C.gives H.renews H.waits P.does) number
+        ledgers moments peers.old client.old ledgers moments peers.new client.new result false 0 }
 {
     match peers.read(number, piece) {
         Read::Gave(count) => match client.receive(&piece[..count]) {
@@ -68,8 +68,8 @@ pub(crate) fn read_some<L: Ledgers, H: Steward<L>, C: Moments, P: Peers>(
 ) -> Step
     requires { IsWanting client.old.unread }
     ensures { (ledgers : Seen L) → (moments : C) →
-        ServesOne (rules L.means C.gives H.renews P.does) number
-        ledgers moments peers.old client.old ledgers moments peers.new client.new result 0 }
+        ServesOne (rules L.means C.gives H.renews H.waits P.does) number
+        ledgers moments peers.old client.old ledgers moments peers.new client.new result false 0 }
 {
     peers.wants(number, length_of(client));
     read_piece::<L, H, C, P>(peers, number, client, piece)
@@ -83,8 +83,8 @@ pub(crate) fn write_some<L: Ledgers, H: Steward<L>, C: Moments, P: Peers>(
 ) -> Step
     requires { client.old.unsent ≢ [] }
     ensures { (ledgers : Seen L) → (moments : C) →
-        ServesOne (rules L.means C.gives H.renews P.does) number
-        ledgers moments peers.old client.old ledgers moments peers.new client.new result 0 }
+        ServesOne (rules L.means C.gives H.renews H.waits P.does) number
+        ledgers moments peers.old client.old ledgers moments peers.new client.new result false 0 }
 {
     match peers.write(number, client.unsent()) {
         Written::Took(count) => {

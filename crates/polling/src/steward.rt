@@ -1,4 +1,5 @@
 //! Who sees to the ledgers.
+ghost use Rattle.std.specs.Prelude.{ℕ, List, IsTrue};
 ghost use Rattle.service.specs.Openings.{run_meaning, IsSettled};
 
 use chain::Ledgers;
@@ -8,6 +9,9 @@ use chain::Ledgers;
 pub trait Steward<L: Ledgers> {
     // What it may make of ledgers.
     ghost renews: { L → L → Type 0 };
+
+    // Which messages it puts off. One that says nothing of it puts off none.
+    ghost waits: { List ℕ → Type 0 } = { λ message. ⊥ };
 
     /// A law: while ledgers are live, an opening finds what is there.
     fn is_settled(ledgers: &L)
@@ -23,7 +27,9 @@ pub trait Steward<L: Ledgers> {
 
     /// Whether a client's next message, which is a batch, waits for the client's next turn, since
     /// more is to be done for its tenant first.
-    fn puts_off(&self, _message: &[u8]) -> bool {
+    fn puts_off(&self, _message: &[u8]) -> bool
+        ensures { IsTrue result → waits _message.now }
+    {
         false
     }
 }

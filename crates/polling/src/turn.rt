@@ -1,10 +1,10 @@
 //! A client's turn.
-ghost use Rattle.std.specs.Prelude.{◌≡◌, true, false};
+ghost use Rattle.std.specs.Prelude.{◌≡◌, true, false, not};
 ghost use Rattle.clients.specs.Answering.{IsWanting};
 ghost use Rattle.clients.specs.Talk.{may_answer};
 ghost use Rattle.service.specs.Seen.{Seen, Whole};
 ghost use Rattle.polling.specs.Serving.{rules};
-ghost use Rattle.polling.specs.Seating.{ServesOne, count_of};
+ghost use Rattle.polling.specs.Seating.{ServesOne, count_of, has_nothing};
 
 use crate::step::{Step, read_some, write_some};
 use crate::{Batch, Peers, Steward};
@@ -31,8 +31,9 @@ pub(crate) fn write_all<L: Ledgers, H: Steward<L>, C: Moments, P: Peers>(
     client: &mut Client,
 ) -> Step
     ensures { (ledgers : Seen L) → (moments : C) →
-        ServesOne (rules L.means C.gives H.renews P.does) number
-        ledgers moments peers.old client.old ledgers moments peers.new client.new result 0 }
+        ServesOne (rules L.means C.gives H.renews H.waits P.does) number
+        ledgers moments peers.old client.old ledgers moments peers.new client.new result
+        (has_nothing client.old client.new) 0 }
 {
     for _ in 0..MOST_WRITES {
         if client.unsent().is_empty() {
@@ -59,9 +60,10 @@ fn read_or_give_up<L: Ledgers, H: Steward<L>, C: Moments, P: Peers>(
     requires usable { L.means.is_usable ledgers.now }
     requires open { may_answer client.old ≡ true }
     requires more { IsWanting client.old.unread }
-    ensures { (moments : C) → ServesOne (rules L.means C.gives H.renews P.does) number
+    ensures { (moments : C) → ServesOne (rules L.means C.gives H.renews H.waits P.does) number
         (Whole ledgers.now) moments peers.old client.old
-        (Whole ledgers.now) moments peers.new client.new result.step (count_of result.replied) }
+        (Whole ledgers.now) moments peers.new client.new result.step false
+        (count_of result.replied) }
 {
     match client.reserve_due(piece.len()) {
         Ok(count) => Turned {
@@ -102,9 +104,10 @@ pub(crate) fn answer_or_read<L: Ledgers, H: Steward<L>, C: Moments, P: Peers>(
 ) -> Turned
     requires usable { L.means.is_usable ledgers.old }
     requires open { may_answer client.old ≡ true }
-    ensures serves { ServesOne (rules L.means C.gives H.renews P.does) number
+    ensures serves { ServesOne (rules L.means C.gives H.renews H.waits P.does) number
         (Whole ledgers.old) moments.old peers.old client.old
-        (Whole ledgers.new) moments.new peers.new client.new result.step (count_of result.replied) }
+        (Whole ledgers.new) moments.new peers.new client.new result.step false
+        (count_of result.replied) }
     ensures usable { L.means.is_usable ledgers.new }
 {
     match client.answer(alloc, ledgers, moments) {
@@ -140,9 +143,10 @@ pub(crate) fn finish<L: Ledgers, H: Steward<L>, C: Moments, P: Peers>(
     answers: bool,
 ) -> Turned
     requires usable { L.means.is_usable ledgers.old }
-    ensures serves { ServesOne (rules L.means C.gives H.renews P.does) number
+    ensures serves { ServesOne (rules L.means C.gives H.renews H.waits P.does) number
         (Whole ledgers.old) moments.old peers.old client.old
-        (Whole ledgers.new) moments.new peers.new client.new result.step (count_of result.replied) }
+        (Whole ledgers.new) moments.new peers.new client.new result.step (not answers)
+        (count_of result.replied) }
     ensures few { answers ≡ false → result.replied ≡ false }
     ensures usable { L.means.is_usable ledgers.new }
 {
@@ -167,9 +171,10 @@ pub(crate) fn turn<L: Ledgers, H: Steward<L>, C: Moments, P: Peers>(
     piece: &mut [u8],
 ) -> Turned
     requires usable { L.means.is_usable ledgers.old }
-    ensures serves { ServesOne (rules L.means C.gives H.renews P.does) number
+    ensures serves { ServesOne (rules L.means C.gives H.renews H.waits P.does) number
         (Whole ledgers.old) moments.old peers.old client.old
-        (Whole ledgers.new) moments.new peers.new client.new result.step (count_of result.replied) }
+        (Whole ledgers.new) moments.new peers.new client.new result.step false
+        (count_of result.replied) }
     ensures usable { L.means.is_usable ledgers.new }
 {
     match write_all::<L, H, C, P>(peers, number, client) {

@@ -1,5 +1,5 @@
 //! Firms whose ledgers are kept in memory.
-ghost use Rattle.std.specs.Prelude.{◌≡◌};
+ghost use Rattle.std.specs.Prelude.{◌≡◌, ⊤};
 
 use super::frail::{Fate, Frail, Opens};
 use super::scripted::{Peer, Scripted};
@@ -46,6 +46,9 @@ struct PutsOff {
 
 impl Steward<Book> for PutsOff {
     ghost renews = { λ old new. new ≡ old };
+
+    // Nothing is known of these.
+    ghost waits = { λ message. ⊤ };
 
     fn is_settled(_ledgers: &Book) {}
 

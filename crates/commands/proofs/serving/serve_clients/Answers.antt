@@ -24,7 +24,7 @@ loop-init g c = record {
 
 pub loop-preserved : goal.loop-preserved
 loop-preserved g c =
-    let r = rules g.L.Ledgers.means g.C.Moments.gives g.H.Steward.renews g.P.Peers.does in
+    let r = rules g.L.Ledgers.means g.C.Moments.gives g.H.Steward.renews g.H.Steward.waits g.P.Peers.does in
     let first = empty_hall (Whole c.args.ledgers.now) c.args.moments.now c.args.peers.now in
     let before = c.loop.invariant in
     let old = held_by c.loop.ledgers c.loop.moments c.loop.peers c.loop.seats in
@@ -61,7 +61,7 @@ returns-then-left-eq0-clause-served g c =
     let all =
     c.serving_goes_on.ensures.served first one.last one.deeds one.all mid new 0 one.keeps
     (c.write_rest.ensures.serves round.new.ledgers round.new.moments) in
-    serves_so (rules g.L.Ledgers.means g.C.Moments.gives g.H.Steward.renews g.P.Peers.does)
+    serves_so (rules g.L.Ledgers.means g.C.Moments.gives g.H.Steward.renews g.H.Steward.waits g.P.Peers.does)
     c.each_is_served.ensures c.serving_is_a_course.ensures.course
     c.serving_is_a_course.ensures.alone (Whole c.args.ledgers.now) c.args.moments.now
     c.args.peers.now
@@ -92,7 +92,7 @@ returns-then-is_stopping-clause-served g c =
     let all =
     c.serving_goes_on.ensures.served first one.last one.deeds one.all mid new 0 one.keeps
     (c.write_rest-then-is_stopping.ensures.serves round.new.ledgers round.new.moments) in
-    serves_so (rules g.L.Ledgers.means g.C.Moments.gives g.H.Steward.renews g.P.Peers.does)
+    serves_so (rules g.L.Ledgers.means g.C.Moments.gives g.H.Steward.renews g.H.Steward.waits g.P.Peers.does)
     c.each_is_served.ensures c.serving_is_a_course.ensures.course
     c.serving_is_a_course.ensures.alone (Whole c.args.ledgers.now) c.args.moments.now
     c.args.peers.now
@@ -111,7 +111,7 @@ returns-then-is_stopping-clause-served g c =
 pub returns-clause-served : goal.returns-clause-served
 returns-clause-served g c =
     let before = c.loop.invariant in
-    serves_so (rules g.L.Ledgers.means g.C.Moments.gives g.H.Steward.renews g.P.Peers.does)
+    serves_so (rules g.L.Ledgers.means g.C.Moments.gives g.H.Steward.renews g.H.Steward.waits g.P.Peers.does)
     c.each_is_served.ensures c.serving_is_a_course.ensures.course
     c.serving_is_a_course.ensures.alone (Whole c.args.ledgers.now) c.args.moments.now
     c.args.peers.now

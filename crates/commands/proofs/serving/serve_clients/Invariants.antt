@@ -13,7 +13,7 @@ invariant-loop g l = record {
   last : Hall _ _ _;
   served :
       Serves _ _ _
-      (rules g.L.Ledgers.means g.C.Moments.gives g.H.Steward.renews g.P.Peers.does)
+      (rules g.L.Ledgers.means g.C.Moments.gives g.H.Steward.renews g.H.Steward.waits g.P.Peers.does)
       (empty_hall (Whole l.fn.ledgers) l.fn.moments l.fn.peers) deeds last;
   keeps : Keeps (held_by l.ledgers l.moments l.peers l.seats) last;
   left : replies_in deeds + l.left ≡ l.most;

@@ -1,12 +1,13 @@
 use Rattle.std.proofs.Common.{[], ◌∷◌, refl}
 use Rattle.polling.specs.Serving.{rules}
+use Rattle.polling.specs.Standing.{A_seat, An_end, owing}
 use Rattle.polling.specs.Seating.{held_by}
 use Rattle.polling.proofs.AllLemmas.{nothing_done, serves_all}
 use Rattle.polling.proofs.finishing.write_next.Goals as goal
 
 pub returns-in-Joined-clause-turn : goal.returns-in-Joined-clause-turn
 returns-in-Joined-clause-turn g c is ledgers moments =
-    let r = rules g.L.Ledgers.means g.C.Moments.gives g.H.Steward.renews g.P.Peers.does in
+    let r = rules g.L.Ledgers.means g.C.Moments.gives g.H.Steward.renews g.H.Steward.waits g.P.Peers.does in
     record {
       before = held_by ledgers moments c.args.peers.now c.args.seats.now;
       told = c.told.result;
@@ -14,14 +15,15 @@ returns-in-Joined-clause-turn g c is ledgers moments =
       first = nothing_done r (held_by ledgers moments c.args.peers.now c.args.seats.now);
       said = c.told.ensures;
       served =
-          serves_all r [] [] (held_by ledgers moments c.told.new.self c.args.seats.now)
+          serves_all r ⊥ (owing A_seat c.args.seats.now.next ∷ []) []
+          (held_by ledgers moments c.told.new.self c.args.seats.now)
           (held_by ledgers moments c.turn_away.new.peers c.turn_away.new.seats) 0
           (c.turn_away.ensures ledgers moments);
     }
 
 pub returns-in-Ready-clause-turn : goal.returns-in-Ready-clause-turn
 returns-in-Ready-clause-turn g c is ledgers moments =
-    let r = rules g.L.Ledgers.means g.C.Moments.gives g.H.Steward.renews g.P.Peers.does in
+    let r = rules g.L.Ledgers.means g.C.Moments.gives g.H.Steward.renews g.H.Steward.waits g.P.Peers.does in
     record {
       before = held_by ledgers moments c.args.peers.now c.args.seats.now;
       told = c.told.result;
@@ -33,7 +35,7 @@ returns-in-Ready-clause-turn g c is ledgers moments =
 
 pub returns-in-Late-clause-turn : goal.returns-in-Late-clause-turn
 returns-in-Late-clause-turn g c is ledgers moments =
-    let r = rules g.L.Ledgers.means g.C.Moments.gives g.H.Steward.renews g.P.Peers.does in
+    let r = rules g.L.Ledgers.means g.C.Moments.gives g.H.Steward.renews g.H.Steward.waits g.P.Peers.does in
     record {
       before = held_by ledgers moments c.args.peers.now c.args.seats.now;
       told = c.told.result;
@@ -41,7 +43,7 @@ returns-in-Late-clause-turn g c is ledgers moments =
       first = nothing_done r (held_by ledgers moments c.args.peers.now c.args.seats.now);
       said = c.told.ensures;
       served =
-          serves_all r (c.in-Late.number ∷ []) []
+          serves_all r ⊥ (owing An_end c.in-Late.number ∷ []) []
           (held_by ledgers moments c.told.new.self c.args.seats.now)
           (held_by ledgers moments c.let_go.new.peers c.let_go.new.seats) 0
           (c.let_go.ensures ledgers moments);
@@ -49,7 +51,7 @@ returns-in-Late-clause-turn g c is ledgers moments =
 
 pub returns-in-Nothing-clause-quiet : goal.returns-in-Nothing-clause-quiet
 returns-in-Nothing-clause-quiet g c is ledgers moments =
-    let r = rules g.L.Ledgers.means g.C.Moments.gives g.H.Steward.renews g.P.Peers.does in
+    let r = rules g.L.Ledgers.means g.C.Moments.gives g.H.Steward.renews g.H.Steward.waits g.P.Peers.does in
     record {
       before = held_by ledgers moments c.args.peers.now c.args.seats.now;
       served = nothing_done r (held_by ledgers moments c.args.peers.now c.args.seats.now);

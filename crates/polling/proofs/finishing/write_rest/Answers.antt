@@ -10,14 +10,14 @@ loop-init g c ledgers moments = Start
 
 pub returns-then-are_written-clause-serves : goal.returns-then-are_written-clause-serves
 returns-then-are_written-clause-serves g c ledgers moments =
-    turns_serve (rules g.L.Ledgers.means g.C.Moments.gives g.H.Steward.renews g.P.Peers.does)
+    turns_serve (rules g.L.Ledgers.means g.C.Moments.gives g.H.Steward.renews g.H.Steward.waits g.P.Peers.does)
     (held_by ledgers moments c.args.peers.now c.args.seats.now)
     (held_by ledgers moments c.loop.peers c.loop.seats) c.loop.counter 0
     (c.loop.invariant ledgers moments)
 
 pub returns-then-not-write_next-clause-serves : goal.returns-then-not-write_next-clause-serves
 returns-then-not-write_next-clause-serves g c ledgers moments =
-    let r = rules g.L.Ledgers.means g.C.Moments.gives g.H.Steward.renews g.P.Peers.does in
+    let r = rules g.L.Ledgers.means g.C.Moments.gives g.H.Steward.renews g.H.Steward.waits g.P.Peers.does in
     let first = held_by ledgers moments c.args.peers.now c.args.seats.now in
     let old = held_by ledgers moments c.loop.peers c.loop.seats in
     let new = held_by ledgers moments c.write_next.new.peers c.write_next.new.seats in
@@ -28,7 +28,7 @@ returns-then-not-write_next-clause-serves g c ledgers moments =
 
 pub returns-then-not-write_next-clause-ends : goal.returns-then-not-write_next-clause-ends
 returns-then-not-write_next-clause-ends g c ledgers moments =
-    let r = rules g.L.Ledgers.means g.C.Moments.gives g.H.Steward.renews g.P.Peers.does in
+    let r = rules g.L.Ledgers.means g.C.Moments.gives g.H.Steward.renews g.H.Steward.waits g.P.Peers.does in
     let first = held_by ledgers moments c.args.peers.now c.args.seats.now in
     let old = held_by ledgers moments c.loop.peers c.loop.seats in
     let new = held_by ledgers moments c.write_next.new.peers c.write_next.new.seats in
@@ -39,7 +39,7 @@ returns-then-not-write_next-clause-ends g c ledgers moments =
 
 pub loop-preserved : goal.loop-preserved
 loop-preserved g c ledgers moments =
-    let r = rules g.L.Ledgers.means g.C.Moments.gives g.H.Steward.renews g.P.Peers.does in
+    let r = rules g.L.Ledgers.means g.C.Moments.gives g.H.Steward.renews g.H.Steward.waits g.P.Peers.does in
     next_turn r (held_by ledgers moments c.args.peers.now c.args.seats.now)
     (held_by ledgers moments c.loop.peers c.loop.seats)
     (held_by ledgers moments c.write_next.new.peers c.write_next.new.seats) c.loop.counter 0 0 0 refl
@@ -48,14 +48,14 @@ loop-preserved g c ledgers moments =
 
 pub returns-clause-serves : goal.returns-clause-serves
 returns-clause-serves g c ledgers moments =
-    turns_serve (rules g.L.Ledgers.means g.C.Moments.gives g.H.Steward.renews g.P.Peers.does)
+    turns_serve (rules g.L.Ledgers.means g.C.Moments.gives g.H.Steward.renews g.H.Steward.waits g.P.Peers.does)
     (held_by ledgers moments c.args.peers.now c.args.seats.now)
     (held_by ledgers moments c.loop.peers c.loop.seats) c.loop.counter 0
     (c.loop.invariant ledgers moments)
 
 pub returns-clause-ends : goal.returns-clause-ends
 returns-clause-ends g c ledgers moments =
-    too_long (rules g.L.Ledgers.means g.C.Moments.gives g.H.Steward.renews g.P.Peers.does)
+    too_long (rules g.L.Ledgers.means g.C.Moments.gives g.H.Steward.renews g.H.Steward.waits g.P.Peers.does)
     (AreWritten c.loop.seats.clients)
     (held_by ledgers moments c.args.peers.now c.args.seats.now)
     (held_by ledgers moments c.loop.peers c.loop.seats) c.loop.counter 0 c.loop.auto.counter-end

@@ -9,6 +9,6 @@ abbrev pub invariant-loop : goal.invariant-loop
 invariant-loop g l =
     (ledgers : g.row.L.Denot) (moments : g.row.C.Denot)
     → Turns (Seen g.row.L.Denot) g.row.C.Denot g.row.P.Denot
-    (rules g.L.Ledgers.means g.C.Moments.gives g.H.Steward.renews g.P.Peers.does)
+    (rules g.L.Ledgers.means g.C.Moments.gives g.H.Steward.renews g.H.Steward.waits g.P.Peers.does)
     (held_by ledgers moments l.fn.peers l.fn.seats) l.counter 0
     (held_by ledgers moments l.peers l.seats)

@@ -1,7 +1,8 @@
-use Rattle.std.proofs.Common.{◌≡◌, ◌+◌, refl, sym, ◌∙◌, subst, ℕ, List, []}
+use Rattle.std.proofs.Common.{◌≡◌, ◌+◌, ◌-◌, refl, sym, ◌∙◌, subst, ℕ, List, [], arith}
 use Rattle.polling.specs.Serving.{rules}
+use Rattle.polling.specs.Standing.{turns_of}
 use Rattle.polling.specs.Seating.{ServesOwed, held_by}
-use Rattle.polling.proofs.AllLemmas.{beside, none_owed, then_owed}
+use Rattle.polling.proofs.AllLemmas.{beside, none_owed, owed_for, then_owed}
 use Rattle.polling.proofs.gathered.serve_due.Goals.{then-not-has_more, else-not-has_more}
 use Rattle.polling.proofs.gathered.serve_due.Goals as goal
 
@@ -11,13 +12,15 @@ returns-then-not-is_due-clause-serves g c =
     let same : c.if-not-has_more.gathered.numbers.items ≡ started =
     elim c.if-not-has_more.branch [ then-not-has_more w ↦ cc | else-not-has_more w ↦ cc ] in
     let now = held_by c.args.ledgers.now c.args.moments.now c.args.peers.now c.args.seats.now in
-    let r = rules g.L.Ledgers.means g.C.Moments.gives g.H.Steward.renews g.P.Peers.does in
-    subst (λ (left : List ℕ). ServesOwed r started left now now 0) (sym same)
-    (none_owed r started started now (λ client found. found))
+    let r = rules g.L.Ledgers.means g.C.Moments.gives g.H.Steward.renews g.H.Steward.waits g.P.Peers.does in
+    let why = 0 ≡ c.args.most in
+    subst
+    (λ (left : List ℕ). ServesOwed r why (turns_of started) (turns_of left) now now 0) (sym same)
+    (none_owed r why (turns_of started) (turns_of started) now (λ one found. found))
 
 pub returns-clause-serves : goal.returns-clause-serves
 returns-clause-serves g c =
-    let r = rules g.L.Ledgers.means g.C.Moments.gives g.H.Steward.renews g.P.Peers.does in
+    let r = rules g.L.Ledgers.means g.C.Moments.gives g.H.Steward.renews g.H.Steward.waits g.P.Peers.does in
     let started = c.args.gathered.now.numbers.items in
     let same : c.if-not-has_more.gathered.numbers.items ≡ started =
     elim c.if-not-has_more.branch [ then-not-has_more w ↦ cc | else-not-has_more w ↦ cc ] in
@@ -32,9 +35,19 @@ returns-clause-serves g c =
     (record c.args.seats.now { clients = shared.new.clients }) in
     let new = held_by more.new.ledgers more.new.moments more.new.peers more.new.seats in
     let replies = shared.result + more.result in
-    subst (λ (clients : List ℕ). ServesOwed r started clients old new replies) (sym none)
-    (then_owed r started started [] old mid new shared.result more.result replies refl
-    (beside r [] [] started old mid shared.result
-    (shared.ensures.serves c.args.peers.now c.args.seats.now.next))
-    (subst (λ (clients : List ℕ). ServesOwed r clients [] mid new more.result) taken
-    more.ensures.serves))
+    let why = replies ≡ c.args.most in
+    let few = shared.ensures.few in
+    subst
+    (λ (clients : List ℕ). ServesOwed r why (turns_of started) (turns_of clients) old new replies)
+    (sym none)
+    (then_owed r why (turns_of started) (turns_of started) [] old mid new shared.result more.result
+    replies refl
+    (beside r why [] [] (turns_of started) old mid shared.result
+    (owed_for r ⊥ why [] [] old mid shared.result (λ never. absurd never)
+    (shared.ensures.serves c.args.peers.now c.args.seats.now.next)))
+    (owed_for r (more.result ≡ c.args.most - shared.result) why (turns_of started) [] mid new more.result
+    (λ (is : more.result ≡ c.args.most - shared.result). omega (arith, is, few))
+    (subst
+    (λ (clients : List ℕ).
+    ServesOwed r (more.result ≡ c.args.most - shared.result) (turns_of clients) [] mid new more.result)
+    taken more.ensures.serves)))

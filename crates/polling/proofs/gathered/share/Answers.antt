@@ -6,5 +6,5 @@ use Rattle.polling.proofs.gathered.share.Goals as goal
 
 pub returns-then-numbers-lt2-clause-serves : goal.returns-then-numbers-lt2-clause-serves
 returns-then-numbers-lt2-clause-serves g c peers next =
-    none_served (rules g.L.Ledgers.means g.C.Moments.gives g.H.Steward.renews g.P.Peers.does)
+    none_served (rules g.L.Ledgers.means g.C.Moments.gives g.H.Steward.renews g.H.Steward.waits g.P.Peers.does)
     (held (Whole c.args.ledgers.now) c.args.moments.now peers (seats_in c.args.clients.now) next)

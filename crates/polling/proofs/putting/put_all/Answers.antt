@@ -12,11 +12,11 @@ loop-member-init g c = record {
   put =
       subst
       (λ (replies : List Reply).
-      ArePutSoFar g.L.Ledgers.means g.C.Moments.gives g.H.Steward.renews g.P.Peers.does
+      ArePutSoFar g.L.Ledgers.means g.C.Moments.gives g.H.Steward.renews g.H.Steward.waits g.P.Peers.does
       c.args.round.now.messages.items c.args.replies.items (seats_in c.args.clients.now)
       c.args.round.now.members.items replies (seats_in c.args.clients.now) 0)
       (sym c.into_iter-rest.ensures.rest)
-      (put_none g.L.Ledgers.means g.C.Moments.gives g.H.Steward.renews g.P.Peers.does
+      (put_none g.L.Ledgers.means g.C.Moments.gives g.H.Steward.renews g.H.Steward.waits g.P.Peers.does
       c.args.round.now.messages.items c.args.replies.items (seats_in c.args.clients.now)
       c.args.round.now.members.items c.requires);
   count = refl;
@@ -25,7 +25,7 @@ loop-member-init g c = record {
 
 pub returns-in_default-clause-put : goal.returns-in_default-clause-put
 returns-in_default-clause-put g c =
-    put_over g.L.Ledgers.means g.C.Moments.gives g.H.Steward.renews g.P.Peers.does _ _ _ _ _ _ _
+    put_over g.L.Ledgers.means g.C.Moments.gives g.H.Steward.renews g.H.Steward.waits g.P.Peers.does _ _ _ _ _ _ _
     c.loop-member.invariant.put
     (inr (nothing_left _ _ c.loop-member.invariant.len c.in_default.ensures.cases.0))
 
@@ -52,7 +52,7 @@ overflow_add-count g c =
 pub loop-member-preserved : goal.loop-member-preserved
 loop-member-preserved g c = record {
   put =
-      put_more g.L.Ledgers.means g.C.Moments.gives g.H.Steward.renews g.P.Peers.does
+      put_more g.L.Ledgers.means g.C.Moments.gives g.H.Steward.renews g.H.Steward.waits g.P.Peers.does
       c.rounds_reply.ensures.leave c.rounds_reply.ensures.reply _ _ _ _ _ _ _ _ _ _ _ _
       (member_here _ _ _ _ c.deref-member-items.ensures.value c.loop-member-test.true)
       c.in-Some.ensures.cases.0 c.loop-member.invariant.put c.put_one.ensures;
@@ -66,7 +66,7 @@ loop-member-preserved g c = record {
 
 pub returns-clause-put : goal.returns-clause-put
 returns-clause-put g c =
-    put_over g.L.Ledgers.means g.C.Moments.gives g.H.Steward.renews g.P.Peers.does _ _ _ _ _ _ _
+    put_over g.L.Ledgers.means g.C.Moments.gives g.H.Steward.renews g.H.Steward.waits g.P.Peers.does _ _ _ _ _ _ _
     c.loop-member.invariant.put
     (inl
     (none_left (seats_in c.loop-member.clients) _

@@ -8,7 +8,7 @@ use Rattle.polling.proofs.putting.put_all.Given as goal
 abbrev pub invariant-loop-member : goal.invariant-loop-member
 invariant-loop-member g l = record {
   put :
-      ArePutSoFar g.L.Ledgers.means g.C.Moments.gives g.H.Steward.renews g.P.Peers.does
+      ArePutSoFar g.L.Ledgers.means g.C.Moments.gives g.H.Steward.renews g.H.Steward.waits g.P.Peers.does
       l.round.messages.items l.fn.replies.items (seats_in l.fn.clients)
       (drop l.member-index l.round.members.items) (into_iter_items l.rest) (seats_in l.clients)
       l.count;

@@ -9,7 +9,7 @@ use Rattle.polling.proofs.putting.tell_all.Goals as goal
 pub loop-member-init : goal.loop-member-init
 loop-member-init g c = record {
   told =
-      told_none g.L.Ledgers.means g.C.Moments.gives g.H.Steward.renews g.P.Peers.does
+      told_none g.L.Ledgers.means g.C.Moments.gives g.H.Steward.renews g.H.Steward.waits g.P.Peers.does
       c.args.round.now.messages.items (seats_in c.args.clients.now) c.args.round.now.members.items
       c.requires;
   count = refl;
@@ -31,7 +31,7 @@ overflow_add-count g c =
 pub loop-member-preserved : goal.loop-member-preserved
 loop-member-preserved g c = record {
   told =
-      told_more g.L.Ledgers.means g.C.Moments.gives g.H.Steward.renews g.P.Peers.does
+      told_more g.L.Ledgers.means g.C.Moments.gives g.H.Steward.renews g.H.Steward.waits g.P.Peers.does
       c.meanings_are_unique.ensures.head c.rounds_reply.ensures.unavailable _ _ _ _ _ _ _ _
       (member_here _ _ _ _ c.deref-member-items.ensures.value c.loop-member-test.true)
       c.loop-member.invariant.told c.put_one.ensures;
@@ -40,7 +40,7 @@ loop-member-preserved g c = record {
 
 pub returns-clause-told : goal.returns-clause-told
 returns-clause-told g c =
-    told_over g.L.Ledgers.means g.C.Moments.gives g.H.Steward.renews g.P.Peers.does _ _ _ _ _
+    told_over g.L.Ledgers.means g.C.Moments.gives g.H.Steward.renews g.H.Steward.waits g.P.Peers.does _ _ _ _ _
     c.loop-member.invariant.told
     (none_left (seats_in c.loop-member.clients) _
     (subst

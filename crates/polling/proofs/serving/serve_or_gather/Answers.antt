@@ -2,16 +2,19 @@ use Rattle.std.proofs.Common.{refl, [], ◌∷◌}
 use Rattle.service.specs.Seen.{Whole}
 use Rattle.polling.specs.Serving.{rules}
 use Rattle.polling.specs.Seating.{held, held_by, seats_in}
-use Rattle.polling.proofs.StandLemmas.{among_first, among_beside}
-use Rattle.polling.proofs.AllLemmas.{unchanged, then_owed, beside, asks_all}
+use Rattle.polling.specs.Standing.{A_turn, owing, turns_of}
+use Rattle.polling.proofs.KindLemmas.{put_off_by}
+use Rattle.polling.proofs.StandLemmas.{among_first, among_beside, among_turns}
+use Rattle.polling.proofs.AllLemmas.{unchanged, then_owed, beside, puts_off_all}
 use Rattle.polling.proofs.serving.serve_or_gather.Goals as goal
 
 pub returns-in-Gathered-clause-serves : goal.returns-in-Gathered-clause-serves
 returns-in-Gathered-clause-serves g c =
-    let r = rules g.L.Ledgers.means g.C.Moments.gives g.H.Steward.renews g.P.Peers.does in
+    let r = rules g.L.Ledgers.means g.C.Moments.gives g.H.Steward.renews g.H.Steward.waits g.P.Peers.does in
     let gathered = c.args.gathered.now.numbers.items in
     let gathered_now = c.place.new.self.numbers.items in
-    unchanged r (c.args.number ∷ gathered) gathered_now (Whole c.args.ledgers.now)
+    unchanged r ⊥ (owing A_turn c.args.number ∷ turns_of gathered) (turns_of gathered_now)
+    (Whole c.args.ledgers.now)
     c.args.moments.now c.args.peers.now (seats_in c.args.seats.now.clients)
     (seats_in c.place.new.clients) c.args.seats.now.next c.place.ensures.same
     (among_first c.args.number gathered gathered_now (c.in-Gathered.ensures.gathered refl)
@@ -19,7 +22,7 @@ returns-in-Gathered-clause-serves g c =
 
 pub returns-in-Later-clause-serves : goal.returns-in-Later-clause-serves
 returns-in-Later-clause-serves g c =
-    let r = rules g.L.Ledgers.means g.C.Moments.gives g.H.Steward.renews g.P.Peers.does in
+    let r = rules g.L.Ledgers.means g.C.Moments.gives g.H.Steward.renews g.H.Steward.waits g.P.Peers.does in
     let ledgers = Whole c.args.ledgers.now in
     let moments = c.args.moments.now in
     let next = c.args.seats.now.next in
@@ -29,18 +32,22 @@ returns-in-Later-clause-serves g c =
     let gathered_now = c.place.new.self.numbers.items in
     let mid = held ledgers moments c.again.new.self seats next in
     let old = held ledgers moments c.args.peers.now seats next in
-    then_owed r (c.args.number ∷ gathered) gathered gathered_now old mid
+    let turn = owing A_turn c.args.number in
+    let placed = c.in-Later.ensures.placed.1 in
+    then_owed r ⊥ (turn ∷ turns_of gathered) (turns_of gathered) (turns_of gathered_now) old mid
     (held ledgers moments c.again.new.self seats_now next) 0 0 0 refl
-    (beside r (c.args.number ∷ []) [] gathered old mid 0
-    (asks_all r c.args.number ledgers moments c.args.peers.now c.again.new.self seats next
+    (beside r ⊥ (turn ∷ []) [] (turns_of gathered) old mid 0
+    (puts_off_all r c.args.number placed.0 ledgers moments c.args.peers.now c.again.new.self seats next
+    placed.1
+    (put_off_by g.H.Steward.waits c.args.gathered.now.queries placed.0 placed.2)
     c.again.ensures))
-    (unchanged r gathered gathered_now ledgers moments c.again.new.self seats seats_now next
-    c.place.ensures.same c.place.ensures.kept)
+    (unchanged r ⊥ (turns_of gathered) (turns_of gathered_now) ledgers moments c.again.new.self seats
+    seats_now next c.place.ensures.same (among_turns gathered gathered_now c.place.ensures.kept))
 
 pub returns-then-serve_one-clause-serves : goal.returns-then-serve_one-clause-serves
 returns-then-serve_one-clause-serves g c =
-    let r = rules g.L.Ledgers.means g.C.Moments.gives g.H.Steward.renews g.P.Peers.does in
-    let number = c.args.number in
+    let r = rules g.L.Ledgers.means g.C.Moments.gives g.H.Steward.renews g.H.Steward.waits g.P.Peers.does in
+    let turn = owing A_turn c.args.number in
     let gathered = c.args.gathered.now.numbers.items in
     let gathered_now = c.place.new.self.numbers.items in
     let seats_now = record c.args.seats.now { clients = c.place.new.clients } in
@@ -48,19 +55,21 @@ returns-then-serve_one-clause-serves g c =
     let new =
     held_by c.serve_one.new.ledgers c.serve_one.new.moments c.serve_one.new.peers
     c.serve_one.new.seats in
-    then_owed r (number ∷ gathered) (number ∷ gathered_now) gathered_now
+    then_owed r ⊥ (turn ∷ turns_of gathered) (turn ∷ turns_of gathered_now) (turns_of gathered_now)
     (held_by c.args.ledgers.now c.args.moments.now c.args.peers.now c.args.seats.now) mid new 0 1 1
     refl
-    (unchanged r (number ∷ gathered) (number ∷ gathered_now) (Whole c.args.ledgers.now)
-    c.args.moments.now c.args.peers.now (seats_in c.args.seats.now.clients)
-    (seats_in c.place.new.clients) c.args.seats.now.next c.place.ensures.same
-    (among_beside number gathered gathered_now c.place.ensures.kept))
-    (beside r (number ∷ []) [] gathered_now mid new 1 c.if-serve_one.ensures.serves)
+    (unchanged r ⊥ (turn ∷ turns_of gathered) (turn ∷ turns_of gathered_now)
+    (Whole c.args.ledgers.now) c.args.moments.now c.args.peers.now
+    (seats_in c.args.seats.now.clients) (seats_in c.place.new.clients) c.args.seats.now.next
+    c.place.ensures.same
+    (among_beside turn (turns_of gathered) (turns_of gathered_now)
+    (among_turns gathered gathered_now c.place.ensures.kept)))
+    (beside r ⊥ (turn ∷ []) [] (turns_of gathered_now) mid new 1 c.if-serve_one.ensures.serves)
 
 pub returns-else-serve_one-clause-serves : goal.returns-else-serve_one-clause-serves
 returns-else-serve_one-clause-serves g c =
-    let r = rules g.L.Ledgers.means g.C.Moments.gives g.H.Steward.renews g.P.Peers.does in
-    let number = c.args.number in
+    let r = rules g.L.Ledgers.means g.C.Moments.gives g.H.Steward.renews g.H.Steward.waits g.P.Peers.does in
+    let turn = owing A_turn c.args.number in
     let gathered = c.args.gathered.now.numbers.items in
     let gathered_now = c.place.new.self.numbers.items in
     let seats_now = record c.args.seats.now { clients = c.place.new.clients } in
@@ -68,11 +77,13 @@ returns-else-serve_one-clause-serves g c =
     let new =
     held_by c.serve_one.new.ledgers c.serve_one.new.moments c.serve_one.new.peers
     c.serve_one.new.seats in
-    then_owed r (number ∷ gathered) (number ∷ gathered_now) gathered_now
+    then_owed r ⊥ (turn ∷ turns_of gathered) (turn ∷ turns_of gathered_now) (turns_of gathered_now)
     (held_by c.args.ledgers.now c.args.moments.now c.args.peers.now c.args.seats.now) mid new 0 0 0
     refl
-    (unchanged r (number ∷ gathered) (number ∷ gathered_now) (Whole c.args.ledgers.now)
-    c.args.moments.now c.args.peers.now (seats_in c.args.seats.now.clients)
-    (seats_in c.place.new.clients) c.args.seats.now.next c.place.ensures.same
-    (among_beside number gathered gathered_now c.place.ensures.kept))
-    (beside r (number ∷ []) [] gathered_now mid new 0 c.if-serve_one.ensures.serves)
+    (unchanged r ⊥ (turn ∷ turns_of gathered) (turn ∷ turns_of gathered_now)
+    (Whole c.args.ledgers.now) c.args.moments.now c.args.peers.now
+    (seats_in c.args.seats.now.clients) (seats_in c.place.new.clients) c.args.seats.now.next
+    c.place.ensures.same
+    (among_beside turn (turns_of gathered) (turns_of gathered_now)
+    (among_turns gathered gathered_now c.place.ensures.kept)))
+    (beside r ⊥ (turn ∷ []) [] (turns_of gathered_now) mid new 0 c.if-serve_one.ensures.serves)

@@ -1,28 +1,31 @@
-use Rattle.std.proofs.Common.{◌≡◌, ◌+◌, inl, inr, refl, sym, subst, ℕ, List, [], arith}
+use Rattle.std.proofs.Common.{◌≡◌, ◌+◌, ◌-◌, inl, inr, refl, sym, subst, ℕ, List, [], arith}
 use Rattle.polling.specs.Serving.{rules}
+use Rattle.polling.specs.Standing.{turns_of}
 use Rattle.polling.specs.Seating.{held_by, ServesOwed}
 use Rattle.polling.specs.Ending.{Start, Enough, Quiet}
 use Rattle.polling.proofs.TurnLemmas.{turns_serve, next_turn, all_turns, too_long, quiet_serves, quiet_then}
-use Rattle.polling.proofs.AllLemmas.{none_served, then_owed}
+use Rattle.polling.proofs.AllLemmas.{none_owed, owed_for, then_owed}
 use Rattle.polling.proofs.serving.serve_ready.Goals as goal
 
 pub loop-init : goal.loop-init
 loop-init g c =
-    let r = rules g.L.Ledgers.means g.C.Moments.gives g.H.Steward.renews g.P.Peers.does in
+    let r = rules g.L.Ledgers.means g.C.Moments.gives g.H.Steward.renews g.H.Steward.waits g.P.Peers.does in
     let first = held_by c.args.ledgers.now c.args.moments.now c.args.peers.now c.args.seats.now in
     record {
       turns = Start;
       served =
-          subst (λ (gathered : List ℕ). ServesOwed r [] gathered first first 0)
-          (sym c.new-gathered.ensures) (none_served r first);
-      all = λ some. c.new-gathered.ensures;
+          subst
+          (λ (gathered : List ℕ). ServesOwed r (0 ≡ c.args.most) [] (turns_of gathered) first first 0)
+          (sym c.new-gathered.ensures.none)
+          (none_owed r (0 ≡ c.args.most) [] [] first (λ one found. found));
+      all = λ some. c.new-gathered.ensures.none;
       few = omega arith;
       usable = c.requires;
     }
 
 pub returns-then-replies-most-clause-serves : goal.returns-then-replies-most-clause-serves
 returns-then-replies-most-clause-serves g c =
-    turns_serve (rules g.L.Ledgers.means g.C.Moments.gives g.H.Steward.renews g.P.Peers.does)
+    turns_serve (rules g.L.Ledgers.means g.C.Moments.gives g.H.Steward.renews g.H.Steward.waits g.P.Peers.does)
     (held_by c.args.ledgers.now c.args.moments.now c.args.peers.now c.args.seats.now)
     (held_by c.loop.ledgers c.loop.moments c.loop.peers c.loop.seats) c.loop.counter
     c.loop.replies c.loop.invariant.turns
@@ -32,39 +35,49 @@ returns-then-replies-most-clause-ends g c = Enough c.if-replies-most.true
 
 pub returns-then-replies-most-clause-turns : goal.returns-then-replies-most-clause-turns
 returns-then-replies-most-clause-turns g c =
-    let r = rules g.L.Ledgers.means g.C.Moments.gives g.H.Steward.renews g.P.Peers.does in
+    let r = rules g.L.Ledgers.means g.C.Moments.gives g.H.Steward.renews g.H.Steward.waits g.P.Peers.does in
     let first = held_by c.args.ledgers.now c.args.moments.now c.args.peers.now c.args.seats.now in
     let now = held_by c.loop.ledgers c.loop.moments c.loop.peers c.loop.seats in
     inl
-    (subst (λ (gathered : List ℕ). ServesOwed r [] gathered first now c.loop.replies)
+    (subst
+    (λ (gathered : List ℕ).
+    ServesOwed r (c.loop.replies ≡ c.args.most) [] (turns_of gathered) first now c.loop.replies)
     (c.loop.invariant.all c.if-replies-most.true) c.loop.invariant.served)
 
 pub returns-in-Nothing-clause-turns : goal.returns-in-Nothing-clause-turns
 returns-in-Nothing-clause-turns g c =
-    let r = rules g.L.Ledgers.means g.C.Moments.gives g.H.Steward.renews g.P.Peers.does in
+    let r = rules g.L.Ledgers.means g.C.Moments.gives g.H.Steward.renews g.H.Steward.waits g.P.Peers.does in
     let first = held_by c.args.ledgers.now c.args.moments.now c.args.peers.now c.args.seats.now in
     let old = held_by c.loop.ledgers c.loop.moments c.loop.peers c.loop.seats in
     let new =
     held_by c.serve_next.new.ledgers c.serve_next.new.moments c.serve_next.new.peers
     c.serve_next.new.seats in
     inl
-    (subst (λ (gathered : List ℕ). ServesOwed r [] gathered first new c.loop.replies)
+    (subst
+    (λ (gathered : List ℕ).
+    ServesOwed r (c.loop.replies ≡ c.args.most) [] (turns_of gathered) first new c.loop.replies)
     (c.in-Nothing.ensures.all (inl refl))
-    (then_owed r [] c.loop.gathered.numbers.items c.serve_next.new.gathered.numbers.items first old
-    new c.loop.replies 0 c.loop.replies (omega arith) c.loop.invariant.served
-    c.in-Nothing.ensures.turns))
+    (then_owed r (c.loop.replies ≡ c.args.most) [] (turns_of c.loop.gathered.numbers.items)
+    (turns_of c.serve_next.new.gathered.numbers.items) first old new c.loop.replies 0 c.loop.replies
+    (omega arith) c.loop.invariant.served
+    (owed_for r (0 ≡ c.args.most - c.loop.replies) (c.loop.replies ≡ c.args.most)
+    (turns_of c.loop.gathered.numbers.items) (turns_of c.serve_next.new.gathered.numbers.items) old new
+    0
+    (λ (all : 0 ≡ c.args.most - c.loop.replies).
+    let few = c.loop.invariant.few in omega (arith, all, few))
+    c.in-Nothing.ensures.turns)))
 
 pub returns-clause-turns : goal.returns-clause-turns
 returns-clause-turns g c =
     inr
-    (all_turns (rules g.L.Ledgers.means g.C.Moments.gives g.H.Steward.renews g.P.Peers.does)
+    (all_turns (rules g.L.Ledgers.means g.C.Moments.gives g.H.Steward.renews g.H.Steward.waits g.P.Peers.does)
     (held_by c.args.ledgers.now c.args.moments.now c.args.peers.now c.args.seats.now)
     (held_by c.loop.ledgers c.loop.moments c.loop.peers c.loop.seats) c.loop.counter
     c.loop.replies c.loop.auto.counter-end c.loop-test.false c.loop.invariant.turns)
 
 pub returns-in-Nothing-clause-ends : goal.returns-in-Nothing-clause-ends
 returns-in-Nothing-clause-ends g c =
-    let r = rules g.L.Ledgers.means g.C.Moments.gives g.H.Steward.renews g.P.Peers.does in
+    let r = rules g.L.Ledgers.means g.C.Moments.gives g.H.Steward.renews g.H.Steward.waits g.P.Peers.does in
     let first = held_by c.args.ledgers.now c.args.moments.now c.args.peers.now c.args.seats.now in
     let old = held_by c.loop.ledgers c.loop.moments c.loop.peers c.loop.seats in
     let new =
@@ -77,7 +90,7 @@ returns-in-Nothing-clause-ends g c =
 
 pub returns-in-Nothing-clause-serves : goal.returns-in-Nothing-clause-serves
 returns-in-Nothing-clause-serves g c =
-    let r = rules g.L.Ledgers.means g.C.Moments.gives g.H.Steward.renews g.P.Peers.does in
+    let r = rules g.L.Ledgers.means g.C.Moments.gives g.H.Steward.renews g.H.Steward.waits g.P.Peers.does in
     let first = held_by c.args.ledgers.now c.args.moments.now c.args.peers.now c.args.seats.now in
     let old = held_by c.loop.ledgers c.loop.moments c.loop.peers c.loop.seats in
     let new =
@@ -90,14 +103,14 @@ returns-in-Nothing-clause-serves g c =
 
 pub returns-clause-serves : goal.returns-clause-serves
 returns-clause-serves g c =
-    turns_serve (rules g.L.Ledgers.means g.C.Moments.gives g.H.Steward.renews g.P.Peers.does)
+    turns_serve (rules g.L.Ledgers.means g.C.Moments.gives g.H.Steward.renews g.H.Steward.waits g.P.Peers.does)
     (held_by c.args.ledgers.now c.args.moments.now c.args.peers.now c.args.seats.now)
     (held_by c.loop.ledgers c.loop.moments c.loop.peers c.loop.seats) c.loop.counter
     c.loop.replies c.loop.invariant.turns
 
 pub returns-clause-ends : goal.returns-clause-ends
 returns-clause-ends g c =
-    too_long (rules g.L.Ledgers.means g.C.Moments.gives g.H.Steward.renews g.P.Peers.does)
+    too_long (rules g.L.Ledgers.means g.C.Moments.gives g.H.Steward.renews g.H.Steward.waits g.P.Peers.does)
     (c.loop.replies ≡ c.args.most)
     (held_by c.args.ledgers.now c.args.moments.now c.args.peers.now c.args.seats.now)
     (held_by c.loop.ledgers c.loop.moments c.loop.peers c.loop.seats) c.loop.counter
@@ -105,7 +118,7 @@ returns-clause-ends g c =
 
 pub loop-preserved : goal.loop-preserved
 loop-preserved g c =
-    let r = rules g.L.Ledgers.means g.C.Moments.gives g.H.Steward.renews g.P.Peers.does in
+    let r = rules g.L.Ledgers.means g.C.Moments.gives g.H.Steward.renews g.H.Steward.waits g.P.Peers.does in
     let first = held_by c.args.ledgers.now c.args.moments.now c.args.peers.now c.args.seats.now in
     let old = held_by c.loop.ledgers c.loop.moments c.loop.peers c.loop.seats in
     let new =
@@ -117,9 +130,21 @@ loop-preserved g c =
           (c.loop.replies + c.in-Served.more) refl c.loop.invariant.turns
           c.in-Served.ensures.does;
       served =
-          then_owed r [] c.loop.gathered.numbers.items c.serve_next.new.gathered.numbers.items first
-          old new c.loop.replies c.in-Served.more (c.loop.replies + c.in-Served.more) refl
-          c.loop.invariant.served c.in-Served.ensures.turns;
+          let all = c.loop.replies + c.in-Served.more in
+          let before = turns_of c.loop.gathered.numbers.items in
+          let behind = turns_of c.serve_next.new.gathered.numbers.items in
+          let few = c.loop.invariant.few in
+          let more = c.in-Served.ensures.few in
+          then_owed r (all ≡ c.args.most) [] before behind first old new c.loop.replies
+          c.in-Served.more all refl
+          (owed_for r (c.loop.replies ≡ c.args.most) (all ≡ c.args.most) [] before first old
+          c.loop.replies
+          (λ (is : c.loop.replies ≡ c.args.most). omega (arith, is, few, more))
+          c.loop.invariant.served)
+          (owed_for r (c.in-Served.more ≡ c.args.most - c.loop.replies) (all ≡ c.args.most) before
+          behind old new c.in-Served.more
+          (λ (is : c.in-Served.more ≡ c.args.most - c.loop.replies). omega (arith, is, few))
+          c.in-Served.ensures.turns);
       all = λ all.
           let few = c.loop.invariant.few in
           c.in-Served.ensures.all (inr (omega (arith, few)));

@@ -8,7 +8,7 @@ use Rattle.polling.proofs.sharing.share_round.Goals as goal
 
 pub returns-then-len-lt2-clause-serves : goal.returns-then-len-lt2-clause-serves
 returns-then-len-lt2-clause-serves g c peers next =
-    only_copied g.L.Ledgers.means g.C.Moments.gives g.H.Steward.renews g.P.Peers.does
+    only_copied g.L.Ledgers.means g.C.Moments.gives g.H.Steward.renews g.H.Steward.waits g.P.Peers.does
     c.args.ledgers.now c.args.moments.now c.copy_all-round.new.moments peers
     (seats_in c.args.clients.now) (seats_in c.copy_all-round.new.clients) next
     c.copy_all-round.result.messages.items c.copy_all-round.ensures.same
@@ -21,7 +21,7 @@ put_all-count-requires g c =
 
 pub returns-in-Ok-clause-serves : goal.returns-in-Ok-clause-serves
 returns-in-Ok-clause-serves g c peers next =
-    kept_and_put g.L.Ledgers.means g.C.Moments.gives g.H.Steward.renews g.P.Peers.does
+    kept_and_put g.L.Ledgers.means g.C.Moments.gives g.H.Steward.renews g.H.Steward.waits g.P.Peers.does
     c.args.ledgers.now c.in_round-replies.new.self c.args.moments.now c.copy_all-round.new.moments
     peers (seats_in c.args.clients.now) (seats_in c.copy_all-round.new.clients)
     (seats_in c.put_all-count.new.clients) next c.copy_all-round.result.messages.items
@@ -47,7 +47,7 @@ tell_all-requires g c =
 
 pub returns-in-Disk-clause-serves : goal.returns-in-Disk-clause-serves
 returns-in-Disk-clause-serves g c peers next =
-    lost_and_told g.L.Ledgers.means g.C.Moments.gives g.H.Steward.renews g.P.Peers.does
+    lost_and_told g.L.Ledgers.means g.C.Moments.gives g.H.Steward.renews g.H.Steward.waits g.P.Peers.does
     c.args.ledgers.now c.in_round-replies.new.self c.args.moments.now c.copy_all-round.new.moments
     peers (seats_in c.args.clients.now) (seats_in c.copy_all-round.new.clients)
     (seats_in c.tell_all.new.clients) next c.copy_all-round.result.messages.items
@@ -77,7 +77,7 @@ returns-in-Disk-clause-serves g c peers next =
 
 pub returns-in-Memory-clause-serves : goal.returns-in-Memory-clause-serves
 returns-in-Memory-clause-serves g c peers next =
-    taken_back g.L.Ledgers.means g.C.Moments.gives g.H.Steward.renews g.P.Peers.does
+    taken_back g.L.Ledgers.means g.C.Moments.gives g.H.Steward.renews g.H.Steward.waits g.P.Peers.does
     c.args.ledgers.now c.in_round-replies.new.self c.args.moments.now c.copy_all-round.new.moments
     peers (seats_in c.args.clients.now) (seats_in c.copy_all-round.new.clients) next
     c.copy_all-round.result.messages.items c.copy_all-round.ensures.same
@@ -93,7 +93,7 @@ returns-in-Memory-clause-serves g c peers next =
 
 pub returns-clause-serves : goal.returns-clause-serves
 returns-clause-serves g c peers next =
-    taken_back g.L.Ledgers.means g.C.Moments.gives g.H.Steward.renews g.P.Peers.does
+    taken_back g.L.Ledgers.means g.C.Moments.gives g.H.Steward.renews g.H.Steward.waits g.P.Peers.does
     c.args.ledgers.now c.in_round-replies.new.self c.args.moments.now c.copy_all-round.new.moments
     peers (seats_in c.args.clients.now) (seats_in c.copy_all-round.new.clients) next
     c.copy_all-round.result.messages.items c.copy_all-round.ensures.same

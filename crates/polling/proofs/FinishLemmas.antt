@@ -1,0 +1,33 @@
+-- Behind a round its clients are finished.
+use Rattle.std.proofs.Common.{◌≡◌, ◌<◌, refl, sym, subst, ℕ, Bool, true, false, not, nat_lt, [], ◌∷◌, arith}
+use Rattle.std.proofs.lemmas.Bool.Decides.{nat_tests}
+use Rattle.polling.specs.Serving.{Rules}
+use Rattle.polling.specs.Seating.{Held, ServesOwed, count_of}
+use Rattle.polling.specs.Standing.{A_turn, owing}
+use Rattle.polling.proofs.AllLemmas.{owed_for}
+
+-- where nothing may be answered, none is wanted
+none_wanted : (most : ℕ) → not (nat_lt 0 most) ≡ true → most ≡ 0
+none_wanted most none = grind (arith, nat_tests)
+
+not_answered : (most : ℕ) → most ≡ 0 → nat_lt 0 most ≡ false
+not_answered most none = grind (arith, nat_tests)
+
+-- a client keeps its place alone only where as many were replied to as there were to be
+pub finished :
+    {S C P : Type 0} (r : Rules S C P) (client : ℕ) (replied is : Bool) (most : ℕ)
+    (old new : Held S C P) → replied ≡ is → (nat_lt 0 most ≡ false → replied ≡ false) →
+    ServesOwed r (not (nat_lt 0 most) ≡ true) (owing A_turn client ∷ []) [] old new
+    (count_of replied) →
+    ServesOwed r (count_of is ≡ most) (owing A_turn client ∷ []) [] old new (count_of is)
+finished r client replied is most old new same few serves =
+    subst
+    (λ (b : Bool).
+    ServesOwed r (count_of b ≡ most) (owing A_turn client ∷ []) [] old new (count_of b))
+    same
+    (owed_for r (not (nat_lt 0 most) ≡ true) (count_of replied ≡ most) (owing A_turn client ∷ []) []
+    old new (count_of replied)
+    (λ (none : not (nat_lt 0 most) ≡ true).
+    let zero : most ≡ 0 = none_wanted most none in
+    subst (λ (b : Bool). count_of b ≡ most) (sym (few (not_answered most zero))) (sym zero))
+    serves)
