@@ -1,16 +1,16 @@
 -- What is held, and the hall that it is of.
-use Rattle.std.proofs.Common.{◌≡◌, ◌≢◌, ◌≤◌, ◌<◌, ◌+◌, inl, inr, refl, ap, sym, ◌∙◌, subst, ℕ, Bool, true, List, [], ◌∷◌, ◌++◌, if◌then◌else◌, Option, Some, None, is_some, arith}
+use Rattle.std.proofs.Common.{◌≡◌, ◌≢◌, ◌≤◌, ◌<◌, ◌+◌, refl, ap, sym, ◌∙◌, subst, ℕ, Bool, true, List, [], ◌∷◌, ◌++◌, if◌then◌else◌, Option, Some, None, is_some, arith}
 use Rattle.std.proofs.lemmas.Bool.{ne_eqb}
 use Rattle.std.proofs.Math.Path.{fun_ext}
 use Rattle.clients.specs.Talk.{Talk}
-use Rattle.polling.specs.Peers.{Doing, Asked, Closed, Said}
-use Rattle.polling.specs.Standing.{Standing, Away, Owed, Kept, Debt, A_seat, A_turn, Owing, owing, has_seat, asked, rested, with_standing, stands_behind, StandsIn, IsOwed, told_of, AreAmong, OwesOnly, KeepsOnly}
+use Rattle.polling.specs.Peers.{Asked, Closed, Said}
+use Rattle.polling.specs.Standing.{Standing, Away, Kept, Debt, A_seat, A_turn, Owing, owing, rested, with_standing, stands_behind, StandsIn, told_of, AreAmong, OwesOnly, KeepsOnly}
 use Rattle.polling.specs.Kinds.{IsPutOff}
 use Rattle.polling.specs.declared.peers.Told.{Told}
 use Rattle.polling.specs.Serving.{Hall, hall, Rules, gone_with, IsFree, Happens, Tells, Stirs, Puts_off, Again, Begin}
 use Rattle.polling.specs.Seating.{with_talk, AreSame, HadNone, held, Held, Keeps, ServesAll, ServesOwed, ServesEach}
 use Rattle.polling.proofs.OneLemmas.{once, serves_on, replies_both, with_talk-own, with_talk-other}
-use Rattle.polling.proofs.StandLemmas.{by_client, AllStand, asked_seat, asked_unowed, asked_owed, asked_kept, rested_seat, rested_unowed, rested_owed, rested_kept, one_stands, one_stands_on, told_stand}
+use Rattle.polling.proofs.StandLemmas.{by_client, AllStand, rested_seat, rested_unowed, rested_owed, rested_kept, one_stands, one_stands_on, told_stand}
 use Rattle.polling.proofs.StandLemmas.{owes_still, owes_none, owes_less, owes_then, owes_beside, owes_fewer, owes_nobody, owes_told, keeps_still, keeps_one, keeps_then, keeps_for, keeps_told}
 
 -- a client's talk, put where it is

@@ -1,5 +1,5 @@
 -- Behind a round its clients are finished.
-use Rattle.std.proofs.Common.{◌≡◌, ◌<◌, refl, sym, subst, ℕ, Bool, true, false, not, nat_lt, [], ◌∷◌, arith}
+use Rattle.std.proofs.Common.{◌≡◌, sym, subst, ℕ, Bool, true, false, not, nat_lt, [], ◌∷◌, arith}
 use Rattle.std.proofs.lemmas.Bool.Decides.{nat_tests}
 use Rattle.polling.specs.Serving.{Rules}
 use Rattle.polling.specs.Seating.{Held, ServesOwed, count_of}

@@ -1,7 +1,7 @@
 -- Why a client is put off, and what becomes of one who is ready.
 use Rattle.std.proofs.Common.{◌≡◌, ◌≤◌, ◌+◌, refl, ℕ, List, Option, Some, inl, inr}
 use Rattle.clients.specs.Talk.{Talk}
-use Rattle.polling.specs.Kinds.{NextIs, IsBatchOf, IsQuestion, IsPutOff, IsHeldBack, IsPlaced, most_questions}
+use Rattle.polling.specs.Kinds.{NextIs, IsQuestion, IsPutOff, IsHeldBack, IsPlaced, most_questions}
 use Rattle.polling.specs.declared.gathering.Place.{Place}
 use Rattle.polling.specs.declared.gathering.Place.TheVariants.{Gathered, Now, Later}
 

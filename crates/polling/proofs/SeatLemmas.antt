@@ -5,7 +5,7 @@ use Rattle.std.proofs.lemmas.Bool.{false≢true}
 use Rattle.clients.specs.Talk.{Talk, new_talk}
 use Rattle.polling.specs.Peers.{Asked, Closed}
 use Rattle.polling.specs.Standing.{Standing, Away, Awaited, Owed, Kept, rested, asked, with_standing, stands_after, has_seat, StandsIn}
-use Rattle.polling.specs.Standing.{Debt, A_seat, A_turn, An_end, Owing, owing}
+use Rattle.polling.specs.Standing.{Debt, A_seat, A_turn, An_end, owing}
 use Rattle.polling.specs.Serving.{Hall, hall, Rules, gone_with, Stirs, Joins, Serves, Then}
 use Rattle.polling.specs.Seating.{with_talk, ServesOne, SeatsNow, HadTurn, IsFollowed, held, Keeps, ServesAll, ServesOwed, ServesEach}
 use Rattle.polling.specs.Ending.{IsToldAs}

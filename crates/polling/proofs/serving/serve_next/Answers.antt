@@ -48,7 +48,7 @@ returns-then-is_over-clause-turns g c =
     let said =
     subst
     (λ (told : Told).
-          g.P.Peers.does c.args.peers.now (Said c.args.seats.now.next told) c.told-told.new.self)
+    g.P.Peers.does c.args.peers.now (Said c.args.seats.now.next told) c.told-told.new.self)
     (c.if-is_over.ensures refl).0 c.told-told.ensures in
     then_owed r why gathered gathered gathered old before
     (held_by c.attend.new.ledgers moments c.told-told.new.self c.args.seats.now) 0 0 0 refl

@@ -1,4 +1,4 @@
-use Rattle.std.proofs.Common.{◌≡◌, ◌∙◌, ap, sym, refl, true, false, not}
+use Rattle.std.proofs.Common.{◌≡◌, ◌∙◌, ap, sym, refl, false, not}
 use Rattle.std.proofs.lemmas.Bool.{true≢false}
 use Rattle.clients.specs.Talk.{is_empty}
 use Rattle.service.specs.Seen.{Whole}

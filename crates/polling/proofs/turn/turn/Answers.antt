@@ -1,4 +1,4 @@
-use Rattle.std.proofs.Common.{◌≡◌, ◌∙◌, ap, sym, inr, true, false, refl, subst, arith}
+use Rattle.std.proofs.Common.{◌≡◌, ◌∙◌, ap, sym, inr, false, refl, subst, arith}
 use Rattle.clients.specs.Talk.{Talk, is_empty}
 use Rattle.service.specs.Seen.{Whole}
 use Rattle.polling.specs.Serving.{rules}
