@@ -238,22 +238,36 @@ class Group:
 
 
 class Shared:
-    """For a kit whose `rt ci` has a task for each wrong body, over what the crate's own check proved:
-    the first task of a group tries all of it, the others wait for that one and take what it told. What
-    was not refused so is tried alone, over the same and then from nothing, as `rt ci` does."""
+    """For a kit whose `rt ci` has a task for each wrong body, over what another check of the crate
+    proved: the first task of a group tries all of it, the others wait for that one and take what it
+    told. What was not refused so is tried alone, over the same and then from nothing, as `rt ci` does.
+
+    That other check, which the wrong bodies begin with, is a second one of the crate as it stands. Where
+    all of them are in groups it is asked for the functions that these turn alone, and so is the last
+    one, which looks that they are proved over what it left."""
 
     def __init__(self, rt):
-        self.rt, self.groups = rt, {}
-        self.edits_of, self.add_edits, self.must_fail = rt.edits_of, rt.add_edits, rt.must_fail
-        rt.edits_of, rt.add_edits, rt.must_fail = self.ordered, self.added, self.tried
+        self.rt, self.groups, self.asked = rt, {}, {}
+        self.edits_of, self.add_edits = rt.edits_of, rt.add_edits
+        self.must_fail, self.checked = rt.must_fail, rt.checked
+        rt.edits_of, rt.add_edits = self.ordered, self.added
+        rt.must_fail, rt.checked = self.tried, self.begun
 
     def ordered(self, crate):
         """`edits_of` of `rt`, with the first of each group in front."""
         good, bad = self.edits_of(crate)
         found = [Group(*it) for it in groups(crate, good)]
         self.groups[crate.folder] = {it.path: group for group in found for it in group.edits}
+        if len(self.groups[crate.folder]) == len(good):
+            turned = {(name, file) for group in found for it in group.edits for name, file, _ in it.places}
+            self.asked[crate.folder] = only(crate, turned)
         firsts = [group.edits[0].path for group in found]
         return [*firsts, *[it for it in good if it not in firsts]], bad
+
+    def begun(self, crate, texts, flags, kept):
+        """`checked` of `rt`: of a crate as it stands, over kept work, the turned functions alone."""
+        asked = self.asked.get(crate.folder, []) if kept and not texts else []
+        return self.checked(crate, texts, [*flags, *asked], kept)
 
     def added(self, tasks, crate, edits, *given, **named):
         """`add_edits` of `rt`, in which the tasks of a group wait for its first."""
