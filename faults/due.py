@@ -15,7 +15,7 @@ from service import PATIENCE, body_of, check, look_at, want
 EACH = 1000
 # So many thousands are due before their tenant's own batch, which waits for them for longer than a
 # message may take to come.
-BEFORE, LIMIT = 30, ["--message", "2"]
+BEFORE, LIMIT = 15, ["--message", "1"]
 # Seconds in which a hold is not released of a tenant that does nothing, where its time has not come.
 WHILE = 5
 
@@ -57,7 +57,7 @@ def due(trial):
     for writer in writers:
         writer.start()
     took = watch(trial, house)
-    hold_many(house, 2 * 10**12, BEFORE, 15)
+    hold_many(house, 2 * 10**12, BEFORE, 10)
     waited = send_behind(house)
     for writer in writers:
         writer.end()
