@@ -65,7 +65,7 @@ enum Found {
 
 // The body that tells what an order came to.
 fn body_of(alloc: Global, order: &Order, done: Result<Done, Fault>) -> Result<Vec<u8>, Fault>
-    ensures { IfOk result (λ body. IsBodyOf done body.items) }
+    ensures { IfOk result (λ body. IsBodyOf order.now done body.items) }
 {
     match (order, done?) {
         (_, Done::Listed(tenants)) => listed(alloc, tenants.as_slice()),
