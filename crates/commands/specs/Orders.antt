@@ -15,6 +15,8 @@ use Rattle.commands.specs.Adding.{IsAdded}
 use Rattle.commands.specs.Endings.{ending_told}
 use Rattle.commands.specs.Keying.{IsChanged}
 use Rattle.commands.specs.Pieces.{IsPieceTold, IsRead, machine_named}
+use Rattle.commands.specs.declared.kept.Kept.{Kept}
+use Rattle.commands.specs.declared.kept.Kept.TheVariants.{Open, Closed}
 use Rattle.commands.specs.declared.orders.Order.{Order}
 use Rattle.commands.specs.declared.orders.Order.TheVariants.{Tenants, AddTenant, ChangeKey, Statement}
 use Rattle.commands.specs.declared.orders.Done.{Done}
@@ -57,3 +59,18 @@ module _ {D : Type 0} {g : disk.Ghosts D} where
       (IsLive new
       → OfDatabase (λ db. IsPieceTold account span (machine_named tenant db.trees) result) old)
       × IsRead account old result new
+
+  -- so it is of a store that may not be there: then something is unavailable
+  abbrev pub CarriesOutKept :
+      Order → Kept (Store D g) → Result Done Fault → Kept (Store D g) → Type 0
+  CarriesOutKept order (Open old) result (Open new) = CarriesOut order old result new
+  CarriesOutKept order (Open old) result Closed = ⊥
+  CarriesOutKept order Closed result new = (result ≡ Err Unavailable) × (new ≡ Closed)
+
+  -- an order was carried out, and whoever gave it was told what it came to, and nothing else
+  pub record IsToldOf {O : Type 0} (tells : O → Order → Result Done Fault → O → Type 0)
+      (order : Order) (orders : O) (old : Kept (Store D g)) (orders_now : O)
+      (new : Kept (Store D g)) : Type 0 where
+    pub done : Result Done Fault
+    pub carried_out : CarriesOutKept order old done new
+    pub told : tells orders order done orders_now

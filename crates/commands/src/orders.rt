@@ -3,7 +3,7 @@ ghost use Rattle.std.specs.Prelude.{◌≡◌, Bool};
 ghost use Rattle.store.specs.Stores.{IsUsable};
 ghost use Rattle.store.specs.StoreLaws.{store_meaning};
 ghost use Rattle.commands.specs.Kept.{Attends, MayBeCalled};
-ghost use Rattle.commands.specs.Orders.{CarriesOut};
+ghost use Rattle.commands.specs.Orders.{CarriesOut, IsToldOf};
 
 use crate::adding::add_tenant;
 use crate::kept::Kept;
@@ -53,15 +53,24 @@ pub enum Done {
 
 /// Where an operator asks for something, and is told what became of it.
 pub trait Orders {
+    ghost use Rattle.std.specs.Prelude.{Result};
+    ghost use Rattle.command_texts.specs.declared.fault.Fault.{Fault};
+    ghost use Rattle.commands.specs.declared.orders.Done.{Done};
+    ghost use Rattle.commands.specs.declared.orders.Order.{Order};
+
     // Whether it was asked to end.
     ghost stops: { Self → Bool };
+
+    // What telling it what an order came to makes of it.
+    ghost tells: { Self → Order → Result Done Fault → Self → Type 0 } = { λ _ _ _ _. Unit {0} };
 
     /// What is asked of the store next, if anything is. Is told whether a store is there that answers
     /// calls.
     fn next(&mut self, is_answering: bool) -> Option<Order>;
 
     /// Tells what the order that was given last came to.
-    fn tell(&mut self, order: &Order, done: Result<Done, Fault>);
+    fn tell(&mut self, order: &Order, done: Result<Done, Fault>)
+        ensures { tells self.old order.now done self.new };
 
     /// Whether it was asked to end.
     fn is_stopping(&self) -> bool
@@ -107,6 +116,7 @@ pub(crate) fn carry_out<D: Disk + Drop, O: Orders>(
     order: &Order,
 )
     requires { MayBeCalled kept.old }
+    ensures told { IsToldOf O.tells order.now orders.old kept.old orders.new kept.new }
     ensures renews { Attends kept.old kept.new }
     ensures usable { MayBeCalled kept.new }
 {
