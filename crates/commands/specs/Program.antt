@@ -1,7 +1,7 @@
 -- What the program does for its words.
 use Rattle.std.specs.Prelude.{◌≡◌, ◌≢◌, ◌⊎◌, ◌<◌, ◌≤◌, ◌^◌, ℕ, Bool, true, false, codes, if◌then◌else◌}
 use Rattle.std.specs.Prelude.{List, [], ◌∷◌, ◌++◌, decimal}
-use Rattle.std.specs.Prelude.{Option, None, Some, Result, Ok, Err, IfOk}
+use Rattle.std.specs.Prelude.{Option, None, Some, Result, Ok, Err, IfOk, IfErr}
 use Rattle.sqlite_disk.specs.declared.Disk as disk
 use Rattle.sqlite_wal.specs.Recovery.{Image}
 use Rattle.std.specs.Io.KnownBytes.{Appends}
@@ -29,6 +29,7 @@ use Rattle.control.specs.Answers.{TellsAdded, TellsChanged, TellsCopied, TellsSt
 use Rattle.commands.specs.Copying.{IsPathOf}
 use Rattle.commands.specs.Holding.{HasDamaged, HasMigrated, HasOpened, HasTold, HasToldOr}
 use Rattle.commands.specs.Holding.{IsBroughtTo, IsDamagedAt, IsFrom}
+use Rattle.commands.specs.Openings.{IsOpeningFault}
 use Rattle.commands.specs.OverFiles.{AreCountsTold, AreTenantsTold, count_form}
 use Rattle.commands.specs.OverFiles.{HasAdded, HasChanged, HasListed, HasWritten, IsWrittenFrom}
 use Rattle.commands.specs.Served.{IsServed}
@@ -41,7 +42,7 @@ use Rattle.commands.specs.declared.given_key.GivenKey.{GivenKey}
 use Rattle.command_texts.specs.declared.fault.Fault.{Fault}
 use Rattle.command_texts.specs.declared.fault.Fault.TheVariants.{BadName, BadKey, BadAccount}
 use Rattle.command_texts.specs.declared.fault.Fault.TheVariants.{BadVersion, BadTime, BadFormat}
-use Rattle.command_texts.specs.declared.fault.Fault.TheVariants.{Unavailable, Unreadable}
+use Rattle.command_texts.specs.declared.fault.Fault.TheVariants.{Output, Unavailable, Unreadable}
 
 -- an account's id, in canonical decimal
 abbrev pub IsAccountId : List ℕ → Type 0
@@ -151,12 +152,13 @@ module _ {O D : Type 0} {g : disk.Ghosts D} where
     pub damaged : ended.is_damaged ≡ true
     pub first : HasDamaged (IsDamagedAt g image damage) ended.held
 
-  -- a file is audited, and a line tells what was found
-  abbrev pub Checks :
-      (O → Option (List ℕ)) → Image → O → Result (Ended O D g) Fault → Type 0
-  Checks written image out result =
-      IfOk result (λ ended. (ended.made ≡ None)
-      × (TellsSound written image out ended ⊎ TellsDamage written image out ended))
+  -- a file is audited, and a line tells what was found; else the fault is one of an opening, or the
+  -- line could not be written
+  pub record Checks (written : O → Option (List ℕ)) (image : Image) (out : O)
+      (result : Result (Ended O D g) Fault) : Type 0 where
+    pub found : IfOk result (λ ended. (ended.made ≡ None)
+        × (TellsSound written image out ended ⊎ TellsDamage written image out ended))
+    pub fault : IfErr result (λ fault. IsOpeningFault fault ⊎ (fault ≡ Output))
 
   -- a ledger is brought to a version, and a line tells it
   pub record IsMigratedSo (written : O → Option (List ℕ)) (image : Image) (to : List ℕ) (out : O)
@@ -166,10 +168,14 @@ module _ {O D : Type 0} {g : disk.Ghosts D} where
     pub is : to ≡ decimal_of version
     pub brought : HasMigrated (IsBroughtTo image version) ended.held
 
-  -- so it is; before the file is opened the version is judged
+  -- so it is; before the file is opened the version is judged, and a good one is told as none never;
+  -- any other fault is one of an opening or of the migration, or the line could not be written
   pub record Migrates (written : O → Option (List ℕ)) (image : Image) (to : List ℕ) (out : O)
       (result : Result (Ended O D g) Fault) : Type 0 where
     pub version_first : ¬ IsVersion to → result ≡ Err BadVersion
+    pub fault :
+        IfErr result (λ fault. IsOpeningFault fault ⊎ (fault ≡ Output)
+        ⊎ ((fault ≡ BadVersion) × (¬ IsVersion to)))
     pub migrated : IfOk result (IsMigratedSo written image to out)
     pub calm : IfOk result IsCalm
 

@@ -154,7 +154,8 @@ pub(crate) fn examine<St: Start>(
     path: &str,
     start: St,
 ) -> Result<Audited<FileFrom<St>>, Fault>
-    ensures { IfOk result (IsFoundAs (image_at St.Start)) }
+    ensures found { IfOk result (IsFoundAs (image_at St.Start)) }
+    ensures fault { IfErr result IsOpeningFault }
 {
     let options = prepared(rt, path)?;
     match Store::open_at(rt, path, start, options, &FullAudit) {

@@ -1,10 +1,11 @@
 //! Commands on a file as a whole, on the service that has it, and on one account.
-ghost use Rattle.std.specs.Prelude.{◌≡◌, ◌≤◌, ℕ, decimal, false, IfOk};
+ghost use Rattle.std.specs.Prelude.{◌≡◌, ◌≤◌, ℕ, decimal, false, IfErr, IfOk};
 ghost use Rattle.std.specs.String.{string_bytes};
 ghost use Rattle.sqlite_wal.specs.Files.{image_at};
 ghost use Rattle.control.specs.Answers.{TellsCopied};
 ghost use Rattle.commands.specs.Holding.{HasOpened, HasToldOr, IsBroughtTo, IsFrom};
 ghost use Rattle.commands.specs.Migrating.{migrate_fault};
+ghost use Rattle.commands.specs.Openings.{IsOpeningFault};
 ghost use Rattle.commands.specs.OverFiles.{HasWritten, IsWrittenFrom, count_form};
 ghost use Rattle.commands.specs.Served.{IsServed};
 ghost use Rattle.commands.specs.Program.{AsksStatus, Checks, Copies, Migrates, Stops};
@@ -261,7 +262,8 @@ fn bring_to<St: Start>(
     start: St,
 ) -> Result<LedgerOfVersion<FileFrom<St>>, Fault>
     requires { version ≤ 3 }
-    ensures { IfOk result (IsBroughtTo (image_at St.Start) version) }
+    ensures brought { IfOk result (IsBroughtTo (image_at St.Start) version) }
+    ensures fault { IfErr result IsOpeningFault }
 {
     let mut ledger = open_to_migrate(rt, db, start)?;
     match migrate(rt.alloc(), &mut ledger, version) {
@@ -272,7 +274,8 @@ fn bring_to<St: Start>(
 
 // What the program tells where a ledger is not migrated.
 fn migrate_fault(fault: MigrateFault) -> Fault
-    ensures { result ≡ migrate_fault fault }
+    ensures told { result ≡ migrate_fault fault }
+    ensures named { IsOpeningFault result }
 {
     match fault {
         MigrateFault::NewerSchema => Fault::NewerSchema,

@@ -1,8 +1,8 @@
 use Rattle.commands.proofs.HeldLemmas.{damage_there}
 use Rattle.commands.proofs.opening.examine.Goals as goal
 
-pub returns-in-Err-Damaged-Some : goal.returns-in-Err-Damaged-Some
-returns-in-Err-Damaged-Some g c =
+pub returns-in-Err-Damaged-Some-clause-found : goal.returns-in-Err-Damaged-Some-clause-found
+returns-in-Err-Damaged-Some-clause-found g c =
     let told = c.in-Err-Damaged-Some in
     damage_there _ _ told.field-0-0 told.damage told.field-0-1 told.files told.field-0-0-is
     told.field-0-1-is told.ensures.refused

@@ -1,7 +1,7 @@
 use Rattle.commands.proofs.over_files.bring_to.Goals as goal
 
-pub returns-in-Ok : goal.returns-in-Ok
-returns-in-Ok g c = record {
+pub returns-in-Ok-clause-brought : goal.returns-in-Ok-clause-brought
+returns-in-Ok-clause-brought g c = record {
   first = c.in_ok-ledger.ledger;
   opened = c.in_ok-ledger.ensures.opened;
   newer = c.in-Ok.ensures.tells;

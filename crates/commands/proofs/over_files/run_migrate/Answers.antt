@@ -9,11 +9,12 @@ returns g c = record {
     c.in_ok-version.ensures.known.1,
     c.in_ok-version.ensures.ok,
   ));
+  fault = tt;
   migrated = record {
     line = c.in_ok-put_schema.ensures.ok;
     version = c.in_ok-version.version;
     is = c.in_ok-version.ensures.ok;
-    brought = c.in_ok-ledger.ensures;
+    brought = c.in_ok-ledger.ensures.brought;
   };
   calm = (refl, refl);
 }
