@@ -1,15 +1,17 @@
 """Twenty tenants whose batches are there at once, so that the service may keep them by one commit:
 each reply is its own plain ledger's, and a fault leaves each batch whole or not there."""
 
+import itertools
 import signal
 import threading
 
 from control import ALL, DISK, KILL, MEMORY, SENT, Control, places
-from indexed import Indexed
 from runs import House
 from service import Lost, body_of, check, message, want
 
 TWENTY, HUNDREDS = 20, 200
+# So many rounds with an allocation refused are over one file.
+ON_ONE_FILE = 300
 
 
 class Crowd(House):
@@ -62,9 +64,8 @@ class Crowd(House):
 
     def found(self, batches, answered):
         """The places of those that were not answered, and are done nevertheless."""
-        self.gather()
         return {place for place in range(self.many)
-                if place not in answered and self.desks[place].settle(batches[place])}
+                if place not in answered and self.take_turn(place).settle(batches[place])}
 
 
 def rounds(trial):
@@ -109,24 +110,33 @@ def disks_fail(trial, house, control):
 
 def memory_fails(trial, control):
     """An allocation is refused: at most one tenant is told so, and nothing of its batch is done.
-    The batches are of one event, so that each allocation of a round can be tried."""
-    house, refused = Crowd(trial.fresh(), most=1), 0
-    for desk in house.desks:
-        desk.ledger = Indexed() if trial.is_long else desk.ledger
-    house.begin(control.env)
-    for place in places(trial):
-        batches, answered = house.meet(control, MEMORY, place)
-        if not control.end(MEMORY):
-            want(len(answered) == TWENTY, "unavailable, and no allocation was refused")
-            break
-        want(len(answered) >= TWENTY - 1, f"only {len(answered)} answered, at {place}")
-        want(not house.found(batches, answered), f"not answered and yet done, at {place}")
-        refused += 1
-        trial.progress(f"memory: {place}")
-    house.compare()
-    house.stop()
-    check(house.program, house.db)
+    The batches are of one event, so that each allocation of a round can be tried. A file has no more
+    than so many of them, as what is compared is summed anew for each entry."""
+    tried, refused, is_refused = places(trial), 0, True
+    while is_refused:
+        house = Crowd(trial.fresh(), most=1)
+        house.begin(control.env)
+        for place in itertools.islice(tried, ON_ONE_FILE):
+            is_refused = refuse_memory(house, control, place)
+            refused += is_refused
+            if not is_refused:
+                break
+            trial.progress(f"memory: {place}")
+        house.compare()
+        house.stop()
+        check(house.program, house.db)
     return refused
+
+
+def refuse_memory(house, control, place):
+    """Whether an allocation was refused."""
+    batches, answered = house.meet(control, MEMORY, place)
+    if not control.end(MEMORY):
+        want(len(answered) == TWENTY, "unavailable, and no allocation was refused")
+        return False
+    want(len(answered) >= TWENTY - 1, f"only {len(answered)} answered, at {place}")
+    want(not house.found(batches, answered), f"not answered and yet done, at {place}")
+    return True
 
 
 def killed_between(trial):
