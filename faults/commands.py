@@ -7,7 +7,7 @@ from typing import NamedTuple
 
 from beginnings import refused_rows
 from control import DISK, MEMORY, Control
-from copies import copy, remove
+from copies import copy, remove, sum_of
 from migrations import refused_migrations
 from runs import House
 from service import NAME_TAKEN, UNAVAILABLE, UNREADABLE, check, run, want
@@ -78,6 +78,8 @@ class Refused:
     def __init__(self, program, db, case, control, kind):
         self.program, self.db, self.case = program, db, case
         self.control, self.kind = control, kind
+        # What it tells once more with all at hand, by what stands in the files then.
+        self.told = {}
 
     def run(self):
         """What it tells with calls refused, as they are by now."""
@@ -102,11 +104,17 @@ class Refused:
         faults = (UNAVAILABLE,) if self.kind == MEMORY else (UNAVAILABLE, UNREADABLE)
         want(heard == self.case.ample or (was_refused and unbegun(self.case, heard) in faults),
              f"{what}: {heard}")
-        again = run(self.program, *self.case.words)
+        left = sum_of(self.db)
+        again = self.told[left] = self.told.get(left) or self.once_more()
         want(again in self.again(heard), f"{what}, and again: {again}")
+        return {"refused": was_refused}
+
+    def once_more(self):
+        """What it tells with all at hand. The file is ok behind it."""
+        told = run(self.program, *self.case.words)
         if self.case.begin:
             check(self.program, self.db)
-        return {"refused": was_refused}
+        return told
 
     def again(self, heard):
         """What the command may tell again: what it tells else. Where a failing disk has refused it,
