@@ -21,8 +21,9 @@ from use import OUTPUT, read_some
 
 # Two that write, and one with many entries that does not.
 WRITERS, STILL = (0, 1), 2
-# Who writes sends up to so many transfers, and says nothing for so many seconds then.
-MOST, PAUSE = 4, 0.05
+# Who writes sends up to so many transfers, and says nothing for so many seconds then. In a long run
+# these are more, as its plain ledger tells a line of each in the end.
+MOST, PAUSE, LONG_PAUSE = 4, 0.05, 0.5
 # A command waits for its reader once it sleeps for so many seconds, with half of its pipe full.
 CALM = 0.02
 # The seconds within which the service ends beside one that is read.
@@ -94,9 +95,9 @@ def put(house, events):
 
 def begin_calm(trial, house):
     """Clients that write, beside plain ledgers with an index."""
-    writers = []
+    writers, pause = [], LONG_PAUSE if trial.is_long else PAUSE
     for place in WRITERS:
-        writer = Writer(house, place, trial.random.getrandbits(64), MOST, PAUSE)
+        writer = Writer(house, place, trial.random.getrandbits(64), MOST, pause)
         plain, writer.desk.ledger = writer.desk.ledger, Indexed()
         writer.desk.ledger.accounts, writer.desk.ledger.clock = plain.accounts, plain.clock
         writers.append(writer)
