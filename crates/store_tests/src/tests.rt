@@ -2,6 +2,7 @@
 
 mod at_path;
 mod bench;
+mod called;
 mod commands;
 mod disks;
 mod driven;
@@ -22,4 +23,5 @@ mod scarce_reads;
 mod stops;
 mod tables;
 mod taken_rows;
+mod words;
 mod works;

@@ -1,10 +1,14 @@
 //! A ledger in a file.
 
 use super::bench::fault_shown;
+use super::called::Called;
+use super::commands::{Command, answer};
 use super::disks::WIDE;
 use super::driven::Driven;
-use super::playing::play_on;
-use sqlite_disk::{Disk, Start, Unknown};
+use super::playing::{Answers, play};
+use super::words::Text;
+use sqlite_disk::{Start, Unknown};
+use sqlite_std_file::FileFrom;
 use std::alloc::Global;
 use std::fs;
 use std::process::Abort;
@@ -37,64 +41,101 @@ fn remove(rt: &HostRuntime, paths: [&str; 2]) {
     }
 }
 
-/// Why nothing was opened.
-fn why_not<D: Disk + Drop>(alloc: Global, opened: Result<Driven<D>, OpenFault>) -> Option<String> {
-    match opened {
+/// How a ledger comes about at a path.
+#[derive(Clone, Copy)]
+enum How {
+    Made,
+    Opened,
+    MadeInRefused,
+}
+
+/// A store that answers commands.
+#[derive(Drop)]
+struct OnStore<S: Called> {
+    alloc: Global,
+    store: S,
+}
+
+impl<S: Called> Answers for OnStore<S> {
+    fn answer(&mut self, command: &str) -> Text {
+        answer(&mut self.store, &Command::read(self.alloc, command))
+    }
+}
+
+/// Plays a script on a ledger that was made or opened, or tells why it was not.
+fn told<S: Called>(
+    abort: &impl Abort,
+    alloc: Global,
+    begun: Result<S, OpenFault>,
+    script: &str,
+) -> Option<Text> {
+    match begun {
         Ok(store) => {
-            store.end();
+            play(abort, &mut OnStore { alloc, store }, script);
             None
         }
-        Err(fault) => fault_shown(alloc, fault).ok(),
+        Err(fault) => Some(fault_shown(alloc, fault)),
     }
 }
 
-/// Why nothing is opened at a path.
-fn refusal<St: Start>(rt: &HostRuntime, path: &str, start: St) -> Option<String> {
-    why_not(rt.alloc(), Driven::open_at(rt, path, start, WIDE))
-}
-
-/// Whether nothing is opened at a path, for this reason.
-fn is_refused(rt: &HostRuntime, path: &str, why: &str) -> bool {
-    match refusal(rt, path, Unknown) {
-        Some(told) => told.as_str() == why,
-        None => false,
+fn begun<St: Start>(
+    rt: &HostRuntime,
+    path: &str,
+    start: St,
+    how: How,
+) -> Result<Driven<FileFrom<St>>, OpenFault> {
+    match how {
+        How::Made => Driven::make_at(rt, path, start, WIDE),
+        How::Opened => Driven::open_at(rt, path, start, WIDE),
+        How::MadeInRefused => Driven::make_in_refused(rt, path, start, WIDE),
     }
 }
 
-/// Calls a ledger that was made or opened.
-fn plays<D: Disk + Drop>(
-    rt: &impl Abort,
-    alloc: Global,
-    store: Result<Driven<D>, OpenFault>,
+/// The same, at a path, of files that begin so.
+fn told_from<St: Start>(
+    rt: &HostRuntime,
+    abort: &impl Abort,
+    (path, how): (&str, How),
+    start: St,
     script: &str,
-) {
-    match store {
-        Ok(mut store) => {
-            play_on(rt, alloc, &mut store, script);
-            store.end();
-        }
-        Err(fault) => panic!(rt; "no ledger: {fault:?}"),
+) -> Option<Text> {
+    told(abort, rt.alloc(), begun(rt, path, start, how), script)
+}
+
+/// The same, whatever the files hold.
+fn told_at(rt: &HostRuntime, abort: &impl Abort, place: (&str, How), script: &str) -> Option<Text> {
+    told_from(rt, abort, place, Unknown, script)
+}
+
+/// Nothing is opened at a path, for this reason.
+fn refuses(rt: &HostRuntime, abort: &impl Abort, path: &str, why: &str) {
+    let told = told_at(rt, abort, (path, How::Opened), "North ready => no answer");
+    let told = told.expect(abort, "opened").expect(abort, "no memory");
+    assert_eq!(abort; told.as_str(), why);
+}
+
+/// A ledger is made or opened at a path, and answers so.
+fn plays(rt: &HostRuntime, abort: &impl Abort, place: (&str, How), script: &str) {
+    if let Some(told) = told_at(rt, abort, place, script) {
+        let why = told.expect(abort, "no memory");
+        panic!(abort; "no ledger: {why}");
     }
 }
 
 #[test]
 fn a_ledger_goes_on_in_a_file(rt: HostRuntime) {
     remove(&rt, [PATH, LOG]);
-    assert!(rt; is_refused(&rt, ":memory:", "Unreadable"));
-    assert!(rt; is_refused(&rt, PATH, "NotALedger"));
-    let made = Driven::make_at(&rt, PATH, Unknown, WIDE);
-    plays(&rt, rt.alloc(), made, POSTED);
-    let opened = Driven::open_at(&rt, PATH, Unknown, WIDE);
-    plays(&rt, rt.alloc(), opened, RETRIED);
+    refuses(&rt, &rt, ":memory:", "Unreadable");
+    refuses(&rt, &rt, PATH, "NotALedger");
+    plays(&rt, &rt, (PATH, How::Made), POSTED);
+    plays(&rt, &rt, (PATH, How::Opened), RETRIED);
     remove(&rt, [PATH, LOG]);
 }
 
 #[test]
 fn a_ledger_is_made_in_files_that_were_refused(rt: HostRuntime) {
     remove(&rt, [REFUSED, REFUSED_LOG]);
-    let made = Driven::make_in_refused(&rt, REFUSED, Unknown, WIDE);
-    plays(&rt, rt.alloc(), made, POSTED);
-    let opened = Driven::open_at(&rt, REFUSED, Unknown, WIDE);
-    plays(&rt, rt.alloc(), opened, RETRIED);
+    plays(&rt, &rt, (REFUSED, How::MadeInRefused), POSTED);
+    plays(&rt, &rt, (REFUSED, How::Opened), RETRIED);
     remove(&rt, [REFUSED, REFUSED_LOG]);
 }

@@ -1,58 +1,70 @@
 //! A ledger in two files, and what is done to both in words.
 
-use super::commands::{Command, NoMemory, Text, answer, said, shown};
-use super::disks::{Calls, Faulty};
+use super::called::Stored;
+use super::commands::{Command, NoMemory, answer};
+use super::disks::{Calls, InMemory};
 use super::driven::Driven;
-use super::on_files::{changed, noise};
-use sqlite::{Files, Options};
-use sqlite_disk::Disk;
+use super::playing::Answers;
+use super::words::{Text, said, shown};
+use sqlite::Options;
 use std::alloc::Global;
 use std::mem;
+use std::process::Abort;
 use store::{Audit, FullAudit, OpenFault};
+
+/// A ledger in two files, which answers commands.
+pub trait Bench: Answers + Sized + Drop {
+    /// New files, of which so many calls come through to each.
+    fn new(alloc: Global, options: Options, log: Calls, db: Calls) -> Self;
+
+    /// Whether a store has the files.
+    fn is_open(&self) -> bool;
+}
+
+/// What a test does with ledgers in two files, and is told there.
+pub trait Visit {
+    type Told;
+
+    fn visit<B: Bench, R: Abort>(&self, rt: &R, alloc: Global) -> Self::Told;
+}
+
+/// What is told on disks in memory.
+pub fn in_memory<V: Visit>(rt: &impl Abort, alloc: Global, visit: &V) -> V::Told {
+    visit.visit::<InFiles<Driven<InMemory>>, _>(rt, alloc)
+}
 
 /// Where the two files of a ledger are.
 #[derive(Drop)]
-enum Ledger<D: Disk + Drop> {
-    Opened(Driven<D>),
-    Closed(Files<D>),
+enum Ledger<S: Stored> {
+    Opened(S),
+    Closed(S::Files),
     Lost,
 }
 
-impl<D: Disk + Drop> Ledger<D> {
-    /// Lets the ledger go.
-    fn end(self) {
-        match self {
-            Ledger::Opened(store) => store.end(),
-            Ledger::Closed(_files) => {}
-            Ledger::Lost => {}
-        }
-    }
-}
-
-/// A ledger, and what is done to it in words.
+/// A ledger, and how it is made and opened.
 #[derive(Drop)]
-pub struct Bench<D: Disk + Drop> {
+struct InFiles<S: Stored> {
     alloc: Global,
     options: Options,
-    ledger: Ledger<D>,
+    ledger: Ledger<S>,
 }
 
-impl<D: Faulty> Bench<D> {
-    /// New files, of which so many calls come through to each.
-    pub fn new(alloc: Global, options: Options, log: Calls, db: Calls) -> Bench<D> {
-        let files = Files {
-            log: D::made(alloc, log),
-            db: D::made(alloc, db),
-        };
-        Bench {
+impl<S: Stored> Bench for InFiles<S> {
+    fn new(alloc: Global, options: Options, log: Calls, db: Calls) -> InFiles<S> {
+        InFiles {
             alloc,
             options,
-            ledger: Ledger::Closed(files),
+            ledger: Ledger::Closed(S::files(alloc, log, db)),
         }
     }
 
-    /// What is answered to a command: who asks, a verb and the rest.
-    pub fn answer(&mut self, command: &str) -> Text {
+    fn is_open(&self) -> bool {
+        matches!(self.ledger, Ledger::Opened(_))
+    }
+}
+
+impl<S: Stored> Answers for InFiles<S> {
+    fn answer(&mut self, command: &str) -> Text {
         let command = Command::read(self.alloc, command);
         if command.who == "File" {
             return self.on_files(command.verb, command.rest);
@@ -62,23 +74,15 @@ impl<D: Faulty> Bench<D> {
             _ => said(self.alloc, "no store"),
         }
     }
+}
 
-    /// Whether a store has the files.
-    pub fn is_open(&self) -> bool {
-        matches!(self.ledger, Ledger::Opened(_))
-    }
-
-    /// Lets the ledger go.
-    pub fn end(self) {
-        self.ledger.end();
-    }
-
+impl<S: Stored> InFiles<S> {
     /// What is answered to a command about the files.
     fn on_files(&mut self, verb: &str, rest: &str) -> Text {
         match closed(mem::replace(&mut self.ledger, Ledger::Lost)) {
             Some(files) => {
                 let (ledger, text) = self.done(files, verb, rest);
-                mem::replace(&mut self.ledger, ledger).end();
+                self.ledger = ledger;
                 text
             }
             None => said(self.alloc, "no files"),
@@ -86,62 +90,51 @@ impl<D: Faulty> Bench<D> {
     }
 
     /// What a command makes of the files, and its answer.
-    fn done(&self, files: Files<D>, verb: &str, rest: &str) -> (Ledger<D>, Text) {
+    fn done(&self, files: S::Files, verb: &str, rest: &str) -> (Ledger<S>, Text) {
         match verb {
-            "create" => made(self.alloc, files, self.options),
-            "open" => opened(self.alloc, files, self.options, &FullAudit),
-            "audit-without-memory" => opened(self.alloc, files, self.options, &NoMemory),
-            "sql" => changed_by(self.alloc, files, rest),
-            _ => shut(self.alloc, files, verb),
+            "create" => self.begun(S::make(self.alloc, files, self.options), "made"),
+            "open" => self.opened(files, &FullAudit),
+            "audit-without-memory" => self.opened(files, &NoMemory),
+            "sql" => {
+                let (files, told) = S::changed(self.alloc, files, rest);
+                (Ledger::Closed(files), shown(self.alloc, &told))
+            }
+            _ => (
+                Ledger::Closed(self.shut(files, verb)),
+                said(self.alloc, "closed"),
+            ),
+        }
+    }
+
+    fn opened<A: Audit>(&self, files: S::Files, audit: &A) -> (Ledger<S>, Text) {
+        self.begun(S::open(self.alloc, files, self.options, audit), "opened")
+    }
+
+    /// The ledger that was made or opened, as is then told, or why it was not.
+    fn begun(&self, begun: Result<S, (OpenFault, S::Files)>, told: &str) -> (Ledger<S>, Text) {
+        match begun {
+            Ok(store) => (Ledger::Opened(store), said(self.alloc, told)),
+            Err((fault, files)) => (Ledger::Closed(files), fault_shown(self.alloc, fault)),
+        }
+    }
+
+    /// Files that are closed: as they were, after a crash, or those of a stranger.
+    fn shut(&self, files: S::Files, verb: &str) -> S::Files {
+        match verb {
+            "crash" => S::crashed(files),
+            "noise" => S::noise(self.alloc),
+            _ => files,
         }
     }
 }
 
 /// The files of a ledger.
-fn closed<D: Disk + Drop>(ledger: Ledger<D>) -> Option<Files<D>> {
+fn closed<S: Stored>(ledger: Ledger<S>) -> Option<S::Files> {
     match ledger {
         Ledger::Opened(store) => Some(store.close()),
         Ledger::Closed(files) => Some(files),
         Ledger::Lost => None,
     }
-}
-
-fn made<D: Disk + Drop>(alloc: Global, files: Files<D>, options: Options) -> (Ledger<D>, Text) {
-    match Driven::make(alloc, files, options) {
-        Ok(store) => (Ledger::Opened(store), said(alloc, "made")),
-        Err((fault, files)) => (Ledger::Closed(files), fault_shown(alloc, fault)),
-    }
-}
-
-fn opened<D: Disk + Drop, A: Audit>(
-    alloc: Global,
-    files: Files<D>,
-    options: Options,
-    audit: &A,
-) -> (Ledger<D>, Text) {
-    match Driven::open(alloc, files, options, audit) {
-        Ok(store) => (Ledger::Opened(store), said(alloc, "opened")),
-        Err((fault, files)) => (Ledger::Closed(files), fault_shown(alloc, fault)),
-    }
-}
-
-fn changed_by<D: Disk + Drop>(alloc: Global, files: Files<D>, sql: &str) -> (Ledger<D>, Text) {
-    let (files, told) = changed(alloc, files, sql);
-    (Ledger::Closed(files), shown(alloc, &told))
-}
-
-/// Files that are closed: as they were, after a crash, or those of a stranger.
-fn shut<D: Faulty>(alloc: Global, files: Files<D>, verb: &str) -> (Ledger<D>, Text) {
-    let mut files = files;
-    match verb {
-        "crash" => {
-            files.log.crash();
-            files.db.crash();
-        }
-        "noise" => files = noise(alloc),
-        _ => {}
-    }
-    (Ledger::Closed(files), said(alloc, "closed"))
 }
 
 /// Why files are refused. Of damage, the number of its kind, whose it is, and its place.

@@ -1,23 +1,22 @@
 //! What a store answers to commands, in words.
 
-use super::driven::Driven;
-use super::events::{accounts, number, ones, transfers};
+use super::called::Called;
+use super::events::{accounts, holds, number, ones, transfers};
+use super::overdue::search;
 use super::reads::read;
 use super::rounds::send_both;
 use super::tables::{directory, table};
+use super::words::{Text, Worded, said, shown, with_words};
 use super::works::{Failing, Looking, Opening, Sending};
 use audit::AuditFault;
 use chain::{BatchFault, BatchReply};
-use records::{AccountFilter, AccountResult, EventResult, FilterFlags, TransferResult};
+use records::{
+    AccountFilter, AccountResult, EventResult, FilterFlags, TransferEvent, TransferResult,
+};
 use rows::AllRows;
-use sqlite_disk::Disk;
 use std::alloc::{AllocError, Global};
-use std::fmt::Debug;
 use store::{Audit, FullAudit};
 use tenants::TenantName;
-
-/// A text, if there is memory for it.
-pub type Text = Result<String, AllocError>;
 
 /// What a tenant asks.
 #[derive(Clone, Copy)]
@@ -61,6 +60,18 @@ impl<'a> Command<'a> {
         }
     }
 
+    /// The transfers that are sent: those of the batch, or like ones with the ids from a first one,
+    /// before a last.
+    fn transfers(&self) -> Result<Vec<TransferEvent>, AllocError> {
+        let (first, last) = self.rest.split_once(' ').unwrap_or(("", ""));
+        let (first, last) = (first.parse().unwrap_or(0), last.parse().unwrap_or(0));
+        match self.verb {
+            "ones" => ones(self.alloc, first, last),
+            "holds" => holds(self.alloc, first, last),
+            _ => transfers(self.alloc, self.batch().1),
+        }
+    }
+
     /// The ids that are asked for.
     pub fn ids(&self) -> Result<Vec<u128>, AllocError> {
         self.rest.split_whitespace().map(number).collect(self.alloc)
@@ -92,30 +103,12 @@ impl Audit for NoMemory {
     }
 }
 
-/// A text that is told.
-pub fn said(alloc: Global, text: &str) -> Text {
-    format!(in alloc; "{text}")
-}
-
-/// A value as it is printed for those who look for faults.
-pub fn shown<T: Debug>(alloc: Global, value: &T) -> Text {
-    format!(in alloc; "{value:?}")
-}
-
-/// Puts a word behind a text.
-pub fn put_word(text: &mut String, word: String) -> Result<(), AllocError> {
-    text.push(' ')?;
-    text.push_str(word.as_str())
-}
-
 /// What a store answers.
-pub fn answer<D: Disk + Drop>(store: &mut Driven<D>, command: &Command<'_>) -> Text {
+pub fn answer<S: Called>(store: &mut S, command: &Command<'_>) -> Text {
     match command.verb {
         "accounts" => open(store, command),
-        "transfers" => send(store, command),
+        "transfers" | "fail" | "ones" | "holds" => send(store, command),
         "both" => send_both(store, command),
-        "ones" => fill(store, command),
-        "fail" => fail(store, command),
         "see" => see(store, command),
         "add" | "key" | "digest" => of_name(store, command),
         _ => of_all(store, command),
@@ -123,7 +116,7 @@ pub fn answer<D: Disk + Drop>(store: &mut Driven<D>, command: &Command<'_>) -> T
 }
 
 /// What is answered about the rows and the store.
-fn of_all<D: Disk + Drop>(store: &mut Driven<D>, command: &Command<'_>) -> Text {
+fn of_all<S: Called>(store: &mut S, command: &Command<'_>) -> Text {
     let alloc = command.alloc;
     match command.verb {
         "rows" => table(alloc, store.rows_of(&command.digest()), command.rest),
@@ -132,30 +125,29 @@ fn of_all<D: Disk + Drop>(store: &mut Driven<D>, command: &Command<'_>) -> Text 
         "ready" => shown(alloc, &store.is_ready()),
         "reopen" => shown(alloc, &store.reopen(&FullAudit)),
         "reopen-without-memory" => shown(alloc, &store.reopen(&NoMemory)),
+        "overdue" => search(alloc, store, command.rest.parse().unwrap_or(0)),
         _ => read(store, command),
     }
 }
 
 /// An account, transfer 100 and the clock.
-fn see<D: Disk + Drop>(store: &mut Driven<D>, command: &Command<'_>) -> Text {
+fn see<S: Called>(store: &mut S, command: &Command<'_>) -> Text {
     let account = number(command.rest);
     let seen = store.run(&command.digest(), Looking { account });
     shown(command.alloc, &seen)
 }
 
 /// What concerns a tenant's name.
-fn of_name<D: Disk + Drop>(store: &mut Driven<D>, command: &Command<'_>) -> Text {
+fn of_name<S: Called>(store: &mut S, command: &Command<'_>) -> Text {
     let Some(name) = TenantName::read(command.who) else {
         return said(command.alloc, "no name");
     };
-    if command.verb == "digest" {
-        return shown(command.alloc, &store.digest_of(&name).map(first_byte));
-    }
     let digest = [command.rest.parse().unwrap_or(0); 32];
-    if command.verb == "key" {
-        return shown(command.alloc, &store.change_key(&name, &digest));
+    match command.verb {
+        "digest" => shown(command.alloc, &store.digest_of(&name).map(first_byte)),
+        "key" => shown(command.alloc, &store.change_key(&name, &digest)),
+        _ => shown(command.alloc, &store.add(&name, &digest)),
     }
-    shown(command.alloc, &store.add(&name, &digest))
 }
 
 fn first_byte(digest: Option<[u8; 32]>) -> Option<u8> {
@@ -163,7 +155,7 @@ fn first_byte(digest: Option<[u8; 32]>) -> Option<u8> {
 }
 
 /// Sends a batch of accounts.
-fn open<D: Disk + Drop>(store: &mut Driven<D>, command: &Command<'_>) -> Text {
+fn open<S: Called>(store: &mut S, command: &Command<'_>) -> Text {
     let alloc = command.alloc;
     let (moment, events) = command.batch();
     let accounts = accounts(alloc, events)?;
@@ -175,44 +167,22 @@ fn open<D: Disk + Drop>(store: &mut Driven<D>, command: &Command<'_>) -> Text {
     told(alloc, store.run(&command.digest(), opening))
 }
 
-/// Sends a batch of transfers.
-fn send<D: Disk + Drop>(store: &mut Driven<D>, command: &Command<'_>) -> Text {
+/// Sends a batch of transfers: its reply, or what is told where it wants memory at its end, or
+/// whether like transfers were run.
+fn send<S: Called>(store: &mut S, command: &Command<'_>) -> Text {
     let alloc = command.alloc;
-    let (moment, events) = command.batch();
-    let transfers = transfers(alloc, events)?;
+    let transfers = command.transfers()?;
     let sending = Sending {
         alloc,
         transfers: &transfers,
-        moment,
+        moment: command.batch().0,
     };
-    told(alloc, store.run(&command.digest(), sending))
-}
-
-/// Sends transfers of 1 with the ids from a first one, before a last, and tells whether they were
-/// run.
-fn fill<D: Disk + Drop>(store: &mut Driven<D>, command: &Command<'_>) -> Text {
-    let alloc = command.alloc;
-    let (first, last) = command.rest.split_once(' ').unwrap_or(("", ""));
-    let transfers = ones(alloc, first.parse().unwrap_or(0), last.parse().unwrap_or(0))?;
-    let sending = Sending {
-        alloc,
-        transfers: &transfers,
-        moment: 0,
-    };
-    shown(alloc, &store.run(&command.digest(), sending).is_ok())
-}
-
-/// Sends a batch of transfers that wants memory at its end.
-fn fail<D: Disk + Drop>(store: &mut Driven<D>, command: &Command<'_>) -> Text {
-    let alloc = command.alloc;
-    let (moment, events) = command.batch();
-    let transfers = transfers(alloc, events)?;
-    let sending = Sending {
-        alloc,
-        transfers: &transfers,
-        moment,
-    };
-    shown(alloc, &store.run(&command.digest(), Failing { sending }))
+    let digest = command.digest();
+    match command.verb {
+        "transfers" => told(alloc, store.run(&digest, sending)),
+        "fail" => shown(alloc, &store.run(&digest, Failing { sending })),
+        _ => shown(alloc, &store.run(&digest, sending).is_ok()),
+    }
 }
 
 /// A result that has a number.
@@ -232,23 +202,21 @@ impl Numbered for TransferResult {
     }
 }
 
-/// The reply to a batch: the clock, and the number and timestamp of each result.
+/// The number and the timestamp.
+impl<R: Numbered> Worded for EventResult<R> {
+    fn word(&self, alloc: Global) -> Text {
+        format!(in alloc; "{}@{}", self.result.its_number(), self.timestamp)
+    }
+}
+
+/// The reply to a batch: the clock, and each result.
 pub fn told<R: Numbered>(alloc: Global, reply: Result<BatchReply<R>, BatchFault>) -> Text {
     match reply {
         Err(fault) => shown(alloc, &fault),
         Ok(BatchReply::ClockExhausted) => said(alloc, "the clock is exhausted"),
-        Ok(BatchReply::Done { clock, results }) => results_told(alloc, clock, &results),
+        Ok(BatchReply::Done { clock, results }) => {
+            let head = format!(in alloc; "clock {clock}:");
+            with_words(alloc, head, &results)
+        }
     }
-}
-
-fn results_told<R: Numbered>(alloc: Global, clock: u64, results: &[EventResult<R>]) -> Text {
-    let mut text = format!(in alloc; "clock {clock}:")?;
-    for each in results {
-        put_word(&mut text, result_told(alloc, each)?)?;
-    }
-    Ok(text)
-}
-
-fn result_told<R: Numbered>(alloc: Global, each: &EventResult<R>) -> Text {
-    format!(in alloc; "{}@{}", each.result.its_number(), each.timestamp)
 }

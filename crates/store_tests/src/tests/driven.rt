@@ -1,12 +1,15 @@
-//! A store that may be called at any time. What its clauses ask of a caller ends here.
+//! A store on a disk, as tests call it. What its clauses ask of a caller ends here.
 
+use super::called::{Called, Stored};
+use super::disks::{Calls, Faulty};
+use super::on_files::{changed, noise};
 use super::taken_rows::TakenRows;
 use chain::{BatchFault, Ledgers, Listed, ReadFault, RoundWork, Rounds, Work};
 use records::{
     AccountFilter, AccountWithBalances, BalanceAt, Order, StatementRow, Transfer, Unavailable,
 };
 use rows::{AllRows, TenantRows};
-use sqlite::{Files, Options};
+use sqlite::{Error, Files, Options};
 use sqlite_disk::{Disk, Start};
 use sqlite_std_file::FileFrom;
 use std::alloc::Global;
@@ -14,10 +17,11 @@ use std::marker::Model;
 use store::{AddTenant, Audit, ChangeKey, FullAudit, OpenFault, Overdue, Refused, Search, Store};
 use tenants::TenantName;
 
-/// A store that tests call.
+/// A store, and how far it was looked for holds that are due.
 #[derive(Drop)]
 pub struct Driven<D: Disk + Drop> {
     store: Store<D>,
+    search: Search,
 }
 
 impl<D: Disk + Drop> Model for Driven<D> {
@@ -31,7 +35,18 @@ impl<D: Disk + Drop> Model for Driven<D> {
 }
 
 impl<D: Disk + Drop> Driven<D> {
-    pub fn make(
+    ghost use Rattle.store.specs.Stores.{IsUsable};
+
+    fn new(store: Store<D>) -> Driven<D>
+        requires { IsUsable store }
+    {
+        Driven {
+            store,
+            search: Search::new(),
+        }
+    }
+
+    fn made(
         alloc: Global,
         files: Files<D>,
         options: Options,
@@ -40,137 +55,9 @@ impl<D: Disk + Drop> Driven<D> {
             return Err((OpenFault::Unavailable(Unavailable::Disk), files));
         }
         match Store::create(alloc, files, options) {
-            Ok(store) => Ok(Driven { store }),
+            Ok(store) => Ok(Driven::new(store)),
             Err(refused) => Err(refused),
         }
-    }
-
-    pub fn open<A: Audit>(
-        alloc: Global,
-        files: Files<D>,
-        options: Options,
-        audit: &A,
-    ) -> Result<Driven<D>, (OpenFault, Files<D>)> {
-        if !files.may_be_used() {
-            return Err((OpenFault::Unavailable(Unavailable::Disk), files));
-        }
-        match Store::open(alloc, files, options, audit) {
-            Ok(store) => Ok(Driven { store }),
-            Err(refused) => Err(refused),
-        }
-    }
-
-    /// Lets the store go.
-    pub fn end(self) {}
-
-    pub fn close(self) -> Files<D> {
-        self.store.close()
-    }
-
-    pub fn reopen<A: Audit>(&mut self, audit: &A) -> Result<(), Refused> {
-        self.store.reopen(audit)
-    }
-
-    pub fn add(&mut self, name: &TenantName, digest: &[u8; 32]) -> Result<(), AddTenant> {
-        self.store.add_tenant(name, digest)
-    }
-
-    pub fn change_key(&mut self, name: &TenantName, digest: &[u8; 32]) -> Result<(), ChangeKey> {
-        self.store.change_key(name, digest)
-    }
-
-    pub fn digest_of(&mut self, name: &TenantName) -> Result<Option<[u8; 32]>, Unavailable> {
-        self.store.digest_of(name)
-    }
-
-    pub fn knows(&mut self, digest: &[u8; 32]) -> Result<bool, Unavailable> {
-        self.store.knows(digest)
-    }
-
-    pub fn overdue(
-        &mut self,
-        search: &mut Search,
-        moment: u64,
-    ) -> Result<Option<Overdue>, Unavailable> {
-        self.store.overdue(search, moment)
-    }
-
-    pub fn all_rows(&mut self) -> Result<AllRows, Unavailable> {
-        self.store.all_rows()
-    }
-
-    pub fn rows_of(&mut self, digest: &[u8; 32]) -> Result<Option<TenantRows>, Unavailable> {
-        self.store.rows_of(digest)
-    }
-
-    pub fn run<W: Work + Drop>(
-        &mut self,
-        digest: &[u8; 32],
-        work: W,
-    ) -> Result<W::Output, BatchFault>
-    where
-        W::Output: Drop,
-    {
-        self.store.in_batch(digest, work)
-    }
-
-    pub fn run_round<W: RoundWork + Drop>(&mut self, work: W) -> Result<W::Output, Unavailable> {
-        Rounds::in_round(&mut self.store, work)
-    }
-
-    pub fn lookup_accounts(
-        &mut self,
-        alloc: Global,
-        digest: &[u8; 32],
-        ids: &[u128],
-    ) -> Result<Listed<AccountWithBalances>, ReadFault> {
-        self.store.lookup_accounts(alloc, digest, ids)
-    }
-
-    pub fn lookup_transfers(
-        &mut self,
-        alloc: Global,
-        digest: &[u8; 32],
-        ids: &[u128],
-    ) -> Result<Listed<Transfer>, ReadFault> {
-        self.store.lookup_transfers(alloc, digest, ids)
-    }
-
-    pub fn history_transfers(
-        &mut self,
-        alloc: Global,
-        digest: &[u8; 32],
-        asked: &AccountFilter,
-    ) -> Result<Listed<Transfer>, ReadFault> {
-        self.store.history_transfers(alloc, digest, asked)
-    }
-
-    pub fn history_balances(
-        &mut self,
-        alloc: Global,
-        digest: &[u8; 32],
-        asked: &AccountFilter,
-    ) -> Result<Listed<BalanceAt>, ReadFault> {
-        self.store.history_balances(alloc, digest, asked)
-    }
-
-    /// The rows of a statement, as long as there is room for them, and how it ended.
-    pub fn statement(
-        &mut self,
-        alloc: Global,
-        digest: &[u8; 32],
-        (account, order, room): (u128, Order, usize),
-    ) -> (Vec<StatementRow>, Result<(), ReadFault>) {
-        let mut rows = TakenRows::new(alloc, room);
-        let ended = self
-            .store
-            .each_statement_row(alloc, digest, account, order, &mut rows);
-        (rows.taken, ended)
-    }
-
-    /// Whether it answers calls, and the version of its schema.
-    pub fn is_ready(&self) -> (bool, u32) {
-        (self.store.is_ready(), self.store.schema())
     }
 }
 
@@ -182,7 +69,7 @@ impl<St: Start> Driven<FileFrom<St>> {
         options: Options,
     ) -> Result<Driven<FileFrom<St>>, OpenFault> {
         match Store::create_at(rt, path, start, options) {
-            Ok(store) => Ok(Driven { store }),
+            Ok(store) => Ok(Driven::new(store)),
             Err((fault, _files)) => Err(fault),
         }
     }
@@ -194,7 +81,7 @@ impl<St: Start> Driven<FileFrom<St>> {
         options: Options,
     ) -> Result<Driven<FileFrom<St>>, OpenFault> {
         match Store::open_at(rt, path, start, options, &FullAudit) {
-            Ok(store) => Ok(Driven { store }),
+            Ok(store) => Ok(Driven::new(store)),
             Err((fault, _files)) => Err(fault),
         }
     }
@@ -207,11 +94,164 @@ impl<St: Start> Driven<FileFrom<St>> {
         options: Options,
     ) -> Result<Driven<FileFrom<St>>, OpenFault> {
         match Store::open_at(rt, path, start, options, &FullAudit) {
-            Ok(store) => Ok(Driven { store }),
+            Ok(store) => Ok(Driven::new(store)),
             Err((OpenFault::NotALedger, Some(files))) => {
-                Driven::make(rt.alloc(), files, options).map_err(|(fault, _files)| fault)
+                Driven::made(rt.alloc(), files, options).map_err(|(fault, _files)| fault)
             }
             Err((fault, _files)) => Err(fault),
         }
+    }
+}
+
+impl<D: Disk + Drop> Called for Driven<D> {
+    fn is_ready(&self) -> (bool, u32) {
+        (self.store.is_ready(), self.store.schema())
+    }
+
+    fn reopen<A: Audit>(&mut self, audit: &A) -> Result<(), Refused> {
+        self.store.reopen(audit)
+    }
+
+    fn add(&mut self, name: &TenantName, digest: &[u8; 32]) -> Result<(), AddTenant> {
+        self.store.add_tenant(name, digest)
+    }
+
+    fn change_key(&mut self, name: &TenantName, digest: &[u8; 32]) -> Result<(), ChangeKey> {
+        self.store.change_key(name, digest)
+    }
+
+    fn digest_of(&mut self, name: &TenantName) -> Result<Option<[u8; 32]>, Unavailable> {
+        self.store.digest_of(name)
+    }
+
+    fn knows(&mut self, digest: &[u8; 32]) -> Result<bool, Unavailable> {
+        self.store.knows(digest)
+    }
+
+    fn overdue(&mut self, moment: u64) -> Result<Option<Overdue>, Unavailable> {
+        self.store.overdue(&mut self.search, moment)
+    }
+
+    fn begins_to_search(&self) -> bool {
+        self.search.begins()
+    }
+
+    fn all_rows(&mut self) -> Result<AllRows, Unavailable> {
+        self.store.all_rows()
+    }
+
+    fn rows_of(&mut self, digest: &[u8; 32]) -> Result<Option<TenantRows>, Unavailable> {
+        self.store.rows_of(digest)
+    }
+
+    fn run<W: Work + Drop>(&mut self, digest: &[u8; 32], work: W) -> Result<W::Output, BatchFault> {
+        self.store.in_batch(digest, work)
+    }
+
+    fn run_round<W: RoundWork + Drop>(&mut self, work: W) -> Result<W::Output, Unavailable> {
+        Rounds::in_round(&mut self.store, work)
+    }
+
+    fn lookup_accounts(
+        &mut self,
+        alloc: Global,
+        digest: &[u8; 32],
+        ids: &[u128],
+    ) -> Result<Listed<AccountWithBalances>, ReadFault> {
+        self.store.lookup_accounts(alloc, digest, ids)
+    }
+
+    fn lookup_transfers(
+        &mut self,
+        alloc: Global,
+        digest: &[u8; 32],
+        ids: &[u128],
+    ) -> Result<Listed<Transfer>, ReadFault> {
+        self.store.lookup_transfers(alloc, digest, ids)
+    }
+
+    fn history_transfers(
+        &mut self,
+        alloc: Global,
+        digest: &[u8; 32],
+        asked: &AccountFilter,
+    ) -> Result<Listed<Transfer>, ReadFault> {
+        self.store.history_transfers(alloc, digest, asked)
+    }
+
+    fn history_balances(
+        &mut self,
+        alloc: Global,
+        digest: &[u8; 32],
+        asked: &AccountFilter,
+    ) -> Result<Listed<BalanceAt>, ReadFault> {
+        self.store.history_balances(alloc, digest, asked)
+    }
+
+    fn statement(
+        &mut self,
+        alloc: Global,
+        digest: &[u8; 32],
+        wanted: (u128, Order, usize),
+    ) -> (Vec<StatementRow>, Result<(), ReadFault>) {
+        let (account, order, room) = wanted;
+        let mut rows = TakenRows::new(alloc, room);
+        let ended = self
+            .store
+            .each_statement_row(alloc, digest, account, order, &mut rows);
+        (rows.taken, ended)
+    }
+}
+
+impl<D: Faulty> Stored for Driven<D> {
+    type Files = Files<D>;
+
+    fn files(alloc: Global, log: Calls, db: Calls) -> Files<D> {
+        Files {
+            log: D::made(alloc, log),
+            db: D::made(alloc, db),
+        }
+    }
+
+    fn noise(alloc: Global) -> Files<D> {
+        noise(alloc)
+    }
+
+    fn crashed(files: Files<D>) -> Files<D> {
+        let mut files = files;
+        files.log.crash();
+        files.db.crash();
+        files
+    }
+
+    fn changed(alloc: Global, files: Files<D>, sql: &str) -> (Files<D>, Result<(), Error>) {
+        changed(alloc, files, sql)
+    }
+
+    fn make(
+        alloc: Global,
+        files: Files<D>,
+        options: Options,
+    ) -> Result<Driven<D>, (OpenFault, Files<D>)> {
+        Driven::made(alloc, files, options)
+    }
+
+    fn open<A: Audit>(
+        alloc: Global,
+        files: Files<D>,
+        options: Options,
+        audit: &A,
+    ) -> Result<Driven<D>, (OpenFault, Files<D>)> {
+        if !files.may_be_used() {
+            return Err((OpenFault::Unavailable(Unavailable::Disk), files));
+        }
+        match Store::open(alloc, files, options, audit) {
+            Ok(store) => Ok(Driven::new(store)),
+            Err(refused) => Err(refused),
+        }
+    }
+
+    fn close(self) -> Files<D> {
+        self.store.close()
     }
 }

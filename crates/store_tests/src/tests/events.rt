@@ -124,17 +124,29 @@ fn mark(event: &mut TransferEvent, word: &str) {
     }
 }
 
-/// `1000: 1>3 1`, `1001: 1>3 1` and so on: transfers with the ids from a first one, before a last.
-pub fn ones(alloc: Global, first: u64, last: u64) -> Result<Vec<TransferEvent>, AllocError> {
+/// Transfers like one, with the ids from a first one, before a last.
+fn like(
+    alloc: Global,
+    one: TransferEvent,
+    first: u64,
+    last: u64,
+) -> Result<Vec<TransferEvent>, AllocError> {
     let mut events = Vec::new(alloc);
     for id in first..last {
         events.push(TransferEvent {
             id: u128::from(id),
-            debit_account_id: 1,
-            credit_account_id: 3,
-            amount: Amount::new(1),
-            ..NO_TRANSFER
+            ..one
         })?;
     }
     Ok(events)
+}
+
+/// `1000: 1>3 1`, `1001: 1>3 1` and so on.
+pub fn ones(alloc: Global, first: u64, last: u64) -> Result<Vec<TransferEvent>, AllocError> {
+    like(alloc, transfer("1>3 1"), first, last)
+}
+
+/// The same of holds for a second, from account 1 to 2.
+pub fn holds(alloc: Global, first: u64, last: u64) -> Result<Vec<TransferEvent>, AllocError> {
+    like(alloc, transfer("1>2 1 pending timeout=1"), first, last)
 }

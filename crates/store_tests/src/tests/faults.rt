@@ -1,8 +1,8 @@
 //! Disks that fail while a ledger is made, gets a tenant, and runs batches.
 
-use super::bench::Bench;
-use super::disks::{Calls, Faulty, InMemory, WIDE};
-use super::playing::{BASE, other_answer, play};
+use super::bench::{Bench, Visit, in_memory};
+use super::disks::{Calls, WIDE};
+use super::playing::{BASE, other_answer, play, told};
 use std::alloc::Global;
 use std::process::Abort;
 
@@ -30,16 +30,21 @@ North history 3 3 1 => Unavailable(Disk)
 North balances 3 3 1 => Unavailable(Disk)
 North statement 3 3 1 => Err(Unavailable(Disk))";
 
-/// Whether a disk fails in these steps; from then on nothing is answered.
-fn fails<D: Faulty, R: Abort>(rt: &R, alloc: Global, calls: Calls) -> bool {
-    let mut bench: Bench<D> = Bench::new(alloc, WIDE, calls, Calls::All);
-    let has_failed = has_failed(rt, &mut bench, calls);
-    bench.end();
-    has_failed
+/// Whether a log of which such calls come through fails in these steps; from then on nothing is
+/// answered.
+#[derive(Clone, Copy)]
+struct Fails(Calls);
+
+impl Visit for Fails {
+    type Told = bool;
+
+    fn visit<B: Bench, R: Abort>(&self, rt: &R, alloc: Global) -> bool {
+        let mut bench = B::new(alloc, WIDE, self.0, Calls::All);
+        has_failed(rt, &mut bench, self.0)
+    }
 }
 
-/// The same, of a bench whose log has such calls.
-fn has_failed<D: Faulty>(rt: &impl Abort, bench: &mut Bench<D>, calls: Calls) -> bool {
+fn has_failed<B: Bench>(rt: &impl Abort, bench: &mut B, calls: Calls) -> bool {
     let Some(told) = other_answer(rt, bench, STEPS) else {
         return false;
     };
@@ -54,19 +59,20 @@ fn has_failed<D: Faulty>(rt: &impl Abort, bench: &mut Bench<D>, calls: Calls) ->
 /// served from, since what the store holds may be behind it.
 #[test]
 fn a_disk_that_fails(rt: HostRuntime) {
+    let alloc = rt.alloc();
     for calls in 0..30u64 {
         assert!(rt;
-            fails::<InMemory, _>(&rt, rt.alloc(), Calls::First(calls)),
+            in_memory(&rt, alloc, &Fails(Calls::First(calls))),
             "after {calls}"
         );
     }
     for calls in 0..16u64 {
         assert!(rt;
-            fails::<InMemory, _>(&rt, rt.alloc(), Calls::AllButOne(calls)),
+            in_memory(&rt, alloc, &Fails(Calls::AllButOne(calls))),
             "at {calls}"
         );
     }
-    assert!(rt; !fails::<InMemory, _>(&rt, rt.alloc(), Calls::All));
+    assert!(rt; !in_memory(&rt, alloc, &Fails(Calls::All)));
 }
 
 /// A reopening that is refused, and the next one.
@@ -77,11 +83,6 @@ North knows => Err(Disk)
 North reopen => Ok(())
 North ready => (true, 3)";
 
-/// What is answered to a command.
-fn told<D: Faulty>(rt: &impl Abort, bench: &mut Bench<D>, command: &str) -> String {
-    bench.answer(command).expect(rt, "no memory")
-}
-
 /// Whether a transfer was run, now or before.
 fn is_run(answer: &str) -> bool {
     answer.contains(": 0@") || answer.contains(": 18@")
@@ -89,48 +90,32 @@ fn is_run(answer: &str) -> bool {
 
 /// Sends one transfer, and where the disk fails, once more after a reopening: it is kept once.
 /// Tells whether it did.
-fn sends_or_mends<D: Faulty>(
-    rt: &impl Abort,
-    alloc: Global,
-    bench: &mut Bench<D>,
-    id: u64,
-) -> bool {
+fn sends_or_mends<B: Bench>(rt: &impl Abort, alloc: Global, bench: &mut B, id: u64) -> bool {
     let command = format!(in alloc; "North transfers {id}: 1>2 1").expect(rt, "no memory");
     let first = told(rt, bench, &command);
     let has_failed = !first.contains(": 0@");
     if has_failed {
         assert_eq!(rt; first.as_str(), "Unavailable(Disk)");
-        mends(rt, bench, &command);
+        sends_again(rt, bench, &command);
     }
     has_failed
 }
 
 /// Reopens the ledger, which answers nothing before, and sends the command again.
-fn mends<D: Faulty>(rt: &impl Abort, bench: &mut Bench<D>, command: &str) {
+fn sends_again<B: Bench>(rt: &impl Abort, bench: &mut B, command: &str) {
     play(rt, bench, NOTHING);
     play(rt, bench, MENDED);
     assert!(rt; is_run(&told(rt, bench, command)));
 }
 
 /// Whether ten transfers of 1 were kept, and none with the id 900.
-fn has_ten<D: Faulty>(rt: &impl Abort, bench: &mut Bench<D>) -> bool {
+fn has_ten<B: Bench>(rt: &impl Abort, bench: &mut B) -> bool {
     told(rt, bench, "North transfer 900").ends_with(":")
         && told(rt, bench, "North see 1").contains("Some([0, 10, 0, 0])")
 }
 
-/// Ten transfers, one of which meets the fault of the disk; what was sent between that and the
-/// reopening never shows. Tells whether the fault was met.
-fn is_mended<D: Faulty, R: Abort>(rt: &R, alloc: Global, before: u64) -> bool {
-    let mut bench: Bench<D> = Bench::new(alloc, WIDE, Calls::AllButOne(before), Calls::All);
-    let has_base = other_answer(rt, &mut bench, BASE).is_none();
-    let is_met = has_base && sends_ten(rt, alloc, &mut bench);
-    assert!(rt; !has_base || has_ten(rt, &mut bench), "at {before}");
-    bench.end();
-    is_met
-}
-
 /// Sends the ten. Tells whether the fault was met.
-fn sends_ten<D: Faulty>(rt: &impl Abort, alloc: Global, bench: &mut Bench<D>) -> bool {
+fn sends_ten<B: Bench>(rt: &impl Abort, alloc: Global, bench: &mut B) -> bool {
     let mut is_met = false;
     for id in 100..110u64 {
         is_met |= sends_or_mends(rt, alloc, bench, id);
@@ -138,11 +123,30 @@ fn sends_ten<D: Faulty>(rt: &impl Abort, alloc: Global, bench: &mut Bench<D>) ->
     is_met
 }
 
+/// Ten transfers, one of which meets the fault of the log, which comes behind so many calls; what was
+/// sent between that and the reopening never shows. Whether the fault was met.
+#[derive(Clone, Copy)]
+struct Mends(u64);
+
+impl Visit for Mends {
+    type Told = bool;
+
+    fn visit<B: Bench, R: Abort>(&self, rt: &R, alloc: Global) -> bool {
+        let mut bench = B::new(alloc, WIDE, Calls::AllButOne(self.0), Calls::All);
+        if other_answer(rt, &mut bench, BASE).is_some() {
+            return false;
+        }
+        let is_met = sends_ten(rt, alloc, &mut bench);
+        assert!(rt; has_ten(rt, &mut bench), "at {}", self.0);
+        is_met
+    }
+}
+
 #[test]
 fn a_fault_is_mended_by_a_reopening(rt: HostRuntime) {
     let mut met: u64 = 0;
     for place in 4..14u64 {
-        if is_mended::<InMemory, _>(&rt, rt.alloc(), place * 5) {
+        if in_memory(&rt, rt.alloc(), &Mends(place * 5)) {
             met = met.saturating_add(1);
         }
     }

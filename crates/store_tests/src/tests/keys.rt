@@ -1,9 +1,9 @@
 //! Another key for a tenant: its machine stands under the new one, and nobody under the old one.
 
-use super::bench::Bench;
-use super::disks::{Calls, Faulty, InMemory, WIDE};
+use super::bench::{Bench, Visit, in_memory};
+use super::disks::{Calls, WIDE};
 use super::faults::NOTHING;
-use super::playing::{BASE, other_answer, play, play_from_base};
+use super::playing::{BASE, other_answer, play, play_from_base, told};
 use std::alloc::Global;
 use std::process::Abort;
 
@@ -67,8 +67,8 @@ North knows => Ok(false)
 Nobody see 1 => Ok((Some([0, 0, 0, 0]), None, 4))";
 
 /// Changes a key, and looks which one is good behind an opening. Tells whether the disk failed.
-fn changes<D: Faulty>(rt: &impl Abort, bench: &mut Bench<D>) -> bool {
-    let told = bench.answer("North key 3").expect(rt, "no memory");
+fn changes<B: Bench>(rt: &impl Abort, bench: &mut B) -> bool {
+    let told = told(rt, bench, "North key 3");
     let has_failed = told.as_str() != "Ok(())";
     if has_failed {
         assert_eq!(rt; told.as_str(), "Err(Unavailable(Disk))");
@@ -83,12 +83,16 @@ fn changes<D: Faulty>(rt: &impl Abort, bench: &mut Bench<D>) -> bool {
 }
 
 /// Whether a log that stops after so many calls does so while a key is changed.
-fn is_met<D: Faulty, R: Abort>(rt: &R, alloc: Global, calls: u64) -> bool {
-    let mut bench: Bench<D> = Bench::new(alloc, WIDE, Calls::First(calls), Calls::All);
-    let has_base = other_answer(rt, &mut bench, BASE).is_none();
-    let is_met = has_base && changes(rt, &mut bench);
-    bench.end();
-    is_met
+#[derive(Clone, Copy)]
+struct Stops(u64);
+
+impl Visit for Stops {
+    type Told = bool;
+
+    fn visit<B: Bench, R: Abort>(&self, rt: &R, alloc: Global) -> bool {
+        let mut bench = B::new(alloc, WIDE, Calls::First(self.0), Calls::All);
+        other_answer(rt, &mut bench, BASE).is_none() && changes(rt, &mut bench)
+    }
 }
 
 /// Whatever call the disk stops at, one of the two keys is good, and where it was told the new one.
@@ -96,7 +100,7 @@ fn is_met<D: Faulty, R: Abort>(rt: &R, alloc: Global, calls: u64) -> bool {
 fn a_disk_that_stops_while_a_key_is_changed(rt: HostRuntime) {
     let mut met: u64 = 0;
     for calls in 20..80u64 {
-        if is_met::<InMemory, _>(&rt, rt.alloc(), calls) {
+        if in_memory(&rt, rt.alloc(), &Stops(calls)) {
             met = met.saturating_add(1);
         }
     }

@@ -2,16 +2,15 @@
 //! has changed, and the same call then succeeds. A disk in memory that wants it has failed: its
 //! files are opened again, and hold the whole request or nothing of it.
 
+use super::called::{Called, Stored};
 use super::commands::Numbered;
-use super::disks::{Calls, Faulty, InMemory, WIDE};
+use super::disks::{Calls, InMemory, WIDE};
 use super::driven::Driven;
 use super::events::{accounts, ones, transfer};
 use super::scarce_reads::{ENTRIES, reads};
 use super::works::{Looking, Opening, Sending};
 use chain::{BatchFault, BatchReply, Tables, Work};
 use records::{AccountEvent, TransferEvent, Unavailable};
-use sqlite::Files;
-use sqlite_disk::{Crash, Disk};
 use std::alloc::Global;
 use std::process::Abort;
 use store::{AddTenant, FullAudit, OpenFault};
@@ -21,62 +20,42 @@ use tenants::TenantName;
 pub const NORTH: [u8; 32] = [1; 32];
 
 /// The store as it is, or where its disk failed, on what its files hold after a crash.
-pub fn mended<D: Crash + Drop>(
-    rt: &impl Abort,
-    alloc: Global,
-    mut store: Driven<D>,
-    fault: Unavailable,
-) -> Driven<D> {
+pub fn mended<S: Stored>(rt: &impl Abort, alloc: Global, mut store: S, fault: Unavailable) -> S {
     let has_failed = fault == Unavailable::Disk;
     assert!(rt; has_failed || fault == Unavailable::Memory, "{fault:?}");
     assert_eq!(rt; store.is_ready(), (!has_failed, 3));
     if has_failed {
         assert_eq!(rt; store.knows(&NORTH), Err(Unavailable::Disk));
-        store = reopened(rt, alloc, crashed(store.close()));
+        store = reopened(rt, alloc, S::crashed(store.close()));
     }
     store
 }
 
-/// Files after a crash.
-fn crashed<D: Crash>(mut files: Files<D>) -> Files<D> {
-    files.log.crash();
-    files.db.crash();
-    files
-}
-
 /// A ledger that is there.
-fn reopened<D: Disk + Drop>(rt: &impl Abort, alloc: Global, files: Files<D>) -> Driven<D> {
-    match Driven::open(alloc, files, WIDE, &FullAudit) {
+fn reopened<S: Stored>(rt: &impl Abort, alloc: Global, files: S::Files) -> S {
+    match S::open(alloc, files, WIDE, &FullAudit) {
         Ok(store) => store,
         Err((fault, _)) => panic!(rt; "not opened: {fault:?}"),
     }
 }
 
 /// A new ledger, once there is memory for it. A making that failed may have left the whole of it.
-fn made<D: Faulty>(rt: &impl Abort, alloc: Global) -> Driven<D> {
-    let files = Files {
-        log: D::made(alloc, Calls::All),
-        db: D::made(alloc, Calls::All),
-    };
-    match Driven::make(alloc, files, WIDE) {
+fn made<S: Stored>(rt: &impl Abort, alloc: Global) -> S {
+    let files = S::files(alloc, Calls::All, Calls::All);
+    match S::make(alloc, files, WIDE) {
         Ok(store) => store,
         Err((fault, files)) => made_again(rt, alloc, fault, files),
     }
 }
 
 /// The same, after a fault.
-fn made_again<D: Crash + Drop>(
-    rt: &impl Abort,
-    alloc: Global,
-    fault: OpenFault,
-    files: Files<D>,
-) -> Driven<D> {
+fn made_again<S: Stored>(rt: &impl Abort, alloc: Global, fault: OpenFault, files: S::Files) -> S {
     let has_failed = fault == OpenFault::Unavailable(Unavailable::Disk);
     assert!(rt;
         has_failed || fault == OpenFault::Unavailable(Unavailable::Memory),
         "{fault:?}"
     );
-    match Driven::make(alloc, crashed(files), WIDE) {
+    match S::make(alloc, S::crashed(files), WIDE) {
         Ok(store) => store,
         Err((refusal, files)) => {
             assert!(rt; has_failed && refusal == OpenFault::NotALedger);
@@ -87,7 +66,7 @@ fn made_again<D: Crash + Drop>(
 
 /// Adds a tenant once there is memory for it: it is not known before, or after a fault of the disk
 /// it may be, and then its name is taken.
-fn adds<D: Crash + Drop>(rt: &impl Abort, alloc: Global, mut store: Driven<D>) -> Driven<D> {
+fn adds<S: Stored>(rt: &impl Abort, alloc: Global, mut store: S) -> S {
     let north = TenantName::read("North").expect(rt, "no name");
     match store.add(&north, &NORTH) {
         Ok(()) => store,
@@ -101,12 +80,7 @@ fn adds<D: Crash + Drop>(rt: &impl Abort, alloc: Global, mut store: Driven<D>) -
 }
 
 /// The same, after a fault.
-fn adds_again<D: Disk + Drop>(
-    rt: &impl Abort,
-    store: &mut Driven<D>,
-    north: &TenantName,
-    fault: Unavailable,
-) {
+fn adds_again<S: Stored>(rt: &impl Abort, store: &mut S, north: &TenantName, fault: Unavailable) {
     let is_kept = store.knows(&NORTH) == Ok(true);
     assert!(rt; fault == Unavailable::Disk || !is_kept);
     let want = if is_kept {
@@ -193,7 +167,7 @@ fn cause(rt: &impl Abort, fault: BatchFault) -> Unavailable {
 }
 
 /// The clock, once there is memory to tell it.
-fn seen<D: Crash + Drop>(rt: &impl Abort, alloc: Global, mut store: Driven<D>) -> (Driven<D>, u64) {
+fn seen<S: Stored>(rt: &impl Abort, alloc: Global, mut store: S) -> (S, u64) {
     let looking = Looking { account: 1 };
     let mut told = store.run(&NORTH, looking);
     if let Err(fault) = told {
@@ -205,12 +179,12 @@ fn seen<D: Crash + Drop>(rt: &impl Abort, alloc: Global, mut store: Driven<D>) -
 
 /// Sends a batch once there is memory for it. It is not kept before, or after a fault of the disk
 /// the whole of it may be, and then the same batch is a retry. Tells the clock behind it.
-fn sends<D: Crash + Drop>(
+fn sends<S: Stored>(
     rt: &impl Abort,
     alloc: Global,
-    (mut store, before): (Driven<D>, u64),
+    (mut store, before): (S, u64),
     request: Request<'_>,
-) -> (Driven<D>, u64) {
+) -> (S, u64) {
     let mut batch = Comparing {
         alloc,
         events: request.events,
@@ -242,7 +216,7 @@ fn behind(before: u64, request: Request<'_>) -> u64 {
 }
 
 /// Opens the accounts of the base, if there is memory for the events. It gives the clock too.
-fn opens<D: Faulty, R: Abort>(rt: &R, alloc: Global) -> Option<(Driven<D>, u64)> {
+fn opens<S: Stored, R: Abort>(rt: &R, alloc: Global) -> Option<(S, u64)> {
     let accounts = accounts(alloc, "1; 2; 3 flags=10; 4").ok()?;
     let store = adds(rt, alloc, made(rt, alloc));
     let opening = Request {
@@ -262,24 +236,19 @@ enum Next<'a> {
 }
 
 /// Sends a batch to a new ledger, and what follows.
-fn sends_to_new<D: Faulty, R: Abort>(rt: &R, alloc: Global, first: Request<'_>, next: Next<'_>) {
-    if let Some(opened) = opens::<D, _>(rt, alloc) {
+fn sends_to_new<S: Stored, R: Abort>(rt: &R, alloc: Global, first: Request<'_>, next: Next<'_>) {
+    if let Some(opened) = opens::<S, _>(rt, alloc) {
         let sent = sends(rt, alloc, opened, first);
         goes_on(rt, alloc, sent, next);
     }
 }
 
 /// Sends the next batch to a store, or reads.
-fn goes_on<D: Crash + Drop>(
-    rt: &impl Abort,
-    alloc: Global,
-    sent: (Driven<D>, u64),
-    next: Next<'_>,
-) {
+fn goes_on<S: Stored>(rt: &impl Abort, alloc: Global, sent: (S, u64), next: Next<'_>) {
     match next {
         Next::Batch(request) => {
             let (store, _) = sends(rt, alloc, sent, request);
-            store.end();
+            let _store = store;
         }
         Next::Reads => {
             let (store, _) = sent;
@@ -290,7 +259,7 @@ fn goes_on<D: Crash + Drop>(
 
 /// The same, of a ledger on disks in memory.
 fn sends_in_memory(rt: &impl Abort, alloc: Global, first: Request<'_>, next: Next<'_>) {
-    sends_to_new::<InMemory, _>(rt, alloc, first, next);
+    sends_to_new::<Driven<InMemory>, _>(rt, alloc, first, next);
 }
 
 /// A chain that falls, whose id that fails is told from then on, and not before.

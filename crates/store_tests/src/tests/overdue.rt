@@ -1,138 +1,75 @@
 //! Which tenants have holds that are due.
 
-use super::disks::{Calls, Faulty, InMemory, WIDE};
-use super::driven::Driven;
-use super::events::{accounts, transfer};
-use super::works::{Opening, Sending};
-use records::TransferEvent;
-use sqlite::Files;
-use sqlite_disk::Disk;
+use super::called::Called;
+use super::playing::play_from_nothing;
+use super::words::{Text, said, shown};
 use std::alloc::Global;
-use std::process::Abort;
-use std::test::Fail;
-use store::{Overdue, Search};
-use tenants::TenantName;
+use store::Overdue;
 
-pub const NORTH: [u8; 32] = [1; 32];
+/// Two tenants, each with the accounts 1 and 2.
+pub const TWO: &str = "\
+File create => made
+North add 1 => Ok(())
+North accounts 1; 2 => clock 2: 0@1 0@2
+South add 2 => Ok(())
+South accounts 1; 2 => clock 2: 0@1 0@2";
 
-const SOUTH: [u8; 32] = [2; 32];
+/// What is found of 450 holds of North and one of South, while whoever is found is settled by a batch
+/// of nothing. The first hold is due 3 nanoseconds behind the first second, and each later one a
+/// nanosecond later. Of what is due for less than a second only a great many are told. The last piece
+/// is found twice, since the batch that releases it leaves it in memory.
+const PIECES: &str = "\
+North holds 1000 1450 => true
+South holds 1000 1001 => true
+All overdue 1000000002 => none, from the start
+All overdue 1000000500 => 1 North until 1000000202 and more
+North transfers at 1000000202 => clock 1000000202:
+All overdue 1000000500 => none, from the start
+All overdue 1000000500 => 1 North until 1000000402 and more
+North transfers at 1000000402 => clock 1000000402:
+All overdue 1000000500 => none, from the start
+All overdue 1000000500 => none, from the start
+All overdue 2000000500 => 1 North until 1000000452
+All overdue 2000000500 => 2 South until 1000000003
+North transfers at 1000000452 => clock 1000000452:
+South transfers at 1000000003 => clock 1000000003:
+All overdue 2000000500 => none, from the start
+All overdue 2000000500 => 1 North until 1000000452
+All overdue 2000000500 => 2 South until 1000000003
+North transfers at 1000000452 => clock 1000000452:
+South transfers at 1000000003 => clock 1000000003:
+All overdue 2000000500 => none, from the start
+All overdue 2000000500 => none, from the start";
 
-/// A second, in nanoseconds.
-const SECOND: u64 = 1_000_000_000;
-
-/// A store in memory with two tenants, each with the accounts 1 and 2.
-pub fn made<D: Faulty>(alloc: Global) -> Result<Driven<D>, Fail> {
-    let files = Files {
-        log: D::made(alloc, Calls::All),
-        db: D::made(alloc, Calls::All),
-    };
-    let mut store = match Driven::make(alloc, files, WIDE) {
-        Ok(store) => store,
-        Err((fault, _)) => return Err(Fail::new(format_args!("{fault:?}"))),
-    };
-    for (name, digest) in [("North", &NORTH), ("South", &SOUTH)] {
-        let name = TenantName::read(name).ok_or("no name")?;
-        store.add(&name, digest)?;
-        let accounts = accounts(alloc, "1; 2")?;
-        let opening = Opening {
-            alloc,
-            accounts: accounts.as_slice(),
-            moment: 0,
-        };
-        store.run(digest, opening)?;
+/// Goes on with the search for what is due by a moment, and tells what is found, or whether it begins
+/// again.
+pub fn search<S: Called>(alloc: Global, store: &mut S, moment: u64) -> Text {
+    match store.overdue(moment) {
+        Ok(Some(found)) => overdue_told(alloc, &found),
+        Ok(None) if store.begins_to_search() => said(alloc, "none, from the start"),
+        Ok(None) => said(alloc, "none"),
+        Err(fault) => shown(alloc, &fault),
     }
-    Ok(store)
 }
 
-/// So many holds of a tenant for a second, made at the moment 0 behind its two accounts: the first is
-/// due 3 nanoseconds behind the first second, and each later one a nanosecond later.
-fn hold<D: Disk + Drop>(
-    alloc: Global,
-    store: &mut Driven<D>,
-    digest: &[u8; 32],
-    many: u16,
-) -> Result<(), Fail> {
-    let mut holds = Vec::new(alloc);
-    for id in 0..many {
-        let mut hold = transfer("1>2 1 pending timeout=1");
-        hold.id = 1000 + u128::from(id);
-        holds.push(hold)?;
+/// The tenant's number and who it is, until when its holds are released, and whether more are due.
+fn overdue_told(alloc: Global, found: &Overdue) -> Text {
+    let who = holder(&found.digest);
+    let more = if found.has_more { " and more" } else { "" };
+    format!(in alloc; "{} {who} until {}{more}", found.number, found.until)
+}
+
+fn holder(digest: &[u8; 32]) -> &'static str {
+    if *digest == [1; 32] {
+        "North"
+    } else if *digest == [2; 32] {
+        "South"
+    } else {
+        "nobody"
     }
-    settle(alloc, store, digest, holds.as_slice(), 0)
-}
-
-/// A batch of transfers at a moment. One of none settles the tenant to it.
-pub fn settle<D: Disk + Drop>(
-    alloc: Global,
-    store: &mut Driven<D>,
-    digest: &[u8; 32],
-    transfers: &[TransferEvent],
-    moment: u64,
-) -> Result<(), Fail> {
-    let sending = Sending {
-        alloc,
-        transfers,
-        moment,
-    };
-    store.run(digest, sending)?;
-    Ok(())
-}
-
-/// The time so many nanoseconds behind the first second.
-fn behind_first(nanoseconds: u32) -> u64 {
-    SECOND + u64::from(nanoseconds)
-}
-
-fn found(number: i64, digest: [u8; 32], behind: u32, has_more: bool) -> Option<Overdue> {
-    Some(Overdue {
-        number,
-        digest,
-        until: behind_first(behind),
-        has_more,
-    })
-}
-
-/// What is found of 450 holds of North and one of South, while whoever is found is settled. The last
-/// piece is found twice, since the batch that releases it leaves it in memory.
-fn finds<D: Faulty>(rt: &impl Abort, alloc: Global) -> Result<(), Fail> {
-    let mut store = made::<D>(alloc)?;
-    hold(alloc, &mut store, &NORTH, 450)?;
-    hold(alloc, &mut store, &SOUTH, 1)?;
-    let mut search = Search::new();
-    assert_eq!(rt; store.overdue(&mut search, SECOND + 2), Ok(None));
-    assert!(rt; search.begins());
-    // Of what is due for less than a second only a great many are told.
-    for behind in [202, 402] {
-        let moment = SECOND + 500;
-        assert_eq!(rt;
-            store.overdue(&mut search, moment),
-            Ok(found(1, NORTH, behind, true))
-        );
-        settle(alloc, &mut store, &NORTH, &[], behind_first(behind))?;
-        assert_eq!(rt; store.overdue(&mut search, moment), Ok(None));
-        assert!(rt; search.begins());
-    }
-    assert_eq!(rt; store.overdue(&mut search, SECOND + 500), Ok(None));
-    let later = 2 * SECOND + 500;
-    for _ in 0..2 {
-        assert_eq!(rt;
-            store.overdue(&mut search, later),
-            Ok(found(1, NORTH, 452, false))
-        );
-        assert_eq!(rt;
-            store.overdue(&mut search, later),
-            Ok(found(2, SOUTH, 3, false))
-        );
-        settle(alloc, &mut store, &NORTH, &[], SECOND + 452)?;
-        settle(alloc, &mut store, &SOUTH, &[], SECOND + 3)?;
-        assert_eq!(rt; store.overdue(&mut search, later), Ok(None));
-        assert!(rt; search.begins());
-    }
-    assert_eq!(rt; store.overdue(&mut search, later), Ok(None));
-    Ok(())
 }
 
 #[test]
-fn what_is_due_is_found_in_pieces(rt: HostRuntime) -> Result<(), Fail> {
-    finds::<InMemory>(&rt, rt.alloc())
+fn what_is_due_is_found_in_pieces(rt: HostRuntime) {
+    play_from_nothing(&rt, rt.alloc(), &[TWO, PIECES]);
 }

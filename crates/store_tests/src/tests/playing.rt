@@ -1,10 +1,8 @@
 //! Scripts: lines of a command and its answer.
 
-use super::bench::Bench;
-use super::commands::{Command, Text, answer};
-use super::disks::{Calls, Faulty, InMemory, WIDE};
-use super::driven::Driven;
-use sqlite_disk::Disk;
+use super::bench::{Bench, Visit, in_memory};
+use super::disks::{Calls, WIDE};
+use super::words::Text;
 use std::alloc::Global;
 use std::process::Abort;
 
@@ -16,47 +14,35 @@ North accounts 1; 2; 3 flags=10; 4 => clock 4: 0@1 0@2 0@3 0@4
 South add 2 => Ok(())
 South accounts 1; 2; 3 flags=10; 4 => clock 4: 0@1 0@2 0@3 0@4";
 
+/// What answers commands: who asks, a verb and the rest.
+pub trait Answers {
+    fn answer(&mut self, command: &str) -> Text;
+}
+
 /// The command and its answer.
 fn parts(line: &str) -> (&str, &str) {
     line.split_once(" => ").unwrap_or((line, ""))
 }
 
-/// Compares what is told with a line's answer.
-fn compare(rt: &impl Abort, line: &str, told: Text) {
-    let (command, want) = parts(line);
-    let told = told.expect(rt, line);
-    assert_eq!(rt; told.as_str(), want, "{command}");
+/// What is answered to a command, for which there is memory.
+pub fn told<A: Answers>(rt: &impl Abort, asked: &mut A, command: &str) -> String {
+    asked.answer(command).expect(rt, command)
 }
 
 /// Gives each command of a script, and compares the answers.
-pub fn play<D: Faulty>(rt: &impl Abort, bench: &mut Bench<D>, script: &str) {
+pub fn play<A: Answers>(rt: &impl Abort, asked: &mut A, script: &str) {
     for line in script.split('\n') {
-        compare(rt, line, bench.answer(parts(line).0));
-    }
-}
-
-/// The same, on a store at a path.
-pub fn play_on<D: Disk + Drop>(
-    rt: &impl Abort,
-    alloc: Global,
-    store: &mut Driven<D>,
-    script: &str,
-) {
-    for line in script.split('\n') {
-        let command = Command::read(alloc, parts(line).0);
-        compare(rt, line, answer(store, &command));
+        let (command, want) = parts(line);
+        let told = told(rt, asked, command);
+        assert_eq!(rt; told.as_str(), want, "{command}");
     }
 }
 
 /// Gives each command of a script until one is not answered so, and tells what it answers.
-pub fn other_answer<D: Faulty>(
-    rt: &impl Abort,
-    bench: &mut Bench<D>,
-    script: &str,
-) -> Option<String> {
+pub fn other_answer<A: Answers>(rt: &impl Abort, asked: &mut A, script: &str) -> Option<String> {
     for line in script.split('\n') {
         let (command, want) = parts(line);
-        let told = bench.answer(command).expect(rt, line);
+        let told = told(rt, asked, command);
         if told.as_str() != want {
             return Some(told);
         }
@@ -64,18 +50,24 @@ pub fn other_answer<D: Faulty>(
     None
 }
 
-/// Plays scripts, one behind the other, on new files in memory, on which nothing fails.
-pub fn play_from_nothing(rt: &impl Abort, alloc: Global, scripts: &[&str]) {
-    play_all::<InMemory, _>(rt, alloc, scripts);
+/// Scripts that are played one behind the other on new files, on which nothing fails.
+#[derive(Clone, Copy)]
+struct Scripts<'a>(&'a [&'a str]);
+
+impl Visit for Scripts<'_> {
+    type Told = ();
+
+    fn visit<B: Bench, R: Abort>(&self, rt: &R, alloc: Global) {
+        let mut bench = B::new(alloc, WIDE, Calls::All, Calls::All);
+        for script in self.0 {
+            play(rt, &mut bench, script);
+        }
+    }
 }
 
-/// The same, on new files of some kind.
-fn play_all<D: Faulty, R: Abort>(rt: &R, alloc: Global, scripts: &[&str]) {
-    let mut bench: Bench<D> = Bench::new(alloc, WIDE, Calls::All, Calls::All);
-    for script in scripts {
-        play(rt, &mut bench, script);
-    }
-    bench.end();
+/// Plays scripts, one behind the other, on new files in memory.
+pub fn play_from_nothing(rt: &impl Abort, alloc: Global, scripts: &[&str]) {
+    in_memory(rt, alloc, &Scripts(scripts));
 }
 
 /// Plays each paragraph for tenants of its own.

@@ -1,7 +1,7 @@
 //! What each read answers. A filter is an account, flags, a limit and two times.
 
-use super::commands::{Text, put_word, shown};
 use super::playing::play_from_base;
+use super::words::{Text, put_word, shown};
 use std::alloc::Global;
 
 /// After 'posted in part', after 'posted too late' and a transfer, and after 'balancing'.

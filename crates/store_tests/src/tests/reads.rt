@@ -1,21 +1,16 @@
 //! What a store answers to reads, in words: the clock, and the entries.
 
-use super::commands::{Command, Text, put_word, shown};
-use super::driven::Driven;
+use super::called::Called;
+use super::commands::Command;
+use super::words::{Text, Worded, shown, with_words};
 use super::works::sums;
 use chain::{Listed, ReadFault};
 use records::{AccountWithBalances, BalanceAt, Order, Side, StatementRow, Transfer};
-use sqlite_disk::Disk;
 use std::alloc::Global;
 
-/// What is listed, and how it is shown.
-trait Entry {
-    fn entry(&self, alloc: Global) -> Text;
-}
-
 /// Id, ledger, code, flags and timestamp, and the balances.
-impl Entry for AccountWithBalances {
-    fn entry(&self, alloc: Global) -> Text {
+impl Worded for AccountWithBalances {
+    fn word(&self, alloc: Global) -> Text {
         let account = &self.account;
         let fields = [
             account.id,
@@ -29,8 +24,8 @@ impl Entry for AccountWithBalances {
 }
 
 /// Id, accounts, amount, pending id, ledger, code, flags, timeout, timestamp and clock.
-impl Entry for Transfer {
-    fn entry(&self, alloc: Global) -> Text {
+impl Worded for Transfer {
+    fn word(&self, alloc: Global) -> Text {
         let fields = [
             self.id,
             self.debit_account_id,
@@ -48,26 +43,41 @@ impl Entry for Transfer {
     }
 }
 
-impl Entry for BalanceAt {
-    fn entry(&self, alloc: Global) -> Text {
+impl Worded for BalanceAt {
+    fn word(&self, alloc: Global) -> Text {
         shown(alloc, &(self.timestamp, sums(&self.balances)))
     }
 }
 
+/// A line of a statement.
+impl Worded for StatementRow {
+    fn word(&self, alloc: Global) -> Text {
+        let side = if self.side == Side::Debit {
+            "debit"
+        } else {
+            "credit"
+        };
+        let [dp, dd, cp, cc] = sums(&self.balances);
+        format!(in alloc;
+            "{},{},{side},{:?},{},{dp},{dd},{cp},{cc}",
+            self.timestamp,
+            self.transfer_id,
+            self.kind,
+            self.amount.value()
+        )
+    }
+}
+
 /// What was listed, or the fault.
-fn listed<T: Entry + Drop>(alloc: Global, found: Result<Listed<T>, ReadFault>) -> Text {
+fn listed<T: Worded + Drop>(alloc: Global, found: Result<Listed<T>, ReadFault>) -> Text {
     match found {
-        Ok(found) => entries_told(alloc, &found),
+        Ok(found) => entries_told(alloc, found.clock, &found.entries),
         Err(fault) => shown(alloc, &fault),
     }
 }
 
-fn entries_told<T: Entry>(alloc: Global, found: &Listed<T>) -> Text {
-    let mut text = format!(in alloc; "clock {}:", found.clock)?;
-    for entry in found.entries.iter() {
-        put_word(&mut text, entry.entry(alloc)?)?;
-    }
-    Ok(text)
+fn entries_told<T: Worded>(alloc: Global, clock: u64, entries: &[T]) -> Text {
+    with_words(alloc, format!(in alloc; "clock {clock}:"), entries)
 }
 
 /// The same, of each transfer its id alone.
@@ -79,41 +89,12 @@ fn ids_listed(alloc: Global, found: Result<Listed<Transfer>, ReadFault>) -> Text
 }
 
 fn ids_told(alloc: Global, found: &Listed<Transfer>) -> Text {
-    let mut text = format!(in alloc; "clock {}:", found.clock)?;
-    for entry in found.entries.iter() {
-        put_word(&mut text, shown(alloc, &entry.id)?)?;
-    }
-    Ok(text)
-}
-
-/// A line of a statement.
-fn line(alloc: Global, row: &StatementRow) -> Text {
-    let side = if row.side == Side::Debit {
-        "debit"
-    } else {
-        "credit"
-    };
-    let [dp, dd, cp, cc] = sums(&row.balances);
-    format!(in alloc;
-        "{},{},{side},{:?},{},{dp},{dd},{cp},{cc}",
-        row.timestamp,
-        row.transfer_id,
-        row.kind,
-        row.amount.value()
-    )
-}
-
-/// The rows of a statement that came, and its fault.
-fn stated(alloc: Global, rows: &[StatementRow], ended: &Result<(), ReadFault>) -> Text {
-    let mut text = shown(alloc, ended)?;
-    for row in rows {
-        put_word(&mut text, line(alloc, row)?)?;
-    }
-    Ok(text)
+    let ids: Vec<u128> = found.entries.iter().map(|entry| entry.id).collect(alloc)?;
+    entries_told(alloc, found.clock, &ids)
 }
 
 /// What a read answers.
-pub fn read<D: Disk + Drop>(store: &mut Driven<D>, command: &Command<'_>) -> Text {
+pub fn read<S: Called>(store: &mut S, command: &Command<'_>) -> Text {
     let alloc = command.alloc;
     let digest = command.digest();
     let asked = command.filter();
@@ -126,7 +107,7 @@ pub fn read<D: Disk + Drop>(store: &mut Driven<D>, command: &Command<'_>) -> Tex
 }
 
 /// Accounts, or transfers, of ids.
-fn look_up<D: Disk + Drop>(store: &mut Driven<D>, command: &Command<'_>) -> Text {
+fn look_up<S: Called>(store: &mut S, command: &Command<'_>) -> Text {
     let alloc = command.alloc;
     let digest = command.digest();
     let ids = command.ids()?;
@@ -137,8 +118,8 @@ fn look_up<D: Disk + Drop>(store: &mut Driven<D>, command: &Command<'_>) -> Text
     }
 }
 
-/// A statement.
-fn state<D: Disk + Drop>(store: &mut Driven<D>, command: &Command<'_>) -> Text {
+/// The rows of a statement that came, and its fault.
+fn state<S: Called>(store: &mut S, command: &Command<'_>) -> Text {
     let alloc = command.alloc;
     let asked = command.filter();
     let order = if asked.flags.is_newest_first() {
@@ -148,5 +129,5 @@ fn state<D: Disk + Drop>(store: &mut Driven<D>, command: &Command<'_>) -> Text {
     };
     let wanted = (asked.account_id, order, asked.limit as usize);
     let (rows, ended) = store.statement(alloc, &command.digest(), wanted);
-    stated(alloc, &rows, &ended)
+    with_words(alloc, shown(alloc, &ended), &rows)
 }

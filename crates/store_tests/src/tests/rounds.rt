@@ -1,13 +1,14 @@
 //! Rounds: the transfers of two tenants at once, all of them kept or none.
 
-use super::commands::{Command, Text, put_word, said, shown, told};
-use super::driven::Driven;
+use super::called::Called;
+use super::commands::{Command, told};
 use super::events::transfers;
 use super::playing::play_from_base;
+use super::words::{Text, put_word, said, shown};
 use super::works::Sending;
 use chain::{BatchFault, BatchReply, Ledgers, RoundWork};
 use records::{TransferResult, Unavailable};
-use sqlite_disk::Disk;
+use std::alloc::Global;
 
 /// What a batch of transfers was told.
 type Told = Result<BatchReply<TransferResult>, BatchFault>;
@@ -46,7 +47,7 @@ fn answered(told: Told) -> Result<Told, Unavailable> {
 }
 
 /// Sends transfers of the tenant, and behind a stroke those of the tenant with another digest.
-pub fn send_both<D: Disk + Drop>(store: &mut Driven<D>, command: &Command<'_>) -> Text {
+pub fn send_both<S: Called>(store: &mut S, command: &Command<'_>) -> Text {
     let alloc = command.alloc;
     let (first, behind) = command.rest.split_once(" / ").unwrap_or((command.rest, ""));
     let other = Command::read(alloc, behind);
@@ -54,33 +55,33 @@ pub fn send_both<D: Disk + Drop>(store: &mut Driven<D>, command: &Command<'_>) -
         rest: first,
         ..*command
     };
-    let sent = [
-        transfers(alloc, first.batch().1)?,
-        transfers(alloc, other.batch().1)?,
-    ];
+    let sent = transfers(alloc, first.batch().1)?;
+    let sent_by_other = transfers(alloc, other.batch().1)?;
     let both = Both {
         digests: [first.digest(), other.digest()],
         first: Sending {
             alloc,
-            transfers: &sent[0],
+            transfers: &sent,
             moment: first.batch().0,
         },
         second: Sending {
             alloc,
-            transfers: &sent[1],
+            transfers: &sent_by_other,
             moment: other.batch().0,
         },
         wants_memory: other.verb == "fail",
     };
     match store.run_round(both) {
-        Ok((first, second)) => {
-            let mut text = told(alloc, first)?;
-            put_word(&mut text, said(alloc, "/")?)?;
-            put_word(&mut text, told(alloc, second)?)?;
-            Ok(text)
-        }
+        Ok((first, second)) => both_told(alloc, first, second),
         Err(why) => shown(alloc, &why),
     }
+}
+
+fn both_told(alloc: Global, first: Told, second: Told) -> Text {
+    let mut text = told(alloc, first)?;
+    put_word(&mut text, said(alloc, "/")?)?;
+    put_word(&mut text, told(alloc, second)?)?;
+    Ok(text)
 }
 
 /// Two tenants in one round: each has its own clock; a round that wants memory at its end keeps

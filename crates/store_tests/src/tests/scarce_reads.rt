@@ -1,6 +1,6 @@
 //! Reads where memory is wanting: they list nothing, or of a statement its beginning, and then all.
 
-use super::driven::Driven;
+use super::called::Stored;
 use super::memory::{NORTH, mended};
 use amount::Amount;
 use chain::{Listed, ReadFault};
@@ -8,7 +8,6 @@ use records::{
     AccountFilter, Balances, FilterFlags, Kind, Order, Side, SinkFault, StatementRow, Sums,
     Unavailable,
 };
-use sqlite_disk::{Crash, Disk};
 use std::alloc::Global;
 use std::process::Abort;
 
@@ -56,11 +55,7 @@ fn are_first(rows: &[StatementRow]) -> bool {
 }
 
 /// How many rows of the statement came, if it is whole. In any case they are its first ones.
-fn stated<D: Disk + Drop>(
-    rt: &impl Abort,
-    alloc: Global,
-    store: &mut Driven<D>,
-) -> Result<usize, ReadFault> {
+fn stated<S: Stored>(rt: &impl Abort, alloc: Global, store: &mut S) -> Result<usize, ReadFault> {
     let (rows, ended) = store.statement(alloc, &NORTH, (3, Order::Oldest, ENTRIES));
     assert!(rt; are_first(&rows), "{rows:?}");
     ended?;
@@ -68,10 +63,10 @@ fn stated<D: Disk + Drop>(
 }
 
 /// How many entries a read of some kind lists.
-fn listed<D: Disk + Drop>(
+fn listed<S: Stored>(
     rt: &impl Abort,
     alloc: Global,
-    store: &mut Driven<D>,
+    store: &mut S,
     kind: u8,
 ) -> Result<usize, ReadFault> {
     let asked = AccountFilter {
@@ -100,7 +95,7 @@ fn want(rt: &impl Abort, fault: ReadFault) -> Unavailable {
 }
 
 /// Each kind of read, which lists what is there once there is memory.
-pub fn reads<D: Crash + Drop>(rt: &impl Abort, alloc: Global, mut store: Driven<D>) {
+pub fn reads<S: Stored>(rt: &impl Abort, alloc: Global, mut store: S) {
     for (kind, entries) in [(0, 2), (1, 2), (2, ENTRIES), (3, ENTRIES), (4, ENTRIES)] {
         let mut told = listed(rt, alloc, &mut store, kind);
         if let Err(fault) = told {
@@ -109,5 +104,4 @@ pub fn reads<D: Crash + Drop>(rt: &impl Abort, alloc: Global, mut store: Driven<
         }
         assert_eq!(rt; told, Ok(entries));
     }
-    store.end();
 }

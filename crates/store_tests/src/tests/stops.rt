@@ -1,10 +1,10 @@
 //! Disks that stop at some call of a request. What is opened after the crash holds the rows before
 //! the request, or those after it.
 
-use super::bench::Bench;
-use super::disks::{Calls, Faulty, InMemory, SMALL};
+use super::bench::{Bench, Visit, in_memory};
+use super::disks::{Calls, SMALL};
 use super::faults::NOTHING;
-use super::playing::{BASE, other_answer, play};
+use super::playing::{BASE, other_answer, play, told};
 use std::alloc::Global;
 use std::process::Abort;
 
@@ -89,33 +89,38 @@ File crash => closed
 File open => opened";
 
 /// New files, of which one is on a disk that stops after so many calls.
-fn bench<D: Faulty>(alloc: Global, (stopping, calls): (Stopping, u64)) -> Bench<D> {
-    let (log, database) = match stopping {
-        Stopping::Log => (Calls::First(calls), Calls::All),
-        Stopping::Database => (Calls::All, Calls::First(calls)),
-    };
-    Bench::new(alloc, SMALL, log, database)
+#[derive(Clone, Copy, Debug)]
+struct Ends {
+    stopping: Stopping,
+    calls: u64,
 }
 
-/// What is answered to a command on new files, if the base was made.
-fn told<D: Faulty>(rt: &impl Abort, bench: &mut Bench<D>, command: &str) -> Option<String> {
-    if other_answer(rt, bench, BASE).is_some() {
-        return None;
+impl Ends {
+    fn bench<B: Bench>(self, alloc: Global) -> B {
+        let (log, database) = match self.stopping {
+            Stopping::Log => (Calls::First(self.calls), Calls::All),
+            Stopping::Database => (Calls::All, Calls::First(self.calls)),
+        };
+        B::new(alloc, SMALL, log, database)
     }
-    Some(bench.answer(command).expect(rt, command))
-}
 
-/// The same, where a disk stops.
-fn told_there<D: Faulty, R: Abort>(
-    rt: &R,
-    alloc: Global,
-    stopping: (Stopping, u64),
-    command: &str,
-) -> Option<String> {
-    let mut bench: Bench<D> = bench(alloc, stopping);
-    let told = told(rt, &mut bench, command);
-    bench.end();
-    told
+    /// What is answered to a command on such files, if the base was made.
+    fn told<B: Bench, R: Abort>(self, rt: &R, alloc: Global, command: &str) -> Option<String> {
+        let mut bench: B = self.bench(alloc);
+        if other_answer(rt, &mut bench, BASE).is_some() {
+            return None;
+        }
+        Some(told(rt, &mut bench, command))
+    }
+
+    /// Whether the disk failed in a request on such files, and whether it was kept.
+    fn sent<B: Bench, R: Abort>(self, rt: &R, alloc: Global, request: &Request) -> (bool, bool) {
+        let mut bench: B = self.bench(alloc);
+        play(rt, &mut bench, BASE);
+        let answer = told(rt, &mut bench, request.command);
+        let was_refused = was_refused(rt, &mut bench, &answer, request);
+        (was_refused, was_kept(rt, &mut bench, request))
+    }
 }
 
 /// Whether the disk failed in a batch.
@@ -125,12 +130,7 @@ fn is_refused(answer: &str) -> bool {
 
 /// Whether the disk failed in the request, as is then told to every later one. Else its answer is
 /// the right one.
-fn was_refused<D: Faulty>(
-    rt: &impl Abort,
-    bench: &mut Bench<D>,
-    answer: &str,
-    request: &Request,
-) -> bool {
+fn was_refused<B: Bench>(rt: &impl Abort, bench: &mut B, answer: &str, request: &Request) -> bool {
     if is_refused(answer) {
         play(rt, bench, NOTHING);
         return true;
@@ -140,7 +140,7 @@ fn was_refused<D: Faulty>(
 }
 
 /// Whether an opening after the crash finds the rows after the request; else those before it.
-fn was_kept<D: Faulty>(rt: &impl Abort, bench: &mut Bench<D>, request: &Request) -> bool {
+fn was_kept<B: Bench>(rt: &impl Abort, bench: &mut B, request: &Request) -> bool {
     play(rt, bench, REOPENED);
     play(rt, bench, OTHERS);
     if other_answer(rt, bench, request.after).is_none() {
@@ -148,80 +148,6 @@ fn was_kept<D: Faulty>(rt: &impl Abort, bench: &mut Bench<D>, request: &Request)
     }
     play(rt, bench, BEFORE);
     false
-}
-
-/// Whether the disk failed in the request, and whether it was kept.
-fn sent<D: Faulty>(rt: &impl Abort, bench: &mut Bench<D>, request: &Request) -> (bool, bool) {
-    let answer = told(rt, bench, request.command).expect(rt, "no base");
-    let was_refused = was_refused(rt, bench, &answer, request);
-    (was_refused, was_kept(rt, bench, request))
-}
-
-/// The same, where a disk stops.
-fn sent_there<D: Faulty, R: Abort>(
-    rt: &R,
-    alloc: Global,
-    stopping: (Stopping, u64),
-    request: &Request,
-) -> (bool, bool) {
-    let mut bench: Bench<D> = bench(alloc, stopping);
-    let sent = sent(rt, &mut bench, request);
-    bench.end();
-    sent
-}
-
-/// Whether a batch that wants memory in the end meets the stop.
-fn is_early<D: Faulty, R: Abort>(
-    rt: &R,
-    alloc: Global,
-    stopping: (Stopping, u64),
-    request: &Request,
-) -> bool {
-    let failing = told_there::<D, _>(rt, alloc, stopping, request.failing);
-    failing.is_some_and(|told| told.as_str() == REFUSED_EARLIER)
-}
-
-/// Where the stop after so many calls falls.
-fn stopped<D: Faulty, R: Abort>(
-    rt: &R,
-    alloc: Global,
-    stopping: (Stopping, u64),
-    request: &Request,
-) -> Stop {
-    let (was_refused, is_kept) = sent_there::<D, _>(rt, alloc, stopping, request);
-    let is_early = is_early::<D, _>(rt, alloc, stopping, request);
-    match (was_refused, is_early, is_kept) {
-        (true, true, false) => Stop::Before,
-        (true, false, _) => Stop::Inside,
-        (false, false, true) => Stop::After,
-        other => panic!(rt; "{stopping:?}: {other:?}"),
-    }
-}
-
-/// Whether so many calls are too few to make the base and answer a command.
-fn are_too_few<D: Faulty, R: Abort>(
-    rt: &R,
-    alloc: Global,
-    stopping: (Stopping, u64),
-    command: &str,
-) -> bool {
-    match told_there::<D, _>(rt, alloc, stopping, command) {
-        Some(answer) => is_refused(&answer),
-        None => true,
-    }
-}
-
-/// The least number of calls with which the base is made and a command is answered, if it is below
-/// 2048.
-fn least<D: Faulty, R: Abort>(rt: &R, alloc: Global, stopping: Stopping, command: &str) -> u64 {
-    let mut least: u64 = 0;
-    for more in [1024, 512, 256, 128, 64, 32, 16, 8, 4, 2, 1u64] {
-        let calls = least.saturating_add(more.saturating_sub(1));
-        if are_too_few::<D, _>(rt, alloc, (stopping, calls), command) {
-            least = least.saturating_add(more);
-        }
-    }
-    least
 }
 
 /// Where a disk stops in a request's calls.
@@ -259,26 +185,93 @@ fn may_fall(stopping: Stopping, place: Place, stop: Stop) -> bool {
     }
 }
 
-/// Stops a disk at each call of a request, and behind it. Once a stop falls in the commit, no later
-/// one falls before it.
-fn stop_a_disk<D: Faulty, R: Abort>(rt: &R, alloc: Global, stopping: Stopping, request: &Request) {
-    let first = least::<D, _>(rt, alloc, stopping, "North ready");
-    let kept = least::<D, _>(rt, alloc, stopping, request.command);
-    let mut is_inside = false;
-    for calls in first..=kept {
-        let place = Place::of(calls, first, kept);
-        let found = stopped::<D, _>(rt, alloc, (stopping, calls), request);
-        assert!(rt;
-            may_fall(stopping, place, found) && !(is_inside && found == Stop::Before),
-            "{stopping:?} after {calls}, {place:?}: {found:?}"
-        );
-        is_inside = found == Stop::Inside;
+/// A request, and the disk that stops in it.
+#[derive(Clone, Copy)]
+struct Stops<'a> {
+    stopping: Stopping,
+    request: &'a Request,
+}
+
+impl Stops<'_> {
+    fn after(&self, calls: u64) -> Ends {
+        Ends {
+            stopping: self.stopping,
+            calls,
+        }
+    }
+
+    /// Whether so many calls are too few to make the base and answer a command.
+    fn are_too_few<B: Bench, R: Abort>(
+        &self,
+        rt: &R,
+        alloc: Global,
+        calls: u64,
+        command: &str,
+    ) -> bool {
+        match self.after(calls).told::<B, R>(rt, alloc, command) {
+            Some(answer) => is_refused(&answer),
+            None => true,
+        }
+    }
+
+    /// The least number of calls with which the base is made and a command is answered, if it is
+    /// below 2048.
+    fn least<B: Bench, R: Abort>(&self, rt: &R, alloc: Global, command: &str) -> u64 {
+        let mut least: u64 = 0;
+        for more in [1024, 512, 256, 128, 64, 32, 16, 8, 4, 2, 1u64] {
+            let calls = least.saturating_add(more.saturating_sub(1));
+            if self.are_too_few::<B, R>(rt, alloc, calls, command) {
+                least = least.saturating_add(more);
+            }
+        }
+        least
+    }
+
+    /// Whether a batch that wants memory in the end meets the stop.
+    fn is_early<B: Bench, R: Abort>(&self, rt: &R, alloc: Global, calls: u64) -> bool {
+        let failing = self
+            .after(calls)
+            .told::<B, R>(rt, alloc, self.request.failing);
+        failing.is_some_and(|told| told.as_str() == REFUSED_EARLIER)
+    }
+
+    /// Where the stop after so many calls falls.
+    fn falls<B: Bench, R: Abort>(&self, rt: &R, alloc: Global, calls: u64) -> Stop {
+        let (was_refused, is_kept) = self.after(calls).sent::<B, R>(rt, alloc, self.request);
+        let is_early = self.is_early::<B, R>(rt, alloc, calls);
+        match (was_refused, is_early, is_kept) {
+            (true, true, false) => Stop::Before,
+            (true, false, _) => Stop::Inside,
+            (false, false, true) => Stop::After,
+            other => panic!(rt; "{:?}: {other:?}", self.stopping),
+        }
     }
 }
 
-/// The same, of disks in memory.
+/// Stops the disk at each call of the request, and behind it. Once a stop falls in the commit, no
+/// later one falls before it.
+impl Visit for Stops<'_> {
+    type Told = ();
+
+    fn visit<B: Bench, R: Abort>(&self, rt: &R, alloc: Global) {
+        let stopping = self.stopping;
+        let first = self.least::<B, R>(rt, alloc, "North ready");
+        let kept = self.least::<B, R>(rt, alloc, self.request.command);
+        let mut is_inside = false;
+        for calls in first..=kept {
+            let place = Place::of(calls, first, kept);
+            let found = self.falls::<B, R>(rt, alloc, calls);
+            assert!(rt;
+                may_fall(stopping, place, found) && !(is_inside && found == Stop::Before),
+                "{stopping:?} after {calls}, {place:?}: {found:?}"
+            );
+            is_inside = found == Stop::Inside;
+        }
+    }
+}
+
 fn stop_in_memory(rt: &impl Abort, alloc: Global, stopping: Stopping, request: &Request) {
-    stop_a_disk::<InMemory, _>(rt, alloc, stopping, request);
+    in_memory(rt, alloc, &Stops { stopping, request });
 }
 
 #[test]

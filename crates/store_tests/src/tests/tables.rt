@@ -1,6 +1,6 @@
 //! The rows of a store's tables, in words.
 
-use super::commands::{Text, put_word, said, shown};
+use super::words::{Text, Worded, put_word, said, shown, with_words};
 use records::Unavailable;
 use rows::{
     AccountCells, AllRows, BalanceCells, DirectoryRow, HistoryCells, StatusCells, TenantOfDigest,
@@ -12,13 +12,10 @@ fn number_of(blob: [u8; 16]) -> u128 {
     u128::from_be_bytes(blob)
 }
 
-/// A row's cells as numbers. Blobs are numbers too, the greatest byte first.
-trait Cells {
-    fn row(&self, alloc: Global) -> Text;
-}
+// Cells as numbers. Blobs are numbers too, the greatest byte first.
 
-impl Cells for AccountCells {
-    fn row(&self, alloc: Global) -> Text {
+impl Worded for AccountCells {
+    fn word(&self, alloc: Global) -> Text {
         let id = number_of(self.id);
         shown(
             alloc,
@@ -27,8 +24,8 @@ impl Cells for AccountCells {
     }
 }
 
-impl Cells for TransferCells {
-    fn row(&self, alloc: Global) -> Text {
+impl Worded for TransferCells {
+    fn word(&self, alloc: Global) -> Text {
         let ids = [
             self.id,
             self.debit,
@@ -48,44 +45,34 @@ impl Cells for TransferCells {
     }
 }
 
-impl Cells for BalanceCells {
-    fn row(&self, alloc: Global) -> Text {
+impl Worded for BalanceCells {
+    fn word(&self, alloc: Global) -> Text {
         let cells = [self.account, self.dp, self.dd, self.cp, self.cc];
         shown(alloc, &cells.map(number_of))
     }
 }
 
-impl Cells for StatusCells {
-    fn row(&self, alloc: Global) -> Text {
+impl Worded for StatusCells {
+    fn word(&self, alloc: Global) -> Text {
         shown(alloc, &(number_of(self.transfer), self.state, self.due))
     }
 }
 
-impl Cells for HistoryCells {
-    fn row(&self, alloc: Global) -> Text {
+impl Worded for HistoryCells {
+    fn word(&self, alloc: Global) -> Text {
         let cells = [self.account, self.dp, self.dd, self.cp, self.cc];
         shown(alloc, &(self.timestamp, cells.map(number_of)))
     }
 }
 
-impl Cells for [u8; 16] {
-    fn row(&self, alloc: Global) -> Text {
+impl Worded for [u8; 16] {
+    fn word(&self, alloc: Global) -> Text {
         shown(alloc, &number_of(*self))
     }
 }
 
-impl Cells for i64 {
-    fn row(&self, alloc: Global) -> Text {
-        shown(alloc, self)
-    }
-}
-
-fn rows_told<C: Cells>(alloc: Global, rows: &[C]) -> Text {
-    let mut text = format!(in alloc; "{} rows:", rows.len())?;
-    for row in rows {
-        put_word(&mut text, row.row(alloc)?)?;
-    }
-    Ok(text)
+fn rows_told<C: Worded>(alloc: Global, rows: &[C]) -> Text {
+    with_words(alloc, format!(in alloc; "{} rows:", rows.len()), rows)
 }
 
 /// The rows of a tenant in one of its tables.
