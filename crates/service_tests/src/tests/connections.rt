@@ -3,15 +3,16 @@ ghost use Rattle.std.specs.Prelude.{◌≡◌};
 
 use super::asserting::same;
 use super::firms::Firms;
-use super::messages::{BATCH, CUT_SHORT, FIRST, good, post, reply};
-use super::played::base;
+use super::messages::{BATCH, CUT_SHORT, FIRST, good, post, wanted, written};
+use super::scripts::{Answers, base, parts};
 use records::Streamed;
 use service::{Moments, ServeFault};
 use std::alloc::{AllocError, Global};
 use std::io::{self, ErrorKind, Read, Write};
+use std::process::Abort;
 use std::test::Fail;
 
-/// Gives 1000 and then every thousandth nanosecond.
+/// Gives a first moment, and then every thousandth nanosecond.
 #[derive(Drop)]
 pub(crate) struct Thousands(pub(crate) u64);
 
@@ -48,52 +49,70 @@ impl Write for Narrow {
     }
 }
 
-/// Fails behind its last byte.
-#[derive(Drop)]
-struct Breaks<'a>(&'a [u8]);
+/// What comes behind what is sent.
+#[derive(Clone, Copy, PartialEq, Eq)]
+enum Then {
+    Ends,
+    Fails,
+}
 
-impl Read for Breaks<'_> {
+/// Sends some bytes, and then ends or fails.
+#[derive(Drop)]
+struct Sender<'a> {
+    left: &'a [u8],
+    then: Then,
+}
+
+impl Read for Sender<'_> {
     fn read(&mut self, buf: &mut [u8]) -> io::Result<usize> {
-        if self.0.is_empty() {
+        if self.left.is_empty() && self.then == Then::Fails {
             return Err(ErrorKind::ConnectionReset.into());
         }
-        let count = buf.len().min(self.0.len());
-        let (front, rest) = self.0.split_at(count);
+        let count = buf.len().min(self.left.len());
+        let (front, rest) = self.left.split_at(count);
         buf[..count].copy_from_slice(front);
-        self.0 = rest;
+        self.left = rest;
         Ok(count)
     }
 }
 
-/// What is written to a new firm's connection, and how it ends.
-fn served(
-    alloc: Global,
-    input: impl Read + Drop,
-    most: u64,
-) -> Result<(Vec<u8>, Result<u64, ServeFault>), Fail> {
-    let mut firms = Firms::with(alloc, FIRST)?;
-    Ok(written(alloc, &mut firms, input, most))
+/// What became of a connection: what was written into it, how it ended, and what was not read.
+#[derive(Drop)]
+struct Served<'a> {
+    written: Vec<u8>,
+    ended: Result<u64, ServeFault>,
+    left: &'a [u8],
 }
 
-/// What is written to a firm's connection, and how it ends.
-fn written(
+/// Room for all that is written.
+const ALL: usize = 10_000;
+
+/// Serves a connection with so much room, from a first moment, until so many replies are made.
+fn serve<'a>(
     alloc: Global,
     firms: &mut Firms,
-    input: impl Read + Drop,
-    most: u64,
-) -> (Vec<u8>, Result<u64, ServeFault>) {
-    let mut reader = Streamed::new(input);
-    let mut writer = Streamed::new(Vec::new(alloc));
-    let ended = firms.serve(&mut reader, &mut writer, &mut Thousands(1000), most);
-    (writer.into_inner(), ended)
+    sender: Sender<'a>,
+    (room, moment, most): (usize, u64, u64),
+) -> Served<'a> {
+    let taken = Vec::new(alloc);
+    let mut reader = Streamed::new(sender);
+    let mut writer = Streamed::new(Narrow { taken, room });
+    let ended = firms.serve(&mut reader, &mut writer, &mut Thousands(moment), most);
+    let Narrow { taken, .. } = writer.into_inner();
+    let Sender { left, .. } = reader.into_inner();
+    Served {
+        written: taken,
+        ended,
+        left,
+    }
 }
 
-const FIRST_REPLY: &str = concat!(
+const DONE: &str = concat!(
     "HTTP/1.1 200 OK\r\ncontent-length: 29\r\ncontent-type: application/json\r\n\r\n",
     "{\"clock\":\"1000\",\"results\":[]}"
 );
 
-const SECOND_REPLY: &str = concat!(
+const DONE_LATER: &str = concat!(
     "HTTP/1.1 200 OK\r\ncontent-length: 29\r\ncontent-type: application/json\r\n\r\n",
     "{\"clock\":\"2000\",\"results\":[]}"
 );
@@ -115,17 +134,40 @@ const ASTRAY: &str = concat!(
     "\r\ncontent-length: 0\r\n\r\n"
 );
 
-/// What is sent, how many replies are asked for at most, the replies, and how many.
-type Connection = (&'static [&'static str], u64, &'static [&'static str], u64);
+/// What is sent, how many replies are asked for at most, the replies, and what is left of what was
+/// sent.
+type Connection = (
+    &'static [&'static str],
+    u64,
+    &'static [&'static str],
+    &'static [&'static str],
+);
 
-const CONNECTIONS: [Connection; 6] = [
-    (&[BATCH, ASTRAY], 9, &[FIRST_REPLY, NO_ROUTE], 2),
-    (&[BATCH, ASTRAY], 2, &[FIRST_REPLY, NO_ROUTE], 2),
-    (&[BATCH, ASTRAY], 1, &[FIRST_REPLY], 1),
-    (&[BATCH, ASTRAY], 0, &[], 0),
-    (&[BATCH, BATCH], 9, &[FIRST_REPLY, SECOND_REPLY], 2),
-    (&[BATCH, CUT_SHORT], 9, &[FIRST_REPLY, TRUNCATED], 2),
+/// A moment is asked for each message.
+static TO_THE_END: [Connection; 6] = [
+    (&[BATCH, ASTRAY], 9, &[DONE, NO_ROUTE], &[]),
+    (&[BATCH, ASTRAY], 2, &[DONE, NO_ROUTE], &[]),
+    (&[BATCH, ASTRAY], 1, &[DONE], &[ASTRAY]),
+    (&[BATCH, ASTRAY], 0, &[], &[BATCH, ASTRAY]),
+    (&[BATCH, BATCH], 9, &[DONE, DONE_LATER], &[]),
+    (&[BATCH, CUT_SHORT], 9, &[DONE, TRUNCATED], &[]),
 ];
+
+/// No byte is read behind the last message: the reader would fail behind its last byte.
+static IN_PART: [Connection; 4] = [
+    (&[BATCH, ASTRAY], 0, &[], &[BATCH, ASTRAY]),
+    (&[BATCH, ASTRAY], 1, &[DONE], &[ASTRAY]),
+    (&[BATCH, ASTRAY, BATCH], 2, &[DONE, NO_ROUTE], &[BATCH]),
+    (&[BATCH, ASTRAY], 2, &[DONE, NO_ROUTE], &[]),
+];
+
+/// Heads that are refused by themselves, whatever would come behind them: the reader would fail.
+const REFUSED_HEADS: &str = "\
+|| => bad_head 400 Bad Request
+POST /transfers HTTP/1.1|content-length: 05|| => bad_head 400 Bad Request
+POST /nowhere HTTP/1.1|| => length_required 411 Length Required
+POST /transfers HTTP/1.1|content-length: 2097153|| => body_too_large 413 Payload Too Large
+POST /x HTTP/1.1|content-length: 18446744073709551618|| => body_too_large 413 Payload Too Large";
 
 fn together(alloc: Global, texts: &[&str]) -> Result<String, AllocError> {
     let mut all = String::new(alloc);
@@ -135,90 +177,81 @@ fn together(alloc: Global, texts: &[&str]) -> Result<String, AllocError> {
     Ok(all)
 }
 
-// A moment is asked for each message.
+/// Serves a new firm's connection, and looks at what is written into it, how it ends, and what is
+/// left.
+fn comes_to(
+    rt: &impl Abort,
+    alloc: Global,
+    (sender, most): (Sender, u64),
+    (told, ended, left): (&[u8], Result<u64, ServeFault>, &[u8]),
+) -> Result<(), Fail> {
+    let mut firms = Firms::with(alloc, FIRST)?;
+    let served = serve(alloc, &mut firms, sender, (ALL, 1000, most));
+    same(rt, "the connection", served.ended, ended);
+    same(rt, "what is written", served.written.as_slice(), told);
+    same(rt, "what is left", served.left, left);
+    Ok(())
+}
+
+fn is_served(
+    rt: &impl Abort,
+    alloc: Global,
+    then: Then,
+    (sent, most, told, left): Connection,
+) -> Result<(), Fail> {
+    let count = told.len() as u64;
+    let sent = together(alloc, sent)?;
+    let told = together(alloc, told)?;
+    let left = together(alloc, left)?;
+    let sender = Sender {
+        left: sent.as_bytes(),
+        then,
+    };
+    let want = (told.as_bytes(), Ok(count), left.as_bytes());
+    comes_to(rt, alloc, (sender, most), want)
+}
+
 #[test]
 fn serves_to_the_end(rt: HostRuntime) -> Result<(), Fail> {
-    for (sent, most, replies, count) in &CONNECTIONS {
-        let input = together(rt.alloc(), sent)?;
-        let want = together(rt.alloc(), replies)?;
-        let (written, ended) = served(rt.alloc(), input.as_bytes(), *most)?;
-        same(&rt, "the connection", ended, Ok(*count));
-        same(&rt, "what is written", written.as_slice(), want.as_bytes());
+    for connection in TO_THE_END {
+        is_served(&rt, rt.alloc(), Then::Ends, connection)?;
+    }
+    Ok(())
+}
+
+#[test]
+fn reads_no_byte_behind_the_last_message(rt: HostRuntime) -> Result<(), Fail> {
+    for connection in IN_PART {
+        is_served(&rt, rt.alloc(), Then::Fails, connection)?;
     }
     Ok(())
 }
 
 #[test]
 fn tells_that_the_reader_failed(rt: HostRuntime) -> Result<(), Fail> {
-    let (written, ended) = served(rt.alloc(), Breaks(BATCH.as_bytes()), 9)?;
-    same(&rt, "the connection", ended, Err(ServeFault::Read(1)));
-    let want = FIRST_REPLY.as_bytes();
-    same(&rt, "what is written", written.as_slice(), want);
-    Ok(())
+    let sender = Sender {
+        left: BATCH.as_bytes(),
+        then: Then::Fails,
+    };
+    let want = (DONE.as_bytes(), Err(ServeFault::Read(1)), b"".as_slice());
+    comes_to(&rt, rt.alloc(), (sender, 9), want)
 }
 
-/// Heads that are refused by themselves, whatever would come behind them.
-const REFUSED_HEADS: [(&str, &str, &str); 5] = [
-    ("\r\n\r\n", "400 Bad Request", "bad_head"),
-    (
-        "POST /transfers HTTP/1.1\r\ncontent-length: 05\r\n\r\n",
-        "400 Bad Request",
-        "bad_head",
-    ),
-    (
-        "POST /nowhere HTTP/1.1\r\n\r\n",
-        "411 Length Required",
-        "length_required",
-    ),
-    (
-        "POST /transfers HTTP/1.1\r\ncontent-length: 2097153\r\n\r\n",
-        "413 Payload Too Large",
-        "body_too_large",
-    ),
-    (
-        "POST /x HTTP/1.1\r\ncontent-length: 18446744073709551618\r\n\r\n",
-        "413 Payload Too Large",
-        "body_too_large",
-    ),
-];
+fn is_refused(rt: &impl Abort, alloc: Global, line: &str) -> Result<(), Fail> {
+    let (head, told) = parts(line);
+    let head = written(alloc, head)?;
+    let told = wanted(alloc, told)?;
+    let sender = Sender {
+        left: &head,
+        then: Then::Fails,
+    };
+    comes_to(rt, alloc, (sender, 9), (&told, Ok(1), b"".as_slice()))
+}
 
-// The reader would fail behind the head.
 #[test]
 fn awaits_no_body_of_a_head_that_is_refused(rt: HostRuntime) -> Result<(), Fail> {
-    let alloc = rt.alloc();
-    for (head, status, name) in REFUSED_HEADS {
-        let (written, ended) = served(alloc, Breaks(head.as_bytes()), 9)?;
-        same(&rt, head, ended, Ok(1));
-        let body = format!(in alloc; "{{\"error\":\"{name}\"}}")?;
-        let want = reply(alloc, status, "application/json", &body)?;
-        same(&rt, head, written.as_slice(), want.as_slice());
-    }
-    Ok(())
-}
-
-/// What is sent, how many replies are asked for, and what is left of it.
-type Remainder = (&'static [&'static str], u64, &'static [&'static str]);
-
-const REMAINDERS: [Remainder; 4] = [
-    (&[BATCH, ASTRAY], 0, &[BATCH, ASTRAY]),
-    (&[BATCH, ASTRAY], 1, &[ASTRAY]),
-    (&[BATCH, ASTRAY, BATCH], 2, &[BATCH]),
-    (&[BATCH, ASTRAY], 2, &[]),
-];
-
-// The reader would fail behind its last byte.
-#[test]
-fn reads_no_byte_behind_the_last_message(rt: HostRuntime) -> Result<(), Fail> {
-    for (sent, most, left) in &REMAINDERS {
-        let input = together(rt.alloc(), sent)?;
-        let mut reader = Streamed::new(Breaks(input.as_bytes()));
-        let mut writer = Streamed::new(Vec::new(rt.alloc()));
-        let mut firms = Firms::with(rt.alloc(), FIRST)?;
-        let ended = firms.serve(&mut reader, &mut writer, &mut Thousands(1000), *most);
-        same(&rt, "the connection", ended, Ok(*most));
-        let want = together(rt.alloc(), left)?;
-        let Breaks(rest) = reader.into_inner();
-        same(&rt, "what is left", rest, want.as_bytes());
+    for line in REFUSED_HEADS.lines() {
+        is_refused(&rt, rt.alloc(), line)?;
     }
     Ok(())
 }
@@ -236,34 +269,34 @@ const TOLD_AGAIN: &str = concat!(
     "{\"number\":18,\"result\":\"exists\",\"timestamp\":\"6\"}]}"
 );
 
-/// How a firm's connection ends that takes so many bytes, and those.
-fn cut_off(
-    alloc: Global,
-    firms: &mut Firms,
-    input: &[u8],
-    room: usize,
-) -> (Result<u64, ServeFault>, Vec<u8>) {
-    let mut reader = Streamed::new(input);
-    let taken = Vec::new(alloc);
-    let mut writer = Streamed::new(Narrow { taken, room });
-    let ended = firms.serve(&mut reader, &mut writer, &mut Thousands(0), 9);
-    let Narrow { taken, .. } = writer.into_inner();
-    (ended, taken)
+/// A firm's connection that takes so many bytes is told those, and the firm keeps the transfer.
+fn keeps(rt: &impl Abort, alloc: Global, room: usize) -> Result<(), Fail> {
+    let input = post(alloc, "/transfers", FIRST, ONE_TRANSFER)?;
+    let whole = good(alloc, TOLD)?;
+    let again = good(alloc, TOLD_AGAIN)?;
+    let mut firms = base(rt, alloc)?;
+    let sender = Sender {
+        left: &input,
+        then: Then::Ends,
+    };
+    let served = serve(alloc, &mut firms, sender, (room, 0, 9));
+    same(
+        rt,
+        "the connection",
+        served.ended,
+        Err(ServeFault::Write(0)),
+    );
+    let front = &whole[..room.min(whole.len())];
+    same(rt, "what is written", served.written.as_slice(), front);
+    let reply = firms.answer(alloc, &input, 0);
+    same(rt, "the reply", reply.bytes(), again.as_slice());
+    Ok(())
 }
 
 #[test]
 fn keeps_what_it_could_not_tell(rt: HostRuntime) -> Result<(), Fail> {
-    let input = post(rt.alloc(), "/transfers", FIRST, ONE_TRANSFER)?;
-    let whole = good(rt.alloc(), TOLD)?;
-    let again = good(rt.alloc(), TOLD_AGAIN)?;
     for room in [0, 1, 40] {
-        let mut firms = base(&rt, rt.alloc(), FIRST)?;
-        let (ended, taken) = cut_off(rt.alloc(), &mut firms, &input, room);
-        same(&rt, "the connection", ended, Err(ServeFault::Write(0)));
-        let front = &whole[..room.min(whole.len())];
-        same(&rt, "what is written", taken.as_slice(), front);
-        let reply = firms.answer(&input, 0);
-        same(&rt, "the reply", reply.bytes(), again.as_slice());
+        keeps(&rt, rt.alloc(), room)?;
     }
     Ok(())
 }

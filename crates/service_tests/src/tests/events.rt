@@ -1,40 +1,8 @@
-//! Events as bodies send them, and the replies that tell their results.
+//! Transfers in the words of `docs/MODEL.md`, as bodies send them, and results as they are told.
 use std::alloc::{AllocError, Global};
 use std::fmt::{self, Display};
 
-/// The flags of a transfer.
-pub(crate) const LINKED: u16 = 1;
-
-pub(crate) const PENDING: u16 = 2;
-
-pub(crate) const POST: u16 = 4;
-
-pub(crate) const VOID: u16 = 8;
-
-pub(crate) const BALANCING_DEBIT: u16 = 16;
-
-pub(crate) const BALANCING_CREDIT: u16 = 32;
-
-/// The greatest amount.
-pub(crate) const MAX: u128 = u128::MAX;
-
-/// A transfer as an example sends it: of ledger 7 and code 1, or a post or a void, which name no
-/// accounts.
-pub(crate) enum Sent {
-    /// Its id, its accounts and its amount.
-    New(u128, (u128, u128), u128),
-    /// One with these flags.
-    With(u16, u128, (u128, u128), u128),
-    /// One with these flags and a timeout of a second.
-    Timed(u16, u128, (u128, u128), u128),
-    /// Its id, the pending transfer that it posts, and its amount.
-    Post(u128, u128, u128),
-    /// A post that names a debit account, which comes first.
-    PostFrom(u128, u128, u128, u128),
-    Void(u128, u128, u128),
-}
-
-// The fields of a transfer.
+/// The fields of a transfer.
 #[derive(Clone, Copy)]
 struct Fields {
     id: u128,
@@ -47,6 +15,19 @@ struct Fields {
     flags: u16,
     timeout: u32,
 }
+
+/// What a text leaves out of a transfer.
+const LEFT_OUT: Fields = Fields {
+    id: 0,
+    debit: 0,
+    credit: 0,
+    amount: 0,
+    pending_id: 0,
+    ledger: 7,
+    code: 1,
+    flags: 0,
+    timeout: 0,
+};
 
 impl Display for Fields {
     fn fmt<W: fmt::Write>(&self, f: &mut fmt::Formatter<W>) -> fmt::Result {
@@ -78,119 +59,128 @@ impl Display for Fields {
     }
 }
 
-/// What is sent, field by field; what a body leaves out is 0.
-fn event_of(sent: &Sent) -> Fields {
-    match sent {
-        Sent::New(id, accounts, amount) => transfer(*id, *accounts, *amount),
-        Sent::With(flags, id, accounts, amount) => {
-            with(*flags, transfer(*id, *accounts, *amount))
+/// A number, of which `MAX` is the greatest.
+fn number(word: &str) -> u128 {
+    word.parse().unwrap_or(u128::MAX)
+}
+
+fn flags(word: &str) -> u16 {
+    word.parse().unwrap_or(u16::MAX)
+}
+
+/// A transfer of ledger 7 and code 1, as `100: 1>2 10 pending`, or the end of a pending one.
+fn transfer(words: &str) -> Fields {
+    let mut fields = LEFT_OUT;
+    for word in words.split_whitespace() {
+        if let Some((id, _)) = word.split_once(':') {
+            fields.id = number(id);
+        } else if let Some((debit, credit)) = word.split_once('>') {
+            fields.debit = number(debit);
+            fields.credit = number(credit);
+        } else if let Some((key, value)) = word.split_once('=') {
+            put(&mut fields, key, value);
+        } else {
+            mark(&mut fields, word);
         }
-        Sent::Timed(flags, id, accounts, amount) => Fields {
-            timeout: 1,
-            ..with(*flags, transfer(*id, *accounts, *amount))
-        },
-        Sent::Post(id, pending_id, amount) => post_of(*id, *pending_id, *amount),
-        Sent::PostFrom(debit, id, pending_id, amount) => Fields {
-            debit: *debit,
-            ..post_of(*id, *pending_id, *amount)
-        },
-        Sent::Void(id, pending_id, amount) => with(VOID, post_of(*id, *pending_id, *amount)),
+    }
+    fields
+}
+
+fn put(fields: &mut Fields, key: &str, value: &str) {
+    match key {
+        "post" => end(fields, 4, value),
+        "void" => end(fields, 8, value),
+        "timeout" => fields.timeout = u32::from(flags(value)),
+        _ => fields.flags = flags(value),
     }
 }
 
-// A transfer of ledger 7 and code 1, from a debit account to a credit account.
-fn transfer(id: u128, (debit, credit): (u128, u128), amount: u128) -> Fields {
-    Fields {
-        id,
-        debit,
-        credit,
-        amount,
-        pending_id: 0,
-        ledger: 7,
-        code: 1,
-        flags: 0,
-        timeout: 0,
+/// Makes a transfer the end of a pending one, which names no ledger.
+fn end(fields: &mut Fields, flag: u16, pending: &str) {
+    fields.pending_id = number(pending);
+    fields.flags = flag;
+    fields.ledger = 0;
+    fields.code = 0;
+}
+
+fn mark(fields: &mut Fields, word: &str) {
+    match word {
+        "linked" => fields.flags = 1,
+        "pending" => fields.flags = 2,
+        _ => fields.amount = number(word),
     }
 }
 
-fn post_of(id: u128, pending_id: u128, amount: u128) -> Fields {
-    Fields {
-        id,
-        debit: 0,
-        credit: 0,
-        amount,
-        pending_id,
-        ledger: 0,
-        code: 0,
-        flags: POST,
-        timeout: 0,
+/// Adds an item to the list of a body.
+pub(crate) fn add(list: &mut String, item: &str) -> Result<(), AllocError> {
+    if !list.is_empty() {
+        list.push_str(",")?;
     }
+    list.push_str(item)
 }
 
-// The transfer with these flags.
-fn with(flags: u16, fields: Fields) -> Fields {
-    Fields { flags, ..fields }
+/// A body of transfers, each behind a semicolon but the first.
+pub(crate) fn transfers(alloc: Global, text: &str) -> Result<String, AllocError> {
+    let mut list = String::new(alloc);
+    for words in text.split(';') {
+        if !words.is_empty() {
+            let fields = transfer(words);
+            add(&mut list, &format!(in alloc; "{fields}")?)?;
+        }
+    }
+    format!(in alloc; "[{list}]")
 }
 
-/// A body of transfers.
-pub(crate) fn body_of(alloc: Global, events: &[Sent]) -> Result<String, AllocError> {
-    let mut body = format!(in alloc; "[")?;
-    let mut comma = "";
-    for event in events {
-        let fields = event_of(event);
-        body.push_str(format!(in alloc; "{comma}{fields}")?.as_str())?;
-        comma = ",";
+/// The results that the examples meet.
+static RESULTS: [(&str, &str); 23] = [
+    ("0", "ok"),
+    ("1", "linked_event_chain_open"),
+    ("2", "linked_event_failed"),
+    ("4", "reserved_flag"),
+    ("7", "exists_with_different_flags"),
+    ("12", "exists_with_different_amount"),
+    ("18", "exists"),
+    ("24", "pending_transfer_not_found"),
+    ("26", "pending_transfer_has_different_debit_account_id"),
+    ("31", "pending_transfer_has_different_amount"),
+    ("32", "pending_transfer_already_posted"),
+    ("34", "pending_transfer_expired"),
+    ("44", "debit_account_not_found"),
+    ("45", "credit_account_not_found"),
+    ("48", "overflows_debits_pending"),
+    ("49", "overflows_credits_pending"),
+    ("50", "overflows_debits_posted"),
+    ("51", "overflows_credits_posted"),
+    ("52", "overflows_debits"),
+    ("53", "overflows_credits"),
+    ("55", "exceeds_credits"),
+    ("56", "exceeds_debits"),
+    ("60", "id_already_failed"),
+];
+
+/// The name of the result with this number.
+fn name_of(number: &str) -> &'static str {
+    for (other, name) in &RESULTS {
+        if *other == number {
+            return name;
+        }
     }
-    body.push_str("]")?;
-    Ok(body)
+    "no result of the examples"
 }
 
-/// The body of a reply with these results, each a number and a timestamp.
-pub(crate) fn results(
-    alloc: Global,
-    clock: u64,
-    told: &[(u16, u64)],
-) -> Result<String, AllocError> {
-    let mut body = format!(in alloc; "{{\"clock\":\"{clock}\",\"results\":[")?;
-    let mut comma = "";
-    for (number, timestamp) in told {
-        let name = name_of(*number);
-        let result = format!(in alloc;
-            "{comma}{{\"number\":{number},\"result\":\"{name}\",\"timestamp\":\"{timestamp}\"}}"
-        )?;
-        body.push_str(&result)?;
-        comma = ",";
-    }
-    body.push_str("]}")?;
-    Ok(body)
+/// A result and its timestamp, as `50@6`.
+fn result(alloc: Global, text: &str) -> Result<String, AllocError> {
+    let (number, timestamp) = text.split_once('@').unwrap_or((text, ""));
+    let name = name_of(number);
+    format!(in alloc; "{{\"number\":{number},\"result\":\"{name}\",\"timestamp\":\"{timestamp}\"}}")
 }
 
-/// The names of the results of transfers that the examples meet.
-fn name_of(number: u16) -> &'static str {
-    match number {
-        0 => "ok",
-        1 => "linked_event_chain_open",
-        2 => "linked_event_failed",
-        4 => "reserved_flag",
-        7 => "exists_with_different_flags",
-        12 => "exists_with_different_amount",
-        18 => "exists",
-        24 => "pending_transfer_not_found",
-        26 => "pending_transfer_has_different_debit_account_id",
-        31 => "pending_transfer_has_different_amount",
-        32 => "pending_transfer_already_posted",
-        34 => "pending_transfer_expired",
-        44 => "debit_account_not_found",
-        45 => "credit_account_not_found",
-        48 => "overflows_debits_pending",
-        49 => "overflows_credits_pending",
-        50 => "overflows_debits_posted",
-        51 => "overflows_credits_posted",
-        52 => "overflows_debits",
-        53 => "overflows_credits",
-        55 => "exceeds_credits",
-        56 => "exceeds_debits",
-        60 => "id_already_failed",
-        _ => "no result of the examples",
+/// The body of a reply, from a clock and results, as `6: 0@5 50@6`.
+pub(crate) fn results(alloc: Global, text: &str) -> Result<String, AllocError> {
+    let (clock, told) = text.split_once(':').unwrap_or((text, ""));
+    let mut list = String::new(alloc);
+    for word in told.split_whitespace() {
+        add(&mut list, &result(alloc, word)?)?;
     }
+    format!(in alloc; "{{\"clock\":\"{clock}\",\"results\":[{list}]}}")
 }

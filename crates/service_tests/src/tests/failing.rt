@@ -3,6 +3,7 @@ ghost use Rattle.std.specs.Prelude.{◌≡◌, true, false};
 ghost use Rattle.chain.specs.Ledgers.{AreValid};
 ghost use Rattle.plain.specs.BookLedgers.{machines_in};
 
+use super::scripts::Answers;
 use chain::{BatchFault, Ledgers, ReadFault, Work};
 use ledger_http::Reply;
 use plain::Book;
@@ -158,6 +159,13 @@ impl FrailFirms {
         }
     }
 
+    /// No firm, and ledgers that have failed.
+    pub(crate) fn failed(alloc: Global) -> FrailFirms {
+        let mut firms = FrailFirms::new(alloc, Book::new(alloc));
+        firms.ledgers.is_shut = true;
+        firms
+    }
+
     /// Behind so many batches one is refused.
     pub(crate) fn refuse(&mut self, before: u64, why: Unavailable) {
         self.ledgers.refusal = Some((before, why));
@@ -166,11 +174,6 @@ impl FrailFirms {
     /// The ledgers are opened again.
     pub(crate) fn open_again(&mut self) {
         self.ledgers.is_shut = false;
-    }
-
-    /// The reply to some bytes.
-    pub(crate) fn answer(&mut self, bytes: &[u8]) -> Reply {
-        respond(self.alloc, &mut self.ledgers, bytes, 0)
     }
 
     /// The timestamps and ids of the rows of a statement that came, and how it ended.
@@ -185,5 +188,11 @@ impl FrailFirms {
             .ledgers
             .each_statement_row(self.alloc, digest, account, order, &mut taken);
         (taken.rows, ended)
+    }
+}
+
+impl Answers for FrailFirms {
+    fn answer(&mut self, alloc: Global, bytes: &[u8], moment: u64) -> Reply {
+        respond(alloc, &mut self.ledgers, bytes, moment)
     }
 }

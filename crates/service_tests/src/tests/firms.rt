@@ -2,12 +2,15 @@
 ghost use Rattle.std.specs.Prelude.{◌≡◌, false};
 
 use super::failing::FrailFirms;
+use super::messages::key_of;
+use super::scripts::{Answers, exchange, joined};
 use ledger_http::Reply;
 use plain::{Book, PlainTables};
 use records::{Drain, Source};
 use service::{Message, Moments, ServeFault, Settles, respond, respond_round, serve};
 use std::alloc::{AllocError, Global};
 use std::marker::Model;
+use std::process::Abort;
 use std::test::Fail;
 use tenants::{Key, digest};
 
@@ -54,7 +57,7 @@ impl Firms {
     }
 
     /// A new firm.
-    pub(crate) fn with(alloc: Global, key: &str) -> Result<Firms, Fail> {
+    pub(crate) fn with(alloc: Global, key: &str) -> Result<Firms, &'static str> {
         let mut firms = Firms::new(alloc);
         firms.add(key)?;
         Ok(firms)
@@ -88,9 +91,23 @@ impl Firms {
         FrailFirms::new(alloc, book)
     }
 
-    /// The reply to some bytes.
-    pub(crate) fn answer(&mut self, bytes: &[u8], moment: u64) -> Reply {
-        respond(self.alloc, &mut self.book, bytes, moment)
+    /// Plays a script.
+    pub(crate) fn play(&mut self, rt: &impl Abort, script: &str) -> Result<(), Fail> {
+        let text = joined(self.alloc, script)?;
+        for line in text.lines() {
+            self.play_line(rt, line)?;
+        }
+        Ok(())
+    }
+
+    fn play_line(&mut self, rt: &impl Abort, line: &str) -> Result<(), &'static str> {
+        if let Some((name, "")) = line.split_once(" joins") {
+            return self.add(key_of(name));
+        }
+        match line.split_once(" becomes ") {
+            Some((was, name)) => self.rekey(key_of(was), key_of(name)),
+            None => exchange(rt, self.alloc, self, line).map_err(|_| "no memory"),
+        }
     }
 
     /// The replies to the messages of one round.
@@ -110,5 +127,11 @@ impl Firms {
         requires writes { W.failed writer.old ≡ false }
     {
         serve(self.alloc, &mut self.book, reader, writer, moments, most)
+    }
+}
+
+impl Answers for Firms {
+    fn answer(&mut self, alloc: Global, bytes: &[u8], moment: u64) -> Reply {
+        respond(alloc, &mut self.book, bytes, moment)
     }
 }

@@ -1,91 +1,12 @@
 //! Whether ledgers serve, which everybody is told.
-ghost use Rattle.std.specs.Prelude.{◌≡◌, true, None};
-ghost use Rattle.std.proofs.Common.{refl};
-
-use super::asserting::same;
-use super::firms::Firms;
+use super::everybody::{are_all_told, everybody_is_told};
+use super::failing::FrailFirms;
 use super::memory::UNAVAILABLE;
-use super::messages::{BATCH, FIRST, good};
-use super::played::Asked::{self, Bytes, Get, Post};
-use super::played::Want::Refused;
-use super::played::{Want, base, message, wanted};
-use chain::{BatchFault, Ledgers, Listed, ReadFault, Work};
-use ledger_http::Reply;
-use records::{AccountFilter, BalanceAt, Order, RowSink, Transfer, Unavailable};
-use service::respond;
-use std::alloc::{AllocError, Global};
+use super::messages::good;
+use super::scripts::exchange;
+use std::alloc::Global;
 use std::process::Abort;
 use std::test::Fail;
-
-/// Ledgers that have failed.
-#[derive(Drop)]
-struct Failed;
-
-impl Ledgers for Failed {
-    ghost means = { record {
-      tenants = λ l digest. None;
-      is_usable = λ l. Unit {0};
-      is_live = λ l. ⊥;
-      has_failed = λ l. true;
-      follows = λ a b. Unit {0};
-      may_find = λ l found. ⊥;
-    } };
-
-    fn has_failed(&self) -> bool {
-        true
-    }
-
-    fn in_batch<W: Work + Drop>(
-        &mut self,
-        _digest: &[u8; 32],
-        _work: W,
-    ) -> Result<W::Output, BatchFault> {
-        Err(BatchFault::Unavailable(Unavailable::Disk))
-    }
-
-    fn knows(&mut self, _digest: &[u8; 32]) -> Result<bool, Unavailable> {
-        Err(Unavailable::Disk)
-    }
-
-    fn history_transfers(
-        &mut self,
-        _alloc: Global,
-        _digest: &[u8; 32],
-        _asked: &AccountFilter,
-    ) -> Result<Listed<Transfer>, ReadFault> {
-        Err(ReadFault::Unavailable(Unavailable::Disk))
-    }
-
-    fn history_balances(
-        &mut self,
-        _alloc: Global,
-        _digest: &[u8; 32],
-        _asked: &AccountFilter,
-    ) -> Result<Listed<BalanceAt>, ReadFault> {
-        Err(ReadFault::Unavailable(Unavailable::Disk))
-    }
-
-    fn each_statement_row<S: RowSink>(
-        &mut self,
-        _alloc: Global,
-        _digest: &[u8; 32],
-        _account: u128,
-        _order: Order,
-        _sink: &mut S,
-    ) -> Result<(), ReadFault> {
-        Err(ReadFault::Unavailable(Unavailable::Disk))
-    }
-
-    ghost stays = { λ a. tt };
-
-    ghost then = { λ a b c f g. tt };
-
-    ghost lived = { λ a b f live. live };
-
-    ghost fails = { λ a b f failed. failed };
-
-    ghost valid = { λ a live usable. absurd live };
-}
 
 /// Without a key, with a firm's key, with keys of nobody, with a body, and behind which another
 /// message stands.
@@ -100,103 +21,55 @@ const ASKED: [&str; 5] = [
     "GET /health HTTP/1.1\r\n\r\nGET /x HTTP/1.1\r\n\r\n",
 ];
 
-// Another method, and paths that are near.
-const REFUSED: [(Asked, Want); 4] = [
-    (
-        Post("/health", ""),
-        Refused("405 Method Not Allowed", "bad_method"),
-    ),
-    (
-        Bytes("HEAD /health HTTP/1.1\r\n\r\n"),
-        Refused("411 Length Required", "length_required"),
-    ),
-    (Get("/health/"), Refused("404 Not Found", "no_route")),
-    (Get("/health?x"), Refused("404 Not Found", "no_route")),
-];
+/// Another method, and paths that are near.
+const REFUSED: &str = "\
+North POST /health => bad_method 405 Method Not Allowed
+raw HEAD /health HTTP/1.1|| => length_required 411 Length Required
+North GET /health/ => no_route 404 Not Found
+North GET /health?x => no_route 404 Not Found";
 
-// What asks something of a tenant, by each route, and a body that is refused.
-const OF_A_TENANT: [(&str, Asked); 12] = [
-    ("accounts", Post("/accounts", "[]")),
-    ("transfers", Post("/transfers", "[]")),
-    ("accounts by ids", Post("/accounts/lookup", "[]")),
-    ("transfers by ids", Post("/transfers/lookup", "[]")),
-    (
-        "a history",
-        Post("/history/transfers", "{\"account_id\":\"1\",\"limit\":1}"),
-    ),
-    (
-        "balances",
-        Post("/history/balances", "{\"account_id\":\"1\",\"limit\":1}"),
-    ),
-    (
-        "a page of accounts",
-        Post("/query/accounts", "{\"limit\":1}"),
-    ),
-    (
-        "a page of transfers",
-        Post("/query/transfers", "{\"limit\":1}"),
-    ),
-    ("holds by ids", Post("/pending/lookup", "[]")),
-    (
-        "a page of open holds",
-        Post("/pending/open", "{\"limit\":1}"),
-    ),
-    ("a statement", Get("/statement/1")),
-    ("a bad body", Post("/transfers", "no list")),
-];
+/// What asks something of a tenant, by each route, and a body that is refused.
+const OF_A_TENANT: &str = r#"North POST /accounts [] => unavailable 503 Service Unavailable
+North POST /transfers [] => unavailable 503 Service Unavailable
+North POST /accounts/lookup [] => unavailable 503 Service Unavailable
+North POST /transfers/lookup [] => unavailable 503 Service Unavailable
+North POST /history/transfers {"account_id":"1","limit":1} => unavailable 503 Service Unavailable
+North POST /history/balances {"account_id":"1","limit":1} => unavailable 503 Service Unavailable
+North POST /query/accounts {"limit":1} => unavailable 503 Service Unavailable
+North POST /query/transfers {"limit":1} => unavailable 503 Service Unavailable
+North POST /pending/lookup [] => unavailable 503 Service Unavailable
+North POST /pending/open {"limit":1} => unavailable 503 Service Unavailable
+North GET /statement/1 => unavailable 503 Service Unavailable
+North POST /transfers no list => unavailable 503 Service Unavailable"#;
 
-/// All of these are told that the ledgers serve.
-fn tells_health(
-    rt: &impl Abort,
-    alloc: Global,
-    firms: &mut Firms,
-    moment: u64,
-) -> Result<(), AllocError> {
-    let want = good(alloc, "{\"serving\":true}")?;
-    for asked in ASKED {
-        let reply = firms.answer(asked.as_bytes(), moment);
-        same(rt, asked, reply.bytes(), want.as_slice());
+/// Looks at what ledgers tell that have failed.
+fn tell(rt: &impl Abort, alloc: Global, script: &str) -> Result<(), Fail> {
+    let mut firms = FrailFirms::failed(alloc);
+    for line in script.lines() {
+        exchange(rt, alloc, &mut firms, line)?;
     }
     Ok(())
 }
 
 #[test]
 fn tells_health_to_everybody(rt: HostRuntime) -> Result<(), Fail> {
-    tells_health(&rt, rt.alloc(), &mut Firms::new(rt.alloc()), 0)?;
-    let mut firms = base(&rt, rt.alloc(), FIRST)?;
-    tells_health(&rt, rt.alloc(), &mut firms, 9)?;
-    let reply = firms.answer(BATCH.as_bytes(), 0);
-    let want = good(rt.alloc(), "{\"clock\":\"4\",\"results\":[]}")?;
-    same(&rt, "nothing has changed", reply.bytes(), want.as_slice());
-    Ok(())
-}
-
-/// What is told by ledgers that have failed.
-fn told(alloc: Global, bytes: &[u8]) -> Reply {
-    respond(alloc, &mut Failed, bytes, 0)
+    let want = good(rt.alloc(), "{\"serving\":true}")?;
+    everybody_is_told(&rt, rt.alloc(), &ASKED, &want)
 }
 
 #[test]
 fn tells_that_ledgers_have_failed(rt: HostRuntime) -> Result<(), Fail> {
-    for asked in ASKED {
-        let reply = told(rt.alloc(), asked.as_bytes());
-        same(&rt, asked, reply.bytes(), UNAVAILABLE.as_bytes());
-    }
-    for (name, asked) in &OF_A_TENANT {
-        let message = message(rt.alloc(), FIRST, asked)?;
-        let reply = told(rt.alloc(), &message);
-        same(&rt, name, reply.bytes(), UNAVAILABLE.as_bytes());
-    }
-    Ok(())
+    are_all_told(
+        &rt,
+        rt.alloc(),
+        &mut FrailFirms::failed(rt.alloc()),
+        (&ASKED, 0),
+        UNAVAILABLE.as_bytes(),
+    );
+    tell(&rt, rt.alloc(), OF_A_TENANT)
 }
 
 #[test]
 fn refuses_what_is_near_health(rt: HostRuntime) -> Result<(), Fail> {
-    for (asked, want) in &REFUSED {
-        let message = message(rt.alloc(), FIRST, asked)?;
-        let want = wanted(rt.alloc(), want)?;
-        let reply = told(rt.alloc(), &message);
-        same(&rt, "near health", reply.bytes(), want.as_slice());
-    }
-    Ok(())
+    tell(&rt, rt.alloc(), REFUSED)
 }

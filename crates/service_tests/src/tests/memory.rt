@@ -1,9 +1,9 @@
 //! Want of memory. To be run with each allocation refused in turn (`make alloc`).
-use super::asserting::same;
-use super::examples::PENDING_AND_POST;
 use super::firms::Firms;
 use super::messages::FIRST;
-use super::played::{Asked, FOUR_ACCOUNTS, Step, Want, message, wanted};
+use super::scripts::{Answers, exchange, joined};
+use ledger_http::Reply;
+use std::alloc::Global;
 use std::process::Abort;
 
 /// The reply where memory runs out.
@@ -12,57 +12,42 @@ pub(crate) const UNAVAILABLE: &str = concat!(
     "content-type: application/json\r\n\r\n{\"error\":\"unavailable\"}"
 );
 
-const STEPS: [Step; 5] = [
-    FOUR_ACCOUNTS,
-    (PENDING_AND_POST, 0, Want::Results(6, &[(0, 5), (0, 6)])),
-    (
-        Asked::Get("/statement/1"),
-        0,
-        Want::Statement("5,100,debit,pending,70,70,0,0,0\n6,101,debit,post,70,0,70,0,0\n"),
-    ),
-    (
-        Asked::Post("/pending/lookup", r#"["100"]"#),
-        0,
-        Want::Json(r#"{"clock":"6","pending":[{"due":"0","id":"100","state":"posted"}]}"#),
-    ),
-    (
-        Asked::Post("/query/accounts", r#"{"limit":1,"timestamp_min":"4"}"#),
-        0,
-        Want::Json(concat!(
-            r#"{"accounts":[{"code":10,"credits_pending":"0","credits_posted":"0","#,
-            r#""debits_pending":"0","debits_posted":"0","flags":0,"id":"4","ledger":7,"#,
-            r#""timestamp":"4","user_data_128":"0","user_data_32":0,"user_data_64":"0"}],"#,
-            r#""clock":"6","next":"5"}"#
-        )),
-    ),
-];
+const STEPS: &str = r#"North base => clock 4: 0@1 0@2 0@3 0@4
+North transfers 100: 1>2 70 flags=3; 101: post=100 MAX => clock 6: 0@5 0@6
+North GET /statement/1 => csv 5,100,debit,pending,70,70,0,0,0 6,101,debit,post,70,0,70,0,0
+North POST /pending/lookup ["100"]
+   => {"clock":"6","pending":[{"due":"0","id":"100","state":"posted"}]}
+North POST /query/accounts {"limit":1,"timestamp_min":"4"} => {"accounts":[{"code":10,
+  "credits_pending":"0","credits_posted":"0","debits_pending":"0","debits_posted":"0","flags":0,
+  "id":"4","ledger":7,"timestamp":"4","user_data_128":"0","user_data_32":0,
+  "user_data_64":"0"}],"clock":"6","next":"5"}"#;
 
-/// Where memory runs out nothing has changed, and the same message is answered when there is some.
-fn answers_once_there_is_memory(
-    rt: &impl Abort,
-    firms: &mut Firms,
-    message: &[u8],
-    moment: u64,
-    want: &[u8],
-) {
-    let mut reply = firms.answer(message, moment);
-    if reply.bytes() == UNAVAILABLE.as_bytes() {
-        reply = firms.answer(message, moment);
+/// Firms that are asked again where memory runs out. Nothing has changed then.
+#[derive(Drop)]
+struct AskedAgain(Firms);
+
+impl Answers for AskedAgain {
+    fn answer(&mut self, alloc: Global, bytes: &[u8], moment: u64) -> Reply {
+        let reply = self.0.answer(alloc, bytes, moment);
+        if reply.bytes() != UNAVAILABLE.as_bytes() {
+            return reply;
+        }
+        self.0.answer(alloc, bytes, moment)
     }
-    same(rt, "the reply", reply.bytes(), want);
+}
+
+/// Each message is answered, at the latest when it is sent again, unless there is no memory for it
+/// or for what is wanted.
+fn answers_at_last(rt: &impl Abort, alloc: Global) -> Option<()> {
+    let steps = joined(alloc, STEPS).ok()?;
+    let mut firms = AskedAgain(Firms::with(alloc, FIRST).ok()?);
+    for line in steps.lines() {
+        exchange(rt, alloc, &mut firms, line).ok()?;
+    }
+    Some(())
 }
 
 #[test]
 fn survives_want_of_memory(rt: HostRuntime) {
-    let alloc = rt.alloc();
-    let mut firms = Firms::new(alloc);
-    if firms.add(FIRST).is_err() {
-        return;
-    }
-    for (asked, moment, want) in &STEPS {
-        let (Ok(message), Ok(want)) = (message(alloc, FIRST, asked), wanted(alloc, want)) else {
-            return;
-        };
-        answers_once_there_is_memory(&rt, &mut firms, &message, *moment, &want);
-    }
+    let _ = answers_at_last(&rt, rt.alloc());
 }

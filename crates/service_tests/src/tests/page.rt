@@ -1,10 +1,7 @@
 //! The console's page, which everybody is told.
 use super::asserting::same;
-use super::firms::Firms;
-use super::messages::{BATCH, FIRST, good};
-use super::played::base;
+use super::everybody::everybody_is_told;
 use ledger_http::Reply;
-use std::process::Abort;
 use std::test::Fail;
 
 /// Requests of the page: without a key, with a firm's key, with keys of nobody, and behind which
@@ -22,27 +19,18 @@ const ASKED: [&str; 4] = [
 /// What the page begins with.
 const FRONT: &str = "<!doctype html>\n<html lang=\"en\">\n";
 
-/// All of these are told the page.
-fn tells_page(rt: &impl Abort, firms: &mut Firms, moment: u64) {
-    for asked in ASKED {
-        let reply = firms.answer(asked.as_bytes(), moment);
-        same(rt, "the page", reply.bytes(), Reply::Page.bytes());
-    }
-}
-
 #[test]
-fn tells_the_page_to_everybody(rt: HostRuntime) -> Result<(), Fail> {
+fn begins_as_a_page(rt: HostRuntime) -> Result<(), Fail> {
     let page = Reply::Page.bytes();
     let at = page
         .windows(4)
         .position(|part| part == b"\r\n\r\n".as_slice());
     let body = &page[at.ok_or("no head")? + 4..];
     same(&rt, "its front", body.starts_with(FRONT.as_bytes()), true);
-    tells_page(&rt, &mut Firms::new(rt.alloc()), 0);
-    let mut firms = base(&rt, rt.alloc(), FIRST)?;
-    tells_page(&rt, &mut firms, 9);
-    let reply = firms.answer(BATCH.as_bytes(), 0);
-    let want = good(rt.alloc(), "{\"clock\":\"4\",\"results\":[]}")?;
-    same(&rt, "nothing has changed", reply.bytes(), want.as_slice());
     Ok(())
+}
+
+#[test]
+fn tells_the_page_to_everybody(rt: HostRuntime) -> Result<(), Fail> {
+    everybody_is_told(&rt, rt.alloc(), &ASKED, Reply::Page.bytes())
 }

@@ -1,146 +1,68 @@
 //! Messages of several firms in one round: each is told what it is told alone.
 use super::asserting::same;
-use super::events::Sent::Post;
-use super::examples::PENDING_AND_POST;
-use super::exchanges::IN_PART;
 use super::firms::Firms;
-use super::messages::{CUT_SHORT, FIRST, SECOND};
-use super::played::Asked::{self, Send};
-use super::played::Want::{self, Refused, Results};
-use super::played::{FOUR_ACCOUNTS, Step, message, wanted};
+use super::messages::{FIRST, SECOND};
+use super::scripts::{are_told, messages, play_all};
 use ledger_http::Reply;
 use service::Message;
-use std::alloc::{AllocError, Global};
+use std::alloc::Global;
 use std::process::Abort;
 use std::test::Fail;
 
-/// The key of no firm.
-const NOBODY: &str = "1111111111111111111111111111111111111111111111111111111111111111";
-
-/// A key, and what is sent with it.
-type Turn = (&'static str, Step);
-
 /// Requests that stand on one another, of one firm and of another, with a retry, a read, and two
 /// that are refused.
-const ROUND: &[Turn] = &[
-    (FIRST, FOUR_ACCOUNTS),
-    (SECOND, FOUR_ACCOUNTS),
-    (FIRST, (PENDING_AND_POST, 0, Results(6, &[(0, 5), (0, 6)]))),
-    (
-        NOBODY,
-        (Send(&[]), 9, Refused("401 Unauthorized", "unknown_key")),
-    ),
-    (SECOND, IN_PART),
-    (
-        FIRST,
-        (
-            Asked::Bytes(CUT_SHORT),
-            0,
-            Refused("400 Bad Request", "truncated"),
-        ),
-    ),
-    (
-        SECOND,
-        (
-            Send(&[Post(101, 100, 40), Post(101, 100, 41)]),
-            0,
-            Results(9, &[(18, 8), (12, 9)]),
-        ),
-    ),
-    (
-        FIRST,
-        (
-            Asked::Get("/statement/1"),
-            0,
-            Want::Statement("5,100,debit,pending,70,70,0,0,0\n6,101,debit,post,70,0,70,0,0\n"),
-        ),
-    ),
-    (FIRST, (Send(&[]), 20, Results(20, &[]))),
-];
+const ROUND: &str = "\
+North base => clock 4: 0@1 0@2 0@3 0@4
+South base => clock 4: 0@1 0@2 0@3 0@4
+North transfers 100: 1>2 70 flags=3; 101: post=100 MAX => clock 6: 0@5 0@6
+Nobody@9 transfers => unknown_key 401 Unauthorized
+South transfers 100: 1>2 100 pending; 101: post=100 40; 102: post=100 60 => clock 7: 0@5 0@6 32@7
+North cut => truncated 400 Bad Request
+South transfers 101: post=100 40; 101: post=100 41 => clock 9: 18@8 12@9
+North GET /statement/1 => csv 5,100,debit,pending,70,70,0,0,0 6,101,debit,post,70,0,70,0,0
+North@20 transfers => clock 20:";
 
-/// The messages of these turns.
-pub(crate) fn messages_of(alloc: Global, turns: &[Turn]) -> Result<Vec<Message>, AllocError> {
-    let mut messages = Vec::new(alloc);
-    for (key, (asked, moment, _)) in turns {
-        let bytes = message(alloc, key, asked)?;
-        messages.push(Message {
-            bytes,
-            moment: *moment,
-        })?;
-    }
-    Ok(messages)
-}
+/// Two firms, of which neither has sent anything.
+const TWO: &str = "North joins
+South joins";
 
-/// Looks at each reply to these turns.
-pub(crate) fn same_replies(
-    rt: &impl Abort,
-    alloc: Global,
-    turns: &[Turn],
-    replies: &[Reply],
-) -> Result<(), AllocError> {
-    same(rt, "the replies", replies.len(), turns.len());
-    for ((_, (_, _, want)), reply) in turns.iter().zip(replies) {
-        same(
-            rt,
-            "a reply",
-            reply.bytes(),
-            wanted(alloc, want)?.as_slice(),
-        );
-    }
-    Ok(())
-}
-
-/// The replies of two firms to the messages of one round.
-fn in_a_round(alloc: Global, messages: &[Message]) -> Result<Vec<Reply>, Fail> {
+fn two(alloc: Global) -> Result<Firms, &'static str> {
     let mut firms = Firms::with(alloc, FIRST)?;
     firms.add(SECOND)?;
-    Ok(firms.round(messages)?)
+    Ok(firms)
 }
 
-/// Their replies to the same messages, one by one.
-fn one_by_one(alloc: Global, messages: &[Message]) -> Result<Vec<Reply>, Fail> {
-    let mut firms = Firms::with(alloc, FIRST)?;
-    firms.add(SECOND)?;
-    let mut each = Vec::new(alloc);
-    for message in messages {
-        each.push(firms.answer(&message.bytes, message.moment))?;
+/// Their replies to the messages of one round, which is sent again where memory runs out.
+fn in_a_round(alloc: Global, messages: &[Message]) -> Option<Vec<Reply>> {
+    let mut firms = two(alloc).ok()?;
+    match firms.round(messages) {
+        Ok(replies) => Some(replies),
+        Err(_) => firms.round(messages).ok(),
     }
-    Ok(each)
+}
+
+/// Looks at what a round is told, if there is memory for that.
+fn tells_a_round(rt: &impl Abort, alloc: Global) -> Option<()> {
+    let messages = messages(alloc, ROUND).ok()?;
+    let replies = in_a_round(alloc, &messages)?;
+    are_told(rt, alloc, ROUND, &replies).ok()
 }
 
 #[test]
 fn tells_a_round_what_each_is_told_alone(rt: HostRuntime) -> Result<(), Fail> {
-    let alloc = rt.alloc();
-    let messages = messages_of(alloc, ROUND)?;
-    same_replies(&rt, alloc, ROUND, &in_a_round(alloc, &messages)?)?;
-    same_replies(&rt, alloc, ROUND, &one_by_one(alloc, &messages)?)?;
-    Ok(())
+    play_all(&rt, rt.alloc(), TWO, ROUND)?;
+    Ok(tells_a_round(&rt, rt.alloc()).ok_or("no memory")?)
 }
 
 #[test]
 fn answers_a_round_of_none(rt: HostRuntime) -> Result<(), Fail> {
-    let mut firms = Firms::with(rt.alloc(), FIRST)?;
-    same(&rt, "the replies", firms.round(&[])?.len(), 0);
+    let replies = Firms::with(rt.alloc(), FIRST)?.round(&[])?;
+    same(&rt, "the replies", replies.len(), 0);
     Ok(())
 }
 
 /// A round is answered whichever allocation fails, at the latest when it is sent again.
 #[test]
 fn a_round_survives_want_of_memory(rt: HostRuntime) {
-    let alloc = rt.alloc();
-    let mut firms = Firms::new(alloc);
-    if firms.add(FIRST).is_err() || firms.add(SECOND).is_err() {
-        return;
-    }
-    let Ok(messages) = messages_of(alloc, ROUND) else {
-        return;
-    };
-    let replies = match firms.round(&messages) {
-        Ok(replies) => replies,
-        Err(_) => match firms.round(&messages) {
-            Ok(replies) => replies,
-            Err(_) => return,
-        },
-    };
-    let _ = same_replies(&rt, alloc, ROUND, &replies);
+    let _ = tells_a_round(&rt, rt.alloc());
 }

@@ -1,20 +1,18 @@
 //! Memory that runs out in the midst of a batch.
-ghost use Rattle.std.specs.Prelude.{Some, None, false, IfOk, bytes_eq, if◌then◌else◌};
+ghost use Rattle.std.specs.Prelude.{Some, None, false, bytes_eq, if◌then◌else◌};
 ghost use Rattle.std.proofs.Common.{refl, ◌∙◌};
 ghost use Rattle.chain.specs.Ledgers.{AreValid};
 
 use super::asserting::same;
-use super::events::Sent::New;
-use super::examples::PENDING_AND_POST;
-use super::memory::UNAVAILABLE;
 use super::messages::FIRST;
-use super::played::Asked::{self, Send};
-use super::played::{FOUR_ACCOUNTS, Want, message, wanted};
+use super::scripts::{Answers, are_told, exchange, messages};
 use chain::{AccountEntry, BatchFault, Ledgers, RoundWork, Rounds, Tables, Work};
+use ledger_http::Reply;
 use plain::PlainTables;
 use records::{Accepted, Account, AccountWithBalances, PendingState, Span, Transfer, Unavailable};
 use service::{Message, Settles, respond, respond_round};
-use std::alloc::Global;
+use std::alloc::{AllocError, Global};
+use std::marker::Model;
 use std::process::Abort;
 use std::test::Fail;
 use tenants::{Key, digest};
@@ -120,19 +118,10 @@ impl Tables for Scarce {
 }
 
 /// The ledger of one firm over such tables.
+#[derive(Drop)]
 struct ScarceLedger {
     digest: [u8; 32],
     scarce: Scarce,
-}
-
-// It is written out, so that who lets a ledger go does not prove again how each part is dropped.
-impl Drop for ScarceLedger {
-    fn drop(self) {
-        let ScarceLedger {
-            digest: _,
-            scarce: _,
-        } = self;
-    }
 }
 
 impl Ledgers for ScarceLedger {
@@ -199,73 +188,104 @@ impl Settles<ScarceLedger> for Unkept {
     fn is_settled(_ledgers: &ScarceLedger) {}
 }
 
-/// The base, with memory for so many transfers.
-fn scarce_base(rt: &impl Abort, alloc: Global, room: u64) -> Result<ScarceLedger, Fail>
-    ensures { IfOk result (λ l. AreValid
-        (λ digest. if bytes_eq digest l.digest then Some l.scarce.tables.now else None)) }
-{
-    let scarce = Scarce {
-        tables: PlainTables::new(alloc),
-        room,
-    };
-    let digest = digest(&Key::read(FIRST.as_bytes()).ok_or("no key")?);
-    let mut ledger = ScarceLedger { digest, scarce };
-    let (asked, moment, want) = &FOUR_ACCOUNTS;
-    let message = message(alloc, FIRST, asked)?;
-    let reply = respond(alloc, &mut ledger, &message, *moment);
-    let want = wanted(alloc, want)?;
-    same(rt, "the base", reply.bytes(), want.as_slice());
-    Ok(ledger)
+/// A firm with such a ledger.
+struct ScarceFirm {
+    ledger: ScarceLedger,
 }
+
+// It is written out, so that who lets a firm go does not prove again how each part is dropped.
+impl Drop for ScarceFirm {
+    fn drop(self) {
+        let ScarceFirm { ledger: _ } = self;
+    }
+}
+
+impl Model for ScarceFirm {
+    ghost use Rattle.std.specs.Prelude.{Some, None, bytes_eq, if◌then◌else◌};
+    ghost use Rattle.chain.specs.Ledgers.{AreValid};
+    ghost use Rattle.service_tests.specs.declared.tests.scarce.ScarceLedger.{ScarceLedger};
+
+    ghost Value = { ScarceLedger };
+
+    ghost view = { λ firm. firm.ledger };
+
+    ghost invariant = { λ firm. AreValid
+        (λ digest. if bytes_eq digest firm.ledger.digest then Some firm.ledger.scarce.tables.now
+        else None) };
+}
+
+impl Answers for ScarceFirm {
+    fn answer(&mut self, alloc: Global, bytes: &[u8], moment: u64) -> Reply {
+        respond(alloc, &mut self.ledger, bytes, moment)
+    }
+}
+
+impl ScarceFirm {
+    /// The base, with memory for one transfer.
+    fn base(rt: &impl Abort, alloc: Global) -> Result<ScarceFirm, Fail> {
+        let digest = digest(&Key::read(FIRST.as_bytes()).ok_or("no key")?);
+        let tables = PlainTables::new(alloc);
+        let scarce = Scarce { tables, room: 1 };
+        let ledger = ScarceLedger { digest, scarce };
+        let mut firm = ScarceFirm { ledger };
+        exchange(
+            rt,
+            alloc,
+            &mut firm,
+            "North base => clock 4: 0@1 0@2 0@3 0@4",
+        )?;
+        Ok(firm)
+    }
+
+    fn give(&mut self, room: u64) {
+        self.ledger.scarce.room = room;
+    }
+
+    /// The replies to the messages of one round.
+    fn round(&mut self, alloc: Global, messages: &[Message]) -> Result<Vec<Reply>, AllocError> {
+        respond_round::<ScarceLedger, Unkept>(alloc, &mut self.ledger, messages)
+    }
+
+    /// Looks whether it has its accounts alone.
+    fn is_base(&mut self, rt: &impl Abort) {
+        let tables = &mut self.ledger.scarce.tables;
+        tables.begin();
+        same(rt, "the clock", tables.clock(), Ok(4));
+        let lengths = (
+            tables.accounts().len(),
+            tables.transfers().len(),
+            tables.failed_ids().len(),
+        );
+        same(rt, "what is kept", lengths, (4, 0, 0));
+    }
+}
+
+const TOO_LITTLE: &str = "North transfers 100: 1>2 70 flags=3; 101: post=100 MAX \
+=> unavailable 503 Service Unavailable";
+
+const ENOUGH: &str = "North transfers 100: 1>2 70 flags=3; 101: post=100 MAX \
+=> clock 6: 0@5 0@6";
 
 #[test]
 fn keeps_nothing_of_a_batch_that_ran_out_of_memory(rt: HostRuntime) -> Result<(), Fail> {
-    let mut ledger = scarce_base(&rt, rt.alloc(), 1)?;
-    let message = message(rt.alloc(), FIRST, &PENDING_AND_POST)?;
-    let reply = respond(rt.alloc(), &mut ledger, &message, 0);
-    same(&rt, "too little", reply.bytes(), UNAVAILABLE.as_bytes());
-    let tables = &mut ledger.scarce.tables;
-    tables.begin();
-    same(&rt, "the clock", tables.clock()?, 4);
-    let lengths = (
-        tables.accounts().len(),
-        tables.transfers().len(),
-        tables.failed_ids().len(),
-    );
-    same(&rt, "what is kept", lengths, (4, 0, 0));
-
-    ledger.scarce.room = 2;
-    let reply = respond(rt.alloc(), &mut ledger, &message, 0);
-    let want = wanted(rt.alloc(), &Want::Results(6, &[(0, 5), (0, 6)]))?;
-    same(&rt, "enough", reply.bytes(), want.as_slice());
+    let mut firm = ScarceFirm::base(&rt, rt.alloc())?;
+    exchange(&rt, rt.alloc(), &mut firm, TOO_LITTLE)?;
+    firm.is_base(&rt);
+    firm.give(2);
+    exchange(&rt, rt.alloc(), &mut firm, ENOUGH)?;
     Ok(())
 }
 
-/// What one firm sends in a round, of which memory suffices for all but the second, and what it is
+/// What a firm sends in a round, of which memory suffices for all but the second, and what it is
 /// told.
-const TOO_MUCH: &[(Asked, Want)] = &[
-    (Send(&[New(200, (1, 2), 10)]), Want::Results(8, &[(0, 8)])),
-    (
-        PENDING_AND_POST,
-        Want::Refused("503 Service Unavailable", "unavailable"),
-    ),
-    (Send(&[]), Want::Results(8, &[])),
-];
+const TOO_MUCH: &str = "North@7 transfers 200: 1>2 10 => clock 8: 0@8
+North@7 transfers 100: 1>2 70 flags=3; 101: post=100 MAX => unavailable 503 Service Unavailable
+North@7 transfers => clock 8:";
 
 #[test]
 fn a_message_that_fails_takes_no_other_with_it(rt: HostRuntime) -> Result<(), Fail> {
-    let alloc = rt.alloc();
-    let mut ledger = scarce_base(&rt, alloc, 1)?;
-    let mut messages = Vec::new(alloc);
-    for (asked, _) in TOO_MUCH {
-        let bytes = message(alloc, FIRST, asked)?;
-        messages.push(Message { bytes, moment: 7 })?;
-    }
-    let replies = respond_round::<ScarceLedger, Unkept>(alloc, &mut ledger, &messages)?;
-    same(&rt, "the replies", replies.len(), TOO_MUCH.len());
-    for ((_, want), reply) in TOO_MUCH.iter().zip(&replies) {
-        let want = wanted(alloc, want)?;
-        same(&rt, "a reply", reply.bytes(), want.as_slice());
-    }
+    let messages = messages(rt.alloc(), TOO_MUCH)?;
+    let replies = ScarceFirm::base(&rt, rt.alloc())?.round(rt.alloc(), &messages)?;
+    are_told(&rt, rt.alloc(), TOO_MUCH, &replies)?;
     Ok(())
 }

@@ -2,10 +2,10 @@
 //! beginning.
 use super::asserting::same;
 use super::failing::FrailFirms;
-use super::looked_at::add;
+use super::looked_at::send;
 use super::memory::UNAVAILABLE;
-use super::messages::{FIRST, get, reply};
-use super::played::{HEADER, base};
+use super::messages::{FIRST, HEADER, get, reply};
+use super::scripts::{Answers, base};
 use chain::ReadFault;
 use records::{Order, Unavailable};
 use std::alloc::{AllocError, Global};
@@ -17,24 +17,11 @@ use tenants::{Key, digest};
 /// three pieces.
 const ENTRIES: u64 = 1001;
 
-/// How many pieces are read before one is refused, and why it is.
-const REFUSALS: [(u64, Unavailable); 9] = [
-    (0, Unavailable::Memory),
-    (1, Unavailable::Memory),
-    (2, Unavailable::Memory),
-    (0, Unavailable::Size),
-    (1, Unavailable::Size),
-    (2, Unavailable::Size),
-    (0, Unavailable::Disk),
-    (1, Unavailable::Disk),
-    (2, Unavailable::Disk),
-];
-
 /// A firm with these transfers.
 fn filled(rt: &impl Abort, alloc: Global) -> Result<FrailFirms, Fail> {
-    let mut firms = base(rt, alloc, FIRST)?;
-    add(alloc, &mut firms, 1, 701)?;
-    add(alloc, &mut firms, 701, ENTRIES + 1)?;
+    let mut firms = base(rt, alloc)?;
+    send(alloc, &mut firms, 1, 701)?;
+    send(alloc, &mut firms, 701, ENTRIES + 1)?;
     Ok(firms.frail())
 }
 
@@ -49,26 +36,49 @@ fn whole(alloc: Global) -> Result<Vec<u8>, AllocError> {
     reply(alloc, "200 OK", "text/csv", &body)
 }
 
-// Behind the refusal the same message is told the whole, or where the disk failed once it is opened
-// again.
+/// A statement of which a piece is refused, behind so many others, is told as unavailable. Behind
+/// that the same message is told the whole, or where the disk failed once it is opened again.
+fn is_whole_or_unavailable(
+    rt: &impl Abort,
+    alloc: Global,
+    firms: &mut FrailFirms,
+    (message, whole): (&[u8], &[u8]),
+    (before, why): (u64, Unavailable),
+) {
+    firms.refuse(before, why);
+    let first = firms.answer(alloc, message, 0);
+    same(rt, "refused", first.bytes(), UNAVAILABLE.as_bytes());
+    if why == Unavailable::Disk {
+        let second = firms.answer(alloc, message, 0);
+        same(rt, "failed", second.bytes(), UNAVAILABLE.as_bytes());
+        firms.open_again();
+    }
+    same(rt, "again", firms.answer(alloc, message, 0).bytes(), whole);
+}
+
 #[test]
 fn tells_no_beginning_of_a_statement(rt: HostRuntime) -> Result<(), Fail> {
-    let mut firms = filled(&rt, rt.alloc())?;
     let message = get(rt.alloc(), "/statement/1", FIRST)?;
     let whole = whole(rt.alloc())?;
-    for (before, why) in REFUSALS {
-        firms.refuse(before, why);
-        let first = firms.answer(&message);
-        same(&rt, "refused", first.bytes(), UNAVAILABLE.as_bytes());
-        if why == Unavailable::Disk {
-            let second = firms.answer(&message);
-            same(&rt, "failed", second.bytes(), UNAVAILABLE.as_bytes());
-            firms.open_again();
+    let mut firms = filled(&rt, rt.alloc())?;
+    for why in [Unavailable::Memory, Unavailable::Size, Unavailable::Disk] {
+        for before in [0, 1, 2] {
+            is_whole_or_unavailable(
+                &rt,
+                rt.alloc(),
+                &mut firms,
+                (&message, &whole),
+                (before, why),
+            );
         }
-        same(&rt, "again", firms.answer(&message).bytes(), &whole);
     }
     firms.refuse(3, Unavailable::Memory);
-    same(&rt, "three pieces", firms.answer(&message).bytes(), &whole);
+    same(
+        &rt,
+        "three pieces",
+        firms.answer(rt.alloc(), &message, 0).bytes(),
+        &whole,
+    );
     Ok(())
 }
 
@@ -93,21 +103,31 @@ fn beginning(order: Order, rows: &[(u64, u128)]) -> Option<u64> {
     Some(many)
 }
 
+/// A statement of which a piece is refused hands out a part, and then the same call the whole.
+fn hands_out_a_part(
+    rt: &impl Abort,
+    firms: &mut FrailFirms,
+    digest: &[u8; 32],
+    (before, order): (u64, Order),
+) {
+    firms.refuse(before, Unavailable::Memory);
+    let (rows, ended) = firms.rows(digest, 1, order);
+    let want = Err(ReadFault::Unavailable(Unavailable::Memory));
+    same(rt, "refused", ended, want);
+    let many = beginning(order, &rows).unwrap_or(0);
+    same(rt, "a part", 0 < many && many < ENTRIES, true);
+    let (rows, ended) = firms.rows(digest, 1, order);
+    same(rt, "again", ended, Ok(()));
+    same(rt, "all", beginning(order, &rows), Some(ENTRIES));
+}
+
 #[test]
 fn hands_out_a_beginning_of_a_statement(rt: HostRuntime) -> Result<(), Fail> {
-    let mut firms = filled(&rt, rt.alloc())?;
     let first = digest(&Key::read(FIRST.as_bytes()).ok_or("no key")?);
+    let mut firms = filled(&rt, rt.alloc())?;
     for order in [Order::Oldest, Order::Newest] {
         for before in [1, 2] {
-            firms.refuse(before, Unavailable::Memory);
-            let (rows, ended) = firms.rows(&first, 1, order);
-            let want = Err(ReadFault::Unavailable(Unavailable::Memory));
-            same(&rt, "refused", ended, want);
-            let many = beginning(order, &rows).ok_or("no beginning")?;
-            same(&rt, "a part", 0 < many && many < ENTRIES, true);
-            let (rows, ended) = firms.rows(&first, 1, order);
-            same(&rt, "again", ended, Ok(()));
-            same(&rt, "all", beginning(order, &rows), Some(ENTRIES));
+            hands_out_a_part(&rt, &mut firms, &first, (before, order));
         }
     }
     Ok(())
