@@ -12,3 +12,4 @@ mod requests;
 mod rounds;
 mod runs;
 mod scripts;
+mod trials;

@@ -2,9 +2,9 @@
 ghost use Rattle.std.specs.Prelude.{◌≡◌};
 ghost use Rattle.store.specs.Stores.{IsUsable};
 
-use super::disks::{Faulty, NEVER, TestDisk, new_store, shut};
 use super::messages::{asked, wanted};
 use super::scripts::runs;
+use super::trials::{Scene, Trial, over_disks};
 use chain::Ledgers;
 use records::Streamed;
 use service::{Moments, ServeFault, serve};
@@ -215,7 +215,7 @@ fn serves<L: Ledgers>(
 }
 
 /// Serves all connections, between the two scripts.
-fn serves_all<D: Disk + Drop>(
+pub fn serves_all<D: Disk + Drop>(
     rt: &impl Abort,
     alloc: Global,
     store: &mut Store<D>,
@@ -229,15 +229,7 @@ fn serves_all<D: Disk + Drop>(
     runs(rt, alloc, store, DONE_UNTOLD)
 }
 
-/// The same, over disks of their own.
-fn serves_on<D: Faulty, R: Abort>(rt: &R, alloc: Global) -> Result<(), Fail> {
-    let mut store: Store<D> = new_store(alloc, NEVER, NEVER)?;
-    let ended = serves_all(rt, alloc, &mut store);
-    shut(store);
-    ended
-}
-
 #[test]
 fn serves_connections(rt: HostRuntime) -> Result<(), Fail> {
-    serves_on::<TestDisk, _>(&rt, rt.alloc())
+    over_disks(&rt, rt.alloc(), Trial::Scene(Scene::Connections))
 }

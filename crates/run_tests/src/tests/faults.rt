@@ -3,8 +3,9 @@
 ghost use Rattle.store.specs.Stores.{IsUsable};
 
 use super::deeds::{CHAIN, Deed, JOINING, Spelled, Told};
-use super::disks::{Faulty, NEVER, TestDisk, after_a_crash, new_store, rows_in, shut};
+use super::disks::{Faulty, NEVER, after_a_crash, new_store, rows_in, shut};
 use super::scripts::runs;
+use super::trials::{Trial, over_disks};
 use rows::AllRows;
 use sqlite_disk::{Crash, Disk};
 use std::alloc::Global;
@@ -20,7 +21,7 @@ tenant 1 = added
 
 /// Which of the two files is on a disk that fails.
 #[derive(Clone, Copy)]
-enum Failing {
+pub enum Failing {
     Log,
     Database,
 }
@@ -136,7 +137,7 @@ fn became<D: Faulty, R: Abort>(
 }
 
 /// A deed has each outcome in turn where a file fails behind so many calls.
-fn has_each_outcome<D: Faulty, R: Abort>(
+pub fn has_each_outcome<D: Faulty, R: Abort>(
     rt: &R,
     alloc: Global,
     deed: &Deed,
@@ -153,33 +154,26 @@ fn has_each_outcome<D: Faulty, R: Abort>(
     Ok(())
 }
 
-/// The same, of disks in memory.
-fn has_each_outcome_in_memory(
-    rt: &impl Abort,
-    alloc: Global,
-    deed: &Deed,
-    failing: Failing,
-    calls: [u64; 3],
-) -> Result<(), Fail> {
-    has_each_outcome::<TestDisk, _>(rt, alloc, deed, failing, calls)
-}
-
 #[test]
 fn a_chain_over_a_log_that_fails(rt: HostRuntime) -> Result<(), Fail> {
-    has_each_outcome_in_memory(&rt, rt.alloc(), &CHAIN, Failing::Log, [91, 108, 109])
+    let trial = Trial::Outcomes(&CHAIN, Failing::Log, [91, 108, 109]);
+    over_disks(&rt, rt.alloc(), trial)
 }
 
 #[test]
 fn a_chain_over_a_database_file_that_fails(rt: HostRuntime) -> Result<(), Fail> {
-    has_each_outcome_in_memory(&rt, rt.alloc(), &CHAIN, Failing::Database, [42, 53, 54])
+    let trial = Trial::Outcomes(&CHAIN, Failing::Database, [42, 53, 54]);
+    over_disks(&rt, rt.alloc(), trial)
 }
 
 #[test]
 fn a_tenant_over_a_log_that_fails(rt: HostRuntime) -> Result<(), Fail> {
-    has_each_outcome_in_memory(&rt, rt.alloc(), &JOINING, Failing::Log, [91, 108, 109])
+    let trial = Trial::Outcomes(&JOINING, Failing::Log, [91, 108, 109]);
+    over_disks(&rt, rt.alloc(), trial)
 }
 
 #[test]
 fn a_tenant_over_a_database_file_that_fails(rt: HostRuntime) -> Result<(), Fail> {
-    has_each_outcome_in_memory(&rt, rt.alloc(), &JOINING, Failing::Database, [42, 49, 50])
+    let trial = Trial::Outcomes(&JOINING, Failing::Database, [42, 49, 50]);
+    over_disks(&rt, rt.alloc(), trial)
 }

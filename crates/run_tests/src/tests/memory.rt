@@ -5,10 +5,10 @@ ghost use Rattle.store.specs.Stores.{IsUsable};
 
 use super::deeds::{CHAIN, Spelled, Told};
 use super::disks::{
-    Faulty, NEVER, TestDisk, after_a_crash, all_rows, crashed, empty, made, opened, reopen,
-    rows_in, shut,
+    Faulty, NEVER, after_a_crash, all_rows, crashed, empty, made, opened, reopen, rows_in, shut,
 };
 use super::scripts::{answers, steps};
+use super::trials::{Trial, over_disks};
 use records::Unavailable;
 use rows::AllRows;
 use sqlite::Files;
@@ -71,14 +71,19 @@ fn rows_of_new<D: Faulty>(alloc: Global) -> Result<AllRows, Fail> {
     last_rows(created::<D>(alloc)?)
 }
 
-#[test]
-fn want_of_memory_in_create(rt: HostRuntime) -> Result<(), Fail> {
-    let rows = rows_of_new::<TestDisk>(rt.alloc())?;
+/// A store is made.
+pub fn creates<D: Faulty, R: Abort>(rt: &R, alloc: Global) -> Result<(), Fail> {
+    let rows = rows_of_new::<D>(alloc)?;
     assert!(rt;
         rows.directory.is_empty() && rows.tenants.is_empty(),
         "{rows:?}"
     );
     Ok(())
+}
+
+#[test]
+fn want_of_memory_in_create(rt: HostRuntime) -> Result<(), Fail> {
+    over_disks(&rt, rt.alloc(), Trial::Create)
 }
 
 /// Whether these are the rows of a tenant with its accounts.
@@ -166,11 +171,16 @@ fn rows_around_reopening<D: Faulty>(alloc: Global) -> Result<(AllRows, AllRows),
     Ok((before, rows))
 }
 
-#[test]
-fn want_of_memory_in_reopen(rt: HostRuntime) -> Result<(), Fail> {
-    let (before, rows) = rows_around_reopening::<TestDisk>(rt.alloc())?;
+/// A store is opened again, and its rows are as before.
+pub fn reopens<D: Faulty, R: Abort>(rt: &R, alloc: Global) -> Result<(), Fail> {
+    let (before, rows) = rows_around_reopening::<D>(alloc)?;
     assert_eq!(rt; rows, before);
     Ok(())
+}
+
+#[test]
+fn want_of_memory_in_reopen(rt: HostRuntime) -> Result<(), Fail> {
+    over_disks(&rt, rt.alloc(), Trial::Reopen)
 }
 
 /// A store on the same files where its disk has failed, or else itself.
@@ -237,10 +247,10 @@ fn sent<D: Faulty, R: Abort>(
     Ok(Some(found_after(alloc, store, chain, &before)?))
 }
 
-#[test]
-fn want_of_memory_in_run_all(rt: HostRuntime) -> Result<(), Fail> {
-    let chain = spelled_chain(rt.alloc())?;
-    if let Some(found) = sent::<TestDisk, _>(&rt, rt.alloc(), &chain)? {
+/// A chain is sent and kept, or found to be as before, and is sent again.
+pub fn sends<D: Faulty, R: Abort>(rt: &R, alloc: Global) -> Result<(), Fail> {
+    let chain = spelled_chain(alloc)?;
+    if let Some(found) = sent::<D, _>(rt, alloc, &chain)? {
         let want = if found.is_as_before {
             Told::Done
         } else {
@@ -250,4 +260,9 @@ fn want_of_memory_in_run_all(rt: HostRuntime) -> Result<(), Fail> {
         assert_eq!(rt; found.again, want);
     }
     Ok(())
+}
+
+#[test]
+fn want_of_memory_in_run_all(rt: HostRuntime) -> Result<(), Fail> {
+    over_disks(&rt, rt.alloc(), Trial::RunAll)
 }

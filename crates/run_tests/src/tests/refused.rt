@@ -2,11 +2,12 @@
 //! lost by it: what was answered before stands behind the next opening.
 ghost use Rattle.store.specs.Stores.{IsUsable};
 
-use super::disks::{NEVER, TestDisk, new_store, shut};
 use super::scripts::runs;
+use super::trials::{Scene, Trial, over_disks};
 use audit::AuditFault;
 use records::Unavailable;
 use rows::AllRows;
+use sqlite_disk::Disk;
 use std::alloc::Global;
 use std::process::Abort;
 use std::test::Fail;
@@ -36,7 +37,11 @@ key 1 of 5 = no_tenant
 0@0 transfers 100 1 2 10; 101 9 2 5; 102 1 2 10 = 18@7 60@8 0@9";
 
 /// The opening of a store that is refused for want of memory, between two parts of a run.
-fn goes_on(rt: &impl Abort, alloc: Global, store: &mut Store<TestDisk>) -> Result<(), Fail>
+pub fn goes_on<D: Disk + Drop>(
+    rt: &impl Abort,
+    alloc: Global,
+    store: &mut Store<D>,
+) -> Result<(), Fail>
     requires { IsUsable store.old }
 {
     runs(rt, alloc, store, BEFORE)?;
@@ -48,8 +53,5 @@ fn goes_on(rt: &impl Abort, alloc: Global, store: &mut Store<TestDisk>) -> Resul
 
 #[test]
 fn a_run_goes_on_behind_an_audit_without_memory(rt: HostRuntime) -> Result<(), Fail> {
-    let mut store = new_store(rt.alloc(), NEVER, NEVER)?;
-    let ended = goes_on(&rt, rt.alloc(), &mut store);
-    shut(store);
-    ended
+    over_disks(&rt, rt.alloc(), Trial::Scene(Scene::RefusedOpening))
 }

@@ -1,13 +1,12 @@
 //! Runs over lists, and over disks in memory.
 
-use super::disks::{Faulty, NEVER, TestDisk, new_store, shut};
 use super::examples::{EXAMPLES, TENANTS};
 use super::requests::{CLOCKS, READS, REFUSALS};
 use super::scripts::{answers, runs, runs_in_rounds};
+use super::trials::{Scene, Trial, over_disks};
 use std::alloc::{AllocError, Global};
 use std::process::Abort;
 use std::test::Fail;
-use store::Store;
 use whole_runs::{NamedBook, Reopening};
 use wire::NoMemory;
 
@@ -65,7 +64,15 @@ key 0 of 0 = keyed
 "#;
 
 /// Each of these runs is of ledgers of its own.
-static RUNS: [&str; 7] = [BEGINS, JOINS, SENT_AGAIN, KEYED, CLOCKS, READS, REFUSALS];
+const RUNS: [&str; 7] = [BEGINS, JOINS, SENT_AGAIN, KEYED, CLOCKS, READS, REFUSALS];
+
+/// How requests that stand side by side are sent.
+#[derive(Clone, Copy)]
+pub enum Sent {
+    OneByOne,
+    /// In one round: each is told what it is told alone.
+    InRounds,
+}
 
 /// The tenants that send the examples, each with the four accounts.
 fn tenants(alloc: Global) -> Result<String, AllocError> {
@@ -78,37 +85,43 @@ fn tenants(alloc: Global) -> Result<String, AllocError> {
     Ok(script)
 }
 
+/// Runs a script.
+pub fn run<L: Reopening>(
+    rt: &impl Abort,
+    alloc: Global,
+    ledgers: &mut L,
+    sent: Sent,
+    script: &str,
+) -> Result<(), Fail>
+    requires { L.means.is_usable ledgers.old }
+    ensures { L.means.is_usable ledgers.new }
+{
+    match sent {
+        Sent::OneByOne => runs(rt, alloc, ledgers, script),
+        Sent::InRounds => runs_in_rounds(rt, alloc, ledgers, script),
+    }
+}
+
 /// All examples, over the same ledgers, which are opened again behind them.
-fn examples<L: Reopening>(rt: &impl Abort, alloc: Global, ledgers: &mut L) -> Result<(), Fail>
+pub fn examples<L: Reopening>(
+    rt: &impl Abort,
+    alloc: Global,
+    ledgers: &mut L,
+    sent: Sent,
+) -> Result<(), Fail>
     requires { L.means.is_usable ledgers.old }
 {
-    runs(rt, alloc, ledgers, &tenants(alloc)?)?;
-    runs(rt, alloc, ledgers, EXAMPLES)?;
+    run(rt, alloc, ledgers, sent, &tenants(alloc)?)?;
+    run(rt, alloc, ledgers, sent, EXAMPLES)?;
     runs(rt, alloc, ledgers, "open = opened")
 }
 
-/// Runs a script over lists of its own.
-fn run_over_lists(rt: &impl Abort, alloc: Global, script: &str) -> Result<(), Fail> {
-    runs(rt, alloc, &mut NamedBook::new(alloc), script)
-}
-
-/// Runs each script over disks of its own.
-fn runs_on<D: Faulty, R: Abort>(rt: &R, alloc: Global, scripts: &[&str]) -> Result<(), Fail> {
-    for script in scripts {
-        let mut store: Store<D> = new_store(alloc, NEVER, NEVER)?;
-        let ended = runs(rt, alloc, &mut store, script);
-        shut(store);
-        ended?;
+/// Each run and all examples, over lists of their own.
+fn over_lists(rt: &impl Abort, alloc: Global, sent: Sent) -> Result<(), Fail> {
+    for script in RUNS {
+        run(rt, alloc, &mut NamedBook::new(alloc), sent, script)?;
     }
-    Ok(())
-}
-
-/// All examples, over disks of their own.
-fn examples_on<D: Faulty, R: Abort>(rt: &R, alloc: Global) -> Result<(), Fail> {
-    let mut store: Store<D> = new_store(alloc, NEVER, NEVER)?;
-    let ended = examples(rt, alloc, &mut store);
-    shut(store);
-    ended
+    examples(rt, alloc, &mut NamedBook::new(alloc), sent)
 }
 
 /// How many answers there are to no steps.
@@ -118,70 +131,44 @@ fn count_of_none(alloc: Global) -> Result<usize, NoMemory> {
 
 #[test]
 fn runs_over_lists(rt: HostRuntime) -> Result<(), Fail> {
-    for script in &RUNS {
-        run_over_lists(&rt, rt.alloc(), script)?;
-    }
-    examples(&rt, rt.alloc(), &mut NamedBook::new(rt.alloc()))?;
+    over_lists(&rt, rt.alloc(), Sent::OneByOne)?;
     assert_eq!(rt; count_of_none(rt.alloc())?, 0);
+    Ok(())
+}
+
+/// Each run, over disks of its own.
+fn each_over_disks(rt: &impl Abort, alloc: Global, sent: Sent) -> Result<(), Fail> {
+    for script in RUNS {
+        over_disks(rt, alloc, Trial::Scene(Scene::Script(sent, script)))?;
+    }
     Ok(())
 }
 
 #[test]
 fn runs_over_disks(rt: HostRuntime) -> Result<(), Fail> {
-    runs_on::<TestDisk, _>(&rt, rt.alloc(), &RUNS)
+    each_over_disks(&rt, rt.alloc(), Sent::OneByOne)
 }
 
 #[test]
 fn examples_over_disks(rt: HostRuntime) -> Result<(), Fail> {
-    examples_on::<TestDisk, _>(&rt, rt.alloc())
-}
-
-/// The examples in rounds: each firm's requests are told what they are told one by one.
-fn examples_in_rounds<L: Reopening>(
-    rt: &impl Abort,
-    alloc: Global,
-    ledgers: &mut L,
-) -> Result<(), Fail>
-    requires { L.means.is_usable ledgers.old }
-{
-    runs_in_rounds(rt, alloc, ledgers, &tenants(alloc)?)?;
-    runs_in_rounds(rt, alloc, ledgers, EXAMPLES)?;
-    runs(rt, alloc, ledgers, "open = opened")
+    over_disks(
+        &rt,
+        rt.alloc(),
+        Trial::Scene(Scene::Examples(Sent::OneByOne)),
+    )
 }
 
 #[test]
 fn runs_in_rounds_over_lists(rt: HostRuntime) -> Result<(), Fail> {
-    for script in &RUNS {
-        runs_in_rounds(&rt, rt.alloc(), &mut NamedBook::new(rt.alloc()), script)?;
-    }
-    examples_in_rounds(&rt, rt.alloc(), &mut NamedBook::new(rt.alloc()))
-}
-
-/// Runs each script in rounds over disks of its own.
-fn runs_in_rounds_on<D: Faulty, R: Abort>(
-    rt: &R,
-    alloc: Global,
-    scripts: &[&str],
-) -> Result<(), Fail> {
-    for script in scripts {
-        let mut store: Store<D> = new_store(alloc, NEVER, NEVER)?;
-        let ended = runs_in_rounds(rt, alloc, &mut store, script);
-        shut(store);
-        ended?;
-    }
-    Ok(())
-}
-
-/// The examples in rounds, over disks of their own.
-fn examples_in_rounds_on<D: Faulty, R: Abort>(rt: &R, alloc: Global) -> Result<(), Fail> {
-    let mut store: Store<D> = new_store(alloc, NEVER, NEVER)?;
-    let ended = examples_in_rounds(rt, alloc, &mut store);
-    shut(store);
-    ended
+    over_lists(&rt, rt.alloc(), Sent::InRounds)
 }
 
 #[test]
 fn runs_in_rounds_over_disks(rt: HostRuntime) -> Result<(), Fail> {
-    runs_in_rounds_on::<TestDisk, _>(&rt, rt.alloc(), &RUNS)?;
-    examples_in_rounds_on::<TestDisk, _>(&rt, rt.alloc())
+    each_over_disks(&rt, rt.alloc(), Sent::InRounds)?;
+    over_disks(
+        &rt,
+        rt.alloc(),
+        Trial::Scene(Scene::Examples(Sent::InRounds)),
+    )
 }
