@@ -10,6 +10,7 @@ mod StatementLemmas
 mod AskLemmas
 pub mod RenewLemmas
 mod HeldLemmas
+mod OpeningLemmas
 mod ServedLemmas
 mod LaterEntries
 mod WholeLemmas

@@ -1,5 +1,5 @@
 -- What a command has of a ledger where it ends, and how that has come of what the files held.
-use Rattle.std.specs.Prelude.{ℕ, ◌<◌, Bool, true, false, Ok}
+use Rattle.std.specs.Prelude.{◌≡◌, ℕ, ◌<◌, Bool, true, false, Ok, Err}
 use Rattle.sqlite_disk.specs.declared.Disk as disk
 use Rattle.sqlite_disk.specs.declared.Files.{Files}
 use Rattle.sqlite_wal.specs.Reads.{AreClean}
@@ -12,9 +12,12 @@ use Rattle.openings.specs.Found.{FindsNone, FindsOne, IsThere, Yields}
 use Rattle.openings.specs.Told.{IsDamagedLedger}
 use Rattle.migrate.specs.Ledgers.{IsOpenedToMigrate}
 use Rattle.migrate.specs.Migrating.{MigratesLedger, RaisesLedger, RefusesNewer}
+use Rattle.migrate.specs.declared.fault.MigrateFault.{MigrateFault}
 use Rattle.migrate.specs.declared.ledger.LedgerOfVersion.{LedgerOfVersion}
 use Rattle.store.specs.Stores.{IsHonest, IsLive, IsOpenedOn, IsUsable, OfDatabase, OfDatabases}
 use Rattle.store.specs.declared.store.Store.{Store}
+use Rattle.command_texts.specs.declared.fault.Fault.{Fault}
+use Rattle.commands.specs.Migrating.{migrate_fault}
 use Rattle.commands.specs.declared.ended.Held.{Held}
 use Rattle.commands.specs.declared.ended.Held.TheVariants as held
 use Rattle.commands.specs.declared.opening.Audited.{Audited}
@@ -99,3 +102,14 @@ module _ {D : Type 0} {g : disk.Ghosts D} where
     pub newer : RefusesNewer {A = Unit {0}} to first ledger (Ok tt)
     pub raised : first.version < to → RaisesLedger {A = Unit {0}} to first ledger (Ok tt)
     pub migrated : MigratesLedger {A = Unit {0}} to first ledger (Ok tt)
+
+module _ {D : Type 0} (g : disk.Ghosts D) where
+  -- a ledger was opened on what the files held, and this is why it was not brought to this version
+  pub record IsNotBrought (image : Image) (to : ℕ) (fault : Fault) : Type 0 where
+    pub first : LedgerOfVersion D g
+    pub opened : IsOpenedToMigrate image first
+    pub left : LedgerOfVersion D g
+    pub why : MigrateFault
+    pub told : fault ≡ migrate_fault why
+    pub newer : RefusesNewer {A = Unit {0}} to first left (Err why)
+    pub migrated : MigratesLedger {A = Unit {0}} to first left (Err why)

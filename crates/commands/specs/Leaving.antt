@@ -1,5 +1,5 @@
 -- What has served, as it is left, and how that has come.
-use Rattle.std.specs.Prelude.{◌≡◌, ℕ, Bool, List, Option, None, Ok, IfSome, IsTrue, ⊤}
+use Rattle.std.specs.Prelude.{◌≡◌, ℕ, Bool, List, Option, None, Ok, Err, IfSome, IsTrue, ⊤}
 use Rattle.std.specs.Net.Socket.{socket_ip, socket_port}
 use Rattle.sqlite_disk.specs.declared.Disk as disk
 use Rattle.sqlite_disk.specs.declared.Files.{Files}
@@ -13,6 +13,7 @@ use Rattle.commands.specs.Serving.{ServesKept}
 use Rattle.commands.specs.declared.kept.Kept.{Kept}
 use Rattle.commands.specs.declared.listening.Listening.{Listening}
 use Rattle.commands.specs.declared.store_serving.EndedService.{EndedService}
+use Rattle.command_texts.specs.declared.fault.Fault.{Fault}
 
 -- a service listens at this port of the address that a word asks for
 pub record ListensAt (word : Option (List ℕ)) (number : ℕ) (listening : Listening) : Type 0 where
@@ -35,6 +36,16 @@ module _ {D : Type 0} {g : disk.Ghosts D} {C O : Type 0} where
   HasServed opens gives does first moments peers most ended =
       ServesKept opens gives does first moments peers most ended.kept ended.moments ended.peers
       (Ok ended.why)
+
+  -- so it was served, and ended with a fault, behind which nothing of it is left
+  pub record HasFailed {P : Type 0} (opens : Option (Files D) → Tenants → Type 0)
+      (gives : C → ℕ → C → Type 0) (does : P → Doing → P → Type 0) (first : Kept (Store D g))
+      (moments : C) (peers : P) (most : ℕ) (fault : Fault) : Type 0 where
+    pub kept : Kept (Store D g)
+    pub moments_now : C
+    pub peers_now : P
+    pub served :
+        ServesKept opens gives does first moments peers most kept moments_now peers_now (Err fault)
 
   -- what is left has served a file to those who connected at an address. Nothing is known of its home,
   -- of the clock or of what clients do

@@ -16,3 +16,7 @@ abbrev pub ReadsListening : Option (List ℕ) → Result IpAddr Fault → Type 0
 ReadsListening (Some text) result = ReadsAddress text result
 ReadsListening None (Ok address) = IsOwn address
 ReadsListening None (Err fault) = ⊥
+
+-- the word spells no address
+abbrev pub IsNoAddress : Option (List ℕ) → Type 0
+IsNoAddress word = (address : IpAddr) → ¬ ReadsListening word (Ok address)

@@ -28,8 +28,8 @@ use Rattle.commands.specs.Asking.{IsAsked, MeansPeriod, read_form}
 use Rattle.control.specs.Answers.{TellsAdded, TellsChanged, TellsCopied, TellsStopped}
 use Rattle.commands.specs.Copying.{IsPathOf}
 use Rattle.commands.specs.Holding.{HasDamaged, HasMigrated, HasOpened, HasTold, HasToldOr}
-use Rattle.commands.specs.Holding.{IsBroughtTo, IsDamagedAt, IsFrom}
-use Rattle.commands.specs.Openings.{IsOpeningFault}
+use Rattle.commands.specs.Holding.{IsBroughtTo, IsDamagedAt, IsFrom, IsNotBrought}
+use Rattle.commands.specs.Openings.{RefusesImage, RefusesOlder}
 use Rattle.commands.specs.OverFiles.{AreCountsTold, AreTenantsTold, count_form}
 use Rattle.commands.specs.OverFiles.{HasAdded, HasChanged, HasListed, HasWritten, IsWrittenFrom}
 use Rattle.commands.specs.Served.{IsServed}
@@ -152,13 +152,13 @@ module _ {O D : Type 0} {g : disk.Ghosts D} where
     pub damaged : ended.is_damaged ≡ true
     pub first : HasDamaged (IsDamagedAt g image damage) ended.held
 
-  -- a file is audited, and a line tells what was found; else the fault is one of an opening, or the
-  -- line could not be written
+  -- a file is audited, and a line tells what was found; else the fault is one of the opening, which
+  -- has found what it tells of a ledger, or the line could not be written
   pub record Checks (written : O → Option (List ℕ)) (image : Image) (out : O)
       (result : Result (Ended O D g) Fault) : Type 0 where
     pub found : IfOk result (λ ended. (ended.made ≡ None)
         × (TellsSound written image out ended ⊎ TellsDamage written image out ended))
-    pub fault : IfErr result (λ fault. IsOpeningFault fault ⊎ (fault ≡ Output))
+    pub fault : IfErr result (λ fault. RefusesImage g image fault ⊎ (fault ≡ Output))
 
   -- a ledger is brought to a version, and a line tells it
   pub record IsMigratedSo (written : O → Option (List ℕ)) (image : Image) (to : List ℕ) (out : O)
@@ -168,14 +168,19 @@ module _ {O D : Type 0} {g : disk.Ghosts D} where
     pub is : to ≡ decimal_of version
     pub brought : HasMigrated (IsBroughtTo image version) ended.held
 
-  -- so it is; before the file is opened the version is judged, and a good one is told as none never;
-  -- any other fault is one of an opening or of the migration, or the line could not be written
+  -- the version is judged; or the fault is one of the opening, or of the migration of what was opened,
+  -- or the line could not be written
+  abbrev pub IsNotMigrated : Image → List ℕ → Fault → Type 0
+  IsNotMigrated image to fault =
+      ((fault ≡ BadVersion) × (¬ IsVersion to)) ⊎ RefusesOlder g image fault
+      ⊎ ((version : ℕ) × (to ≡ decimal_of version) × IsNotBrought g image version fault)
+      ⊎ (fault ≡ Output)
+
+  -- a ledger is brought to a version; before the file is opened the version is judged
   pub record Migrates (written : O → Option (List ℕ)) (image : Image) (to : List ℕ) (out : O)
       (result : Result (Ended O D g) Fault) : Type 0 where
     pub version_first : ¬ IsVersion to → result ≡ Err BadVersion
-    pub fault :
-        IfErr result (λ fault. IsOpeningFault fault ⊎ (fault ≡ Output)
-        ⊎ ((fault ≡ BadVersion) × (¬ IsVersion to)))
+    pub fault : IfErr result (IsNotMigrated image to)
     pub migrated : IfOk result (IsMigratedSo written image to out)
     pub calm : IfOk result IsCalm
 

@@ -1,10 +1,9 @@
 //! Serves the ledger in a file of this machine to many clients at once, and to an operator.
 ghost use Rattle.std.specs.Prelude.{◌≡◌, ◌⊎◌, IfErr, IfOk, IsTrue, Ok, Err};
-ghost use Rattle.std.specs.declared.net.ip_addr.IpAddr.{IpAddr as AnIpAddr};
 ghost use Rattle.command_line.specs.Values.{text_in};
 ghost use Rattle.commands.specs.Leaving.{HasServedFile, IsFirst};
-ghost use Rattle.commands.specs.Listening.{ReadsListening};
-ghost use Rattle.commands.specs.Openings.{IsOpeningFault};
+ghost use Rattle.commands.specs.Listening.{IsNoAddress};
+ghost use Rattle.commands.specs.Openings.{RefusesSome};
 
 use crate::bell::Bell;
 use crate::counting::CountingAudit;
@@ -22,6 +21,7 @@ use command_texts::{Fault, tell_fault};
 use metered_disk::Meter;
 use records::Streamed;
 use sqlite::Files;
+use sqlite_disk::Disk;
 use std::cell::Cell;
 use std::net::SocketAddr;
 use std::time::{Clock, Duration};
@@ -108,7 +108,7 @@ impl<'a> HostFile<'a> {
     // for.
     fn first_store(&self, standby: bool) -> Result<Option<Store<ServedFile<'a>>>, Fault>
         ensures first { IfOk result (IsFirst standby) }
-        ensures fault { IfErr result IsOpeningFault }
+        ensures fault { IfErr result (RefusesSome ⟦<ServedFile<'a> as Disk>⟧) }
     {
         match self.open_store(&mut None) {
             Ok(store) => Ok(Some(store)),
@@ -151,13 +151,13 @@ pub fn serve_file<'a>(
     standby: bool,
     most: u64,
 ) -> Result<HostService<'a>, Fault>
-    ensures address_first { ((ip : AnIpAddr) → ¬ ReadsListening (text_in address.entry) (Ok ip))
-        → result ≡ Err Fault.BadAddress }
+    ensures address_first { IsNoAddress (text_in address.entry) → result ≡ Err Fault.BadAddress }
     ensures served { IfOk result (HasServedFile (text_in address.entry) port standby most) }
     ensures stopped { IfOk result
         (λ ended. ended.why ≡ Served.Stopped → IsTrue ended.orders.is_stopping) }
-    ensures fault { IfErr result (λ fault. IsOpeningFault fault
-        ⊎ (fault ≡ Fault.Socket) ⊎ (fault ≡ Fault.BadAddress)) }
+    ensures fault { IfErr result (λ fault. RefusesSome ⟦<ServedFile<'a> as Disk>⟧ fault
+        ⊎ (fault ≡ Fault.Socket)
+        ⊎ ((fault ≡ Fault.BadAddress) × IsNoAddress (text_in address.entry))) }
 {
     let asked = SocketAddr::new(asked_address(address)?, port);
     let listening = Listening::at(site, asked, limits_of(limits))?;

@@ -6,7 +6,8 @@ ghost use Rattle.migrate.specs.Ledgers.{IsMigratable, IsOpenedToMigrate};
 ghost use Rattle.openings.specs.Found.{IsThere, Yields};
 ghost use Rattle.store.specs.Stores.{IsReady, IsUsable};
 ghost use Rattle.commands.specs.Holding.{IsBegun, IsFoundAs, IsFrom, IsMade};
-ghost use Rattle.commands.specs.Openings.{IsOpeningFault, open_fault};
+ghost use Rattle.commands.specs.Openings.{HasFoundSome, IsFound, IsOpeningFault, IsUnopened, open_fault};
+ghost use Rattle.commands.specs.Openings.{RefusesImage, RefusesOlder, RefusesSome};
 
 use audit::Damage;
 use command_texts::Fault;
@@ -48,7 +49,7 @@ pub(crate) fn open_file<St: Start>(
     start: St,
 ) -> Result<Store<FileFrom<St>>, Fault>
     ensures opened { IfOk result (IsFrom (image_at St.Start)) }
-    ensures fault { IfErr result IsOpeningFault }
+    ensures fault { IfErr result (RefusesImage ⟦<FileFrom<St> as Disk>⟧ (image_at St.Start)) }
 {
     let options = prepared(rt, path)?;
     match Store::open_at(rt, path, start, options, &FullAudit) {
@@ -69,7 +70,7 @@ pub(crate) fn open_served<'a, A: Audit>(
 ) -> Result<Store<ServedFile<'a>>, Fault>
     ensures usable { IfOk result IsUsable }
     ensures ready { IfOk result IsReady }
-    ensures fault { IfErr result IsOpeningFault }
+    ensures fault { IfErr result (RefusesSome ⟦<ServedFile<'a> as Disk>⟧) }
 {
     match open_measured(rt, path, audit, meter) {
         Ok(store) => Ok(store),
@@ -85,6 +86,7 @@ fn open_measured<'a, A: Audit>(
 ) -> Result<Store<ServedFile<'a>>, OpenFault>
     ensures usable { IfOk result IsUsable }
     ensures ready { IfOk result IsReady }
+    ensures fault { IfErr result (IsFound (HasFoundSome ⟦<ServedFile<'a> as Disk>⟧)) }
 {
     find(rt, path)?;
     let files = measured(files_at(rt, path, Unknown)?, rt, meter);
@@ -130,7 +132,7 @@ pub(crate) fn open_to_migrate<St: Start>(
 ) -> Result<LedgerOfVersion<FileFrom<St>>, Fault>
     ensures migratable { IfOk result IsMigratable }
     ensures opened { IfOk result (IsOpenedToMigrate (image_at St.Start)) }
-    ensures fault { IfErr result IsOpeningFault }
+    ensures fault { IfErr result (RefusesOlder ⟦<FileFrom<St> as Disk>⟧ (image_at St.Start)) }
 {
     let options = prepared(rt, path)?;
     match LedgerOfVersion::open_for_migration_at(rt, path, start, options, &FullAudit) {
@@ -155,7 +157,7 @@ pub(crate) fn examine<St: Start>(
     start: St,
 ) -> Result<Audited<FileFrom<St>>, Fault>
     ensures found { IfOk result (IsFoundAs (image_at St.Start)) }
-    ensures fault { IfErr result IsOpeningFault }
+    ensures fault { IfErr result (RefusesImage ⟦<FileFrom<St> as Disk>⟧ (image_at St.Start)) }
 {
     let options = prepared(rt, path)?;
     match Store::open_at(rt, path, start, options, &FullAudit) {
@@ -167,7 +169,7 @@ pub(crate) fn examine<St: Start>(
 
 // How a file is opened that is there.
 fn prepared(rt: &HostRuntime, path: &str) -> Result<Options, Fault>
-    ensures { IfErr result IsOpeningFault }
+    ensures { IfErr result IsUnopened }
 {
     match find(rt, path) {
         Ok(()) => small_options(rt),
@@ -176,7 +178,9 @@ fn prepared(rt: &HostRuntime, path: &str) -> Result<Options, Fault>
 }
 
 // Opening would make a database of a file that is absent or empty, so it is looked for first.
-fn find(rt: &HostRuntime, path: &str) -> Result<(), OpenFault> {
+fn find(rt: &HostRuntime, path: &str) -> Result<(), OpenFault>
+    ensures { IfErr result (λ fault. IsUnopened (open_fault fault)) }
+{
     match look(rt, path)? {
         Found::Absent => Err(OpenFault::Unreadable),
         Found::Empty => Err(OpenFault::NotALedger),
@@ -184,7 +188,9 @@ fn find(rt: &HostRuntime, path: &str) -> Result<(), OpenFault> {
     }
 }
 
-fn look(rt: &HostRuntime, path: &str) -> Result<Found, OpenFault> {
+fn look(rt: &HostRuntime, path: &str) -> Result<Found, OpenFault>
+    ensures { IfErr result (λ fault. IsUnopened (open_fault fault)) }
+{
     match fs::metadata(rt, path) {
         Ok(found) if found.len() == 0 => Ok(Found::Empty),
         Ok(_) => Ok(Found::Filled),
@@ -287,7 +293,7 @@ fn make_in<D: Disk + Drop>(
 
 // How a command opens a file.
 fn small_options(rt: &HostRuntime) -> Result<Options, Fault>
-    ensures { IfErr result IsOpeningFault }
+    ensures { IfErr result IsUnopened }
 {
     match options(rt, PAGES) {
         Ok(options) => Ok(options),
@@ -296,7 +302,9 @@ fn small_options(rt: &HostRuntime) -> Result<Options, Fault>
 }
 
 // The salts of the log are drawn at random.
-fn options(rt: &HostRuntime, pages: usize) -> Result<Options, OpenFault> {
+fn options(rt: &HostRuntime, pages: usize) -> Result<Options, OpenFault>
+    ensures { IfErr result (λ fault. IsUnopened (open_fault fault)) }
+{
     match RandomState::new(rt) {
         Ok(random) => Ok(Options {
             cache_pages: pages,

@@ -1,11 +1,11 @@
 //! Commands on a file as a whole, on the service that has it, and on one account.
-ghost use Rattle.std.specs.Prelude.{◌≡◌, ◌≤◌, ℕ, decimal, false, IfErr, IfOk};
+ghost use Rattle.std.specs.Prelude.{◌≡◌, ◌⊎◌, ◌≤◌, ℕ, decimal, false, IfErr, IfOk};
 ghost use Rattle.std.specs.String.{string_bytes};
 ghost use Rattle.sqlite_wal.specs.Files.{image_at};
 ghost use Rattle.control.specs.Answers.{TellsCopied};
-ghost use Rattle.commands.specs.Holding.{HasOpened, HasToldOr, IsBroughtTo, IsFrom};
+ghost use Rattle.commands.specs.Holding.{HasOpened, HasToldOr, IsBroughtTo, IsFrom, IsNotBrought};
 ghost use Rattle.commands.specs.Migrating.{migrate_fault};
-ghost use Rattle.commands.specs.Openings.{IsOpeningFault};
+ghost use Rattle.commands.specs.Openings.{IsOpeningFault, RefusesOlder};
 ghost use Rattle.commands.specs.OverFiles.{HasWritten, IsWrittenFrom, count_form};
 ghost use Rattle.commands.specs.Served.{IsServed};
 ghost use Rattle.commands.specs.Program.{AsksStatus, Checks, Copies, Migrates, Stops};
@@ -263,7 +263,9 @@ fn bring_to<St: Start>(
 ) -> Result<LedgerOfVersion<FileFrom<St>>, Fault>
     requires { version ≤ 3 }
     ensures brought { IfOk result (IsBroughtTo (image_at St.Start) version) }
-    ensures fault { IfErr result IsOpeningFault }
+    ensures fault { IfErr result (λ fault.
+        RefusesOlder ⟦<FileFrom<St> as Disk>⟧ (image_at St.Start) fault
+        ⊎ IsNotBrought ⟦<FileFrom<St> as Disk>⟧ (image_at St.Start) version fault) }
 {
     let mut ledger = open_to_migrate(rt, db, start)?;
     match migrate(rt.alloc(), &mut ledger, version) {

@@ -36,7 +36,7 @@ pub trait Home<D: Disk + Drop> {
     ghost use Rattle.sqlite_disk.specs.declared.Files.{Files};
     ghost use Rattle.chain.specs.Ledgers.{Tenants};
     ghost use Rattle.store.specs.Stores.{IsReady, IsUsable, tenants_of};
-    ghost use Rattle.commands.specs.Openings.{IsOpeningFault};
+    ghost use Rattle.commands.specs.Openings.{IsOpeningFault, RefusesSome};
 
     // Which tenants a store may have that it opens in the place of one that gave these files back.
     ghost opens: { Option (Files D) → Tenants → Type 0 } = { λ _ _. Unit {0} };
@@ -47,7 +47,7 @@ pub trait Home<D: Disk + Drop> {
         ensures opens { IfOk result (λ store. opens left.old (tenants_of store)) }
         ensures usable { IfOk result IsUsable }
         ensures ready { IfOk result IsReady }
-        ensures fault { IfErr result IsOpeningFault };
+        ensures fault { IfErr result (RefusesSome D.Disk) };
 
     /// Is told why a store could not be opened again: once, until it is told that a store answers.
     fn tell(&self, fault: Fault)

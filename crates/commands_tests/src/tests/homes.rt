@@ -184,7 +184,7 @@ impl<D: Disk + Drop, F: Firms<D>> Home<D> for Refusing<'_, F> {
         let left = self.left.get();
         if left != 0 {
             self.left.set(left - 1);
-            return Err(Fault::Damaged);
+            return Err(Fault::Unreadable);
         }
         match self.firms.store(Fails::Never) {
             Some(store) => Ok(store),

@@ -248,7 +248,7 @@ fn serves_kept_clients_again(rt: HostRuntime) -> Result<(), Fail> {
         seconds: 1,
         messages: (3, 3),
         want: &want,
-        notices: &[Refused(Fault::Damaged), Answers],
+        notices: &[Refused(Fault::Unreadable), Answers],
     };
     assert!(rt; holds(rt.alloc(), trial)?);
     Ok(())
@@ -264,7 +264,7 @@ fn answers_that_it_is_unavailable(rt: HostRuntime) -> Result<(), Fail> {
         seconds: 0,
         messages: (2, 1),
         want: &want,
-        notices: &[Refused(Fault::Damaged)],
+        notices: &[Refused(Fault::Unreadable)],
     };
     assert!(rt; holds(rt.alloc(), trial)?);
     Ok(())

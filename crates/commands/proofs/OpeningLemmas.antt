@@ -1,0 +1,128 @@
+-- What a refused opening has found, where the program tells its fault.
+use Rattle.std.proofs.Common.{◌≡◌, inl, inr, Option, None, Some, refl, subst}
+use Rattle.sqlite_disk.specs.declared.Disk as disk
+use Rattle.sqlite_disk.specs.declared.Files.{Files}
+use Rattle.sqlite_wal.specs.Reads.{AreClean}
+use Rattle.sqlite_wal.specs.Recovery.{Image}
+use Rattle.sqlite.specs.Effect.{Database}
+use Rattle.sqlite.specs.Files.{image_of}
+use Rattle.openings.specs.AtPath.{LeavesPath}
+use Rattle.openings.specs.Found.{FilesStay, FindsOne, IsOfLedger, IsThere, Yields}
+use Rattle.openings.specs.Told.{IsToldBy, Tells}
+use Rattle.openings.specs.declared.opening.OpenFault.{OpenFault}
+use Rattle.openings.specs.declared.opening.OpenFault.TheVariants as opening
+use Rattle.migrate.specs.Ledgers.{RefusesFiles}
+use Rattle.migrate.specs.Told.{TellsAny}
+use Rattle.store.specs.Refused.{RefusesToOpen}
+use Rattle.command_texts.specs.declared.fault.Fault.{Fault}
+use Rattle.command_texts.specs.declared.fault.Fault.TheVariants as told
+use Rattle.commands.specs.Openings.{HasFound, HasFoundSome, IsFound, IsFoundSo, IsOpeningFault}
+use Rattle.commands.specs.Openings.{IsUnopened, RefusesImage, RefusesOlder, open_fault}
+
+module _ (Finds : OpenFault → Type 0) where
+  -- what was found where an opening told it was found where the program tells it
+  pub found_so : (fault : OpenFault) → IsFound Finds fault → IsFoundSo Finds (open_fault fault)
+  found_so opening.InUse found = tt
+  found_so opening.Unreadable found = tt
+  found_so opening.NotALedger found = tt
+  found_so opening.OldSchema found = found
+  found_so opening.NewerSchema found = found
+  found_so (opening.Damaged damage) found = (damage, found)
+  found_so (opening.Unavailable why) found = tt
+
+  -- of what speaks of no ledger nothing has to be found
+  pub none_found : (fault : OpenFault) → (IsOfLedger fault → ⊥) → IsFound Finds fault
+  none_found opening.InUse none = tt
+  none_found opening.Unreadable none = tt
+  none_found opening.NotALedger none = tt
+  none_found opening.OldSchema none = absurd (none tt)
+  none_found opening.NewerSchema none = absurd (none tt)
+  none_found (opening.Damaged damage) none = absurd (none tt)
+  none_found (opening.Unavailable why) none = tt
+
+  -- nor of what is told before files are opened
+  pub unopened : (fault : OpenFault) → IsUnopened (open_fault fault) → IsFound Finds fault
+  unopened opening.InUse none = tt
+  unopened opening.Unreadable none = tt
+  unopened opening.NotALedger none = tt
+  unopened opening.OldSchema none = absurd none
+  unopened opening.NewerSchema none = absurd none
+  unopened (opening.Damaged damage) none = absurd none
+  unopened (opening.Unavailable why) none = tt
+
+  pub unopened_so : (fault : Fault) → IsUnopened fault → IsFoundSo Finds fault
+  unopened_so told.Unreadable none = tt
+  unopened_so told.NotALedger none = tt
+  unopened_so told.Unavailable none = tt
+  unopened_so other none = absurd none
+
+  -- it is found, if it is where a ledger is spoken of
+  pub found_if : (fault : OpenFault) → (IsOfLedger fault → Finds fault) → IsFound Finds fault
+  found_if opening.InUse finds = tt
+  found_if opening.Unreadable finds = tt
+  found_if opening.NotALedger finds = tt
+  found_if opening.OldSchema finds = finds tt
+  found_if opening.NewerSchema finds = finds tt
+  found_if (opening.Damaged damage) finds = finds tt
+  found_if (opening.Unavailable why) finds = tt
+
+  pub is_opening_fault : (fault : Fault) → IsFoundSo Finds fault → IsOpeningFault fault
+  is_opening_fault told.InUse found = tt
+  is_opening_fault told.Unreadable found = tt
+  is_opening_fault told.NotALedger found = tt
+  is_opening_fault told.OldSchema found = tt
+  is_opening_fault told.NewerSchema found = tt
+  is_opening_fault told.Damaged found = tt
+  is_opening_fault told.Unavailable found = tt
+  is_opening_fault other found = absurd found
+
+module _ {D : Type 0} (g : disk.Ghosts D) where
+  module _ (Tells : OpenFault → Database → Type 0) where
+    there :
+        (files left : Files D) (fault : OpenFault) → IsOfLedger fault →
+        IsToldBy Tells g files fault left → FindsOne (Tells fault) (image_of g files)
+    there files left fault of (inl (inl missing)) = absurd (subst IsOfLedger missing.1 of)
+    there files left fault of (inl (inr refused)) = absurd (subst IsOfLedger refused.0 of)
+    there files left fault of (inr found) = found
+
+    -- an opening that speaks of a ledger has found what it tells in the files
+    pub found_in :
+        (image : Image) (files left : Files D) (fault : OpenFault) → image_of g files ≡ image →
+        (AreClean g left.log left.db → IsToldBy Tells g files fault left) →
+        (IsOfLedger fault → FilesStay g files left) → IsOfLedger fault →
+        HasFound g Tells image fault
+    found_in image files left fault is tells stay of = record {
+      left = left;
+      is = λ clean. subst (FindsOne (Tells fault)) is (there files left fault of (tells clean));
+      stays = subst (λ (i : Image). Yields g left (IsThere i)) is (stay of).holds;
+    }
+
+  -- so has one of the files at a path
+  pub found_at :
+      (image : Image) (fault : OpenFault) (kept : Option (Files D)) →
+      LeavesPath g image (RefusesToOpen g) fault kept → RefusesImage g image (open_fault fault)
+  found_at image fault None none =
+      found_so (HasFound g Tells image) fault (none_found (HasFound g Tells image) fault none)
+  found_at image fault (Some left) (files, held, refuses) =
+      found_so (HasFound g Tells image) fault (found_if (HasFound g Tells image) fault
+      (found_in Tells image files left fault held.holds refuses.told refuses.stay))
+
+  -- so has one that is to migrate a ledger
+  pub older_found_at :
+      (image : Image) (fault : OpenFault) (kept : Option (Files D)) →
+      LeavesPath g image (RefusesFiles g) fault kept → RefusesOlder g image (open_fault fault)
+  older_found_at image fault None none =
+      found_so (HasFound g TellsAny image) fault (none_found (HasFound g TellsAny image) fault none)
+  older_found_at image fault (Some left) (files, held, refuses) =
+      found_so (HasFound g TellsAny image) fault (found_if (HasFound g TellsAny image) fault
+      (found_in TellsAny image files left fault held.holds refuses.told refuses.stay))
+
+  -- so has one of files, whatever they hold
+  pub found_some :
+      (files left : Files D) (fault : OpenFault) → RefusesToOpen g files (fault, left) →
+      IsFound (HasFoundSome g) fault
+  found_some files left fault refuses =
+      found_if (HasFoundSome g) fault (λ (of : IsOfLedger fault). (
+        image_of g files,
+        found_in Tells (image_of g files) files left fault refl refuses.told refuses.stay of,
+      ))
