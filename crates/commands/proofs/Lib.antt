@@ -11,6 +11,7 @@ mod AskLemmas
 pub mod RenewLemmas
 mod HeldLemmas
 mod OpeningLemmas
+mod UndoneLemmas
 mod ServedLemmas
 mod LaterEntries
 mod WholeLemmas

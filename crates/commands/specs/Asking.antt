@@ -1,6 +1,7 @@
--- What the words of a statement's command ask for.
+-- What the words of a command ask for.
 use Rattle.std.specs.Prelude.{◌≡◌, ◌&&◌, ◌==◌, ◌^◌, ◌-◌, not, if◌then◌else◌, ℕ, Bool, true, false}
-use Rattle.std.specs.Prelude.{List, Option, Some, None, ok_or, Result, Ok, Err}
+use Rattle.std.specs.Prelude.{◌<◌, ◌≤◌, List, Option, Some, None, ok_or, Result, Ok, Err}
+use Rattle.amount.specs.Decimal.{decimal_of}
 use Rattle.command_line.specs.Values.{text_in}
 use Rattle.command_line.specs.declared.commands.StatementWords.{StatementWords}
 use Rattle.command_texts.specs.Dates.{ReadsMoment, first_of_day, last_of_day}
@@ -59,3 +60,11 @@ abbrev pub is_whole : Asked → Bool
 is_whole asked =
     ((asked.period.from == 0) && (asked.period.to == 2 ^ 64 - 1))
     && is_csv asked.layout.form && not asked.layout.is_wide && not asked.layout.with_sums
+
+-- an account's id, in canonical decimal
+abbrev pub IsAccountId : List ℕ → Type 0
+IsAccountId text = (id : ℕ) × (id < 2 ^ 128) × (text ≡ decimal_of id)
+
+-- a version of the schema up to the current one, in canonical decimal
+abbrev pub IsVersion : List ℕ → Type 0
+IsVersion text = (version : ℕ) × (1 ≤ version) × (version ≤ 3) × (text ≡ decimal_of version)

@@ -1,9 +1,11 @@
 -- A tenant's key as a command has it.
-use Rattle.std.specs.Prelude.{◌≡◌, ◌≢◌, ◌++◌, ℕ, List, length, codes, Option, Some, None}
+use Rattle.std.specs.Prelude.{◌≡◌, ◌≢◌, ◌++◌, ℕ, List, length, codes, Option, Some, None, Ok}
 use Rattle.std.specs.String.{string_bytes}
 use Rattle.std.specs.Io.KnownBytes.{Appends}
 use Rattle.hex.specs.Hex.{encode_lower}
+use Rattle.tenants.specs.KeyText.{key_of}
 use Rattle.command_texts.specs.Lines.{key_line}
+use Rattle.command_texts.specs.Words.{IsDigestOfKey}
 use Rattle.command_texts.specs.declared.fault.Fault.{Fault}
 use Rattle.command_texts.specs.declared.fault.Fault.TheVariants.{Unavailable}
 use Rattle.commands.specs.declared.given_key.GivenKey.{GivenKey}
@@ -39,3 +41,8 @@ abbrev pub AreLinesTold : Option (List ℕ) → Option (List ℕ) → List ℕ �
 AreLinesTold old new line (Word text) = Appends old new line
 AreLinesTold old new line (Input text) = Appends old new line
 AreLinesTold old new line (Drawn text) = Appends old new (line ++ key_line (string_bytes text))
+
+-- something is so of the digest of a key
+abbrev pub OfDigest : GivenKey → (List ℕ → Type 0) → Type 0
+OfDigest key P =
+    (digest : List ℕ) × IsDigestOfKey (key_of (key_text key)) (Ok digest) × P digest

@@ -27,6 +27,17 @@ module _ {D : Type 0} {g : disk.Ghosts D} where
     pub ready : IfSome first IsReady
     pub waits : first ≡ None → IsTrue standby
 
+module _ {D : Type 0} {g : disk.Ghosts D} {C : Type 0} where
+  -- these peers were served so, and that ended with a fault, behind which nothing of it is left
+  pub record HasFailed {P : Type 0} (opens : Option (Files D) → Tenants → Type 0)
+      (gives : C → ℕ → C → Type 0) (does : P → Doing → P → Type 0) (first : Kept (Store D g))
+      (moments : C) (peers : P) (most : ℕ) (fault : Fault) : Type 0 where
+    pub kept : Kept (Store D g)
+    pub moments_now : C
+    pub peers_now : P
+    pub served :
+        ServesKept opens gives does first moments peers most kept moments_now peers_now (Err fault)
+
 module _ {D : Type 0} {g : disk.Ghosts D} {C O : Type 0} where
   -- what is left has served these peers a store, or what stands in its place, from these moments on,
   -- until so many messages were replied to, or it was asked to end
@@ -36,16 +47,6 @@ module _ {D : Type 0} {g : disk.Ghosts D} {C O : Type 0} where
   HasServed opens gives does first moments peers most ended =
       ServesKept opens gives does first moments peers most ended.kept ended.moments ended.peers
       (Ok ended.why)
-
-  -- so it was served, and ended with a fault, behind which nothing of it is left
-  pub record HasFailed {P : Type 0} (opens : Option (Files D) → Tenants → Type 0)
-      (gives : C → ℕ → C → Type 0) (does : P → Doing → P → Type 0) (first : Kept (Store D g))
-      (moments : C) (peers : P) (most : ℕ) (fault : Fault) : Type 0 where
-    pub kept : Kept (Store D g)
-    pub moments_now : C
-    pub peers_now : P
-    pub served :
-        ServesKept opens gives does first moments peers most kept moments_now peers_now (Err fault)
 
   -- what is left has served a file to those who connected at an address. Nothing is known of its home,
   -- of the clock or of what clients do

@@ -26,3 +26,4 @@ pub mod Copying
 pub mod Tally
 pub mod Settling
 pub mod Leaving
+pub mod Undone

@@ -24,18 +24,20 @@ use Rattle.command_texts.specs.Lines.{IsWritten, added_line, changed_line, damag
 use Rattle.command_texts.specs.Lines.{copied_line, fault_line, new_ledger_line, schema_line, stopped_line}
 use Rattle.command_texts.specs.Words.{IsDigestOfKey}
 use Rattle.command_line.specs.declared.commands.StatementWords.{StatementWords}
-use Rattle.commands.specs.Asking.{IsAsked, MeansPeriod, read_form}
+use Rattle.commands.specs.Asking.{IsAccountId, IsAsked, IsVersion, MeansPeriod, read_form}
 use Rattle.control.specs.Answers.{TellsAdded, TellsChanged, TellsCopied, TellsStopped}
 use Rattle.commands.specs.Copying.{IsPathOf}
 use Rattle.commands.specs.Holding.{HasDamaged, HasMigrated, HasOpened, HasTold, HasToldOr}
-use Rattle.commands.specs.Holding.{IsBroughtTo, IsDamagedAt, IsFrom, IsNotBrought}
-use Rattle.commands.specs.Openings.{RefusesImage, RefusesOlder}
+use Rattle.commands.specs.Holding.{IsBroughtTo, IsDamagedAt, IsFrom}
+use Rattle.commands.specs.Openings.{RefusesImage}
 use Rattle.commands.specs.OverFiles.{AreCountsTold, AreTenantsTold, count_form}
 use Rattle.commands.specs.OverFiles.{HasAdded, HasChanged, HasListed, HasWritten, IsWrittenFrom}
+use Rattle.commands.specs.Undone.{IsNotAdded, IsNotChanged, IsNotCopied, IsNotMigrated}
+use Rattle.commands.specs.Undone.{IsUnanswered, IsUndone, IsUndoneAsked, IsUndoneWith}
 use Rattle.commands.specs.Served.{IsServed}
 use Rattle.commands.specs.declared.asked.Asked.{Asked}
 use Rattle.statement.specs.declared.period.Period.{Period}
-use Rattle.commands.specs.GivenKeys.{IsGivenKey, AreLinesTold, key_text}
+use Rattle.commands.specs.GivenKeys.{IsGivenKey, AreLinesTold, OfDigest, key_text}
 use Rattle.commands.specs.declared.ended.Ended.{Ended}
 use Rattle.commands.specs.declared.ended.Held.TheVariants.{Nothing}
 use Rattle.commands.specs.declared.given_key.GivenKey.{GivenKey}
@@ -43,14 +45,6 @@ use Rattle.command_texts.specs.declared.fault.Fault.{Fault}
 use Rattle.command_texts.specs.declared.fault.Fault.TheVariants.{BadName, BadKey, BadAccount}
 use Rattle.command_texts.specs.declared.fault.Fault.TheVariants.{BadVersion, BadTime, BadFormat}
 use Rattle.command_texts.specs.declared.fault.Fault.TheVariants.{Output, Unavailable, Unreadable}
-
--- an account's id, in canonical decimal
-abbrev pub IsAccountId : List ℕ → Type 0
-IsAccountId text = (id : ℕ) × (id < 2 ^ 128) × (text ≡ decimal_of id)
-
--- a version of the schema up to the current one, in canonical decimal
-abbrev pub IsVersion : List ℕ → Type 0
-IsVersion text = (version : ℕ) × (1 ≤ version) × (version ≤ 3) × (text ≡ decimal_of version)
 
 -- nothing, or this text
 abbrev pub IsNoneOr : List ℕ → Option (List ℕ) → Type 0
@@ -66,11 +60,6 @@ IsNoKey (Some word) = (word ≢ codes "-") × (key_of word ≡ None)
 abbrev pub TellsKey :
     Option (List ℕ) → Option (List ℕ) → Option (List ℕ) → List ℕ → GivenKey → Type 0
 TellsKey word old new line key = IsGivenKey word key × AreLinesTold old new line key
-
--- something is so of the digest of a key
-abbrev pub OfDigest : GivenKey → (List ℕ → Type 0) → Type 0
-OfDigest key P =
-    (digest : List ℕ) × IsDigestOfKey (key_of (key_text key)) (Ok digest) × P digest
 
 module _ {O D : Type 0} {g : disk.Ghosts D} where
   -- no damage was told, and no file has become a new ledger
@@ -93,6 +82,7 @@ module _ {O D : Type 0} {g : disk.Ghosts D} where
     pub added : IfOk result (IsAddedSo written image name key out)
     pub calm : IfOk result (λ ended. ended.is_damaged ≡ false)
     pub made : IfOk result (λ ended. IsNoneOr db (text_in ended.made))
+    pub fault : IfErr result (IsUndoneWith g image name key (IsNotAdded g image name))
 
   -- a tenant's key is changed, and a line tells so
   pub record IsChangedSo (written : O → Option (List ℕ)) (image : Image) (name : List ℕ)
@@ -109,6 +99,7 @@ module _ {O D : Type 0} {g : disk.Ghosts D} where
     pub key_next : IsTenantName name → IsNoKey key → result ≡ Err BadKey
     pub changed : IfOk result (IsChangedSo written image name key out)
     pub calm : IfOk result IsCalm
+    pub fault : IfErr result (IsUndoneWith g image name key (IsNotChanged g image name))
 
   -- what the words ask for of an account's statement is written
   pub record IsStatementWritten (written : O → Option (List ℕ)) (image : Image)
@@ -136,6 +127,7 @@ module _ {O D : Type 0} {g : disk.Ghosts D} where
         → result ≡ Err BadFormat
     pub statement : IfOk result (IsStatementWritten written image name account words out)
     pub calm : IfOk result IsCalm
+    pub fault : IfErr result (IsUndoneAsked g image written name account words out)
 
   -- a ledger was audited and is open, and a line tells that all is sound
   pub record TellsSound (written : O → Option (List ℕ)) (image : Image) (out : O)
@@ -168,19 +160,11 @@ module _ {O D : Type 0} {g : disk.Ghosts D} where
     pub is : to ≡ decimal_of version
     pub brought : HasMigrated (IsBroughtTo image version) ended.held
 
-  -- the version is judged; or the fault is one of the opening, or of the migration of what was opened,
-  -- or the line could not be written
-  abbrev pub IsNotMigrated : Image → List ℕ → Fault → Type 0
-  IsNotMigrated image to fault =
-      ((fault ≡ BadVersion) × (¬ IsVersion to)) ⊎ RefusesOlder g image fault
-      ⊎ ((version : ℕ) × (to ≡ decimal_of version) × IsNotBrought g image version fault)
-      ⊎ (fault ≡ Output)
-
   -- a ledger is brought to a version; before the file is opened the version is judged
   pub record Migrates (written : O → Option (List ℕ)) (image : Image) (to : List ℕ) (out : O)
       (result : Result (Ended O D g) Fault) : Type 0 where
     pub version_first : ¬ IsVersion to → result ≡ Err BadVersion
-    pub fault : IfErr result (IsNotMigrated image to)
+    pub fault : IfErr result (IsNotMigrated g image to)
     pub migrated : IfOk result (IsMigratedSo written image to out)
     pub calm : IfOk result IsCalm
 
@@ -191,6 +175,7 @@ module _ {O D : Type 0} {g : disk.Ghosts D} where
         HasToldOr (AreTenantsTold (written out) (written ended.out))
         (HasOpened (HasListed image (written out) (written ended.out))) ended.held)
     pub calm : IfOk result IsCalm
+    pub fault : IfErr result (IsUndone g image (λ fault. ⊥))
 
   -- a line tells how many bytes the copy at a path has, as it was answered, or the ledger that was
   -- copied is open
@@ -207,6 +192,7 @@ module _ {O D : Type 0} {g : disk.Ghosts D} where
       (result : Result (Ended O D g) Fault) : Type 0 where
     pub copied : IfOk result (IsCopiedSo written image to out)
     pub calm : IfOk result IsCalm
+    pub fault : IfErr result (IsUndone g image IsNotCopied)
 
   -- what the service has answered of itself is written
   pub record AsksStatus (written : O → Option (List ℕ)) (as_metrics : Bool) (out : O)
@@ -214,6 +200,7 @@ module _ {O D : Type 0} {g : disk.Ghosts D} where
     pub told : IfOk result (λ ended. HasTold
         (AreCountsTold (count_form as_metrics) (written out) (written ended.out)) ended.held)
     pub calm : IfOk result IsCalm
+    pub fault : IfErr result IsUnanswered
 
   -- the service has answered that it has ended, and a line tells so
   pub record Stops (written : O → Option (List ℕ)) (out : O)
@@ -221,12 +208,14 @@ module _ {O D : Type 0} {g : disk.Ghosts D} where
     pub line : IfOk result (λ ended. Appends (written out) (written ended.out) stopped_line)
     pub told : IfOk result (λ ended. HasTold TellsStopped ended.held)
     pub calm : IfOk result IsCalm
+    pub fault : IfErr result IsUnanswered
 
   -- the versions are written
   pub record TellsVersion (written : O → Option (List ℕ)) (out : O)
       (result : Result (Ended O D g) Fault) : Type 0 where
     pub lines : IfOk result (λ ended. Appends (written out) (written ended.out) version_text)
     pub calm : IfOk result IsCalm
+    pub fault : IfErr result (λ fault. fault ≡ Output)
 
   -- nothing is done
   abbrev pub DoesNothing : O → Result (Ended O D g) Fault → Type 0

@@ -1,6 +1,7 @@
 //! Calls to the service that has a file.
-ghost use Rattle.std.specs.Prelude.{IfOk, IfSome};
+ghost use Rattle.std.specs.Prelude.{◌≡◌, ◌⊎◌, IfErr, IfOk, IfSome};
 ghost use Rattle.control.specs.Answers.{IsAnswerTo};
+ghost use Rattle.control.specs.Told.{IsCallFault};
 
 use command_texts::Fault;
 use control::{Answer, Call, call};
@@ -8,7 +9,9 @@ use std::fs;
 use std::io::ErrorKind;
 
 /// The path of a file itself, wherever links lead. None where it is not found.
-pub(crate) fn real_path(rt: &HostRuntime, db: &str) -> Result<Option<String>, Fault> {
+pub(crate) fn real_path(rt: &HostRuntime, db: &str) -> Result<Option<String>, Fault>
+    ensures { IfErr result (λ fault. (fault ≡ Fault.Unavailable) ⊎ (fault ≡ Fault.Unreadable)) }
+{
     match fs::canonicalize(rt, db) {
         Ok(real) => Ok(Some(String::from_str(rt.alloc(), real.as_str())?)),
         Err(error) => match error.kind() {
@@ -20,7 +23,9 @@ pub(crate) fn real_path(rt: &HostRuntime, db: &str) -> Result<Option<String>, Fa
 }
 
 /// Where a service that has a file listens for its operator: beside the file itself.
-pub(crate) fn desk_path(rt: &HostRuntime, db: &str) -> Result<Option<String>, Fault> {
+pub(crate) fn desk_path(rt: &HostRuntime, db: &str) -> Result<Option<String>, Fault>
+    ensures { IfErr result (λ fault. (fault ≡ Fault.Unavailable) ⊎ (fault ≡ Fault.Unreadable)) }
+{
     let Some(real) = real_path(rt, db)? else {
         return Ok(None);
     };
@@ -31,7 +36,8 @@ pub(crate) fn desk_path(rt: &HostRuntime, db: &str) -> Result<Option<String>, Fa
 /// What the service that has a file answers, if one has it and listens for its operator. It is
 /// `Unreadable` where a folder on the way to the file is another user's.
 pub(crate) fn ask(rt: &HostRuntime, db: &str, what: &Call<'_>) -> Result<Option<Answer>, Fault>
-    ensures { IfOk result (λ found. IfSome found (IsAnswerTo what.now)) }
+    ensures answer { IfOk result (λ found. IfSome found (IsAnswerTo what.now)) }
+    ensures fault { IfErr result IsCallFault }
 {
     match desk_path(rt, db)? {
         Some(path) => call(rt, rt.alloc(), path.as_str(), what),
@@ -41,7 +47,8 @@ pub(crate) fn ask(rt: &HostRuntime, db: &str, what: &Call<'_>) -> Result<Option<
 
 /// The same of a file that is served: else it is `NotServed`.
 pub(crate) fn ask_served(rt: &HostRuntime, db: &str, what: &Call<'_>) -> Result<Answer, Fault>
-    ensures { IfOk result (IsAnswerTo what.now) }
+    ensures answer { IfOk result (IsAnswerTo what.now) }
+    ensures fault { IfErr result (λ fault. IsCallFault fault ⊎ (fault ≡ Fault.NotServed)) }
 {
     match ask(rt, db, what)? {
         Some(answer) => Ok(answer),

@@ -1,9 +1,10 @@
 //! Copies of files.
-ghost use Rattle.std.specs.Prelude.{◌≡◌, IfOk};
+ghost use Rattle.std.specs.Prelude.{◌≡◌, ◌⊎◌, IfErr, IfOk};
 ghost use Rattle.sqlite_wal.specs.Files.{image_at};
 ghost use Rattle.std.specs.String.{string_bytes};
 ghost use Rattle.commands.specs.Copying.{IsPathOf, copy_fault};
 ghost use Rattle.commands.specs.Holding.{IsFrom};
+ghost use Rattle.commands.specs.Undone.{IsNotCopied, IsUndone};
 
 use crate::calling::real_path;
 use crate::opening::open_file;
@@ -11,14 +12,15 @@ use command_texts::Fault;
 use control::is_from_root;
 pub(crate) use copies::Progress;
 use copies::{CopyFault, Copying, copy_whole};
-use sqlite_disk::Start;
+use sqlite_disk::{Disk, Start};
 use sqlite_std_file::FileFrom;
 use std::env;
 use store::Store;
 
 /// A path as any process finds it, whatever folder it is in.
 pub(crate) fn absolute(rt: &HostRuntime, path: &str) -> Result<String, Fault>
-    ensures { IfOk result (λ found. IsPathOf path.now (string_bytes found)) }
+    ensures path { IfOk result (λ found. IsPathOf path.now (string_bytes found)) }
+    ensures fault { IfErr result (λ fault. (fault ≡ Fault.Unavailable) ⊎ (fault ≡ Fault.Output)) }
 {
     if is_from_root(path) {
         return Ok(String::from_str(rt.alloc(), path)?);
@@ -38,7 +40,9 @@ pub(crate) fn copy_file<St: Start>(
     to: &str,
     start: St,
 ) -> Result<(u64, Store<FileFrom<St>>), Fault>
-    ensures { IfOk result (λ done. IsFrom (image_at St.Start) done.1) }
+    ensures opened { IfOk result (λ done. IsFrom (image_at St.Start) done.1) }
+    ensures fault { IfErr result
+        (IsUndone ⟦<FileFrom<St> as Disk>⟧ (image_at St.Start) IsNotCopied) }
 {
     let store = open_file(rt, db, start)?;
     let real = real_path(rt, db)?.ok_or(Fault::Unreadable)?;

@@ -113,6 +113,7 @@ pub(crate) fn open_or_make<St: Start>(
     ensures usable { IfOk result (λ opened. IsUsable opened.store) }
     ensures begun { IfOk result (λ opened.
         IsBegun opened.is_new (image_at St.Start) opened.store) }
+    ensures fault { IfErr result (RefusesImage ⟦<FileFrom<St> as Disk>⟧ (image_at St.Start)) }
 {
     match look(rt, path).map_err(open_fault)? {
         Found::Absent => {
@@ -218,7 +219,9 @@ pub(crate) fn is_path(name: &str) -> bool {
 
 // Makes an absent file. A name that something else has by now is left to the opening, and so is one
 // that is no path.
-fn make_file(rt: &HostRuntime, path: &str) -> Result<(), Fault> {
+fn make_file(rt: &HostRuntime, path: &str) -> Result<(), Fault>
+    ensures { IfErr result IsUnopened }
+{
     if !is_path(path) {
         return Ok(());
     }
@@ -236,6 +239,7 @@ fn make<St: Start>(rt: &HostRuntime, path: &str, start: St) -> Result<Opened<Fil
     ensures usable { IfOk result (λ opened. IsUsable opened.store) }
     ensures begun { IfOk result (λ opened.
         IsBegun opened.is_new (image_at St.Start) opened.store) }
+    ensures fault { IfErr result (RefusesImage ⟦<FileFrom<St> as Disk>⟧ (image_at St.Start)) }
 {
     let options = small_options(rt)?;
     match Store::create_at(rt, path, start, options) {
@@ -257,6 +261,7 @@ fn open_or_make_in<St: Start>(
     ensures usable { IfOk result (λ opened. IsUsable opened.store) }
     ensures begun { IfOk result (λ opened.
         IsBegun opened.is_new (image_at St.Start) opened.store) }
+    ensures fault { IfErr result (RefusesImage ⟦<FileFrom<St> as Disk>⟧ (image_at St.Start)) }
 {
     let options = small_options(rt)?;
     match Store::open_at(rt, path, start, options, &FullAudit) {
@@ -278,8 +283,10 @@ fn make_in<D: Disk + Drop>(
     files: Files<D>,
     options: Options,
 ) -> Result<Store<D>, Fault>
-    ensures { IfOk result (λ store. (image : Image) → Yields D.Disk files (IsThere image)
+    ensures made { IfOk result (λ store. (image : Image) → Yields D.Disk files (IsThere image)
         → IsMade image store) }
+    ensures fault { IfErr result (λ fault. (image : Image) → Yields D.Disk files (IsThere image)
+        → RefusesImage D.Disk image fault) }
 {
     if !files.may_be_used() {
         return Err(Fault::Unavailable);

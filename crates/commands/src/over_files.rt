@@ -5,11 +5,12 @@ ghost use Rattle.sqlite_wal.specs.Files.{image_at};
 ghost use Rattle.control.specs.Answers.{TellsCopied};
 ghost use Rattle.commands.specs.Holding.{HasOpened, HasToldOr, IsBroughtTo, IsFrom, IsNotBrought};
 ghost use Rattle.commands.specs.Migrating.{migrate_fault};
-ghost use Rattle.commands.specs.Openings.{IsOpeningFault, RefusesOlder};
+ghost use Rattle.commands.specs.Openings.{IsOpeningFault, RefusesImage, RefusesOlder};
 ghost use Rattle.commands.specs.OverFiles.{HasWritten, IsWrittenFrom, count_form};
 ghost use Rattle.commands.specs.Served.{IsServed};
 ghost use Rattle.commands.specs.Program.{AsksStatus, Checks, Copies, Migrates, Stops};
 ghost use Rattle.commands.specs.Program.{WritesStatement};
+ghost use Rattle.commands.specs.Undone.{IsNotCopied, IsNotWritten, IsUndone};
 
 use crate::asked::Asked;
 use crate::calling::{ask, ask_served};
@@ -94,6 +95,8 @@ fn copy<St: Start>(
     ensures copied { IfOk result (λ done. HasToldOr (TellsCopied to.now (string_bytes done.0))
         (HasOpened (IsFrom (image_at St.Start))) done.1) }
     ensures number { IfOk result (λ done. (bytes : ℕ) × (string_bytes done.0 ≡ decimal bytes)) }
+    ensures fault { IfErr result
+        (IsUndone ⟦<FileFrom<St> as Disk>⟧ (image_at St.Start) IsNotCopied) }
 {
     match ask(rt, db, &Call::Copy { to })? {
         Some(answer) => Ok((copied_in(rt.alloc(), answer.body())?, Held::Asked(answer))),
@@ -161,10 +164,13 @@ fn write<St: Start, O: Drain + Drop>(
     out: O,
 ) -> Result<(O, Held<FileFrom<St>>), Fault>
     requires { O.failed out ≡ false }
-    ensures { IfOk result (λ done. HasToldOr
+    ensures written { IfOk result (λ done. HasToldOr
         (IsServed tenant.now account asked.now (O.written out) (O.written done.0))
         (HasOpened (HasWritten (image_at St.Start)
         (IsWrittenFrom O.written tenant.now account asked.now out done.0))) done.1) }
+    ensures fault { IfErr result (IsUndone ⟦<FileFrom<St> as Disk>⟧ (image_at St.Start)
+        (IsNotWritten ⟦<FileFrom<St> as Disk>⟧ (image_at St.Start)
+        O.written tenant.now account asked.now out)) }
 {
     match ask_first(rt, db, tenant, account, asked)? {
         Some((first, answer)) => {
@@ -189,8 +195,12 @@ fn write_unserved<St: Start, O: Drain + Drop>(
     out: O,
 ) -> Result<(O, Store<FileFrom<St>>), Fault>
     requires { O.failed out ≡ false }
-    ensures { IfOk result (λ done. HasWritten (image_at St.Start)
+    ensures written { IfOk result (λ done. HasWritten (image_at St.Start)
         (IsWrittenFrom O.written tenant.now account asked.now out done.0) done.1) }
+    ensures fault { IfErr result (λ fault.
+        RefusesImage ⟦<FileFrom<St> as Disk>⟧ (image_at St.Start) fault
+        ⊎ IsNotWritten ⟦<FileFrom<St> as Disk>⟧ (image_at St.Start)
+        O.written tenant.now account asked.now out fault) }
 {
     let mut store = open_file(rt, db, start)?;
     let Ok(found) = store.digest_of(tenant) else {

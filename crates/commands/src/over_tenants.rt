@@ -1,11 +1,13 @@
 //! Commands on the tenants of the ledger in a file.
-ghost use Rattle.std.specs.Prelude.{◌≡◌, false, is_some, IfOk};
+ghost use Rattle.std.specs.Prelude.{◌≡◌, ◌⊎◌, false, is_some, IfErr, IfOk};
 ghost use Rattle.sqlite_wal.specs.Files.{image_at};
 ghost use Rattle.command_line.specs.Values.{text_in};
 ghost use Rattle.control.specs.Answers.{TellsAdded, TellsChanged};
 ghost use Rattle.commands.specs.Holding.{HasOpened, HasToldOr};
 ghost use Rattle.commands.specs.OverFiles.{AreTenantsTold, HasAdded, HasChanged, HasListed};
+ghost use Rattle.commands.specs.Openings.{RefusesImage};
 ghost use Rattle.commands.specs.Program.{AddsTenant, ChangesKey, IsNoneOr, ListsTenants};
+ghost use Rattle.commands.specs.Undone.{IsNotAdded, IsNotChanged, IsUndone};
 
 use crate::adding::add_tenant;
 use crate::calling::ask;
@@ -17,7 +19,7 @@ use crate::opening::{open_file, open_or_make};
 use command_texts::{Fault, key_digest, name, put_added, put_changed};
 use control::{Call, added_in, changed_in, put_listed};
 use records::Drain;
-use sqlite_disk::Start;
+use sqlite_disk::{Disk, Start};
 use sqlite_std_file::FileFrom;
 use store::Store;
 use tenants::TenantName;
@@ -62,6 +64,8 @@ fn add<'a, St: Start>(
     ensures made { IfOk result (λ done. IsNoneOr db.now (text_in done.0)) }
     ensures added { IfOk result (λ done. HasToldOr (TellsAdded tenant.now key.now)
         (HasOpened (HasAdded (image_at St.Start) (text_in done.0) tenant.now digest.now)) done.1) }
+    ensures fault { IfErr result (IsUndone ⟦<FileFrom<St> as Disk>⟧ (image_at St.Start)
+        (IsNotAdded ⟦<FileFrom<St> as Disk>⟧ (image_at St.Start) tenant.now digest.now)) }
 {
     let name = tenant.as_str();
     match ask(rt, db, &Call::AddTenant { name, key })? {
@@ -86,6 +90,9 @@ fn add_to<'a, St: Start>(
     ensures made { IfOk result (λ done. IsNoneOr db.now (text_in done.0)) }
     ensures added { IfOk result (λ done.
         HasAdded (image_at St.Start) (text_in done.0) tenant.now digest.now done.1) }
+    ensures fault { IfErr result (λ fault.
+        RefusesImage ⟦<FileFrom<St> as Disk>⟧ (image_at St.Start) fault
+        ⊎ IsNotAdded ⟦<FileFrom<St> as Disk>⟧ (image_at St.Start) tenant.now digest.now fault) }
 {
     let mut opened = open_or_make(rt, db, start)?;
     add_tenant(&mut opened.store, tenant, digest)?;
@@ -135,8 +142,10 @@ fn change<St: Start>(
     digest: &[u8; 32],
     start: St,
 ) -> Result<Held<FileFrom<St>>, Fault>
-    ensures { IfOk result (HasToldOr (TellsChanged tenant.now key.now)
+    ensures changed { IfOk result (HasToldOr (TellsChanged tenant.now key.now)
         (HasOpened (HasChanged (image_at St.Start) tenant.now digest.now))) }
+    ensures fault { IfErr result (IsUndone ⟦<FileFrom<St> as Disk>⟧ (image_at St.Start)
+        (IsNotChanged ⟦<FileFrom<St> as Disk>⟧ (image_at St.Start) tenant.now digest.now)) }
 {
     let name = tenant.as_str();
     match ask(rt, db, &Call::ChangeKey { name, key })? {
@@ -155,7 +164,10 @@ fn change_in<St: Start>(
     digest: &[u8; 32],
     start: St,
 ) -> Result<Store<FileFrom<St>>, Fault>
-    ensures { IfOk result (HasChanged (image_at St.Start) tenant.now digest.now) }
+    ensures changed { IfOk result (HasChanged (image_at St.Start) tenant.now digest.now) }
+    ensures fault { IfErr result (λ fault.
+        RefusesImage ⟦<FileFrom<St> as Disk>⟧ (image_at St.Start) fault
+        ⊎ IsNotChanged ⟦<FileFrom<St> as Disk>⟧ (image_at St.Start) tenant.now digest.now fault) }
 {
     let mut store = open_file(rt, db, start)?;
     change_key(&mut store, tenant, digest)?;
@@ -189,8 +201,10 @@ fn list<St: Start, O: Drain>(
     out: &mut O,
 ) -> Result<Held<FileFrom<St>>, Fault>
     requires { O.failed out.old ≡ false }
-    ensures { IfOk result (HasToldOr (AreTenantsTold (O.written out.old) (O.written out.new))
+    ensures listed { IfOk result (HasToldOr (AreTenantsTold (O.written out.old) (O.written out.new))
         (HasOpened (HasListed (image_at St.Start) (O.written out.old) (O.written out.new)))) }
+    ensures fault { IfErr result
+        (IsUndone ⟦<FileFrom<St> as Disk>⟧ (image_at St.Start) (λ fault. ⊥)) }
 {
     match ask(rt, db, &Call::Tenants)? {
         Some(answer) => {
@@ -208,8 +222,10 @@ fn list_in<St: Start, O: Drain>(
     out: &mut O,
 ) -> Result<Store<FileFrom<St>>, Fault>
     requires { O.failed out.old ≡ false }
-    ensures { IfOk result
+    ensures listed { IfOk result
         (HasListed (image_at St.Start) (O.written out.old) (O.written out.new)) }
+    ensures fault { IfErr result
+        (IsUndone ⟦<FileFrom<St> as Disk>⟧ (image_at St.Start) (λ fault. ⊥)) }
 {
     let mut store = open_file(rt, db, start)?;
     let Ok(tenants) = store.tenants() else {

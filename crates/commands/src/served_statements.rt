@@ -1,11 +1,12 @@
 //! Statements of a ledger that is served: the service is asked for one piece behind the other, of the
 //! entries up to the clock at which the first was read.
-ghost use Rattle.std.specs.Prelude.{◌≡◌, ◌||◌, Bool, Err, false, is_err, map, true};
+ghost use Rattle.std.specs.Prelude.{◌≡◌, ◌⊎◌, ◌||◌, Bool, Err, false, is_err, map, true};
 ghost use Rattle.std.specs.Prelude.{IfErr, IfOk, IfSome, OnOk};
 ghost use Rattle.std.specs.Io.KnownBytes.{Appends};
 ghost use Rattle.chain.specs.AccountEntries.{row_of};
 ghost use Rattle.chain.specs.declared.account_entry.AccountEntry.{AccountEntry};
 ghost use Rattle.control.specs.Answers.{TellsEntries};
+ghost use Rattle.control.specs.Told.{IsCallFault};
 ghost use Rattle.records.specs.Reads.{in_order};
 ghost use Rattle.records.specs.Streams.{TakesRows};
 ghost use Rattle.statement.specs.Extract.{closing_of, kept_of, opening_of};
@@ -14,6 +15,7 @@ ghost use Rattle.statement.specs.Text.{statement_text};
 ghost use Rattle.statement.specs.Writer.{drain_of, has_refused};
 ghost use Rattle.commands.specs.Served.{first_asked, last_time, piece_behind, served_text};
 ghost use Rattle.commands.specs.Served.{sink_fault, text_by, why_refused};
+ghost use Rattle.commands.specs.Undone.{IsUnserved, IsUnwritten};
 ghost use Rattle.commands.specs.Served.{Gathers, IsFirst, IsGathered, OfAllPieces, TakesEntry};
 
 use crate::asked::Asked;
@@ -169,7 +171,8 @@ fn ask_piece(
     db: &str,
     piece: &PieceAsked,
 ) -> Result<Option<(Entries, Answer)>, Fault>
-    ensures { IfOk result (λ found. IfSome found (λ told. TellsEntries piece.now told.0 told.1)) }
+    ensures told { IfOk result (λ found. IfSome found (λ told. TellsEntries piece.now told.0 told.1)) }
+    ensures fault { IfErr result IsCallFault }
 {
     match ask(rt, db, &Call::Statement { piece: *piece })? {
         Some(answer) => Ok(Some((entries_in(rt.alloc(), answer.body())?, answer))),
@@ -185,8 +188,9 @@ pub(crate) fn ask_first(
     account: u128,
     asked: &Asked,
 ) -> Result<Option<(First, Answer)>, Fault>
-    ensures { IfOk result (λ found. IfSome found (λ told.
+    ensures first { IfOk result (λ found. IfSome found (λ told.
         IsFirst tenant.now account asked.now told.0 told.1)) }
+    ensures fault { IfErr result IsCallFault }
 {
     let asked = first_asked(tenant, account, asked);
     match ask_piece(rt, db, &asked)? {
@@ -202,6 +206,7 @@ fn hand_entries<S: EntrySink>(entries: &[AccountEntry], sink: &mut S) -> Result<
     ensures last { IfOk result (λ last. last ≡ last_time entries.now) }
     ensures refused { S.refused sink.new ≡ is_err result }
     ensures fault { IfErr result (λ fault. fault ≡ sink_fault (why_refused (S.failed sink.new))) }
+    ensures written { IfErr result IsUnwritten }
 {
     let mut last = None;
     for entry in entries {
@@ -226,6 +231,7 @@ fn hand_over<S: EntrySink>(
     ensures ready { OnOk result (S.refused sink.new ≡ false) }
     ensures fault { IfErr result (λ fault. S.refused sink.new ≡ true
         → fault ≡ sink_fault (why_refused (S.failed sink.new))) }
+    ensures written { IfErr result IsUnserved }
 {
     let First { asked, entries } = first;
     let mut asked = PieceAsked {
@@ -255,6 +261,7 @@ fn write_whole<O: Drain + Drop>(
         (λ entries. Appends (O.written out) (O.written result.0)
         (statement_text (map (row_of first.asked.account) entries)))) }
     ensures failed { O.failed result.0 ≡ true → result.1 ≡ Err Fault.Output }
+    ensures fault { IfErr result.1 IsUnserved }
 {
     rows_make_a_statement::<O>();
     let writer = StatementWriter::new(rt.alloc(), out);
@@ -275,8 +282,9 @@ fn write_whole<O: Drain + Drop>(
 }
 
 fn gather(rt: &HostRuntime, db: &str, first: First, asked: &Asked) -> Result<Gathered, Fault>
-    ensures { IfOk result (λ gathered. OfAllPieces first.asked first.entries
+    ensures gathered { IfOk result (λ gathered. OfAllPieces first.asked first.entries
         (λ entries. IsGathered first.asked.account asked.now entries gathered)) }
+    ensures fault { IfErr result IsUnserved }
 {
     rows_make_an_extract();
     let extract = Extract::new(rt.alloc(), asked.period);
@@ -312,8 +320,9 @@ fn turned(mut gathered: Gathered, order: Order) -> Gathered
 
 // What is asked for of a statement of a period.
 fn period_text(rt: &HostRuntime, db: &str, first: First, asked: &Asked) -> Result<Vec<u8>, Fault>
-    ensures { IfOk result (λ text. OfAllPieces first.asked first.entries
+    ensures text { IfOk result (λ text. OfAllPieces first.asked first.entries
         (λ entries. text.items ≡ text_by false first.asked.account asked.now entries)) }
+    ensures fault { IfErr result IsUnserved }
 {
     let gathered = gather(rt, db, first, asked)?;
     let transfers = gathered.transfers.as_slice();
@@ -334,6 +343,7 @@ pub(crate) fn write_served<O: Drain + Drop>(
         (λ entries. Appends (O.written out) (O.written result.0)
         (served_text first.asked.account asked.now entries))) }
     ensures failed { O.failed result.0 ≡ true → result.1 ≡ Err Fault.Output }
+    ensures fault { IfErr result.1 IsUnserved }
 {
     if asked.is_whole() {
         return write_whole(rt, db, first, out);

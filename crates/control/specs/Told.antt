@@ -5,7 +5,7 @@ use Rattle.serde_json.specs.Data.{Data}
 use Rattle.serde_json.specs.Find.{as_str, get}
 use Rattle.wire.specs.Body.{json_of}
 use Rattle.command_texts.specs.declared.fault.Fault.{Fault}
-use Rattle.command_texts.specs.declared.fault.Fault.TheVariants.{Unavailable}
+use Rattle.command_texts.specs.declared.fault.Fault.TheVariants.{Unavailable, Unreadable}
 use Rattle.command_texts.specs.Faults.{fault_of}
 
 -- the bytes are a head with this status, and then this body
@@ -28,3 +28,8 @@ IsFaultIn bytes fault =
     (fault ≡ Unavailable)
     ⊎ ((status : ℕ) × (body : List ℕ) × HasReply bytes status body × (status ≢ 200)
     × (d : Data) × (json_of body ≡ Some d) × (fault ≡ fault_in d))
+
+-- why a call is not answered: no reply was read, or the socket is another user's, or a reply tells it
+abbrev pub IsCallFault : Fault → Type 0
+IsCallFault fault =
+    (fault ≡ Unavailable) ⊎ (fault ≡ Unreadable) ⊎ ((reply : List ℕ) × IsFaultIn reply fault)

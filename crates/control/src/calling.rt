@@ -1,6 +1,7 @@
 //! How a command calls a service.
-ghost use Rattle.std.specs.Prelude.{IfOk, IfSome};
+ghost use Rattle.std.specs.Prelude.{◌≡◌, ◌⊎◌, IfErr, IfOk, IfSome};
 ghost use Rattle.control.specs.Answers.{IsAnswerTo};
+ghost use Rattle.control.specs.Told.{IsCallFault};
 
 use crate::answer::Answer;
 use crate::hearing::told;
@@ -22,7 +23,9 @@ const AT_THE_END: u64 = 75;
 const AT_A_COPY: u64 = 3_600;
 
 // Who accepts at a path, if anybody does. A path that is too long for a socket has none.
-fn connect<R: Net>(rt: &R, path: &str) -> Result<Option<UnixStream>, Fault> {
+fn connect<R: Net>(rt: &R, path: &str) -> Result<Option<UnixStream>, Fault>
+    ensures { IfErr result (λ fault. (fault ≡ Fault.Unavailable) ⊎ (fault ≡ Fault.Unreadable)) }
+{
     match UnixStream::connect(rt, path) {
         Ok(stream) => Ok(Some(stream)),
         Err(error) => match error.kind() {
@@ -68,7 +71,8 @@ pub fn call<R: Net>(
     path: &str,
     call: &Call<'_>,
 ) -> Result<Option<Answer>, Fault>
-    ensures { IfOk result (λ found. IfSome found (IsAnswerTo call.now)) }
+    ensures answer { IfOk result (λ found. IfSome found (IsAnswerTo call.now)) }
+    ensures fault { IfErr result IsCallFault }
 {
     let message = message(alloc, call)?;
     let Some(mut stream) = connect(rt, path)? else {

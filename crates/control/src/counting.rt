@@ -1,5 +1,5 @@
 //! The counts of a service, as a body and as lines.
-ghost use Rattle.std.specs.Prelude.{◌≡◌, ◌++◌, List, ℕ, Some, Err, IfOk, IfErr, OnOk, false, map};
+ghost use Rattle.std.specs.Prelude.{◌≡◌, ◌⊎◌, ◌++◌, List, ℕ, Some, Err, IfOk, IfErr, OnOk, false, map};
 ghost use Rattle.std.specs.Io.KnownBytes.{Appends};
 ghost use Rattle.std.specs.String.{string_bytes};
 ghost use Rattle.serde_json.specs.View.{members_view, view};
@@ -115,6 +115,7 @@ pub fn put_counted<O: Drain>(
     ensures counted { OnOk result ((lines : List ℕ) × IsCounted form body.now lines
         × Appends (O.written out.old) (O.written out.new) lines) }
     ensures kept { result ≡ Err Fault.Unavailable → out.new ≡ out.old }
+    ensures fault { IfErr result (λ fault. (fault ≡ Fault.Unavailable) ⊎ (fault ≡ Fault.Output)) }
 {
     let lines = lines_of(alloc, form, body)?;
     put_text(out, lines.as_str())

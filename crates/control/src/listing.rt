@@ -1,5 +1,5 @@
 //! The list of tenants, as a body and as lines.
-ghost use Rattle.std.specs.Prelude.{◌≡◌, ◌++◌, List, ℕ, Some, Err, IfOk, IfErr, OnOk, false};
+ghost use Rattle.std.specs.Prelude.{◌≡◌, ◌⊎◌, ◌++◌, List, ℕ, Some, Err, IfOk, IfErr, OnOk, false};
 ghost use Rattle.std.specs.Io.KnownBytes.{Appends};
 ghost use Rattle.std.specs.String.{string_bytes};
 ghost use Rattle.json.specs.Tree.{json_tokens};
@@ -110,6 +110,7 @@ pub fn put_listed<O: Drain>(alloc: Global, out: &mut O, body: &[u8]) -> Result<(
     ensures listed { OnOk result ((lines : List ℕ) × IsListed body.now lines
         × Appends (O.written out.old) (O.written out.new) (tenants_line ++ lines)) }
     ensures kept { result ≡ Err Fault.Unavailable → out.new ≡ out.old }
+    ensures fault { IfErr result (λ fault. (fault ≡ Fault.Unavailable) ⊎ (fault ≡ Fault.Output)) }
 {
     let lines = lines_in(alloc, body)?;
     put_tenants(out)?;

@@ -1,8 +1,9 @@
 use Rattle.commands.proofs.HeldLemmas.{none_was}
+use Rattle.commands.proofs.OpeningLemmas.{making_found_in}
 use Rattle.commands.proofs.opening.make_in.Goals as goal
 
-pub returns-in-Ok : goal.returns-in-Ok
-returns-in-Ok g c image yields = record {
+pub returns-in-Ok-clause-made : goal.returns-in-Ok-clause-made
+returns-in-Ok-clause-made g c image yields = record {
   usable = c.in-Ok.ensures.usable;
   made = λ honest. record {
     live = (c.in-Ok.ensures.empty honest).0;
@@ -12,3 +13,8 @@ returns-in-Ok g c image yields = record {
         yields (c.in-Ok.ensures.blank honest);
   };
 }
+
+pub returns-in-Err-clause-fault : goal.returns-in-Err-clause-fault
+returns-in-Err-clause-fault g c image yields =
+    making_found_in g.D.Disk g.met.D.Disk.seen_may_stay image c.args.files c.in-Err._files
+    c.in-Err.fault c.open_fault.result c.open_fault.ensures.told yields c.in-Err.ensures.refused

@@ -18,7 +18,7 @@ returns g c =
             (g.O.Drain.written c.put_copied.new.out) (copied_line text))
             (c.as_str-2.ensures.value ∙ digits.1) c.in_ok-put_copied.ensures.ok;
         path = string_bytes c.in_ok-to.to;
-        is = c.in_ok-to.ensures;
+        is = c.in_ok-to.ensures.path;
         copied =
             subst
             (λ (text : List ℕ). HasToldOr (TellsCopied (string_bytes c.in_ok-to.to) text)
@@ -30,4 +30,5 @@ returns g c =
             c.as_str.ensures.value c.in_ok-digits.ensures.copied);
       };
       calm = (refl, refl);
+      fault = tt;
     }

@@ -28,7 +28,8 @@ returns g c = record {
         (IsWrittenFrom g.O.Drain.written name c.in_ok-account.account c.in_ok-asked.asked c.args.out
         c.in_ok-out.out)))
         c.in_ok-out.held)
-        c.in_ok-tenant.ensures.same c.in_ok-out.ensures;
+        c.in_ok-tenant.ensures.same c.in_ok-out.ensures.written;
   };
   calm = (refl, refl);
+  fault = tt;
 }

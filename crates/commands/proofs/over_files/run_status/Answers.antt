@@ -13,7 +13,7 @@ returns g c =
         (
           _,
           refl,
-          c.in_ok-answer.ensures,
+          c.in_ok-answer.ensures.answer,
           subst (λ (form : CountForm). IsCounted form (body_of c.in_ok-answer.answer) counted.0)
               c.count_form.ensures
               (subst (λ (body : List ℕ). IsCounted c.count_form.result body counted.0) c.body.ensures
@@ -22,4 +22,5 @@ returns g c =
         counted.2,
       );
       calm = (refl, refl);
+      fault = tt;
     }

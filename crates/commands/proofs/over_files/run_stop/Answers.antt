@@ -8,8 +8,9 @@ returns g c = record {
   told = (
     _,
     refl,
-    c.in_ok-answer.ensures,
+    c.in_ok-answer.ensures.answer,
     subst IsStoppedIn c.body.ensures c.in_ok-stopped_in.ensures.told,
   );
   calm = (refl, refl);
+  fault = tt;
 }

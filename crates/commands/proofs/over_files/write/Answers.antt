@@ -5,10 +5,10 @@ use Rattle.control.specs.declared.piece_asked.PieceAsked.{PieceAsked}
 use Rattle.commands.specs.Served.{OfAllPieces, served_text}
 use Rattle.commands.proofs.over_files.write.Goals as goal
 
-pub returns-in_ok-written-in-Some : goal.returns-in_ok-written-in-Some
-returns-in_ok-written-in-Some g c =
+pub returns-in_ok-written-in-Some-clause-written : goal.returns-in_ok-written-in-Some-clause-written
+returns-in_ok-written-in-Some-clause-written g c =
     let first = c.in-Some.first in
-    let told = rw c.in-Some.is at c.in_ok-first.ensures in (
+    let told = rw c.in-Some.is at c.in_ok-first.ensures.first in (
       first.entries,
       told.told,
       subst

@@ -7,8 +7,8 @@ use Rattle.commands.proofs.HeldLemmas.{of_then}
 use Rattle.commands.proofs.PieceLemmas.{so_by_name}
 use Rattle.commands.proofs.over_files.write_unserved.Goals as goal
 
-pub returns : goal.returns
-returns g c =
+pub returns-clause-written : goal.returns-clause-written
+returns-clause-written g c =
     let read = c.in-Ok.ensures in
     let wrote = c.in_ok-out.ensures in
     record {

@@ -1,8 +1,8 @@
 use Rattle.commands.proofs.HeldLemmas.{listed_then}
 use Rattle.commands.proofs.over_tenants.list_in.Goals as goal
 
-pub returns : goal.returns
-returns g c =
+pub returns-clause-listed : goal.returns-clause-listed
+returns-clause-listed g c =
     let read = c.in-Ok.ensures in
     let told = c.in_ok-put_listed.ensures.listed in
     record {

@@ -51,4 +51,5 @@ returns g c =
       };
       calm = refl;
       made = c.in_ok-made.ensures.made;
+      fault = tt;
     }

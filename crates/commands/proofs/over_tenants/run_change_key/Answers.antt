@@ -43,8 +43,9 @@ returns g c =
               (λ (name : List ℕ). HasToldOr (TellsChanged name c.as_str-2.result.now)
               (HasOpened (HasChanged (image_at g.St.Start) name c.in_ok-digest.digest))
               c.in_ok-held.held)
-              same c.in_ok-held.ensures),
+              same c.in_ok-held.ensures.changed),
         );
       };
       calm = (refl, refl);
+      fault = tt;
     }

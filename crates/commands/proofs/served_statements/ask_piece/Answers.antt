@@ -2,11 +2,11 @@ use Rattle.std.proofs.Common.{List, ℕ, refl, subst}
 use Rattle.control.specs.Entries.{IsTold}
 use Rattle.commands.proofs.served_statements.ask_piece.Goals as goal
 
-pub returns-in_ok-entries_in-in-Some : goal.returns-in_ok-entries_in-in-Some
-returns-in_ok-entries_in-in-Some c =
+pub returns-in_ok-entries_in-in-Some-clause-told : goal.returns-in_ok-entries_in-in-Some-clause-told
+returns-in_ok-entries_in-in-Some-clause-told c =
     let entries = c.in_ok-entries_in-in-Some in (
       _,
       refl,
-      rw c.in-Some.is at c.in_ok-answer.ensures,
+      rw c.in-Some.is at c.in_ok-answer.ensures.answer,
       subst (λ (body : List ℕ). IsTold body entries.field-0) c.body.ensures entries.ensures.told,
     )

@@ -53,7 +53,7 @@ pieces-preserved g c =
             c.in-Some.next,
             ap (piece_behind c.pieces.asked) (sym before.last) ∙ sym c.piece_behind.ensures
                 ∙ c.in-Some.is,
-            (c.in_ok-more._answer, rw c.in_ok-more.ensures.ok_part at c.in_ok-ask_piece.ensures),
+            (c.in_ok-more._answer, rw c.in_ok-more.ensures.ok_part at c.in_ok-ask_piece.ensures.told),
             come,
           ));
     }
