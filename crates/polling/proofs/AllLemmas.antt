@@ -10,6 +10,7 @@ use Rattle.polling.specs.declared.peers.Told.{Told}
 use Rattle.polling.specs.Serving.{Hall, hall, Rules, gone_with, IsFree, Happens, Tells, Stirs, Puts_off, Again, Begin}
 use Rattle.polling.specs.Seating.{with_talk, AreSame, HadNone, held, Held, Keeps, ServesAll, ServesOwed, ServesEach}
 use Rattle.polling.proofs.OneLemmas.{once, serves_on, replies_both, with_talk-own, with_talk-other}
+use Rattle.polling.proofs.GoingLemmas.{unseated_closes}
 use Rattle.polling.proofs.StandLemmas.{by_client, AllStand, rested_seat, rested_unowed, rested_owed, rested_kept, one_stands, one_stands_on, told_stand}
 use Rattle.polling.proofs.StandLemmas.{owes_still, owes_none, owes_less, owes_then, owes_beside, owes_fewer, owes_nobody, owes_told, keeps_still, keeps_one, keeps_then, keeps_for, keeps_told}
 
@@ -288,7 +289,9 @@ module _ {S C P : Type 0} where
       among_peers r ⊥ (owing debt client ∷ []) [] (λ stands. with_standing client Away stands) ledgers
       moments peers peers_now seats next
       (λ all keeps.
-      Stirs (Closed client) peers_now tt
+      Stirs (Closed client) peers_now
+      (unseated_closes (all.stands client)
+      (sym (keeps.stands client) ∙ ap (λ (seat : Option Talk). is_some seat) nobody))
       (subst (λ (p : P). r.does p (Closed client) peers_now) (sym keeps.peers) does))
       (λ stands stand.
       one_stands seats stands client Away

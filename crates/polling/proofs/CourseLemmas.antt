@@ -19,7 +19,7 @@ use Rattle.service.specs.Replies.{unavailable}
 use Rattle.service.specs.OwnDeeds.{EachSeesItself}
 use Rattle.clients.specs.Deeds.{Room, Deed, Came, Ended, Replied, Wrote, IsDone, Lives}
 use Rattle.clients.specs.Deeds as life
-use Rattle.polling.specs.Serving.{Hall, Rules, Happens, Did, Tells, Stirs, Puts_off, Joins, Goes, Loses, Again, Rests, Passes, Fails, Serves, Begin, Then}
+use Rattle.polling.specs.Serving.{Hall, Rules, Happens, Did, Tells, Stirs, Puts_off, Joins, Goes, Again, Rests, Passes, Fails, Serves, Begin, Then}
 use Rattle.polling.specs.Serving.{AreAsBefore, HasFailed, IsToldUnavailable, AreToldUnavailable}
 use Rattle.polling.specs.Serving.{events_by, events_of}
 use Rattle.polling.specs.Courses.{Renewed, Stayed, Opened, Anew, Refused, Tried, Rested, IsAtRest, AreOfOpening, IsAnew}
@@ -211,9 +211,7 @@ module _ {S C P : Type 0} (r : Rules S C P) (move : ResponsesMove r.means) (rene
       same_more Since Now (run_meaning r.means) last.room.ledgers (on [] refl) led
   one_more Since Now last next more (Joins client away) on anew led =
       same_more Since Now (run_meaning r.means) last.room.ledgers (on [] refl) led
-  one_more Since Now last next more (Goes client) on anew led =
-      same_more Since Now (run_meaning r.means) last.room.ledgers (on [] refl) led
-  one_more Since Now last next more (Loses client piece peers does) on anew led =
+  one_more Since Now last next more (Goes client peers may) on anew led =
       same_more Since Now (run_meaning r.means) last.room.ledgers (on [] refl) led
   one_more Since Now last next more (Again ledgers renewed) on anew led =
       opening_more (run_meaning r.means) Since Now last.room.ledgers ledgers

@@ -12,7 +12,7 @@ use Rattle.clients.specs.Answering.{MayCome}
 use Rattle.clients.specs.Turns.{Sent, Told, if_told, told_to, Hears, Nothing_yet, One_more, HearTheirOwn}
 use Rattle.clients.specs.Deeds.{Room, Deed, IsDone, Lives, if_own, come_from, written_in, written_to, told_in, all_told, came_in, sent_with, clients_of, MightCome, AreExchanges, AreWritten}
 use Rattle.clients.specs.Deeds as life
-use Rattle.polling.specs.Serving.{Hall, Rules, Happens, Did, Tells, Stirs, Puts_off, Joins, Goes, Loses, Again, Rests, Passes, Fails, Serves, Begin, Then}
+use Rattle.polling.specs.Serving.{Hall, Rules, Happens, Did, Tells, Stirs, Puts_off, Joins, Goes, Again, Rests, Passes, Fails, Serves, Begin, Then}
 use Rattle.polling.specs.Laws.{EachIsServed}
 
 -- what is heard behind what was heard
@@ -104,8 +104,7 @@ module _ {S C P : Type 0} (r : Rules S C P) where
   step_heard hear exchanges last next more (Stirs doing peers may_stir does) client later may = Nothing_yet
   step_heard hear exchanges last next more (Puts_off who peers is does) client later may = Nothing_yet
   step_heard hear exchanges last next more (Joins who away) client later may = Nothing_yet
-  step_heard hear exchanges last next more (Goes who) client later may = Nothing_yet
-  step_heard hear exchanges last next more (Loses who piece peers does) client later may = Nothing_yet
+  step_heard hear exchanges last next more (Goes who peers may_go) client later may = Nothing_yet
   step_heard hear exchanges last next more (Again ledgers renews) client later may = Nothing_yet
   step_heard hear exchanges last next more (Rests ledgers same) client later may = Nothing_yet
   step_heard hear exchanges last next more (Passes moments given passed) client later may = Nothing_yet
@@ -153,8 +152,7 @@ module _ {S C P : Type 0} (r : Rules S C P) where
   step_may might last next more (Stirs doing peers may_stir does) client later may = may
   step_may might last next more (Puts_off who peers is does) client later may = may
   step_may might last next more (Joins who away) client later may = may
-  step_may might last next more (Goes who) client later may = may
-  step_may might last next more (Loses who piece peers does) client later may = may
+  step_may might last next more (Goes who peers may_go) client later may = may
   step_may might last next more (Again ledgers renews) client later may = may
   step_may might last next more (Rests ledgers same) client later may = may
   step_may might last next more (Passes moments given passed) client later may = may
@@ -210,9 +208,7 @@ module _ {S C P : Type 0} (r : Rules S C P) where
       sym (append-nil (last.room.talks client).unsent)
   step_written written last next more (Joins who away) client =
       sym (append-nil (last.room.talks client).unsent)
-  step_written written last next more (Goes who) client =
-      sym (append-nil (last.room.talks client).unsent)
-  step_written written last next more (Loses who piece peers does) client =
+  step_written written last next more (Goes who peers may_go) client =
       sym (append-nil (last.room.talks client).unsent)
   step_written written last next more (Again ledgers renews) client =
       sym (append-nil (last.room.talks client).unsent)

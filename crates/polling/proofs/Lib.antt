@@ -1,10 +1,13 @@
 pub mod StandLemmas
+pub mod GoingLemmas
 pub mod KindLemmas
 pub mod WrittenLemmas
 pub mod FinishLemmas
 pub mod OneLemmas
 pub mod AllLemmas
 pub mod SeatLemmas
+pub mod CloseLemmas
+pub mod ToldLemmas
 pub mod TurnLemmas
 pub mod LifeLemmas
 pub mod HeardLemmas

@@ -5,7 +5,7 @@ use Rattle.std.proofs.lemmas.List.{append-nil}
 use Rattle.clients.specs.Deeds.{Room, Deed, Lives}
 use Rattle.clients.specs.Deeds as life
 use Rattle.clients.specs.Talk.{Talk}
-use Rattle.polling.specs.Serving.{Hall, Rules, Happens, Did, Tells, Stirs, Puts_off, Joins, Goes, Loses, Again, Rests, Passes, Fails, Begin, Then}
+use Rattle.polling.specs.Serving.{Hall, Rules, Happens, Did, Tells, Stirs, Puts_off, Joins, Goes, Again, Rests, Passes, Fails, Begin, Then}
 use Rattle.polling.specs.Serving.{rounds_of, rounds_in}
 use Rattle.polling.specs.Standing.{Away, StandsIn}
 use Rattle.polling.specs.Laws.{AreLives, BeginsEmpty}
@@ -35,9 +35,7 @@ one_more r same first last next deeds more lives (Puts_off client peers is does)
     stays r first last.room deeds lives
 one_more r same first last next deeds more lives (Joins client away) none =
     stays r first last.room deeds lives
-one_more r same first last next deeds more lives (Goes client) none =
-    stays r first last.room deeds lives
-one_more r same first last next deeds more lives (Loses client piece peers does) none =
+one_more r same first last next deeds more lives (Goes client peers may) none =
     stays r first last.room deeds lives
 one_more {S} {C} r same first last next deeds more lives (Again ledgers renews) none =
     subst

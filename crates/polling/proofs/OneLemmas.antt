@@ -10,9 +10,9 @@ use Rattle.clients.specs.Deeds.{Deed, Came, Replied, Wrote, client_of, Does, tol
 use Rattle.clients.specs.Deeds as deed
 use Rattle.service.specs.Seen.{Whole}
 use Rattle.polling.specs.Peers.{Gave, Gave_none, Ended, Took, Took_none, Stirred, Hands}
-use Rattle.polling.specs.Standing.{Standing, Owed, begun, rested, with_standing, stands_after}
+use Rattle.polling.specs.Standing.{Standing, Owed, begun, rested, leaving, with_standing, stands_after, MayGo, Lost_piece}
 use Rattle.service.specs.Openings.{run_meaning, IsSettled}
-use Rattle.polling.specs.Serving.{Hall, hall, Rules, Settles, IsDueOf, gone_with, Happens, Did, Stirs, Goes, Loses, Serves, Begin, Then}
+use Rattle.polling.specs.Serving.{Hall, hall, Rules, Settles, IsDueOf, gone_with, Happens, Did, Stirs, Goes, Serves, Begin, Then}
 use Rattle.polling.specs.Seating.{with_talk, ServesOne, HasMoved, gone_by, stands_by, replies_in}
 use Rattle.polling.specs.declared.step.Step.{Step}
 use Rattle.polling.specs.declared.step.Step.TheVariants as step
@@ -165,7 +165,9 @@ stands_by-append step.More client before more stands = sym (after-append before 
 stands_by-append step.Waits client before more stands =
     ap (λ (all : ℕ → Standing). with_standing client (rested (all client)) all)
     (sym (after-append before more stands))
-stands_by-append step.Goes client before more stands = sym (after-append before more stands)
+stands_by-append step.Goes client before more stands =
+    ap (λ (all : ℕ → Standing). with_standing client (leaving (all client)) all)
+    (sym (after-append before more stands))
 
 module _ {S C P : Type 0} (r : Rules S C P) (client : ℕ) where
   -- nothing is done
@@ -191,15 +193,20 @@ module _ {S C P : Type 0} (r : Rules S C P) (client : ℕ) where
       (λ (now : Talk). Stays r client ledgers moments peers talk ledgers moments peers now true 0)
       (sym same.same) (nothing ledgers moments peers talk)))
 
-  -- a client goes
+  -- a client goes, for one of the reasons
   pub goes :
-      (ledgers : S) (moments : C) (peers : P) (talk : Talk) →
-      ServesOne r client ledgers moments peers talk ledgers moments peers talk step.Goes false 0
-  goes ledgers moments peers talk talks gone stands stays = (
+      (ledgers : S) (moments : C) (peers peers_now : P) (talk : Talk) →
+      ((standing : Standing) → MayGo r.does client standing talk peers peers_now) →
+      ServesOne r client ledgers moments peers talk ledgers moments peers_now talk step.Goes false 0
+  goes ledgers moments peers peers_now talk may talks gone stands stays = (
     [],
     once r (hall ledgers moments peers (with_talk client talk talks) gone stands)
-        (hall ledgers moments peers (with_talk client talk talks) (gone_with client gone) stands) []
-        (Goes client),
+        (hall ledgers moments peers_now (with_talk client talk talks) (gone_with client gone)
+        (with_standing client (leaving (stands client)) stands))
+        []
+        (Goes client peers_now
+        (subst (λ (t : Talk). MayGo r.does client (stands client) t peers peers_now)
+        (sym (with_talk-own client talk talks)) (may (stands client)))),
     refl,
     tt,
   )
@@ -207,22 +214,15 @@ module _ {S C P : Type 0} (r : Rules S C P) (client : ℕ) where
   -- a client goes, and what was read of it is lost
   pub loses :
       (ledgers : S) (moments : C) (peers peers_now : P) (talk talk_now : Talk) (piece : List ℕ) →
-      talk_now ≡ talk → r.does peers (Gave client piece) peers_now →
+      IsWanting talk.unread → talk_now ≡ talk → r.does peers (Gave client piece) peers_now →
       ServesOne r client ledgers moments peers talk ledgers moments peers_now talk_now step.Goes false
       0
-  loses ledgers moments peers peers_now talk talk_now piece same does =
+  loses ledgers moments peers peers_now talk talk_now piece more same does =
       subst
       (λ (now : Talk).
       ServesOne r client ledgers moments peers talk ledgers moments peers_now now step.Goes false 0)
       (sym same)
-      (λ talks gone stands stays. (
-        [],
-        once r (hall ledgers moments peers (with_talk client talk talks) gone stands)
-            (hall ledgers moments peers_now (with_talk client talk talks) (gone_with client gone) stands) []
-            (Loses client piece peers_now does),
-        refl,
-        tt,
-      ))
+      (goes ledgers moments peers peers_now talk (λ standing. Lost_piece piece more does))
 
   -- a client is let wait
   waits :

@@ -12,7 +12,9 @@ use Rattle.polling.specs.Ending.{HasTurn, IsQuiet, Turns, Start, Turn, most_turn
 use Rattle.polling.specs.Laws.{ServedOn, OwesNobody}
 use Rattle.polling.proofs.OneLemmas.{replies_both}
 use Rattle.polling.proofs.StandLemmas.{told_stand, none_in}
+use Rattle.polling.proofs.GoingLemmas.{stand_told}
 use Rattle.polling.proofs.AllLemmas.{keeps_peers, next_free}
+use Rattle.polling.proofs.ToldLemmas.{hall_told, keeps_hall}
 use Rattle.polling.proofs.TurnLemmas.{turns_serve}
 
 module _ {S C P : Type 0} (r : Rules S C P) where
@@ -140,16 +142,31 @@ module _ {S C P : Type 0} (r : Rules S C P) where
       (old new : Held S C P) (replies : ℕ) → Keeps old mid → HasTurn r old new replies →
       ServedOn served new replies 1
   turn_on first mid before served old new replies keeps turn =
-      let told = record turn.before { peers = turn.peers } in
       let one = served_on first mid before served old turn.before 0 keeps turn.first in
-      let two =
-      tells_on first one.last one.deeds one.all turn.before turn.told turn.peers one.keeps turn.said in
-      let both =
-      then_on first mid before served turn.before told 0 0 0 0 1 1 (omega arith) (omega arith) one
-      two in
-      then_on first mid before served told new 0 replies replies 1 0 1 (omega arith) (omega arith)
-      both
-      (served_on first both.last both.deeds both.all told new replies both.keeps turn.served)
+      let fresh = turn.before.next in
+      let told = turn.told in
+      let after = hall_told r fresh told turn.peers one.last in
+      let said : Serves S C P r first (one.deeds ++ []) after =
+      Then one.deeds one.last [] after one.all
+      (Tells fresh told turn.peers (next_free turn.before one.last one.keeps)
+      (subst (λ (p : P). r.does p (Said fresh told) turn.peers) (sym one.keeps.peers) turn.said)) in
+      let did =
+      turn.served after (keeps_hall r turn.before told turn.peers one.last one.keeps)
+      (stand_told fresh told one.last.stands) in
+      let both = both_told first after did.1 (one.deeds ++ []) did.0 said did.2 in
+      record {
+        deeds = (one.deeds ++ []) ++ did.0;
+        last = did.1;
+        all = both.0;
+        keeps = did.3;
+        count =
+            replies_both (one.deeds ++ []) did.0 (replies_in before + 0) replies
+            (replies_in before + replies)
+            (replies_both one.deeds [] (replies_in before + 0) 0 (replies_in before + 0) one.count
+            refl (omega arith))
+            did.4 (omega arith);
+        told = omega (arith, one.told, both.1);
+      }
 
   turns_on :
       (first mid : Hall S C P) (before : List Deed) (served : Serves S C P r first before mid)

@@ -1,20 +1,19 @@
 -- Clients who take their seats, are served in them and go.
 use Rattle.std.proofs.Common.{◌≡◌, ◌≢◌, ◌≤◌, ◌<◌, ◌+◌, inl, inr, refl, ap, sym, ◌∙◌, subst, ℕ, Bool, true, false, [], ◌∷◌, ◌++◌, Option, Some, None, is_some, arith}
 use Rattle.std.specs.Option.{unwrap_or}
-use Rattle.std.proofs.lemmas.Bool.{false≢true}
 use Rattle.clients.specs.Talk.{Talk, new_talk}
 use Rattle.polling.specs.Peers.{Asked, Closed}
-use Rattle.polling.specs.Standing.{Standing, Away, Awaited, Owed, Kept, rested, asked, with_standing, stands_after, has_seat, StandsIn}
-use Rattle.polling.specs.Standing.{Debt, A_seat, A_turn, An_end, owing}
-use Rattle.polling.specs.Serving.{Hall, hall, Rules, gone_with, Stirs, Joins, Serves, Then}
+use Rattle.polling.specs.Standing.{Standing, Awaited, Owed, Kept, rested, asked, with_standing, stands_after, has_seat, StandsIn}
+use Rattle.polling.specs.Standing.{A_seat, A_turn, owing}
+use Rattle.polling.specs.Serving.{Hall, hall, Rules, Stirs, Joins, Serves, Then}
 use Rattle.polling.specs.Seating.{with_talk, ServesOne, SeatsNow, HadTurn, IsFollowed, held, Keeps, ServesAll, ServesOwed, ServesEach}
 use Rattle.polling.specs.Ending.{IsToldAs}
 use Rattle.polling.specs.declared.step.Step.{Step}
 use Rattle.polling.specs.declared.step.Step.TheVariants as step
-use Rattle.polling.proofs.OneLemmas.{Stays, goes, once, replies_both, with_talk-own, with_talk-other}
+use Rattle.polling.proofs.OneLemmas.{Stays, once, replies_both, with_talk-own, with_talk-other}
 use Rattle.polling.proofs.StandLemmas.{by_client, AllStand, asked_seat, asked_unowed, asked_owed, asked_kept, rested_seat, rested_unowed, rested_owed, rested_kept}
 use Rattle.polling.proofs.StandLemmas.{one_stands, one_stands_on, after_stand, owes_none, owes_less, owes_then, owes_beside, owes_after, keeps_one, keeps_then, keeps_after}
-use Rattle.polling.proofs.AllLemmas.{gone_with-other, free_seat, used, same_hall, keeps_peers, closes_all, serves_all}
+use Rattle.polling.proofs.AllLemmas.{free_seat, used, same_hall, keeps_peers, closes_all, serves_all}
 
 -- nothing was done, since it may be so
 idle_was :
@@ -291,91 +290,6 @@ module _ {S C P : Type 0} where
             (keeps_one ⊥ client standing mid (λ kept. absurd (rested_kept (mid client) kept))),
       )
 
-  -- the client in one seat was served, has gone and is closed
-  pub went_at :
-      (r : Rules S C P) (debt : Debt) (client : ℕ) (ledgers ledgers_now : S)
-      (moments moments_now : C) (peers peers_then peers_now : P)
-      (seats seats_then seats_now : ℕ → Option Talk) (next : ℕ) (talk talk_now : Talk) (idle : Bool)
-      (replies : ℕ) → seats client ≡ Some talk →
-      SeatsNow client (Some talk_now) seats seats_then → SeatsNow client None seats_then seats_now →
-      ServesOne r client ledgers moments peers talk ledgers_now moments_now peers_then talk_now
-      step.Goes idle replies →
-      r.does peers_then (Closed client) peers_now →
-      ServesOwed r ⊥ (owing debt client ∷ []) [] (held ledgers moments peers seats next)
-      (held ledgers_now moments_now peers_now seats_now next) replies
-  went_at r debt client ledgers ledgers_now moments moments_now peers peers_then peers_now seats
-      seats_then seats_now next talk talk_now idle replies was mid now served closed first keeps =
-      let talks = first.room.talks in
-      let gone = gone_with client first.gone in
-      let did = served talks first.gone first.stands (keeps.there client talk was) in
-      let stands_then = stands_after did.0 first.stands in
-      let stands = with_standing client Away stands_then in
-      let owed = owing debt client ∷ [] in
-      let then_hall =
-      hall ledgers_now moments_now peers_then (with_talk client talk_now talks) gone stands_then in
-      let after =
-      hall ledgers_now moments_now peers_now (with_talk client talk_now talks) gone stands in
-      let stand = after_stand did.0 seats first.stands keeps.stands in
-      let before : (other : ℕ) → other ≢ client → seats_now other ≡ seats other =
-      λ other differ. now.1 other differ ∙ mid.1 other differ in
-      let empty : (seat : Talk) → seats_now client ≡ Some seat → ⊥ =
-      λ seat is. false≢true (ap is_some (sym now.0 ∙ is)) in (
-        did.0 ++ [],
-        after,
-        Then did.0 then_hall [] after
-            (subst (λ (from : Hall S C P). Serves S C P r from did.0 then_hall)
-            (same_hall ledgers moments peers client talk first keeps.ledgers keeps.moments
-            keeps.peers (keeps.seated client talk was))
-            did.1)
-            (Stirs (Closed client) peers_now tt closed),
-        record {
-          ledgers = refl;
-          moments = refl;
-          peers = refl;
-          seated =
-              by_client
-              (λ each.
-              (seat : Talk) → seats_now each ≡ Some seat
-              → with_talk client talk_now talks each ≡ seat)
-              client (λ seat is. absurd (empty seat is))
-              (λ other differ seat is.
-              with_talk-other client other talk_now talks differ
-              ∙ keeps.seated other seat (sym (before other differ) ∙ is));
-          there =
-              by_client (λ each. (seat : Talk) → seats_now each ≡ Some seat → gone each ≡ false)
-              client (λ seat is. absurd (empty seat is))
-              (λ other differ seat is.
-              gone_with-other client other first.gone differ
-              ∙ keeps.there other seat (sym (before other differ) ∙ is));
-          below =
-              by_client (λ each. (seat : Talk) → seats_now each ≡ Some seat → each < next) client
-              (λ seat is. absurd (empty seat is))
-              (λ other differ seat is. keeps.below other seat (sym (before other differ) ∙ is));
-          unused =
-              λ other beyond.
-              with_talk-other client other talk_now talks
-              (used client next other (keeps.below client talk was) beyond)
-              ∙ keeps.unused other beyond;
-          not_gone =
-              λ other beyond.
-              gone_with-other client other first.gone
-              (used client next other (keeps.below client talk was) beyond)
-              ∙ keeps.not_gone other beyond;
-          stands =
-              one_stands seats_now stands_then client Away
-              (subst (λ (seat : Option Talk). StandsIn seat Away) (sym now.0) refl)
-              (λ other differ.
-              subst (λ (seat : Option Talk). StandsIn seat (stands_then other))
-              (sym (before other differ)) (stand other));
-        },
-        replies_both did.0 [] replies 0 replies did.2 refl (omega arith),
-        owes_then owed owed [] first.stands stands_then stands
-            (owes_beside [] [] owed first.stands stands_then (owes_after did.0 first.stands))
-            (owes_none debt client Away stands_then (λ each is. is)),
-        keeps_then ⊥ first.stands stands_then stands (keeps_after ⊥ did.0 first.stands)
-            (keeps_one ⊥ client Away stands_then (λ (kept : Away ≡ Kept). cc)),
-      )
-
   -- a client was written to, and may be let wait
   pub left_all :
       (r : Rules S C P) (client : ℕ) (done : Step) (idle : Bool) (told : Step) (ledgers : S)
@@ -416,14 +330,3 @@ module _ {S C P : Type 0} where
       (held ledgers moments peers_then seats_then next) 0
       (served_at r client ledgers ledgers moments moments peers peers_then seats seats_then next
       turn.talk turn.talk_now idle 0 turn.was turn.now turn.served)))
-
-  -- a client goes from its seat, and is closed
-  pub unseated :
-      (r : Rules S C P) (client : ℕ) (ledgers : S) (moments : C) (peers peers_now : P)
-      (seats seats_now : ℕ → Option Talk) (next : ℕ) (talk : Talk) → seats client ≡ Some talk →
-      SeatsNow client None seats seats_now → r.does peers (Closed client) peers_now →
-      ServesOwed r ⊥ (owing An_end client ∷ []) [] (held ledgers moments peers seats next)
-      (held ledgers moments peers_now seats_now next) 0
-  unseated r client ledgers moments peers peers_now seats seats_now next talk was now closed =
-      went_at r An_end client ledgers ledgers moments moments peers peers peers_now seats seats seats_now
-      next talk talk false 0 was (was, λ other differ. refl) now (goes r client ledgers moments peers talk) closed

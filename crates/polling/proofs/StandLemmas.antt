@@ -6,7 +6,7 @@ use Rattle.std.proofs.lemmas.List.Elements.{Contains-append_cases, Contains-appe
 use Rattle.clients.specs.Deeds.{Deed, client_of}
 use Rattle.clients.specs.Talk.{Talk}
 use Rattle.polling.specs.Peers.{Said}
-use Rattle.polling.specs.Standing.{Standing, Away, New, Awaited, Owed, Begun, Kept, Overdue}
+use Rattle.polling.specs.Standing.{Standing, Away, New, Awaited, Owed, Begun, Kept, Overdue, Leaving}
 use Rattle.polling.specs.Standing.{has_seat, greeted, woken, expired, begun, rested, asked}
 use Rattle.polling.specs.Standing.{with_standing, stands_behind, stands_after, StandsIn}
 use Rattle.polling.specs.Standing.{Debt, A_seat, A_turn, An_end, Owing, owing, turns_of, IsOwed, told_of}
@@ -57,6 +57,7 @@ greeted_seat Owed = refl
 greeted_seat Begun = refl
 greeted_seat Kept = refl
 greeted_seat Overdue = refl
+greeted_seat Leaving = refl
 
 woken_seat : (standing : Standing) → has_seat standing ≡ has_seat (woken standing)
 woken_seat Away = refl
@@ -66,6 +67,7 @@ woken_seat Owed = refl
 woken_seat Begun = refl
 woken_seat Kept = refl
 woken_seat Overdue = refl
+woken_seat Leaving = refl
 
 expired_seat : (standing : Standing) → has_seat standing ≡ has_seat (expired standing)
 expired_seat Away = refl
@@ -75,6 +77,7 @@ expired_seat Owed = refl
 expired_seat Begun = refl
 expired_seat Kept = refl
 expired_seat Overdue = refl
+expired_seat Leaving = refl
 
 begun_seat : (standing : Standing) → has_seat standing ≡ has_seat (begun standing)
 begun_seat Away = refl
@@ -84,6 +87,7 @@ begun_seat Owed = refl
 begun_seat Begun = refl
 begun_seat Kept = refl
 begun_seat Overdue = refl
+begun_seat Leaving = refl
 
 pub rested_seat : (standing : Standing) → has_seat standing ≡ has_seat (rested standing)
 rested_seat Away = refl
@@ -93,6 +97,7 @@ rested_seat Owed = refl
 rested_seat Begun = refl
 rested_seat Kept = refl
 rested_seat Overdue = refl
+rested_seat Leaving = refl
 
 pub asked_seat : (standing : Standing) → has_seat standing ≡ has_seat (asked standing)
 asked_seat Away = refl
@@ -102,6 +107,7 @@ asked_seat Owed = refl
 asked_seat Begun = refl
 asked_seat Kept = refl
 asked_seat Overdue = refl
+asked_seat Leaving = refl
 
 -- one client stands otherwise
 pub one_stands :
@@ -156,6 +162,7 @@ begun_unowed Owed is = cc
 begun_unowed Begun is = cc
 begun_unowed Kept is = cc
 begun_unowed Overdue is = cc
+begun_unowed Leaving is = cc
 
 begun_owed :
     (standing : Standing) (debt : Debt) → IsOwed (begun standing) debt → IsOwed standing debt
@@ -168,6 +175,7 @@ begun_owed Owed An_end is = is
 begun_owed Begun debt is = is
 begun_owed Kept debt is = is
 begun_owed Overdue debt is = is
+begun_owed Leaving debt is = is
 
 begun_kept : (standing : Standing) → begun standing ≡ Kept → standing ≡ Kept
 begun_kept Away is = cc
@@ -177,6 +185,7 @@ begun_kept Owed is = cc
 begun_kept Begun is = cc
 begun_kept Kept is = refl
 begun_kept Overdue is = cc
+begun_kept Leaving is = cc
 
 -- who waits is owed no turn, and what else it is owed it was
 pub rested_unowed : (standing : Standing) → IsOwed (rested standing) A_turn → ⊥
@@ -187,6 +196,7 @@ rested_unowed Owed is = is
 rested_unowed Begun is = is
 rested_unowed Kept is = is
 rested_unowed Overdue is = is
+rested_unowed Leaving is = is
 
 pub rested_owed :
     (standing : Standing) (debt : Debt) → IsOwed (rested standing) debt → IsOwed standing debt
@@ -197,6 +207,7 @@ rested_owed Owed debt is = absurd is
 rested_owed Begun debt is = absurd is
 rested_owed Kept debt is = absurd is
 rested_owed Overdue debt is = is
+rested_owed Leaving debt is = is
 
 pub rested_kept : (standing : Standing) → rested standing ≡ Kept → ⊥
 rested_kept Away is = cc
@@ -206,6 +217,7 @@ rested_kept Owed is = cc
 rested_kept Begun is = cc
 rested_kept Kept is = cc
 rested_kept Overdue is = cc
+rested_kept Leaving is = cc
 
 -- so it is with who is to be told again; and it keeps its place alone only where its turn was owed, or
 -- it did before
@@ -217,6 +229,7 @@ asked_unowed Owed is = is
 asked_unowed Begun is = is
 asked_unowed Kept is = is
 asked_unowed Overdue is = is
+asked_unowed Leaving is = is
 
 pub asked_owed :
     (standing : Standing) (debt : Debt) → IsOwed (asked standing) debt → IsOwed standing debt
@@ -227,6 +240,7 @@ asked_owed Owed debt is = absurd is
 asked_owed Begun debt is = absurd is
 asked_owed Kept debt is = is
 asked_owed Overdue debt is = is
+asked_owed Leaving debt is = is
 
 pub asked_kept :
     (standing : Standing) → asked standing ≡ Kept → (standing ≡ Kept) ⊎ (standing ≡ Owed)
@@ -237,6 +251,7 @@ asked_kept Owed is = inr refl
 asked_kept Begun is = cc
 asked_kept Kept is = inl refl
 asked_kept Overdue is = cc
+asked_kept Leaving is = cc
 
 -- what is told is owed, or was
 greeted_owed :
@@ -251,6 +266,7 @@ greeted_owed Owed debt is = inl is
 greeted_owed Begun debt is = inl is
 greeted_owed Kept debt is = inl is
 greeted_owed Overdue debt is = inl is
+greeted_owed Leaving debt is = inl is
 
 owed_turn : (debt : Debt) → IsOwed Owed debt → debt ≡ A_turn
 owed_turn A_seat is = absurd is
@@ -272,6 +288,7 @@ woken_owed Owed debt is = inl is
 woken_owed Begun debt is = inr (owed_turn debt is)
 woken_owed Kept debt is = inr (owed_turn debt is)
 woken_owed Overdue debt is = inl is
+woken_owed Leaving debt is = inl is
 
 expired_owed :
     (standing : Standing) (debt : Debt) → IsOwed (expired standing) debt →
@@ -283,6 +300,7 @@ expired_owed Owed debt is = inr (overdue_end debt is)
 expired_owed Begun debt is = inr (overdue_end debt is)
 expired_owed Kept debt is = inr (overdue_end debt is)
 expired_owed Overdue debt is = inl is
+expired_owed Leaving debt is = inr (overdue_end debt is)
 
 greeted_kept : (standing : Standing) → greeted standing ≡ Kept → standing ≡ Kept
 greeted_kept Away is = cc
@@ -292,6 +310,7 @@ greeted_kept Owed is = cc
 greeted_kept Begun is = cc
 greeted_kept Kept is = refl
 greeted_kept Overdue is = cc
+greeted_kept Leaving is = cc
 
 woken_kept : (standing : Standing) → woken standing ≡ Kept → standing ≡ Kept
 woken_kept Away is = cc
@@ -301,6 +320,7 @@ woken_kept Owed is = cc
 woken_kept Begun is = cc
 woken_kept Kept is = refl
 woken_kept Overdue is = cc
+woken_kept Leaving is = cc
 
 expired_kept : (standing : Standing) → expired standing ≡ Kept → standing ≡ Kept
 expired_kept Away is = cc
@@ -310,6 +330,7 @@ expired_kept Owed is = cc
 expired_kept Begun is = cc
 expired_kept Kept is = refl
 expired_kept Overdue is = cc
+expired_kept Leaving is = cc
 
 -- who has no seat is owed nothing but that
 pub unseated_owed :
@@ -324,6 +345,7 @@ unseated_owed Owed debt none other is = true≢false none
 unseated_owed Begun debt none other is = true≢false none
 unseated_owed Kept debt none other is = true≢false none
 unseated_owed Overdue debt none other is = true≢false none
+unseated_owed Leaving debt none other is = true≢false none
 
 pub none_in : {A : Type 0} (one : A) → Contains [] one → ⊥
 none_in one found = let below = found.1 in omega arith

@@ -5,18 +5,15 @@ use Rattle.polling.specs.Seating.{Held, ServesAll}
 use Rattle.polling.specs.Ending.{HasTurn, IsQuiet, Turns, Start, Turn, most_turns, Ends, Long}
 use Rattle.polling.specs.declared.peers.Told.TheVariants as told
 use Rattle.polling.proofs.AllLemmas.{nothing_done, then_all, tells_all}
+use Rattle.polling.proofs.ToldLemmas.{told_all}
 
 module _ {S C P : Type 0} (r : Rules S C P) where
   pub turn_serves :
       (old new : Held S C P) (replies : ℕ) → HasTurn r old new replies → ServesAll r old new replies
   turn_serves old new replies turn =
       let before = turn.before in
-      let told = record before { peers = turn.peers } in
-      then_all r old told new 0 replies replies (omega arith)
-      (then_all r old before told 0 0 0 refl turn.first
-      (tells_all r before.ledgers before.moments before.peers turn.peers before.seats before.next
-      turn.told turn.said))
-      turn.served
+      then_all r old before new 0 replies replies (omega arith) turn.first
+      (told_all r before new turn.told turn.peers replies turn.said turn.served)
 
   pub turns_serve :
       (first last : Held S C P) (turns replies : ℕ) → Turns S C P r first turns replies last →

@@ -3,8 +3,9 @@ use Rattle.std.specs.Prelude.{◌≡◌, ◌⊎◌, ℕ, Bool, false, ◌+◌, �
 use Rattle.std.specs.BTreeMap.{BTreeMap}
 use Rattle.clients.specs.Talk.{Talk}
 use Rattle.polling.specs.Peers.{Said}
-use Rattle.polling.specs.Serving.{Rules}
-use Rattle.polling.specs.Seating.{Held, ServesAll, ServesOwed, seats_in}
+use Rattle.polling.specs.Serving.{Hall, Rules}
+use Rattle.polling.specs.Seating.{Held, Keeps, LeadsAll, ServesAll, ServesOwed, seats_in}
+use Rattle.polling.specs.Standing.{StandTold}
 use Rattle.polling.specs.declared.peers.Told.{Told}
 use Rattle.polling.specs.declared.peers.Told.TheVariants as told
 use Rattle.polling.specs.declared.step.Step.{Step}
@@ -18,7 +19,8 @@ abbrev pub IsToldAs : Step → Bool → Step → Type 0
 IsToldAs done idle told =
     ((told ≡ done) × (idle ≡ false)) ⊎ ((done ≡ More) × (told ≡ Waits))
 
--- a turn: nobody is replied to before peers tell something, and then what it asks for is done
+-- a turn: nobody is replied to before peers tell something, and then what it asks for is done, as
+-- all stand behind that
 pub record HasTurn {S C P : Type 0} (r : Rules S C P) (old new : Held S C P) (replies : ℕ) :
     Type 0 where
   pub before : Held S C P
@@ -26,7 +28,10 @@ pub record HasTurn {S C P : Type 0} (r : Rules S C P) (old new : Held S C P) (re
   pub peers : P
   pub first : ServesAll r old before 0
   pub said : r.does before.peers (Said before.next told) peers
-  pub served : ServesAll r (record before { peers = peers }) new replies
+  pub served :
+      (first : Hall S C P) → Keeps (record before { peers = peers }) first
+      → StandTold told first.stands
+      → LeadsAll r first new replies
 
 -- clients were served, and the last that happened is that peers told that nothing more had
 pub record IsQuiet {S C P : Type 0} (r : Rules S C P) (old new : Held S C P) (replies : ℕ) :

@@ -9,14 +9,15 @@ use Rattle.polling.specs.declared.peers.Written.{Written}
 use Rattle.polling.specs.declared.peers.Written.TheVariants as written
 
 -- bytes of a client were read, or there were none for now; its input ended; bytes to it were
--- taken, or none for now; it is to be told as ready again; it was closed; waiting told this, where
--- a number was handed in for who is new; or anything else
+-- taken, or none for now; its connection was told as broken; it is to be told as ready again; it
+-- was closed; waiting told this, where a number was handed in for who is new; or anything else
 pub data Doing : Type 0 where
   Gave : ℕ → List ℕ → Doing
   Gave_none : ℕ → Doing
   Ended : ℕ → Doing
   Took : ℕ → List ℕ → Doing
   Took_none : ℕ → Doing
+  Broke : ℕ → Doing
   Asked : ℕ → Doing
   Closed : ℕ → Doing
   Said : ℕ → Told → Doing
@@ -36,7 +37,7 @@ HasRead does client old piece new (read.Gave count) =
     (count ≤ length piece) × does old (Gave client (take count piece)) new
 HasRead does client old piece new read.Ended = does old (Ended client) new
 HasRead does client old piece new read.Waits = does old (Gave_none client) new
-HasRead does client old piece new read.Broken = does old Stirred new
+HasRead does client old piece new read.Broken = does old (Broke client) new
 
 -- what writing to a client gave
 abbrev pub HasWritten :
@@ -44,4 +45,4 @@ abbrev pub HasWritten :
 HasWritten does client bytes old new (written.Took count) =
     (count ≤ length bytes) × does old (Took client (take count bytes)) new
 HasWritten does client bytes old new written.Waits = does old (Took_none client) new
-HasWritten does client bytes old new written.Broken = does old Stirred new
+HasWritten does client bytes old new written.Broken = does old (Broke client) new

@@ -5,9 +5,10 @@ use Rattle.std.specs.Ordering.{nat_cmp}
 use Rattle.clients.specs.Talk.{Talk, is_empty, new_talk}
 use Rattle.service.specs.Seen.{Seen, Whole}
 use Rattle.clients.specs.Deeds.{Deed, all_told}
-use Rattle.polling.specs.Standing.{Standing, Owed, rested, with_standing, stands_after, StandsIn}
+use Rattle.polling.specs.Standing.{Standing, Owed, rested, leaving, with_standing, stands_after, StandsIn, StandTold}
 use Rattle.polling.specs.Standing.{Owing, owing, A_turn, OwesOnly, KeepsOnly}
 use Rattle.polling.specs.Serving.{Hall, hall, Rules, Serves, gone_with}
+use Rattle.polling.specs.declared.peers.Told.{Told}
 use Rattle.polling.specs.declared.seats.Seats.{Seats}
 use Rattle.polling.specs.declared.step.Step.{Step}
 use Rattle.polling.specs.declared.step.Step.TheVariants.{More, Waits, Goes}
@@ -23,12 +24,13 @@ gone_by Waits client gone = gone
 gone_by Goes client gone = gone_with client gone
 
 -- how all stand behind a step of one client, and behind these deeds in it: it rests only where it
--- has to wait
+-- has to wait, and is owed its end where it goes
 abbrev pub stands_by : Step → ℕ → List Deed → (ℕ → Standing) → ℕ → Standing
 stands_by More client deeds stands = stands_after deeds stands
 stands_by Waits client deeds stands =
     with_standing client (rested (stands_after deeds stands client)) (stands_after deeds stands)
-stands_by Goes client deeds stands = stands_after deeds stands
+stands_by Goes client deeds stands =
+    with_standing client (leaving (stands_after deeds stands client)) (stands_after deeds stands)
 
 -- where more may be done for a client, its turn is begun, unless it may be that nothing was done
 abbrev pub HasMoved : Step → Bool → Standing → Type 0
@@ -146,12 +148,10 @@ pub record Keeps {S C P : Type 0} (held : Held S C P) (all : Hall S C P) : Type 
   pub not_gone : (client : ℕ) → held.next ≤ client → all.gone client ≡ false
   pub stands : (client : ℕ) → StandsIn (held.seats client) (all.stands client)
 
--- clients were served: deeds lead from any hall of what was held to one of what is
-abbrev pub ServesAll : {S C P : Type 0} → Rules S C P → Held S C P → Held S C P → ℕ → Type 0
-ServesAll {S} {C} {P} r old new replies =
-    (first : Hall S C P)
-    → Keeps old first
-    → (deeds : List Deed)
+-- clients were served from this hall on: deeds lead to one of what is held
+abbrev pub LeadsAll : {S C P : Type 0} → Rules S C P → Hall S C P → Held S C P → ℕ → Type 0
+LeadsAll {S} {C} {P} r first new replies =
+    (deeds : List Deed)
     × (last : Hall S C P)
     × Serves S C P r first deeds last
     × Keeps new last
@@ -159,19 +159,36 @@ ServesAll {S} {C} {P} r old new replies =
 
 -- so too; what is owed behind it is one of `to`, or was owed before and is none of `from`; and a
 -- client keeps its place alone, with nothing done for it, only for this reason
-abbrev pub ServesOwed :
-    {S C P : Type 0} → Rules S C P → Type 0 → List Owing → List Owing → Held S C P → Held S C P → ℕ
+abbrev pub LeadsOwed :
+    {S C P : Type 0} → Rules S C P → Type 0 → List Owing → List Owing → Hall S C P → Held S C P → ℕ
     → Type 0
-ServesOwed {S} {C} {P} r why from to old new replies =
-    (first : Hall S C P)
-    → Keeps old first
-    → (deeds : List Deed)
+LeadsOwed {S} {C} {P} r why from to first new replies =
+    (deeds : List Deed)
     × (last : Hall S C P)
     × Serves S C P r first deeds last
     × Keeps new last
     × (replies_in deeds ≡ replies)
     × OwesOnly from to first.stands last.stands
     × KeepsOnly why first.stands last.stands
+
+-- clients were served, from any hall of what was held
+abbrev pub ServesAll : {S C P : Type 0} → Rules S C P → Held S C P → Held S C P → ℕ → Type 0
+ServesAll {S} {C} {P} r old new replies =
+    (first : Hall S C P) → Keeps old first → LeadsAll r first new replies
+
+abbrev pub ServesOwed :
+    {S C P : Type 0} → Rules S C P → Type 0 → List Owing → List Owing → Held S C P → Held S C P → ℕ
+    → Type 0
+ServesOwed {S} {C} {P} r why from to old new replies =
+    (first : Hall S C P) → Keeps old first → LeadsOwed r why from to first new replies
+
+-- so too, where peers have just told this
+abbrev pub ServesTold :
+    {S C P : Type 0} → Rules S C P → Told → List Owing → List Owing → Held S C P → Held S C P → ℕ
+    → Type 0
+ServesTold {S} {C} {P} r told from to old new replies =
+    (first : Hall S C P) → Keeps old first → StandTold told first.stands
+    → LeadsOwed r ⊥ from to first new replies
 
 -- so too, and what is owed behind it was owed before
 abbrev pub ServesEach : {S C P : Type 0} → Rules S C P → Held S C P → Held S C P → ℕ → Type 0

@@ -12,8 +12,8 @@ use Rattle.clients.specs.Answering.{IsWanting}
 use Rattle.clients.specs.Talk.{Talk, new_talk}
 use Rattle.clients.specs.Deeds.{Room, Deed, Came, Ended, Replied, Wrote, client_of, IsDone, Lives}
 use Rattle.clients.specs.Deeds as life
-use Rattle.polling.specs.Peers.{Doing, Gave, Asked, Said, Hands}
-use Rattle.polling.specs.Standing.{Standing, Awaited, has_seat, rested, with_standing, stands_behind, stands_after, MayStir}
+use Rattle.polling.specs.Peers.{Doing, Asked, Said, Hands}
+use Rattle.polling.specs.Standing.{Standing, Awaited, has_seat, rested, leaving, with_standing, stands_behind, stands_after, MayGo, MayStir}
 use Rattle.polling.specs.Kinds.{IsPutOff}
 use Rattle.polling.specs.declared.peers.Told.{Told}
 
@@ -149,10 +149,10 @@ module _ {S C : Type 0} {t : LedgersMeaning S} {gives : C → ℕ → C → Type
 
 -- a deed of a client in its turn, with what peers did of it; peers tell something, and are handed a
 -- number that nobody has; anything else among them; a client is put off, for one of the reasons, and
--- is to be told again; a new client has a seat; a client goes; it goes, and what was read of it last is lost;
--- a steward attends to the ledgers; a round begins, ends or is taken back; moments were given for a
--- round that was not kept; or the disk fails with a round, and all its clients are told that the
--- ledgers are unavailable
+-- is to be told again; a new client has a seat; a client goes, for one of the reasons; a steward
+-- attends to the ledgers; a round begins, ends or is taken back; moments were given for a round
+-- that was not kept; or the disk fails with a round, and all its clients are told that the ledgers
+-- are unavailable
 pub data Happens (S C P : Type 0) (r : Rules S C P) (old : Hall S C P) :
     List Deed → Hall S C P → Type 0 where
   Did :
@@ -167,7 +167,8 @@ pub data Happens (S C P : Type 0) (r : Rules S C P) (old : Hall S C P) :
       Happens S C P r old []
       (record old { peers = peers; stands = stands_behind (Said fresh told) old.stands })
   Stirs :
-      (doing : Doing) (peers : P) → MayStir doing old.room.talks → r.does old.peers doing peers →
+      (doing : Doing) (peers : P) → MayStir doing old.room.talks old.stands →
+      r.does old.peers doing peers →
       Happens S C P r old []
       (record old { peers = peers; stands = stands_behind doing old.stands })
   Puts_off :
@@ -182,10 +183,14 @@ pub data Happens (S C P : Type 0) (r : Rules S C P) (old : Hall S C P) :
       (client : ℕ) → has_seat (old.stands client) ≡ false →
       Happens S C P r old [] (record old { stands = with_standing client Awaited old.stands })
   Goes :
-      (client : ℕ) → Happens S C P r old [] (record old { gone = gone_with client old.gone })
-  Loses :
-      (client : ℕ) (piece : List ℕ) (peers : P) → r.does old.peers (Gave client piece) peers →
-      Happens S C P r old [] (record old { peers = peers; gone = gone_with client old.gone })
+      (client : ℕ) (peers : P) →
+      MayGo r.does client (old.stands client) (old.room.talks client) old.peers peers →
+      Happens S C P r old []
+      (record old {
+        peers = peers;
+        gone = gone_with client old.gone;
+        stands = with_standing client (leaving (old.stands client)) old.stands;
+      })
   Again :
       (ledgers : S) → r.renews old.room.ledgers ledgers →
       Happens S C P r old [] (record old { room = record old.room { ledgers = ledgers } })

@@ -1,16 +1,17 @@
 -- How clients stand between their turns, and what is owed to them.
 use Rattle.std.specs.Prelude.{◌≡◌, ◌≢◌, ◌⊎◌, ℕ, Bool, true, false, List, [], ◌∷◌, Option, is_some, nat_eq, if◌then◌else◌}
 use Rattle.std.specs.List.{Contains}
-use Rattle.clients.specs.Answering.{IsWanting}
+use Rattle.clients.specs.Answering.{IsWanting, IsOver}
 use Rattle.clients.specs.Deeds.{Deed, client_of}
 use Rattle.clients.specs.Talk.{Talk}
-use Rattle.polling.specs.Peers.{Doing, Gave_none, Took_none, Asked, Closed, Said, Stirred}
+use Rattle.polling.specs.Peers.{Doing, Gave, Gave_none, Took_none, Broke, Asked, Closed, Said, Stirred}
 use Rattle.polling.specs.declared.peers.Told.{Told}
 use Rattle.polling.specs.declared.peers.Told.TheVariants.{Joined, Ready, Late, Nothing}
 
 -- a client has no seat; it is new, and is owed a seat or its end; it has one, and waits until peers
 -- tell of it; it was told as ready, and is owed a turn; in its turn something was done for it; it is
--- to be told as ready again, though nothing was; or it was told as late, and is owed its end
+-- to be told as ready again, though nothing was; it was told as late, and is owed its end; or it
+-- goes for good, and is owed its end too
 pub data Standing : Type 0 where
   Away : Standing
   New : Standing
@@ -19,6 +20,7 @@ pub data Standing : Type 0 where
   Begun : Standing
   Kept : Standing
   Overdue : Standing
+  Leaving : Standing
 
 -- who has a seat
 abbrev pub has_seat : Standing → Bool
@@ -36,6 +38,7 @@ abbrev pub woken : Standing → Standing
 woken Away = Away
 woken New = New
 woken Overdue = Overdue
+woken Leaving = Leaving
 woken standing = Owed
 
 -- behind the telling that it has had its time: it is owed its end
@@ -54,6 +57,7 @@ abbrev pub rested : Standing → Standing
 rested Away = Away
 rested New = New
 rested Overdue = Overdue
+rested Leaving = Leaving
 rested standing = Awaited
 
 -- where it is to be told as ready again: so it waits behind a turn in which something was done for
@@ -62,6 +66,12 @@ abbrev pub asked : Standing → Standing
 asked Owed = Kept
 asked Begun = Awaited
 asked standing = standing
+
+-- where it goes for good: it is owed its end
+abbrev pub leaving : Standing → Standing
+leaving Away = Away
+leaving New = New
+leaving standing = Leaving
 
 -- all as they stand, but one
 abbrev pub with_standing : ℕ → Standing → (ℕ → Standing) → ℕ → Standing
@@ -88,15 +98,43 @@ stands_after (deed ∷ deeds) stands =
     stands_after deeds
     (with_standing (client_of deed) (begun (stands (client_of deed))) stands)
 
+-- nothing is left for a client: its replies are written, and no message of it is answered any more
+abbrev pub IsFinished : Talk → Type 0
+IsFinished talk = (talk.unsent ≡ []) × ((talk.goes_on ≡ false) ⊎ IsOver talk.unread)
+
+-- a client goes only for a reason: it was told as late; its connection was told as broken; a piece
+-- of its next message is lost, since memory was wanting for it, which no contract can tell; or
+-- nothing is left for it
+pub data MayGo {P : Type 0} (does : P → Doing → P → Type 0) (client : ℕ) (standing : Standing)
+    (talk : Talk) (old new : P) : Type 0 where
+  Told_late : standing ≡ Overdue → new ≡ old → MayGo does client standing talk old new
+  Told_broken : does old (Broke client) new → MayGo does client standing talk old new
+  Lost_piece :
+      (piece : List ℕ) → IsWanting talk.unread → does old (Gave client piece) new →
+      MayGo does client standing talk old new
+  Finished : IsFinished talk → new ≡ old → MayGo does client standing talk old new
+
+-- a client is closed only where it has no seat, or goes for good
+abbrev pub MayClose : Standing → Type 0
+MayClose Away = Unit {0}
+MayClose New = Unit {0}
+MayClose Leaving = Unit {0}
+MayClose standing = ⊥
+
 -- what happens among peers beside deeds and what they tell: reading from a client is tried only
 -- where its next message is not whole, and writing only where something is to be written
-abbrev pub MayStir : Doing → (ℕ → Talk) → Type 0
-MayStir (Gave_none client) talks = IsWanting (talks client).unread
-MayStir (Took_none client) talks = (talks client).unsent ≢ []
-MayStir (Asked client) talks = Unit {0}
-MayStir (Closed client) talks = Unit {0}
-MayStir Stirred talks = Unit {0}
-MayStir doing talks = ⊥
+abbrev pub MayStir : Doing → (ℕ → Talk) → (ℕ → Standing) → Type 0
+MayStir (Gave_none client) talks stands = IsWanting (talks client).unread
+MayStir (Took_none client) talks stands = (talks client).unsent ≢ []
+MayStir (Asked client) talks stands = Unit {0}
+MayStir (Closed client) talks stands = MayClose (stands client)
+MayStir Stirred talks stands = Unit {0}
+MayStir doing talks stands = ⊥
+
+-- behind a telling: a client that was told as late is owed its end, if it has a seat
+abbrev pub StandTold : Told → (ℕ → Standing) → Type 0
+StandTold (Late client) stands = stands client ≡ expired (stands client)
+StandTold told stands = Unit {0}
 
 -- who has no seat is away or new, and nobody else
 abbrev pub StandsIn : Option Talk → Standing → Type 0
@@ -126,6 +164,7 @@ IsOwed New A_seat = Unit {0}
 IsOwed Owed A_turn = Unit {0}
 IsOwed Begun A_turn = Unit {0}
 IsOwed Overdue An_end = Unit {0}
+IsOwed Leaving An_end = Unit {0}
 IsOwed standing debt = ⊥
 
 -- what is owed once this is told, where the number is handed in

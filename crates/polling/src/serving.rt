@@ -3,9 +3,9 @@ ghost use Rattle.std.specs.Prelude.{◌≡◌, false, ◌⊎◌, ◌≤◌, ◌<
 ghost use Rattle.service.specs.Seen.{Seen, Whole};
 ghost use Rattle.polling.specs.Serving.{rules};
 ghost use Rattle.polling.specs.Standing.{A_seat, A_turn, An_end, owing, told_of, turns_of};
-ghost use Rattle.polling.specs.Seating.{HadTurn, HadNone, IsFollowed, ServesAll, ServesOwed, count_of, seats_in, held_by};
+ghost use Rattle.polling.specs.Seating.{HadTurn, HadNone, IsFollowed, ServesAll, ServesOwed, ServesTold, count_of, seats_in, held_by};
 ghost use Rattle.polling.specs.Ending.{HasDone, Ends, GivesTurns, replies_of};
-ghost use Rattle.polling.specs.declared.peers.Told.TheVariants.{Nothing};
+ghost use Rattle.polling.specs.declared.peers.Told.TheVariants.{Late, Nothing};
 
 use crate::gathered::serve_due;
 use crate::gathering::{Gathered, Place};
@@ -126,14 +126,15 @@ fn join<L: Ledgers, H: Steward<L>, C: Moments, P: Peers>(
     }
 }
 
-/// Lets a client go.
+/// Lets a client go that was told as late.
 pub(crate) fn let_go<L: Ledgers, H: Steward<L>, C: Moments, P: Peers>(
     peers: &mut P,
     seats: &mut Seats,
     number: u64,
 )
     ensures { (ledgers : L) → (moments : C) →
-        ServesOwed (rules L.means C.gives H.renews H.waits P.does) ⊥ (owing An_end number ∷ []) []
+        ServesTold (rules L.means C.gives H.renews H.waits P.does) (Late number)
+        (owing An_end number ∷ []) []
         (held_by ledgers moments peers.old seats.old)
         (held_by ledgers moments peers.new seats.new) 0 }
 {
@@ -203,7 +204,7 @@ fn serve_told<L: Rounds, H: Steward<L>, C: Moments, P: Peers>(
     told: Told,
 ) -> u64
     requires { L.means.is_usable ledgers.old }
-    ensures serves { ServesOwed (rules L.means C.gives H.renews H.waits P.does) ⊥
+    ensures serves { ServesTold (rules L.means C.gives H.renews H.waits P.does) told
         (told_of seats.old.next told ++ turns_of gathered.old.numbers.items)
         (turns_of gathered.new.numbers.items)
         (held_by ledgers.old moments.old peers.old seats.old)

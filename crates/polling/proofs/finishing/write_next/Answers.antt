@@ -1,6 +1,6 @@
 use Rattle.std.proofs.Common.{[], ◌∷◌, refl}
 use Rattle.polling.specs.Serving.{rules}
-use Rattle.polling.specs.Standing.{A_seat, An_end, owing}
+use Rattle.polling.specs.Standing.{A_seat, owing}
 use Rattle.polling.specs.Seating.{held_by}
 use Rattle.polling.proofs.AllLemmas.{nothing_done, serves_all}
 use Rattle.polling.proofs.finishing.write_next.Goals as goal
@@ -14,11 +14,11 @@ returns-in-Joined-clause-turn g c is ledgers moments =
       peers = c.told.new.self;
       first = nothing_done r (held_by ledgers moments c.args.peers.now c.args.seats.now);
       said = c.told.ensures;
-      served =
+      served = λ first keeps stand.
           serves_all r ⊥ (owing A_seat c.args.seats.now.next ∷ []) []
           (held_by ledgers moments c.told.new.self c.args.seats.now)
           (held_by ledgers moments c.turn_away.new.peers c.turn_away.new.seats) 0
-          (c.turn_away.ensures ledgers moments);
+          (c.turn_away.ensures ledgers moments) first keeps;
     }
 
 pub returns-in-Ready-clause-turn : goal.returns-in-Ready-clause-turn
@@ -30,7 +30,7 @@ returns-in-Ready-clause-turn g c is ledgers moments =
       peers = c.told.new.self;
       first = nothing_done r (held_by ledgers moments c.args.peers.now c.args.seats.now);
       said = c.told.ensures;
-      served = c.write_one.ensures ledgers moments;
+      served = λ first keeps stand. c.write_one.ensures ledgers moments first keeps;
     }
 
 pub returns-in-Late-clause-turn : goal.returns-in-Late-clause-turn
@@ -43,10 +43,10 @@ returns-in-Late-clause-turn g c is ledgers moments =
       first = nothing_done r (held_by ledgers moments c.args.peers.now c.args.seats.now);
       said = c.told.ensures;
       served =
-          serves_all r ⊥ (owing An_end c.in-Late.number ∷ []) []
-          (held_by ledgers moments c.told.new.self c.args.seats.now)
-          (held_by ledgers moments c.let_go.new.peers c.let_go.new.seats) 0
-          (c.let_go.ensures ledgers moments);
+          rw c.in-Late.is
+          (λ first keeps late.
+          let did = c.let_go.ensures ledgers moments first keeps late in
+          (did.0, did.1, did.2, did.3, did.4));
     }
 
 pub returns-in-Nothing-clause-quiet : goal.returns-in-Nothing-clause-quiet

@@ -3,7 +3,8 @@ use Rattle.polling.specs.Serving.{rules}
 use Rattle.polling.specs.Seating.{held, seats_in}
 use Rattle.polling.specs.Standing.{A_turn, owing}
 use Rattle.polling.proofs.AllLemmas.{owed_for}
-use Rattle.polling.proofs.SeatLemmas.{asked_at, rested_at, went_at}
+use Rattle.polling.proofs.CloseLemmas.{went_at}
+use Rattle.polling.proofs.SeatLemmas.{asked_at, rested_at}
 use Rattle.polling.proofs.serving.follow.Goals as goal
 
 pub returns-in-More-clause-followed : goal.returns-in-More-clause-followed
@@ -36,6 +37,6 @@ returns-in-Goes-clause-followed g c ledgers ledgers_now moments moments_now peer
     (held ledgers moments peers seats next)
     (held ledgers_now moments_now c.close.new.self (seats_in c.unseat.new.clients) next) replies
     (λ never. absurd never)
-    (went_at r A_turn c.args.number ledgers ledgers_now moments moments_now peers c.args.peers.now
+    (went_at r c.args.number ledgers ledgers_now moments moments_now peers c.args.peers.now
     c.close.new.self seats (seats_in c.args.clients.now) (seats_in c.unseat.new.clients) next had.talk
     had.talk_now idle replies had.was had.now c.unseat.ensures.now had.served c.close.ensures)

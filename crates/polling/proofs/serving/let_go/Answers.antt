@@ -4,19 +4,19 @@ use Rattle.polling.specs.Serving.{rules}
 use Rattle.polling.specs.Standing.{A_seat, An_end}
 use Rattle.polling.specs.Seating.{seats_in}
 use Rattle.polling.proofs.AllLemmas.{had_none}
-use Rattle.polling.proofs.SeatLemmas.{unseated}
+use Rattle.polling.proofs.CloseLemmas.{late_at}
 use Rattle.polling.proofs.serving.let_go.Goals as goal
 
 pub returns-then-unseat : goal.returns-then-unseat
 returns-then-unseat g c ledgers moments =
     let r = rules g.L.Ledgers.means g.C.Moments.gives g.H.Steward.renews g.H.Steward.waits g.P.Peers.does in
     let was = c.if-unseat.ensures.was refl in
-    unseated r c.args.number (Whole ledgers) moments c.args.peers.now c.close.new.self
+    late_at r c.args.number (Whole ledgers) moments c.args.peers.now c.close.new.self
     (seats_in c.args.seats.now.clients) (seats_in c.unseat.new.clients) c.args.seats.now.next was.0
     was.1 c.unseat.ensures.now c.close.ensures
 
 pub returns-else-unseat : goal.returns-else-unseat
-returns-else-unseat g c ledgers moments =
+returns-else-unseat g c ledgers moments first keeps late =
     let r = rules g.L.Ledgers.means g.C.Moments.gives g.H.Steward.renews g.H.Steward.waits g.P.Peers.does in
     let same = c.if-unseat.ensures.none refl in
     had_none r An_end c.args.number (Whole ledgers) (Whole ledgers) moments moments c.args.peers.now
@@ -29,3 +29,4 @@ returns-else-unseat g c ledgers moments =
       peers_same = refl;
       seats_same = same;
     })
+    first keeps

@@ -6,7 +6,8 @@ use Rattle.polling.specs.Serving.{rules}
 use Rattle.polling.specs.Seating.{held_by, seats_in}
 use Rattle.polling.specs.declared.peers.Told.{Told}
 use Rattle.polling.specs.declared.peers.Told.TheVariants.{Nothing}
-use Rattle.polling.proofs.AllLemmas.{again_all, beside, owed_for, serves_all, tells_owed, then_all, then_owed}
+use Rattle.polling.proofs.AllLemmas.{again_all, beside, owed_for, serves_all, tells_owed, then_owed}
+use Rattle.polling.proofs.ToldLemmas.{told_owed, told_then}
 use Rattle.polling.proofs.serving.serve_next.Goals as goal
 
 pub returns-then-is_over-clause-does : goal.returns-then-is_over-clause-does
@@ -75,7 +76,7 @@ returns-clause-does g c =
     let started = turns_of c.args.gathered.now.numbers.items in
     let gathered = turns_of c.serve_told-replies.new.gathered.numbers.items in
     let left = turns_of c.serve_due-more.new.gathered.numbers.items in
-    let told_owed = told_of c.args.seats.now.next told ++ started in
+    let told_debts = told_of c.args.seats.now.next told ++ started in
     let replies = c.serve_told-replies.result + c.serve_due-more.result in
     record {
       before = before;
@@ -88,9 +89,8 @@ returns-clause-does g c =
           c.attend.ensures.renewed);
       said = c.told-told.ensures;
       served =
-          then_all r behind mid new c.serve_told-replies.result c.serve_due-more.result replies refl
-          (serves_all r ⊥ told_owed gathered behind mid c.serve_told-replies.result
-          c.serve_told-replies.ensures.serves)
+          told_then r told told_debts gathered behind mid new c.serve_told-replies.result
+          c.serve_due-more.result replies refl c.serve_told-replies.ensures.serves
           (serves_all r (c.serve_due-more.result ≡ c.args.most - c.serve_told-replies.result) gathered
           left mid new c.serve_due-more.result c.serve_due-more.ensures.serves);
     }
@@ -101,8 +101,6 @@ returns-clause-turns g c =
     let old = held_by c.args.ledgers.now c.args.moments.now c.args.peers.now c.args.seats.now in
     let before = held_by c.attend.new.ledgers c.args.moments.now c.args.peers.now c.args.seats.now in
     let told = c.told-told.result in
-    let behind =
-    held_by c.attend.new.ledgers c.args.moments.now c.told-told.new.self c.args.seats.now in
     let mid =
     held_by c.serve_told-replies.new.ledgers c.serve_told-replies.new.moments
     c.serve_told-replies.new.peers c.serve_told-replies.new.seats in
@@ -112,7 +110,6 @@ returns-clause-turns g c =
     let started = turns_of c.args.gathered.now.numbers.items in
     let gathered = turns_of c.serve_told-replies.new.gathered.numbers.items in
     let left = turns_of c.serve_due-more.new.gathered.numbers.items in
-    let told_owed = told_of c.args.seats.now.next told ++ started in
     let replies = c.serve_told-replies.result + c.serve_due-more.result in
     let why = replies ≡ c.args.most in
     then_owed r why started started left old before new 0 replies replies (omega arith)
@@ -121,18 +118,15 @@ returns-clause-turns g c =
     (again_all r (Whole c.args.ledgers.now) (Whole c.attend.new.ledgers) c.args.moments.now
     c.args.peers.now (seats_in c.args.seats.now.clients) c.args.seats.now.next
     c.attend.ensures.renewed)))
-    (then_owed r why started told_owed left before behind new 0 replies replies (omega arith)
-    (tells_owed r why started (Whole c.attend.new.ledgers) c.args.moments.now c.args.peers.now
-    c.told-told.new.self (seats_in c.args.seats.now.clients) c.args.seats.now.next told
-    c.told-told.ensures)
-    (then_owed r why told_owed gathered left behind mid new c.serve_told-replies.result
+    (then_owed r why started gathered left before mid new c.serve_told-replies.result
     c.serve_due-more.result replies refl
-    (owed_for r ⊥ why told_owed gathered behind mid c.serve_told-replies.result (λ never. absurd never)
-    c.serve_told-replies.ensures.serves)
+    (owed_for r ⊥ why started gathered before mid c.serve_told-replies.result (λ never. absurd never)
+    (told_owed r started gathered before mid told c.told-told.new.self c.serve_told-replies.result
+    c.told-told.ensures c.serve_told-replies.ensures.serves))
     (owed_for r (c.serve_due-more.result ≡ c.args.most - c.serve_told-replies.result) why gathered left
     mid new c.serve_due-more.result
     (λ (all : c.serve_due-more.result ≡ c.args.most - c.serve_told-replies.result).
     let few = c.serve_told-replies.ensures.few in
     let some = c.requires.some in
     omega (arith, all, few, some))
-    c.serve_due-more.ensures.serves)))
+    c.serve_due-more.ensures.serves))

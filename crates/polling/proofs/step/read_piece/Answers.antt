@@ -1,7 +1,6 @@
-use Rattle.std.proofs.Common.{inr, true, false, refl}
 use Rattle.polling.specs.Serving.{rules}
-use Rattle.polling.proofs.OneLemmas.{goes, loses, stirred, came, ended, gave_none, then_one}
-use Rattle.polling.specs.declared.step.Step.TheVariants as step
+use Rattle.polling.specs.Standing.{Told_broken}
+use Rattle.polling.proofs.OneLemmas.{goes, loses, came, ended, gave_none}
 use Rattle.polling.proofs.step.read_piece.Goals as goal
 
 pub returns-in-Ok : goal.returns-in-Ok
@@ -14,7 +13,7 @@ pub returns-in-Err : goal.returns-in-Err
 returns-in-Err g c ledgers moments =
     loses (rules g.L.Ledgers.means g.C.Moments.gives g.H.Steward.renews g.H.Steward.waits g.P.Peers.does) c.args.number
     ledgers moments c.args.peers.now c.read.new.self c.args.client.now c.receive.new.self _
-    c.in-Err.ensures.err c.in-Gave.ensures.read.1
+    c.requires c.in-Err.ensures.err c.in-Gave.ensures.read.1
 
 pub returns-in-Ended : goal.returns-in-Ended
 returns-in-Ended g c ledgers moments =
@@ -31,11 +30,6 @@ returns-in-Waits g c ledgers moments =
 
 pub returns-in-Broken : goal.returns-in-Broken
 returns-in-Broken g c ledgers moments =
-    then_one (rules g.L.Ledgers.means g.C.Moments.gives g.H.Steward.renews g.H.Steward.waits g.P.Peers.does) c.args.number
-    ledgers ledgers ledgers moments moments moments c.args.peers.now c.read.new.self c.read.new.self
-    c.args.client.now c.args.client.now c.args.client.now step.Goes true false false 0 0 0
-    (λ none. inr refl) refl
-    (stirred (rules g.L.Ledgers.means g.C.Moments.gives g.H.Steward.renews g.H.Steward.waits g.P.Peers.does) c.args.number
-    ledgers moments c.args.peers.now c.read.new.self c.args.client.now c.in-Broken.ensures.read)
-    (goes (rules g.L.Ledgers.means g.C.Moments.gives g.H.Steward.renews g.H.Steward.waits g.P.Peers.does) c.args.number
-    ledgers moments c.read.new.self c.args.client.now)
+    goes (rules g.L.Ledgers.means g.C.Moments.gives g.H.Steward.renews g.H.Steward.waits g.P.Peers.does) c.args.number
+    ledgers moments c.args.peers.now c.read.new.self c.args.client.now
+    (λ standing. Told_broken c.in-Broken.ensures.read)

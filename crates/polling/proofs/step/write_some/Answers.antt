@@ -1,8 +1,8 @@
-use Rattle.std.proofs.Common.{inr, true, false, refl, subst, List, ℕ, take}
+use Rattle.std.proofs.Common.{subst, List, ℕ, take}
 use Rattle.polling.specs.Peers.{Took}
 use Rattle.polling.specs.Serving.{rules}
-use Rattle.polling.specs.declared.step.Step.TheVariants as step
-use Rattle.polling.proofs.OneLemmas.{goes, stirred, taken, took_none, then_one}
+use Rattle.polling.specs.Standing.{Told_broken}
+use Rattle.polling.proofs.OneLemmas.{goes, taken, took_none}
 use Rattle.polling.proofs.step.write_some.Goals as goal
 
 pub returns-in-Took : goal.returns-in-Took
@@ -23,11 +23,6 @@ returns-in-Waits g c ledgers moments =
 
 pub returns-in-Broken : goal.returns-in-Broken
 returns-in-Broken g c ledgers moments =
-    then_one (rules g.L.Ledgers.means g.C.Moments.gives g.H.Steward.renews g.H.Steward.waits g.P.Peers.does) c.args.number
-    ledgers ledgers ledgers moments moments moments c.args.peers.now c.write.new.self
-    c.write.new.self c.args.client.now c.args.client.now c.args.client.now step.Goes true false false 0 0 0
-    (λ none. inr refl) refl
-    (stirred (rules g.L.Ledgers.means g.C.Moments.gives g.H.Steward.renews g.H.Steward.waits g.P.Peers.does) c.args.number
-    ledgers moments c.args.peers.now c.write.new.self c.args.client.now c.in-Broken.ensures)
-    (goes (rules g.L.Ledgers.means g.C.Moments.gives g.H.Steward.renews g.H.Steward.waits g.P.Peers.does) c.args.number
-    ledgers moments c.write.new.self c.args.client.now)
+    goes (rules g.L.Ledgers.means g.C.Moments.gives g.H.Steward.renews g.H.Steward.waits g.P.Peers.does) c.args.number
+    ledgers moments c.args.peers.now c.write.new.self c.args.client.now
+    (λ standing. Told_broken c.in-Broken.ensures)

@@ -1,8 +1,10 @@
-use Rattle.std.proofs.Common.{inl, inr, true, false, refl, arith}
+use Rattle.std.proofs.Common.{inl, inr, true, false, refl, sym, subst, arith}
 use Rattle.service.specs.Seen.{Whole}
 use Rattle.polling.specs.Serving.{rules}
+use Rattle.polling.specs.Standing.{IsFinished, Finished}
 use Rattle.polling.specs.Seating.{count_of, has_nothing}
 use Rattle.polling.specs.declared.step.Step.TheVariants as step
+use Rattle.polling.proofs.GoingLemmas.{over_finished}
 use Rattle.polling.proofs.OneLemmas.{goes, replied, unmoved, whole_unmoved, then_one}
 use Rattle.polling.proofs.turn.answer_or_read.Goals as goal
 
@@ -48,4 +50,10 @@ returns-in-Over-clause-serves g c =
     (Whole c.args.ledgers.now) (Whole c.answer.new.ledgers) c.args.moments.now c.answer.new.moments
     c.args.peers.now c.args.client.now c.answer.new.self (whole_unmoved c.in-Over.ensures.answers.0))
     (goes (rules g.L.Ledgers.means g.C.Moments.gives g.H.Steward.renews g.H.Steward.waits g.P.Peers.does) c.args.number
-    (Whole c.answer.new.ledgers) c.answer.new.moments c.args.peers.now c.answer.new.self)
+    (Whole c.answer.new.ledgers) c.answer.new.moments c.args.peers.now c.args.peers.now
+    c.answer.new.self
+    (λ standing.
+    Finished
+    (subst IsFinished (sym c.in-Over.ensures.answers.0.same)
+    (over_finished c.args.client.now c.requires.open c.in-Over.ensures.answers.1))
+    refl))

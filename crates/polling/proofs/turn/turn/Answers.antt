@@ -2,10 +2,12 @@ use Rattle.std.proofs.Common.{◌≡◌, ◌∙◌, ap, sym, inr, false, refl, s
 use Rattle.clients.specs.Talk.{Talk, is_empty}
 use Rattle.service.specs.Seen.{Whole}
 use Rattle.polling.specs.Serving.{rules}
+use Rattle.polling.specs.Standing.{Finished}
 use Rattle.polling.specs.Seating.{ServesOne, count_of, has_nothing}
 use Rattle.polling.specs.declared.step.Step.TheVariants as step
+use Rattle.polling.proofs.GoingLemmas.{last_finished}
 use Rattle.polling.proofs.OneLemmas.{goes, idle_too, other_idle, then_one}
-use Rattle.polling.proofs.WrittenLemmas.{last_some, some_so, unanswered_some}
+use Rattle.polling.proofs.WrittenLemmas.{empty_so, last_some, some_so, unanswered_some}
 use Rattle.polling.proofs.turn.turn.Goals.{then-goes_on-via-then-goes_on, then-goes_on-via-else-goes_on+then-not-is_empty}
 use Rattle.polling.proofs.turn.turn.Goals as goal
 
@@ -76,4 +78,11 @@ returns-clause-serves g c =
     (has_nothing c.args.client.now c.write_all.new.client) false false 0 0 0 (λ none. inr refl) refl
     (c.in-More.ensures (Whole c.args.ledgers.now) c.args.moments.now)
     (goes (rules g.L.Ledgers.means g.C.Moments.gives g.H.Steward.renews g.H.Steward.waits g.P.Peers.does) c.args.number
-    (Whole c.args.ledgers.now) c.args.moments.now c.write_all.new.peers c.write_all.new.client)
+    (Whole c.args.ledgers.now) c.args.moments.now c.write_all.new.peers c.write_all.new.peers
+    c.write_all.new.client
+    (λ standing.
+    Finished
+    (last_finished c.write_all.new.client (sym c.goes_on.ensures ∙ c.if-goes_on.false)
+    (ap is_empty (sym c.unsent.ensures)
+    ∙ empty_so c.unsent.result.now (sym c.is_empty.ensures ∙ c.if-not-is_empty.false)))
+    refl))

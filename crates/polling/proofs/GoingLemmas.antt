@@ -1,0 +1,109 @@
+-- Clients who go for good: how they stand, and that nothing is left for them.
+use Rattle.std.proofs.Common.{◌≡◌, ◌&&◌, inl, inr, refl, ap, sym, ◌∙◌, ℕ, Bool, true, false, List, [], ◌∷◌}
+use Rattle.std.proofs.lemmas.Bool.{false≢true, true≢false}
+use Rattle.std.proofs.Math.Path.{fun_ext}
+use Rattle.clients.specs.Answering.{IsOver}
+use Rattle.clients.specs.Talk.{Talk, is_empty, may_answer}
+use Rattle.polling.specs.Standing.{Standing, Away, New, Awaited, Owed, Begun, Kept, Overdue, Leaving}
+use Rattle.polling.specs.Standing.{has_seat, expired, leaving, with_standing, stands_behind, StandTold, MayClose, IsFinished}
+use Rattle.polling.specs.Peers.{Said}
+use Rattle.polling.specs.declared.peers.Told.{Told}
+use Rattle.polling.specs.declared.peers.Told.TheVariants.{Joined, Ready, Late, Nothing}
+use Rattle.polling.proofs.StandLemmas.{by_client, standing-own, standing-other}
+
+-- who goes may be closed
+pub leaving_closes : (standing : Standing) → MayClose (leaving standing)
+leaving_closes Away = tt
+leaving_closes New = tt
+leaving_closes Awaited = tt
+leaving_closes Owed = tt
+leaving_closes Begun = tt
+leaving_closes Kept = tt
+leaving_closes Overdue = tt
+leaving_closes Leaving = tt
+
+-- so may who has no seat
+pub unseated_closes : (standing : Standing) → has_seat standing ≡ false → MayClose standing
+unseated_closes Away none = tt
+unseated_closes New none = tt
+unseated_closes Awaited none = absurd (true≢false none)
+unseated_closes Owed none = absurd (true≢false none)
+unseated_closes Begun none = absurd (true≢false none)
+unseated_closes Kept none = absurd (true≢false none)
+unseated_closes Overdue none = absurd (true≢false none)
+unseated_closes Leaving none = tt
+
+-- behind the telling that it is late, who has a seat is owed its end
+seated_expired : (standing : Standing) → has_seat standing ≡ true → expired standing ≡ Overdue
+seated_expired Away seated = absurd (false≢true seated)
+seated_expired New seated = absurd (false≢true seated)
+seated_expired Awaited seated = refl
+seated_expired Owed seated = refl
+seated_expired Begun seated = refl
+seated_expired Kept seated = refl
+seated_expired Overdue seated = refl
+seated_expired Leaving seated = refl
+
+pub late_overdue :
+    (standing : Standing) → has_seat standing ≡ true → standing ≡ expired standing →
+    standing ≡ Overdue
+late_overdue standing seated late = late ∙ seated_expired standing seated
+
+expired_twice : (standing : Standing) → expired standing ≡ expired (expired standing)
+expired_twice Away = refl
+expired_twice New = refl
+expired_twice Awaited = refl
+expired_twice Owed = refl
+expired_twice Begun = refl
+expired_twice Kept = refl
+expired_twice Overdue = refl
+expired_twice Leaving = refl
+
+-- so all stand behind a telling
+pub stand_told :
+    (fresh : ℕ) (told : Told) (stands : ℕ → Standing) →
+    StandTold told (stands_behind (Said fresh told) stands)
+stand_told fresh Joined stands = tt
+stand_told fresh (Ready client) stands = tt
+stand_told fresh (Late client) stands =
+    let own = standing-own client (expired (stands client)) stands in
+    own ∙ expired_twice (stands client) ∙ ap (λ (s : Standing). expired s) (sym own)
+stand_told fresh Nothing stands = tt
+
+-- one client stands so, however it stood before
+pub standing-twice :
+    (client : ℕ) (before standing : Standing) (stands : ℕ → Standing) →
+    with_standing client standing (with_standing client before stands)
+    ≡ with_standing client standing stands
+standing-twice client before standing stands =
+    fun_ext
+    (by_client
+    (λ each.
+    with_standing client standing (with_standing client before stands) each
+    ≡ with_standing client standing stands each)
+    client
+    (standing-own client standing (with_standing client before stands)
+    ∙ sym (standing-own client standing stands))
+    (λ other differ.
+    standing-other client other standing (with_standing client before stands) differ
+    ∙ standing-other client other before stands differ
+    ∙ sym (standing-other client other standing stands differ)))
+
+-- nothing is unsent to who may be answered
+and_last : (a b : Bool) → (a && b) ≡ true → b ≡ true
+and_last true b both = both
+and_last false b both = absurd (false≢true both)
+
+none_of : (bytes : List ℕ) → is_empty bytes ≡ true → bytes ≡ []
+none_of [] none = refl
+none_of (byte ∷ bytes) none = absurd (false≢true none)
+
+-- where no more comes, nothing is left for it
+pub over_finished : (talk : Talk) → may_answer talk ≡ true → IsOver talk.unread → IsFinished talk
+over_finished talk may over =
+    (none_of talk.unsent (and_last talk.goes_on (is_empty talk.unsent) may), inr over)
+
+-- nor is where the last reply of all is written
+pub last_finished :
+    (talk : Talk) → talk.goes_on ≡ false → is_empty talk.unsent ≡ true → IsFinished talk
+last_finished talk last none = (none_of talk.unsent none, inl last)
