@@ -106,7 +106,7 @@ module _ {D : Type 0} {g : disk.Ghosts D} where
   then_at P (at.Open conn) (at.Shut files) live holds = absurd live
   then_at P (at.Shut files) new live holds = holds
 
-  so_at :
+  pub so_at :
       (P Q : Database → Type 0) (place : Place D g) → ((db : Database) → P db → Q db) →
       OfDatabaseAt P place → OfDatabaseAt Q place
   so_at P Q (at.Open conn) so holds = so (file_state conn).now holds

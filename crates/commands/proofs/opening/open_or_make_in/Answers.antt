@@ -1,3 +1,4 @@
+use Rattle.std.proofs.Common.{rules}
 use Rattle.sqlite_wal.specs.Files.{image_at}
 use Rattle.commands.specs.Openings.{RefusesImage}
 use Rattle.commands.proofs.HeldLemmas.{others_stay}
@@ -32,4 +33,4 @@ returns-in_err-make_in-in-Err-NotALedger-Some-clause-fault g c =
 pub returns-in-Err-clause-fault : goal.returns-in-Err-clause-fault
 returns-in-Err-clause-fault g c =
     found_at _ (image_at g.St.Start) c.in-Err.fault c.in-Err._files c.open_fault.result
-    c.open_fault.ensures.told c.in-Err.ensures.refused
+    (search rules) c.in-Err.ensures.refused

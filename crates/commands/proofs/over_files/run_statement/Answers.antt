@@ -3,6 +3,7 @@ use Rattle.sqlite_wal.specs.Files.{image_at}
 use Rattle.commands.specs.Holding.{HasOpened, HasToldOr}
 use Rattle.commands.specs.OverFiles.{HasWritten, IsWrittenFrom}
 use Rattle.commands.specs.Served.{IsServed}
+use Rattle.commands.proofs.UndoneLemmas.{not_written}
 use Rattle.commands.proofs.over_files.run_statement.Goals as goal
 
 pub returns : goal.returns
@@ -33,3 +34,13 @@ returns g c = record {
   calm = (refl, refl);
   fault = tt;
 }
+
+pub returns-in_err-out : goal.returns-in_err-out
+returns-in_err-out g c =
+    not_written _ g.O.Drain.written (image_at g.St.Start) c.args.tenant.now c.in_ok-tenant.tenant
+    c.args.account.now c.args.words.now c.args.out c.from_residual-in_err-out.result
+    c.in_err-out.field-0.0 c.in_ok-account.account c.in_ok-asked.asked
+    c.from_residual-in_err-out.ensures.1 (c.in_ok-tenant.ensures.good.0 refl)
+    c.in_ok-tenant.ensures.same
+    (c.in_ok-account.account, first_of (search rules, omega arith), c.in_ok-account.ensures.ok)
+    c.in_ok-account.ensures.ok c.in_ok-asked.ensures.ok c.in_err-out.ensures.fault

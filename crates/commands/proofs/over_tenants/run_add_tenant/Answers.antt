@@ -9,6 +9,7 @@ use Rattle.control.specs.Answers.{TellsAdded}
 use Rattle.commands.specs.Holding.{HasOpened, HasToldOr}
 use Rattle.commands.specs.OverFiles.{HasAdded}
 use Rattle.commands.proofs.HeldLemmas.{is_key, lines_told}
+use Rattle.commands.proofs.UndoneLemmas.{not_added}
 use Rattle.commands.proofs.over_tenants.run_add_tenant.Goals as goal
 
 pub returns : goal.returns
@@ -53,3 +54,13 @@ returns g c =
       made = c.in_ok-made.ensures.made;
       fault = tt;
     }
+
+pub returns-in_err-made : goal.returns-in_err-made
+returns-in_err-made g c =
+    not_added _ g.O.Drain.written (image_at g.St.Start) c.args.db.now c.args.tenant.now
+    c.in_ok-tenant.tenant (text_in c.args.key) c.args.out c.from_residual-in_err-made.result
+    c.in_err-made.field-0.0 c.in_ok-key.key c.in_ok-digest.digest c.from_residual-in_err-made.ensures.1
+    (c.in_ok-tenant.ensures.good.0 refl) c.in_ok-tenant.ensures.same c.in_ok-key.ensures.given
+    (subst (λ (text : List ℕ). IsDigestOfKey (key_of text) (Ok c.in_ok-digest.digest))
+    c.as_str.ensures c.in_ok-digest.ensures)
+    c.in_err-made.ensures.fault

@@ -8,6 +8,8 @@ use Rattle.control.specs.Answers.{TellsChanged}
 use Rattle.commands.specs.Holding.{HasOpened, HasToldOr}
 use Rattle.commands.specs.OverFiles.{HasChanged}
 use Rattle.commands.proofs.HeldLemmas.{is_key, lines_told}
+use Rattle.command_line.specs.Values.{text_in}
+use Rattle.commands.proofs.UndoneLemmas.{not_changed}
 use Rattle.commands.proofs.over_tenants.run_change_key.Goals as goal
 
 pub returns : goal.returns
@@ -49,3 +51,13 @@ returns g c =
       calm = (refl, refl);
       fault = tt;
     }
+
+pub returns-in_err-held : goal.returns-in_err-held
+returns-in_err-held g c =
+    not_changed _ g.O.Drain.written (image_at g.St.Start) c.args.tenant.now
+    c.in_ok-tenant.tenant (text_in c.args.key) c.args.out c.from_residual-in_err-held.result
+    c.in_err-held.field-0.0 c.in_ok-key.key c.in_ok-digest.digest c.from_residual-in_err-held.ensures.1
+    (c.in_ok-tenant.ensures.good.0 refl) c.in_ok-tenant.ensures.same c.in_ok-key.ensures.given
+    (subst (λ (text : List ℕ). IsDigestOfKey (key_of text) (Ok c.in_ok-digest.digest))
+    c.as_str.ensures c.in_ok-digest.ensures)
+    c.in_err-held.ensures.fault

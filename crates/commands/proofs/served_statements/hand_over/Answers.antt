@@ -1,9 +1,11 @@
-use Rattle.std.proofs.Common.{◌++◌, ◌∷◌, ◌∙◌, List, ℕ, [], append_assoc, ap, subst, sym, append-nil}
+use Rattle.std.proofs.Common.{◌++◌, ◌∷◌, ◌∙◌, List, ℕ, [], append_assoc, ap, inl, subst, sym, append-nil}
 use Rattle.chain.specs.declared.account_entry.AccountEntry.{AccountEntry}
 use Rattle.control.specs.declared.entries.Entries.{Entries}
 use Rattle.records.specs.Streams.{TakesRows}
 use Rattle.commands.specs.Served.{ComeBehind, IsAnswered, last_time, piece_behind, up_to}
 use Rattle.commands.proofs.ServedLemmas.{pieces_more, taken_then}
+use Rattle.commands.specs.Undone.{IsUnserved}
+use Rattle.commands.proofs.OpeningLemmas.{err_so}
 use Rattle.commands.proofs.served_statements.hand_over.Goals as goal
 
 pub pieces-init : goal.pieces-init
@@ -71,3 +73,8 @@ returns-in_default-clause-taken g c =
           ∙ c.in_default.is)),
       before.taken,
     )
+
+pub returns-in_err-ask_piece-clause-written : goal.returns-in_err-ask_piece-clause-written
+returns-in_err-ask_piece-clause-written g c =
+    err_so IsUnserved c.from_residual-in_err-ask_piece.result c.in_err-ask_piece.field-0.0
+    c.from_residual-in_err-ask_piece.ensures.1 (inl c.in_err-ask_piece.ensures.fault)
