@@ -33,13 +33,13 @@ step_on :
 step_on first steps answers step answer more are events began since =
     Onward steps answers events began step answer more since are
 
-module _ {S : Type 0} (t : RunMeaning S) (n : NamesMeaning S) (Unopened : S → S → Type 0)
+module _ {S : Type 0} (t : RunMeaning S) (n : NamesMeaning S) (Refuses : Refused → S → S → Type 0)
     (old mid new : S) (steps : List Step) (answers : List Answer)
     (run : HasRun t old steps answers mid)
   where
     -- an opening that was refused
     refused_more :
-        (refused : Refused) → IsRefused t Unopened mid refused new →
+        (refused : Refused) → IsRefused t Refuses mid refused new →
         (stands : Bool) → refused.stands ≡ stands →
         HasRun t old (steps ++ step.Reopen ∷ []) (answers ++ answer.Reopened (Err refused) ∷ []) new
     refused_more refused makes true is =
@@ -68,7 +68,7 @@ module _ {S : Type 0} (t : RunMeaning S) (n : NamesMeaning S) (Unopened : S → 
 
     -- one step more
     step_more :
-        (step : Step) (answer : Answer) → StepMakes t n Unopened mid step answer new →
+        (step : Step) (answer : Answer) → StepMakes t n Refuses mid step answer new →
         HasRun t old (steps ++ step ∷ []) (answers ++ answer ∷ []) new
     step_more (step.Request bytes moment) (answer.Replied reply) makes =
         event_step (step.Request bytes moment) (answer.Replied reply) makes.0.event makes.0.is
@@ -156,39 +156,39 @@ take_step steps i step below is =
     (take-suc steps i step below ∙ ap (λ (s : Step). take i steps ++ s ∷ []) (sym is))
 
 pub run_on :
-    {S : Type 0} (t : RunMeaning S) (n : NamesMeaning S) (Unopened : S → S → Type 0)
+    {S : Type 0} (t : RunMeaning S) (n : NamesMeaning S) (Refuses : Refused → S → S → Type 0)
     (old mid new : S) (steps : List Step) (answers more : List Answer) (i : ℕ) (step : Step) (answer : Answer) → i < length steps →
     step ≡ get_or steps i step → more ≡ answers ++ answer ∷ [] →
-    HasRun t old (take i steps) answers mid → StepMakes t n Unopened mid step answer new →
+    HasRun t old (take i steps) answers mid → StepMakes t n Refuses mid step answer new →
     HasRun t old (take (i + 1) steps) more new
-run_on t n Unopened old mid new steps answers more i step answer below is grown run makes =
+run_on t n Refuses old mid new steps answers more i step answer below is grown run makes =
     rw (take_step steps i step below is, grown)
-    (step_more t n Unopened old mid new (take i steps) answers run step answer makes)
+    (step_more t n Refuses old mid new (take i steps) answers run step answer makes)
 
 pub named_on :
-    {S : Type 0} (t : RunMeaning S) (n : NamesMeaning S) (Unopened : S → S → Type 0)
+    {S : Type 0} (t : RunMeaning S) (n : NamesMeaning S) (Refuses : Refused → S → S → Type 0)
     (old mid new : S) (steps : List Step) (answers more : List Answer) (i : ℕ) (step : Step)
     (answer : Answer) → i < length steps → step ≡ get_or steps i step →
     more ≡ answers ++ answer ∷ [] → HasNamed t n old (take i steps) answers mid →
-    StepMakes t n Unopened mid step answer new → HasNamed t n old (take (i + 1) steps) more new
-named_on t n Unopened old mid new steps answers more i step answer below is grown named makes =
+    StepMakes t n Refuses mid step answer new → HasNamed t n old (take (i + 1) steps) more new
+named_on t n Refuses old mid new steps answers more i step answer below is grown named makes =
     rw (take_step steps i step below is, grown)
-    (named_more t n Unopened old mid new (take i steps) answers named step answer makes)
+    (named_more t n Refuses old mid new (take i steps) answers named step answer makes)
 
 pub through_on :
-    {S : Type 0} (t : RunMeaning S) (n : NamesMeaning S) (Unopened : S → S → Type 0)
+    {S : Type 0} (t : RunMeaning S) (n : NamesMeaning S) (Refuses : Refused → S → S → Type 0)
     (old mid new : S) (steps : List Step) (answers more : List Answer) (i : ℕ) (step : Step)
     (answer : Answer) → i < length steps → step ≡ get_or steps i step →
-    more ≡ answers ++ answer ∷ [] → RunsThrough t n Unopened old (take i steps) answers mid →
+    more ≡ answers ++ answer ∷ [] → RunsThrough t n Refuses old (take i steps) answers mid →
     HasRun t old (take i steps) answers mid → HasNamed t n old (take i steps) answers mid →
-    StepMakes t n Unopened mid step answer new → IsInOrder t n new →
-    RunsThrough t n Unopened old (take (i + 1) steps) more new
-through_on t n Unopened old mid new steps answers more i step answer below is grown through run
+    StepMakes t n Refuses mid step answer new → IsInOrder t n new →
+    RunsThrough t n Refuses old (take (i + 1) steps) more new
+through_on t n Refuses old mid new steps answers more i step answer below is grown through run
     named makes settled =
     rw (take_step steps i step below is, grown)
     (Goes_on (take i steps) answers mid step answer new through makes settled
-    (step_more t n Unopened old mid new (take i steps) answers run step answer makes)
-    (named_more t n Unopened old mid new (take i steps) answers named step answer makes))
+    (step_more t n Refuses old mid new (take i steps) answers run step answer makes)
+    (named_more t n Refuses old mid new (take i steps) answers named step answer makes))
 
 pub answered_on :
     (steps : List Step) (answers more : List Answer) (i : ℕ) (step : Step) (answer : Answer) →

@@ -60,7 +60,7 @@ none_named_yet t n old live settled = record {
   found = λ found may. ∣ As_first found (settled live found may) ∣₁;
 }
 
-module _ {S : Type 0} (t : RunMeaning S) (n : NamesMeaning S) (Unopened : S → S → Type 0)
+module _ {S : Type 0} (t : RunMeaning S) (n : NamesMeaning S) (Refuses : Refused → S → S → Type 0)
     (old mid new : S) (steps : List Step) (answers : List Answer)
     (named : HasNamed t n old steps answers mid)
   where
@@ -124,7 +124,7 @@ module _ {S : Type 0} (t : RunMeaning S) (n : NamesMeaning S) (Unopened : S → 
 
     -- an opening that was refused
     refused_named :
-        (refused : Refused) → StepMakes t n Unopened mid step.Reopen (answer.Reopened (Err refused)) new →
+        (refused : Refused) → StepMakes t n Refuses mid step.Reopen (answer.Reopened (Err refused)) new →
         (stands : Bool) → refused.stands ≡ stands → Behind step.Reopen (answer.Reopened (Err refused))
     refused_named refused makes true is = record {
       here = λ live. absurd (makes.0.shut live);
@@ -137,7 +137,7 @@ module _ {S : Type 0} (t : RunMeaning S) (n : NamesMeaning S) (Unopened : S → 
     }
 
     -- one step more
-    pub named_more : (s : Step) (a : Answer) → StepMakes t n Unopened mid s a new → Behind s a
+    pub named_more : (s : Step) (a : Answer) → StepMakes t n Refuses mid s a new → Behind s a
     named_more (step.Request bytes moment) (answer.Replied reply) makes =
         left_more (step.Request bytes moment) (answer.Replied reply) (λ was names keeps. keeps)
         makes.0.moves.lived makes.1

@@ -5,7 +5,7 @@ use Rattle.sqlite_disk.specs.declared.Disk as disk
 use Rattle.openings.specs.declared.refused.Refused.{Refused}
 use Rattle.store.specs.declared.store.Store.{Store}
 use Rattle.store.specs.StoreLaws.{store_meaning, opened_is_found, opened_is_live}
-use Rattle.store.specs.Stores.{IsLive, IsHonest, may_find, Finds, IsUnopened, LeavesStore}
+use Rattle.store.specs.Stores.{IsLive, IsHonest, may_find, Finds, LeavesStore}
 use Rattle.service.specs.Openings.{run_meaning, IsSettled}
 use Rattle.service.specs.OpeningLaws.{is_opened}
 use Rattle.whole_runs.specs.Reopenings.{Reopens}
@@ -19,13 +19,13 @@ module _ {D : Type 0} {g : disk.Ghosts D} where
       OnErr result (IsLive new → ⊥) →
       IfErr result (λ refused. LeavesStore refused old new) →
       IsSettled (run_meaning store_meaning) new →
-      Reopens (run_meaning store_meaning) IsUnopened old result new
+      Reopens (run_meaning store_meaning) LeavesStore old result new
   reopens_so old new (Ok done) finds honest shut left settled =
       is_opened (run_meaning store_meaning) old new (opened_is_found old new finds honest)
       (opened_is_live old new finds) settled
   reopens_so old new (Err refused) finds honest shut left settled = record {
     shut = shut;
-    lost = left.unopened;
+    refuses = left;
     kept = λ is found f. ∥∥₁_map ((left.stand is).found f.honest f.db f.may) (λ may. record {
       honest = (left.stand is).honest f.honest;
       db = f.db;

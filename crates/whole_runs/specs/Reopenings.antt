@@ -24,19 +24,20 @@ use Rattle.whole_runs.specs.NameCourses.{AreNamesAfter}
 use Rattle.whole_runs.specs.Names.{AreNamesSettled, IsJoinTried, IsKeyTriedOf, LeavesNames}
 use Rattle.whole_runs.specs.Names.{NamesMeaning, ReopensNames}
 
--- an opening was refused: they are not live; and where it is told that what it might have found
--- stands, the next opening finds that; else what keeps the ledgers was not opened
-pub record IsRefused {S : Type 0} (t : RunMeaning S) (Unopened : S → S → Type 0) (old : S)
+-- an opening was refused: they are not live; where it is told that what it might have found stands,
+-- the next opening finds that; and what keeps the ledgers has refused so
+pub record IsRefused {S : Type 0} (t : RunMeaning S) (Refuses : Refused → S → S → Type 0) (old : S)
     (refused : Refused) (new : S) : Type 0 where
   pub shut : t.is_live new → ⊥
   pub kept : IsTrue refused.stands → (found : Tenants) → t.may_find new found
       → ∥ t.may_find old found ∥₁
-  pub lost : refused.stands ≡ false → Unopened old new
+  pub refuses : Refuses refused old new
 
 abbrev pub Reopens :
-    {S : Type 0} → RunMeaning S → (S → S → Type 0) → S → Result (Unit {0}) Refused → S → Type 0
-Reopens t Unopened old (Ok done) new = IsOpened t old new
-Reopens t Unopened old (Err refused) new = IsRefused t Unopened old refused new
+    {S : Type 0} → RunMeaning S → (Refused → S → S → Type 0) → S → Result (Unit {0}) Refused → S
+    → Type 0
+Reopens t Refuses old (Ok done) new = IsOpened t old new
+Reopens t Refuses old (Err refused) new = IsRefused t Refuses old refused new
 
 -- what a round makes of them; where memory lacks for the replies, nothing was done
 abbrev pub RoundMakes :
@@ -50,22 +51,22 @@ TellsTaken t old digest Told new = t.is_live new → Told → t.tenants old dige
 
 -- what a step makes of the ledgers, whose tenants have names
 abbrev pub StepMakes :
-    {S : Type 0} → RunMeaning S → NamesMeaning S → (S → S → Type 0) → S → Step → Answer → S
+    {S : Type 0} → RunMeaning S → NamesMeaning S → (Refused → S → S → Type 0) → S → Step → Answer → S
     → Type 0
-StepMakes t n Unopened old (step.Request bytes moment) (answer.Replied reply) new =
+StepMakes t n Refuses old (step.Request bytes moment) (answer.Replied reply) new =
     Replies t old bytes.items moment reply new × LeavesNames t n old new
-StepMakes t n Unopened old (step.Round messages) (answer.Round result) new =
+StepMakes t n Refuses old (step.Round messages) (answer.Round result) new =
     RoundMakes t old messages.items result new × LeavesNames t n old new
-StepMakes t n Unopened old (step.AddTenant name digest) (answer.Added result) new =
+StepMakes t n Refuses old (step.AddTenant name digest) (answer.Added result) new =
     Moves t old (Tried (Joined digest) (ending_of result)) new
     × TellsTaken t old digest (result ≡ Err add.DigestTaken) new
     × IsJoinTried t n old name digest result new
-StepMakes t n Unopened old (step.ChangeKey name digest) (answer.Keyed result) new =
+StepMakes t n Refuses old (step.ChangeKey name digest) (answer.Keyed result) new =
     IsKeyTriedOf t n old name digest result new
     × TellsTaken t old digest (result ≡ Err key.DigestTaken) new
-StepMakes t n Unopened old step.Reopen (answer.Reopened result) new =
-    Reopens t Unopened old result new × ReopensNames t n old result new
-StepMakes t n Unopened old step answer new = ⊥
+StepMakes t n Refuses old step.Reopen (answer.Reopened result) new =
+    Reopens t Refuses old result new × ReopensNames t n old result new
+StepMakes t n Refuses old step answer new = ⊥
 
 -- what a run makes of them: some course of the steps and the answers leads to what is there, and
 -- one to whatever an opening may find
@@ -90,16 +91,16 @@ pub record IsInOrder {S : Type 0} (t : RunMeaning S) (n : NamesMeaning S) (ledge
 -- a run step by step: each step makes its ledgers of those before it, and the steps up to there
 -- have run. At each moment the ledgers are in order.
 pub data RunsThrough {S : Type 0} (t : RunMeaning S) (n : NamesMeaning S)
-    (Unopened : S → S → Type 0) (old : S) : List Step → List Answer → S → Type 0 where
-  Begins : IsInOrder t n old → RunsThrough t n Unopened old [] [] old
+    (Refuses : Refused → S → S → Type 0) (old : S) : List Step → List Answer → S → Type 0 where
+  Begins : IsInOrder t n old → RunsThrough t n Refuses old [] [] old
   Goes_on :
       (steps : List Step) (answers : List Answer) (mid : S) (step : Step) (answer : Answer)
       (new : S) →
-      RunsThrough t n Unopened old steps answers mid →
-      StepMakes t n Unopened mid step answer new →
+      RunsThrough t n Refuses old steps answers mid →
+      StepMakes t n Refuses mid step answer new →
       IsInOrder t n new → HasRun t old (steps ++ step ∷ []) (answers ++ answer ∷ []) new →
       HasNamed t n old (steps ++ step ∷ []) (answers ++ answer ∷ []) new →
-      RunsThrough t n Unopened old (steps ++ step ∷ []) (answers ++ answer ∷ []) new
+      RunsThrough t n Refuses old (steps ++ step ∷ []) (answers ++ answer ∷ []) new
 
 -- an answer is one to its step; whatever the ledgers are, what is told before a tenant is looked up
 -- is told right, and that they are unavailable is told of a whole message alone

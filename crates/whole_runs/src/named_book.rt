@@ -77,7 +77,7 @@ impl Reopening for NamedBook {
       may_find = λ named found. KeepsNames (names_among named.names.items) found;
     } };
 
-    ghost unopened = { λ old new. ⊥ };
+    ghost refuses = { λ refused old new. ⊥ };
 
     fn is_settled(&self) {}
 

@@ -6,6 +6,7 @@ ghost use Rattle.service.specs.Courses.{Tried};
 ghost use Rattle.service.specs.Openings.{RunMeaning, Replies, Moves};
 ghost use Rattle.service.specs.Responds.{RefusesEarly};
 ghost use Rattle.service.specs.Turns.{MovesInRound};
+ghost use Rattle.openings.specs.declared.refused.Refused.{Refused as ARefusal};
 ghost use Rattle.store.specs.Deeds.{ending_of};
 ghost use Rattle.whole_runs.specs.Names.{IsJoinTried, IsKeyTriedOf, LeavesNames};
 ghost use Rattle.whole_runs.specs.Names.{NamesMeaning, ReopensNames};
@@ -31,8 +32,8 @@ pub trait Reopening {
     // The digest of the tenant with each name, and which names an opening may find.
     ghost names: { NamesMeaning Self };
 
-    // An opening was refused by what keeps the ledgers, of which nothing is known then.
-    ghost unopened: { Self → Self → Type 0 };
+    // An opening was refused so: for which fault, and what is known of the ledgers then.
+    ghost refuses: { ARefusal → Self → Self → Type 0 };
 
     /// A law: while the ledgers are live, an opening finds what is there, and each tenant has one
     /// name.
@@ -85,7 +86,7 @@ pub trait Reopening {
     /// is told that this stands.
     fn open_again(&mut self) -> Result<(), Refused>
         requires { means.is_usable self.old }
-        ensures opened { Reopens means unopened self.old result self.new }
+        ensures opened { Reopens means refuses self.old result self.new }
         ensures named { ReopensNames means names self.old result self.new }
         ensures usable { means.is_usable self.new };
 

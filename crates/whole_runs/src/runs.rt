@@ -13,7 +13,7 @@ use wire::NoMemory;
 // Runs one step.
 fn run_step<L: Reopening>(alloc: Global, ledgers: &mut L, step: &Step) -> Answer
     requires { L.means.is_usable ledgers.old }
-    ensures makes { StepMakes L.means L.names L.unopened ledgers.old step.now result ledgers.new }
+    ensures makes { StepMakes L.means L.names L.refuses ledgers.old step.now result ledgers.new }
     ensures answer { IsAnswerTo step.now result }
     ensures usable { L.means.is_usable ledgers.new }
 {
@@ -49,7 +49,7 @@ pub fn run_all<L: Reopening>(
     ensures run { L.means.is_live ledgers.old → IfOk result (λ answers.
         HasRun L.means ledgers.old steps.now answers.items ledgers.new) }
     ensures through { L.means.is_live ledgers.old → IfOk result (λ answers.
-        RunsThrough L.means L.names L.unopened ledgers.old steps.now answers.items ledgers.new) }
+        RunsThrough L.means L.names L.refuses ledgers.old steps.now answers.items ledgers.new) }
     ensures named { L.means.is_live ledgers.old → IfOk result (λ answers.
         HasNamed L.means L.names ledgers.old steps.now answers.items ledgers.new) }
     ensures answered { IfOk result (λ answers. AllZip IsAnswerTo steps.now answers.items) }

@@ -21,14 +21,14 @@ impl<D: Disk + Drop> Settles<Store<D>> for Stores {
 impl<D: Disk + Drop> Reopening for Store<D> {
     ghost use Rattle.service.specs.Openings.{run_meaning};
     ghost use Rattle.store.specs.StoreLaws.{store_meaning, valid_tenants};
-    ghost use Rattle.store.specs.Stores.{IsUnopened};
+    ghost use Rattle.store.specs.Stores.{LeavesStore};
     ghost use Rattle.whole_runs.specs.StoredNames.{store_names};
 
     ghost means = { run_meaning store_meaning };
 
     ghost names = { store_names };
 
-    ghost unopened = { λ old new. IsUnopened old new };
+    ghost refuses = { λ refused old new. LeavesStore refused old new };
 
     fn is_settled(&self) {
         self.is_settled();

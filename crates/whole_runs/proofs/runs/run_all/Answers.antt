@@ -23,16 +23,16 @@ loop-step-init g c = record {
 pub loop-step-preserved : goal.loop-step-preserved
 loop-step-preserved g c = record {
   run = λ live.
-      run_on g.L.Reopening.means g.L.Reopening.names g.L.Reopening.unopened _ _ _ _ _ _ _ _ _ (omega arith) c.step-item.is
+      run_on g.L.Reopening.means g.L.Reopening.names g.L.Reopening.refuses _ _ _ _ _ _ _ _ _ (omega arith) c.step-item.is
       c.push_reserved.ensures.items (c.loop-step.invariant.run live) c.run_step-answer.ensures.makes;
   through = λ live.
-      through_on g.L.Reopening.means g.L.Reopening.names g.L.Reopening.unopened _ _ _ _ _ _ _ _ _
+      through_on g.L.Reopening.means g.L.Reopening.names g.L.Reopening.refuses _ _ _ _ _ _ _ _ _
       (omega arith) c.step-item.is c.push_reserved.ensures.items (c.loop-step.invariant.through live)
       (c.loop-step.invariant.run live) (c.loop-step.invariant.named live)
       c.run_step-answer.ensures.makes
       c.is_settled-in-loop-step.ensures;
   named = λ live.
-      named_on g.L.Reopening.means g.L.Reopening.names g.L.Reopening.unopened _ _ _ _ _ _ _ _ _
+      named_on g.L.Reopening.means g.L.Reopening.names g.L.Reopening.refuses _ _ _ _ _ _ _ _ _
       (omega arith) c.step-item.is c.push_reserved.ensures.items (c.loop-step.invariant.named live)
       c.run_step-answer.ensures.makes;
   answered =

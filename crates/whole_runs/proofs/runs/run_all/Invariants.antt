@@ -12,7 +12,7 @@ invariant-loop-step g l = record {
       l.ledgers;
   through :
       g.L.Reopening.means.is_live l.fn.ledgers
-      → RunsThrough g.L.Reopening.means g.L.Reopening.names g.L.Reopening.unopened l.fn.ledgers
+      → RunsThrough g.L.Reopening.means g.L.Reopening.names g.L.Reopening.refuses l.fn.ledgers
       (take l.step-index l.steps) l.answers.items l.ledgers;
   named :
       g.L.Reopening.means.is_live l.fn.ledgers
