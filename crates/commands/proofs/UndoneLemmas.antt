@@ -9,7 +9,6 @@ use Rattle.sqlite_trees.specs.Tree.{Trees}
 use Rattle.sqlite_wal.specs.Recovery.{Image}
 use Rattle.sqlite.specs.Effect.{Database}
 use Rattle.amount.specs.Decimal.{decimal_of}
-use Rattle.records.specs.Machine.{Machine}
 use Rattle.tenants.specs.KeyText.{key_of}
 use Rattle.tenants.specs.NameText.{IsTenantName}
 use Rattle.stored_ledgers.specs.Directory.{digest_in, tenants_in}

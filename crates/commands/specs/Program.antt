@@ -1,5 +1,5 @@
 -- What the program does for its words.
-use Rattle.std.specs.Prelude.{◌≡◌, ◌≢◌, ◌⊎◌, ◌<◌, ◌≤◌, ◌^◌, ℕ, Bool, true, false, codes, if◌then◌else◌}
+use Rattle.std.specs.Prelude.{◌≡◌, ◌≢◌, ◌⊎◌, ℕ, Bool, true, false, codes, if◌then◌else◌}
 use Rattle.std.specs.Prelude.{List, [], ◌∷◌, ◌++◌, decimal}
 use Rattle.std.specs.Prelude.{Option, None, Some, Result, Ok, Err, IfOk, IfErr}
 use Rattle.sqlite_disk.specs.declared.Disk as disk
@@ -22,7 +22,6 @@ use Rattle.command_line.specs.declared.fault.LineFault.TheVariants.{Refused, Ver
 use Rattle.command_texts.specs.Faults.{status_of}
 use Rattle.command_texts.specs.Lines.{IsWritten, added_line, changed_line, damage_line}
 use Rattle.command_texts.specs.Lines.{copied_line, fault_line, new_ledger_line, schema_line, stopped_line}
-use Rattle.command_texts.specs.Words.{IsDigestOfKey}
 use Rattle.command_line.specs.declared.commands.StatementWords.{StatementWords}
 use Rattle.commands.specs.Asking.{IsAccountId, IsAsked, IsVersion, MeansPeriod, read_form}
 use Rattle.control.specs.Answers.{TellsAdded, TellsChanged, TellsCopied, TellsStopped}
