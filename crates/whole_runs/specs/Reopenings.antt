@@ -1,5 +1,5 @@
 -- What each step of a run promises of ledgers that can be opened again, and what a run does.
-use Rattle.std.specs.Prelude.{◌≡◌, ◌≢◌, ℕ, false, List, [], ◌∷◌, ◌++◌, None, Result, Ok, Err, Vec}
+use Rattle.std.specs.Prelude.{◌≡◌, ◌≢◌, ℕ, List, [], ◌∷◌, ◌++◌, None, Result, Ok, Err, Vec}
 use Rattle.std.specs.Prelude.{IsTrue}
 use Rattle.chain.specs.Ledgers.{Tenants}
 use Rattle.ledger_http.specs.declared.reply.Reply.{Reply}
