@@ -19,9 +19,8 @@ use Rattle.migrate.specs.Ledgers.{RefusesFiles}
 use Rattle.migrate.specs.Told.{TellsAny}
 use Rattle.store.specs.Refused.{RefusesToOpen}
 use Rattle.command_texts.specs.declared.fault.Fault.{Fault}
-use Rattle.command_texts.specs.declared.fault.Fault.TheVariants as told
-use Rattle.commands.specs.Openings.{HasFound, HasFoundSome, IsFound, IsFoundSo, IsOpeningFault}
-use Rattle.commands.specs.Openings.{IsUnopened, RefusesImage, RefusesOlder, open_fault}
+use Rattle.commands.specs.Openings.{HasFound, HasFoundSome, IsFound, IsFoundSo}
+use Rattle.commands.specs.Openings.{RefusesImage, RefusesOlder, open_fault}
 
 module _ (Finds : OpenFault → Type 0) where
   -- what was found where an opening told it was found where the program tells it
@@ -44,22 +43,6 @@ module _ (Finds : OpenFault → Type 0) where
   none_found (opening.Damaged damage) none = absurd (none tt)
   none_found (opening.Unavailable why) none = tt
 
-  -- nor of what is told before files are opened
-  pub unopened : (fault : OpenFault) → IsUnopened (open_fault fault) → IsFound Finds fault
-  unopened opening.InUse none = tt
-  unopened opening.Unreadable none = tt
-  unopened opening.NotALedger none = tt
-  unopened opening.OldSchema none = absurd none
-  unopened opening.NewerSchema none = absurd none
-  unopened (opening.Damaged damage) none = absurd none
-  unopened (opening.Unavailable why) none = tt
-
-  pub unopened_so : (fault : Fault) → IsUnopened fault → IsFoundSo Finds fault
-  unopened_so told.Unreadable none = tt
-  unopened_so told.NotALedger none = tt
-  unopened_so told.Unavailable none = tt
-  unopened_so other none = absurd none
-
   -- it is found, if it is where a ledger is spoken of
   pub found_if : (fault : OpenFault) → (IsOfLedger fault → Finds fault) → IsFound Finds fault
   found_if opening.InUse finds = tt
@@ -69,16 +52,6 @@ module _ (Finds : OpenFault → Type 0) where
   found_if opening.NewerSchema finds = finds tt
   found_if (opening.Damaged damage) finds = finds tt
   found_if (opening.Unavailable why) finds = tt
-
-  pub is_opening_fault : (fault : Fault) → IsFoundSo Finds fault → IsOpeningFault fault
-  is_opening_fault told.InUse found = tt
-  is_opening_fault told.Unreadable found = tt
-  is_opening_fault told.NotALedger found = tt
-  is_opening_fault told.OldSchema found = tt
-  is_opening_fault told.NewerSchema found = tt
-  is_opening_fault told.Damaged found = tt
-  is_opening_fault told.Unavailable found = tt
-  is_opening_fault other found = absurd found
 
 module _ {D : Type 0} (g : disk.Ghosts D) where
   module _ (Tells : OpenFault → Database → Type 0) where
