@@ -186,12 +186,45 @@ def by_wrk(many):
     return run
 
 
+def held(served):
+    """How many MB of memory a service has."""
+    return int(pathlib.Path(f"/proc/{served.pid}/statm").read_text().split()[1]) * 4096 / 1e6
+
+
+def peak(served):
+    """How many it had at most."""
+    told = pathlib.Path(f"/proc/{served.pid}/status").read_text()
+    return int(told.partition("VmHWM:")[2].split()[0]) * 1024 / 1e6
+
+
 def memory(port, served):
-    def held():
-        return int(pathlib.Path(f"/proc/{served.pid}/statm").read_text().split()[1]) * 4096 / 1e6
-    before = held()
+    before = held(served)
     with kept(1000)(port):
-        return f"{before:.1f} MB before, {held():.1f} MB with a thousand that were answered"
+        return f"{before:.1f} MB before, {held(served):.1f} MB with a thousand that were answered"
+
+
+def statement(port, served):
+    """The slowest of the transfers that one client sends, one by one, while another one reads a
+    statement of 100,000 entries."""
+    client, waits, taken = Client(port), [], []
+    for _ in range(100):
+        client.post("/transfers", transfers(1000))
+    before = peak(served)
+
+    def read():
+        begin = time.monotonic()
+        asking = http.client.HTTPConnection("127.0.0.1", port, timeout=60)
+        asking.request("GET", "/statement/1", headers=HEADERS)
+        taken.append(len(asking.getresponse().read()) / 1e6)
+        taken.append(time.monotonic() - begin)
+    reading = threading.Thread(target=read)
+    reading.start()
+    while reading.is_alive():
+        waits.append(client.timed(transfers(1)) * 1000)
+    reading.join()
+    return (f"{taken[0]:.1f} MB in {taken[1]:.2f} s; beside it {len(waits)} transfers, "
+            f"{statistics.median(waits):.1f} ms in the median, {max(waits):.1f} ms the slowest; "
+            f"{before:.1f} MB of memory at most before, {peak(served):.1f} behind it")
 
 
 TRIALS = {
@@ -206,6 +239,7 @@ TRIALS = {
     "beside ab, 10 connections": beside(tool(
         "ab", "-k", "-c10", "-t30", "-n1000000", "-H", f"x-ledger-key: {KEY}",
         "http://127.0.0.1:PORT/statement/1")),
+    "beside a statement": statement,
     "1,000 transfers beside 128 begun bodies": begun,
     "wrk, transfers by 1 connection": by_wrk(1),
     "wrk, transfers by 20 connections": by_wrk(20),

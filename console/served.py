@@ -68,7 +68,7 @@ class Handler(http.server.BaseHTTPRequestHandler):
             reply = ledgerd.getresponse()
             kind = reply.getheader("content-type", "application/json")
             self.tell(reply.status, {"content-type": kind}, reply.read())
-        except OSError:
+        except (OSError, http.client.HTTPException):
             self.tell(502, {"content-type": "text/plain"}, b"ledgerd does not answer\n")
         finally:
             ledgerd.close()

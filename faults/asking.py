@@ -10,9 +10,10 @@ import subprocess
 import threading
 import time
 
+from connection import Connection
 from drawn import Requests
 from refused import REFUSALS
-from service import PATIENCE, Connection, message, want
+from service import PATIENCE, message, want
 
 
 class Writer(threading.Thread):

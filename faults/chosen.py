@@ -6,9 +6,10 @@ import hashlib
 import os
 import subprocess
 
+from connection import Connection
 from drawn import Requests
 from runs import NAMES
-from service import TOP, Connection, Desk, body_of, check, look_at, message, want
+from service import TOP, Desk, body_of, check, look_at, message, want
 
 
 class Answered(Connection):

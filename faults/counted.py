@@ -9,11 +9,12 @@ import socket
 import time
 
 from asking import asked, be_there, call, named, told_by, write
+from connection import Connection
 from drawn import account, moves
 from reopened import fail
 from rounds import Crowd
 from runs import House
-from service import Connection, body_of, check, message, want
+from service import body_of, check, message, want
 
 COUNTS = ["accounts_accepted", "accounts_refused", "clients", "clients_accepted",
           "clients_late", "disk_faults", "file_bytes", "last_refused_opening", "log_bytes",

@@ -5,10 +5,11 @@ import os
 import shutil
 import sqlite3
 
+from connection import Surprise
 from copies import copy, files
 from plain_audit import FAULTS, KEYS, TABLES, agrees, expect, rows_of, verdict
 from runs import House
-from service import Service, Surprise, check, run, want
+from service import Service, check, run, want
 
 
 def damaged(trial):

@@ -9,11 +9,11 @@ import tempfile
 
 from asking import (asked, begin_writers, both, call, digest_of, drawn_key, end_writers, listed,
                     look_at_old_key, named, take_in, told_by, write)
+from connection import Connection
 from counted import COUNTS, callers, status_told, work_told
 from drawn import moves
 from runs import House
-from service import (NAME_TAKEN, NO_DESK, PATIENCE, Connection, add_tenant, change_key, check, run,
-                     want)
+from service import NAME_TAKEN, NO_DESK, PATIENCE, add_tenant, change_key, check, run, want
 
 NOT_SERVED = (1, "", "ledgerd: not_served\n")
 DENIED = (4, "", "ledgerd: unreadable\nPermission denied (os error 13)\n")

@@ -12,11 +12,11 @@ from functools import partial
 import limits
 import pages
 import queries
+from connection import Connection, Lost, Surprise
 from drawn import account
 from many import Client
 from model import HISTORY
-from service import (PATIENCE, Connection, Desk, Lost, Surprise, look_at, lookup, message, newest,
-                     want)
+from service import PATIENCE, Desk, look_at, lookup, message, newest, want
 
 # Seconds: for which a client may be silent, for which one keeps its connection unused, and between
 # two messages of a tenant in the mean.

@@ -7,9 +7,10 @@ import socket
 import threading
 import time
 
+from connection import Connection, Lost
 from drawn import moves
 from runs import House
-from service import Connection, Lost, body_of, message, want
+from service import body_of, message, want
 
 # So many clients are served at once.
 MOST_CLIENTS = 1000

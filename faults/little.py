@@ -2,10 +2,11 @@
 
 import resource
 
+from connection import Lost
 from drawn import moves
 from reopened import fill
 from runs import House
-from service import UNAVAILABLE, Lost, free_port, lookup, run, want
+from service import UNAVAILABLE, free_port, lookup, run, want
 
 OK = (0, "ok\n", "")
 # Megabytes that a command may have, one after the other, until it has enough; and by how much they

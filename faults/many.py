@@ -5,12 +5,13 @@ import random
 import threading
 import time
 
+from connection import Connection, Surprise
 from drawn import Requests, moves
 from indexed import Indexed
 from limits import PAUSES, drip, is_let_go, page_asked
 from operators import Operator
 from runs import House
-from service import PATIENCE, Connection, Surprise, body_of, message, want
+from service import PATIENCE, body_of, message, want
 
 # The ids of tenants that are clients here come behind those that a house draws.
 FIRST = 10**9

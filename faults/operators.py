@@ -7,10 +7,11 @@ import threading
 import time
 
 from asking import digest_of, look_at_old_key, told_by
+from connection import Lost, Surprise
 from copied import OUTPUT, PARTS, left, look_at_files
 from copies import remove
 from counted import COUNTS
-from service import PATIENCE, UNAVAILABLE, UNREADABLE, Lost, Surprise, check, want
+from service import PATIENCE, UNAVAILABLE, UNREADABLE, check, want
 from stops import IN_USE, NOT_SERVED
 
 # How often of a hundred times he does each.

@@ -5,10 +5,11 @@ import signal
 import threading
 import time
 
+from connection import Connection
 from control import Control
 from drawn import moves
 from runs import House
-from service import Connection, message, want
+from service import message, want
 
 # The process is stopped for longer than a message may take.
 MANY, PAUSE = 20, 11

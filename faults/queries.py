@@ -6,10 +6,11 @@ import json
 import signal
 
 import pages
+from connection import Connection
 from drawn import LEDGER, account, transfer
 from model import MAX, NEWEST_FIRST, PENDING, POST, VOID
 from runs import House
-from service import Connection, body_of, check, clock_in, message, want
+from service import body_of, check, clock_in, message, want
 
 RARE, SOME = 2**64 - 1, 3
 BATCH, THIRTY = 100, 30

@@ -6,8 +6,9 @@ import socket
 import subprocess
 
 import pages
+from connection import Connection
 from runs import House
-from service import PATIENCE, TOP, Connection, message, want
+from service import PATIENCE, TOP, message, want
 
 UNKNOWN = "f" * 64
 PAGE = TOP / "console/page.html"

@@ -3,11 +3,12 @@
 import time
 
 import pages
+from connection import Lost
 from control import ALL, DISK, MEMORY, Control, places
 from drawn import LEDGER, account, moves, transfer
 from routes import look_at_routes
 from runs import House
-from service import Lost, body_of, message, want
+from service import body_of, message, want
 
 # How many seconds a hold is open, and by when behind it its tenant has been settled.
 HOLD, SETTLED = 9, 5

@@ -3,9 +3,10 @@
 import json
 import time
 
+from connection import Connection
 from drawn import moves
 from runs import House
-from service import Connection, body_of, check, lookup, message, want
+from service import body_of, check, lookup, message, want
 
 MANY = 200
 # Behind this time the second half of each message is sent: a message has ten seconds.

@@ -5,9 +5,10 @@ import itertools
 import signal
 import threading
 
+from connection import Lost
 from control import ALL, DISK, KILL, MEMORY, SENT, Control, places
 from runs import House
-from service import Lost, body_of, check, message, want
+from service import body_of, check, message, want
 
 TWENTY, HUNDREDS = 20, 200
 # So many rounds with an allocation refused are over one file.

@@ -6,8 +6,9 @@ import os
 import threading
 
 import copies
+from connection import Lost
 from drawn import Requests
-from service import Desk, Lost, Service, add_tenant, change_key, check, want
+from service import Desk, Service, add_tenant, change_key, check, want
 
 NAMES = ("north-desk", "south-hall", "east-club", "west-pier", "old-mill", "new-port", "high-gate",
          "low-moor")

@@ -13,13 +13,12 @@ import subprocess
 import time
 
 import pages
+from connection import PATIENCE, Connection, want
 from messages import body_of, clock_in, lookup, message, newest
 from model import ACCOUNT_FIELDS, BALANCES, HISTORY, TRANSFER_FIELDS, Ledger
 from pages import shown
 
 TOP = pathlib.Path(__file__).resolve().parent.parent
-# Seconds behind which something hangs: a busy machine may take minutes for a long file.
-PATIENCE = 300
 # So many seconds a connection is kept that is not used. A service lets it go after 75, or after 12
 # where a trial asks for that.
 KEPT = 5
@@ -32,19 +31,6 @@ UNREADABLE = (4, "", "ledgerd: unreadable\n")
 # The paths of batches, whose clock is their own.
 BATCHES = ("/transfers", "/accounts")
 NAME_TAKEN = (1, "", "ledgerd: name_taken\n")
-
-
-class Surprise(Exception):
-    """Something that should never be."""
-
-
-class Lost(Exception):
-    """The connection ended before a whole reply."""
-
-
-def want(holds, text):
-    if not holds:
-        raise Surprise(text)
 
 
 def result_names():
@@ -184,62 +170,6 @@ class Service:
         self.served.wait()
         os.close(self.errors)
         atexit.unregister(self.served.kill)
-
-
-class Connection:
-    """One connection, whose replies are read strictly."""
-
-    def __init__(self, port, room=None):
-        """With no more than so much room for what was not read, if that is told."""
-        self.socket = socket.socket()
-        self.socket.settimeout(PATIENCE)
-        if room:
-            self.socket.setsockopt(socket.SOL_SOCKET, socket.SO_RCVBUF, room)
-        self.socket.connect(("127.0.0.1", port))
-        self.socket.setsockopt(socket.IPPROTO_TCP, socket.TCP_NODELAY, 1)
-        self.read = b""
-
-    def close(self):
-        self.socket.close()
-
-    def send(self, message, piece=None):
-        """Sends a message, in pieces of so many bytes."""
-        try:
-            for first in range(0, len(message), piece or max(len(message), 1)):
-                self.socket.sendall(message[first:first + (piece or len(message))])
-        except OSError as error:
-            raise Lost(error) from error
-
-    def more(self):
-        try:
-            read = self.socket.recv(1 << 16)
-        except socket.timeout as error:
-            raise Surprise("no reply for minutes") from error
-        except OSError as error:
-            raise Lost(error) from error
-        self.read += read
-        return bool(read)
-
-    def reply(self):
-        """The next reply: its status line, type and body."""
-        while b"\r\n\r\n" not in self.read:
-            if not self.more():
-                raise Lost(f"the connection ended behind {self.read!r}")
-        head, _, _ = self.read.partition(b"\r\n\r\n")
-        found = re.fullmatch(r"HTTP/1\.1 (\d{3} [A-Za-z ]+)\r\ncontent-length: (\d+)\r\n"
-                             r"content-type: (application/json|text/csv)", head.decode("latin-1"))
-        want(found, f"a reply's head is {head!r}")
-        status, length, kind = found.groups()
-        end = len(head) + 4 + int(length)
-        while len(self.read) < end:
-            if not self.more():
-                raise Lost("the connection ended inside a reply")
-        body, self.read = self.read[len(head) + 4:end], self.read[end:]
-        return status, kind, body
-
-    def is_over(self):
-        """Whether the service has closed it, with nothing left to read."""
-        return self.read == b"" and not self.more()
 
 
 class Desk:

@@ -17,12 +17,13 @@ import threading
 import time
 
 import kinds
+from connection import Surprise
 from control import Control
 from indexed import Indexed
 from limits import fill
 from operators import Operator
 from runs import House
-from service import PATIENCE, Surprise, check, look_at, want
+from service import PATIENCE, check, look_at, want
 from stored import look_at_rows
 from trial import Trial
 from weather import Weather

@@ -6,12 +6,13 @@ import threading
 import time
 
 from asking import told_by
+from connection import Connection, Lost
 from control import ALL, DISK, Control
 from drawn import Requests
 from indexed import Indexed
 from routes import look_at_routes
 from runs import House
-from service import PATIENCE, Connection, Lost, Service, check, message, want
+from service import PATIENCE, Service, check, message, want
 from stops import STOPPED
 
 CLIENTS = 6

@@ -6,12 +6,12 @@ import time
 from functools import partial
 
 import pages
+from connection import Connection, Lost
 from drawn import LEDGER, account, moves
 from model import TRANSFER_FIELDS
 from refused import post, routes, statements
 from runs import House
-from service import (Connection, Desk, Lost, add_tenant, body_of, check, clock_in, lookup, message,
-                     shown, want)
+from service import Desk, add_tenant, body_of, check, clock_in, lookup, message, shown, want
 
 MOST_LENGTH = 2_097_152
 # So many bytes of a hostile message are sent ahead, behind a good one.

@@ -8,11 +8,12 @@ import signal
 import threading
 import time
 
+from connection import Connection
 from control import ALL, DISK, KILL, MEMORY, SENT
 from copies import copy, remove
 from limits import SHORT, TAKEN
 from refused import REFUSALS
-from service import PATIENCE, Connection, check, message, want
+from service import PATIENCE, check, message, want
 
 # So often each comes before any comes once more.
 TURNS = (*("killed",) * 3, "cut_off", "ended", "stopped", "disk_once", "disk_on", "memory", "clock",

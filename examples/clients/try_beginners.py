@@ -120,19 +120,15 @@ def answer(port, request):
 
 
 def whole(stream):
-    """A reply as text: its head, and as many bytes as it states."""
-    text = b""
-    while b"\r\n\r\n" not in text:
-        text += piece(stream)
-    head, _, body = text.partition(b"\r\n\r\n")
-    length = int(head.lower().split(b"content-length:")[1].split()[0])
-    while len(body) < length:
-        body += piece(stream)
-    return body.decode()
-
-
-def piece(stream):
-    return stream.recv(65536) or sys.exit("a reply was cut short")
+    """The body of a reply as text: as many bytes as its head states, or all of its chunks."""
+    reply = http.client.HTTPResponse(stream, method="GET")
+    try:
+        reply.begin()
+        if reply.length is None and not reply.chunked:
+            sys.exit("a reply whose head was cut, or states no length")
+        return reply.read().decode()
+    except http.client.HTTPException:
+        sys.exit("a reply was cut short")
 
 
 def has(text, word):

@@ -210,7 +210,8 @@ class Ledger:
         """All entries of an account, the oldest first. `Refused`: `no_account`.
 
         The whole statement is fetched by this call, some 100 bytes an entry; a long account is
-        better read with `iter_account_transfers`.
+        better read with `iter_account_transfers`. One that is cut is asked for again: it is told
+        whole or not at all.
         """
         check_number("", "account_id", account_id)
         message = Message("GET", f"/statement/{account_id}")

@@ -188,7 +188,8 @@ class Transport:
         connection.putheader("x-ledger-key", self._key)
         connection.endheaders(message.body)
         with connection.getresponse() as response:
-            # A head that was cut reads like one that ends there, without a length.
+            # A head that was cut reads like one that ends there, without a length. Of a body that
+            # was cut, or has no last chunk, `read` makes an `IncompleteRead` by itself.
             if response.length is None and not response.chunked:
                 raise http.client.IncompleteRead(b"")
             return response.status, response.read()

@@ -20,6 +20,12 @@ def reply_bytes(status, body, kind="application/json"):
     return head.encode() + body
 
 
+def statement_bytes(*parts):
+    """The reply that a statement is, each part of it in a chunk (RFC 9112, 7.1)."""
+    head = "HTTP/1.1 200 OK\r\ncontent-type: text/csv\r\ntransfer-encoding: chunked\r\n\r\n"
+    return head.encode() + b"".join(b"%x\r\n%b\r\n" % (len(part), part) for part in (*parts, b""))
+
+
 def compact(value):
     return json.dumps(value, separators=(",", ":"))
 
@@ -139,22 +145,32 @@ def free_port():
 
 
 def read_message(connection):
-    """The next message, whole, or None where the connection has ended before it."""
+    """The next message or reply, whole, or None where the connection has ended before it."""
     read = b""
-    while b"\r\n\r\n" not in read:
+    while not is_whole(read):
         more = connection.recv(65536)
         if not more:
             return None
         read += more
-    head, _, body = read.partition(b"\r\n\r\n")
+    return read
+
+
+def is_whole(read):
+    """Whether all of a message is there: its head, and its body by its length or its chunks."""
+    head, end, body = read.partition(b"\r\n\r\n")
     lines = [line.partition(b":") for line in head.split(b"\r\n")[1:]]
-    length = next((int(value) for name, _, value in lines if name.lower() == b"content-length"), 0)
-    while len(body) < length:
-        more = connection.recv(65536)
-        if not more:
-            return None
-        body += more
-    return head + b"\r\n\r\n" + body
+    values = {name.lower(): value.strip() for name, _, value in lines}
+    if b"transfer-encoding" in values:
+        return bool(end) and has_last_chunk(body)
+    return bool(end) and len(body) >= int(values.get(b"content-length", 0))
+
+
+def has_last_chunk(chunks):
+    """Whether chunks are there up to the last, which has no bytes."""
+    size, end, chunks = chunks.partition(b"\r\n")
+    while end and int(size, 16):
+        size, end, chunks = chunks[int(size, 16) + 2:].partition(b"\r\n")
+    return bool(end) and chunks.startswith(b"\r\n")
 
 
 def body_of(message):

@@ -66,6 +66,16 @@ def statement():
     return "".join(line.strip() + "\n" for line in lines).encode()
 
 
+def long_statement(many):
+    """One of so many payments of 10, in the parts in which it comes: the header line and up to 500
+    rows, and then up to 500 each."""
+    head = statement().splitlines(keepends=True)[0]
+    rows = [f"{place},{99 + place},debit,single,10,0,{10 * place},0,0\n".encode()
+            for place in range(1, many + 1)]
+    parts = [b"".join(rows[first:first + 500]) for first in range(0, many, 500)] or [b""]
+    return [head + parts[0], *parts[1:]]
+
+
 def listed(name):
     """The routes' shown bodies of replies as they stand in README's session, for a path."""
     return re.findall(rf"^> \S+ POST {name}\n> .*\n< 200\n((?:<.*\n)+)",

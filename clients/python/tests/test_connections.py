@@ -7,7 +7,8 @@ from unittest import mock
 
 from cegarront import Outcome, Refused, Transfer, Unanswered, transport
 
-from .fake import Act, Fake, cut, ok, refusal, results, say
+from . import pages
+from .fake import Act, Fake, cut, ok, refusal, results, say, statement_bytes
 
 EMPTY = ok({"accounts": [], "clock": "5"})
 EXISTS = 18
@@ -36,6 +37,15 @@ class Kept(unittest.TestCase):
             for _ in range(3):
                 ledger.lookup_accounts([1])
             self.assertEqual(fake.places, [1, 2, 3])
+
+    def test_one_is_kept_behind_a_statement(self):
+        statement = statement_bytes(*pages.long_statement(501))
+        with Fake([say(statement), say(EMPTY), say(statement)]) as fake:
+            ledger = fake.ledger(max_idle=5)
+            first = list(ledger.statement(1))
+            ledger.lookup_accounts([1])
+            self.assertEqual(list(ledger.statement(1)), first)
+            self.assertEqual(fake.places, [1] * 3)
 
     def test_none_is_kept_behind_a_refusal(self):
         with Fake([say(refusal(404, "no_account")), say(EMPTY)]) as fake:

@@ -28,7 +28,17 @@ from cegarront import (
 from cegarront.records import is_string
 
 from . import pages
-from .fake import KEY, Fake, body_of, ok, refusal, reply_bytes, results, say
+from .fake import (
+    KEY,
+    Fake,
+    body_of,
+    ok,
+    refusal,
+    reply_bytes,
+    results,
+    say,
+    statement_bytes,
+)
 
 PAID = Transfer(id=100, debit_account_id=1, credit_account_id=2, amount=10, ledger=7, code=1)
 
@@ -59,7 +69,7 @@ class Messages(unittest.TestCase):
         asked = AccountFilter(account_id=9)
         empty = {"clock": "0", "next": "0", "results": [], "accounts": [], "transfers": [],
                  "balances": [], "pending": []}
-        script = [say(ok(empty)) for _ in range(10)] + [say(reply_bytes(200, pages.statement()))]
+        script = [say(ok(empty)) for _ in range(10)] + [say(statement_bytes(pages.statement()))]
         script.append(say(ok({"serving": True})))
         with Fake(script) as fake:
             ledger = fake.ledger()
@@ -143,9 +153,18 @@ class Replies(unittest.TestCase):
                                           credits_pending=1, credits_posted=2))
 
     def test_a_statement(self):
-        entries = self.told(reply_bytes(200, pages.statement(), "text/csv"),
+        entries = self.told(statement_bytes(pages.statement()),
                             lambda ledger: list(ledger.statement(1)))
         self.assertEqual(entries, [Entry(3, 100, Side.DEBIT, EntryKind.SINGLE, 10, 0, 10, 0, 0)])
+
+    def test_a_statement_of_several_chunks(self):
+        for many in (0, 1, 500, 501, 1000, 1001):
+            with self.subTest(many):
+                entries = self.told(statement_bytes(*pages.long_statement(many)),
+                                    lambda ledger: list(ledger.statement(1)))
+                self.assertEqual(entries, [
+                    Entry(place, 99 + place, Side.DEBIT, EntryKind.SINGLE, 10, 0, 10 * place, 0, 0)
+                    for place in range(1, many + 1)])
 
     def test_what_no_ledger_answers(self):
         replies = [

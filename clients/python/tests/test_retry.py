@@ -1,5 +1,6 @@
 """When a message is sent again, and when not."""
 
+import http.client
 import threading
 import time
 import unittest
@@ -18,7 +19,20 @@ from cegarront import (
 )
 
 from . import pages
-from .fake import KEY, Fake, cut, free_port, ok, refusal, reply_bytes, results, say, silence
+from .fake import (
+    KEY,
+    Fake,
+    cut,
+    free_port,
+    ok,
+    refusal,
+    reply_bytes,
+    results,
+    say,
+    silence,
+    statement_bytes,
+)
+from .relay import Relay
 
 PAID = Transfer(id=100, debit_account_id=1, credit_account_id=2, amount=10, ledger=7, code=1)
 EXISTS, FAILED = 18, 60
@@ -28,6 +42,15 @@ QUICK = mock.patch.object(transport, "FIRST_PAUSE", 0.001)
 
 def lookup_reply():
     return ok({"accounts": [], "clock": "5"})
+
+
+def statement_reply():
+    """One of a transfer, in two chunks and the last."""
+    return statement_bytes(*pages.statement().splitlines(keepends=True))
+
+
+# What ends a reply in chunks.
+LAST_CHUNK = b"0\r\n\r\n"
 
 
 class SentAgain(unittest.TestCase):
@@ -99,6 +122,34 @@ class SentAgain(unittest.TestCase):
             self.assertEqual(fake.ledger().lookup_accounts([1]).clock, 5)
             self.assertEqual(len(set(fake.messages)), 1)
 
+    def test_a_statement_that_is_cut_at_each_byte(self):
+        whole = statement_reply()
+        for count in range(len(whole)):
+            with self.subTest(whole[:count][-20:]), Fake([cut(whole[:count]), say(whole)]) as fake:
+                entries = list(fake.ledger().statement(1))
+                self.assertEqual([each.transfer_id for each in entries], [100])
+                if count <= len(whole) - len(LAST_CHUNK):
+                    self.assertEqual(len(fake.messages), 2)
+
+    def test_a_statement_that_stops_between_its_chunks(self):
+        whole = statement_reply()
+        beginning = whole[:whole.index(b"\n\r\n") + 3]
+        with Fake([silence(0.5, beginning), say(whole)]) as fake:
+            (entry,) = fake.ledger(timeout=0.1).statement(1)
+            self.assertEqual(len(fake.messages), 2)
+        self.assertEqual(entry.transfer_id, 100)
+
+    def test_statements_behind_what_cuts_at_random(self):
+        """Each of more bytes than the relay reads at once."""
+        with Fake([say(statement_bytes(*pages.long_statement(2001)))] * 1000) as fake:
+            relay = Relay(fake.port, seed=1, one_in=2)
+            self.addCleanup(relay.close)
+            with Ledger(relay.url, KEY) as ledger:
+                for _ in range(20):
+                    entries = [each.timestamp for each in ledger.statement(1)]
+                    self.assertEqual(entries, list(range(1, 2002)))
+            self.assertGreater(min(relay.cuts.values()), 0)
+
     def test_a_service_that_comes_later(self):
         """What could not be sent does not make `exists` another's."""
         port, fakes = free_port(), []
@@ -137,6 +188,13 @@ class NotSentAgain(unittest.TestCase):
             with self.assertRaises(Refused) as raised:
                 fake.ledger().lookup_transfers([1])
         self.assertFalse(raised.exception.may_be_booked)
+
+    def test_a_statement_that_another_key_has_cut(self):
+        beginning = statement_reply()[:-len(LAST_CHUNK)]
+        with Fake([cut(beginning), say(refusal(401, "unknown_key"))]) as fake:
+            with self.assertRaises(Refused) as raised:
+                fake.ledger().statement(1)
+        self.assertEqual(raised.exception.name, "unknown_key")
 
     def test_another_server(self):
         for status in (200, 301, 403, 404, 500):
@@ -189,6 +247,14 @@ class Deadlines(unittest.TestCase):
     def test_a_read(self):
         error, _ = self.unanswered([], lambda each: each.lookup_accounts([1]))
         self.assertFalse(error.may_be_booked)
+
+    def test_a_statement_that_is_cut_each_time(self):
+        """Also where all of its rows were there: only the last chunk says so."""
+        cuts = [cut(statement_reply()[:-len(LAST_CHUNK)])] * 1000
+        error, fake = self.unanswered(cuts, lambda each: each.statement(1))
+        self.assertFalse(error.may_be_booked)
+        self.assertIsInstance(error.__cause__.__cause__, http.client.IncompleteRead)
+        self.assertGreater(len(fake.messages), 2)
 
     def test_no_service(self):
         with self.assertRaises(Unanswered) as raised:

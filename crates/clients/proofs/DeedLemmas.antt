@@ -7,11 +7,12 @@ use Rattle.std.proofs.lemmas.List.{append-nil}
 use Rattle.std.proofs.Math.Path.{fun_ext}
 use Rattle.chain.specs.Ledgers.{LedgersMeaning}
 use Rattle.ledger_http.specs.declared.reply.Reply.{Reply}
+use Rattle.parts.specs.declared.rest.Part.{Part}
 use Rattle.service.specs.Connections.{connection, Exchange}
-use Rattle.clients.specs.Talk.{Talk, received, is_empty}
+use Rattle.clients.specs.Talk.{Talk, received, is_written}
 use Rattle.clients.specs.Answering.{MayCome}
 use Rattle.clients.specs.Turns.{Sent, Clients, clients, Told, Turn, Turns, Nothing, More}
-use Rattle.clients.specs.Deeds.{Room, Deed, Came, Ended, Replied, Wrote, client_of, IsDone, Begin, Then, came_in, come_from, told_in, all_told, sent_with, sent_by, clients_of, AreExchanges}
+use Rattle.clients.specs.Deeds.{Room, Deed, Came, Ended, Replied, Continued, Wrote, client_of, IsDone, Begin, Then, came_in, come_from, told_in, all_told, sent_with, sent_by, clients_of, AreExchanges}
 use Rattle.clients.proofs.ClientLemmas.{by_client, if_own-own, if_own-other}
 
 -- what one deed adds to a list of all deeds
@@ -27,6 +28,7 @@ came_in-other : (deed : Deed) (other : ℕ) → other ≢ client_of deed → cam
 came_in-other (Came client piece) other differ = if_own-other client other piece differ
 came_in-other (Ended client) other differ = refl
 came_in-other (Replied client reply) other differ = refl
+came_in-other (Continued client part) other differ = refl
 came_in-other (Wrote client bytes) other differ = refl
 
 -- what is still to come behind a deed, with what came by it, was still to come before it
@@ -51,6 +53,8 @@ may_come_own t gives old new (Ended client) later done may =
     λ ended. may (ap (λ (talk : Talk). talk.unread.ended) done.does.same)
 may_come_own t gives old new (Replied client reply) later done may =
     λ ended. may (done.does.0.ended ∙ ended)
+may_come_own t gives old new (Continued client part) later done may =
+    λ ended. may (ap (λ (talk : Talk). talk.unread.ended) done.does.0.same ∙ ended)
 may_come_own t gives old new (Wrote client bytes) later done may =
     λ ended. may (ap (λ (talk : Talk). talk.unread.ended) done.does.same ∙ ended)
 
@@ -137,6 +141,18 @@ wrote_same t gives old new client bytes later done =
     (ap (λ (talk : Talk). sent_with (later client) talk) done.does.same)
     (sent_same_other t gives old new (Wrote client bytes) later done))
 
+continued_same :
+    {S C : Type 0} (t : LedgersMeaning S) (gives : C → ℕ → C → Type 0) (old new : Room S C)
+    (client : ℕ) (part : Part) (later : ℕ → List ℕ) →
+    IsDone t gives old (Continued client part) new → clients_of new later ≡ clients_of old later
+continued_same t gives old new client part later done =
+    same_clients old new later later done.does.0.ledgers_same done.does.0.moments_same
+    (by_client
+    (λ (i : ℕ). sent_with (later i) (new.talks i) ≡ sent_with (later i) (old.talks i))
+    client
+    (ap (λ (talk : Talk). sent_with (later client) talk) done.does.0.same)
+    (sent_same_other t gives old new (Continued client part) later done))
+
 -- a reply is a turn
 replied_turn :
     {S C : Type 0} (t : LedgersMeaning S) (gives : C → ℕ → C → Type 0) (old new : Room S C)
@@ -155,7 +171,7 @@ replied_turn t gives old new client reply later done may = record {
       reply
       (connection new.ledgers (Some ((new.talks client).unread.bytes ++ later client)) new.moments
       (new.talks client).goes_on))
-      (sym (and_parts (old.talks client).goes_on (is_empty (old.talks client).unsent) done.does.1).0)
+      (sym (and_parts (old.talks client).goes_on (is_written (old.talks client)) done.does.1).0)
       (done.does.0.exchange (later client) may);
   others = sent_same_other t gives old new (Replied client reply) later done;
 }
@@ -186,6 +202,9 @@ one_deed t gives first old new (Came client piece) all later done may turns =
 one_deed t gives first old new (Ended client) all later done may turns =
     stay t gives first (clients_of old later) (clients_of new later) all turns
     (ended_same t gives old new client later done)
+one_deed t gives first old new (Continued client part) all later done may turns =
+    stay t gives first (clients_of old later) (clients_of new later) all turns
+    (continued_same t gives old new client part later done)
 one_deed t gives first old new (Wrote client bytes) all later done may turns =
     stay t gives first (clients_of old later) (clients_of new later) all turns
     (wrote_same t gives old new client bytes later done)

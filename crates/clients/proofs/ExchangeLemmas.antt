@@ -1,8 +1,8 @@
 -- What stands first in what has come is answered, whatever comes later.
-use Rattle.std.proofs.Common.{◌≡◌, ◌≢◌, ◌⊎◌, ⊎_elim, inl, inr, refl, ap, sym, ◌∙◌, subst, ℕ, Bool, true, false, List, ◌++◌, take, drop, Some, arith}
+use Rattle.std.proofs.Common.{◌≡◌, ◌≢◌, ◌⊎◌, ⊎_elim, inl, inr, refl, ap, sym, ◌∙◌, subst, ℕ, Bool, true, false, List, ◌++◌, take, drop, Option, Some, None, IfSome, arith}
 use Rattle.std.proofs.lemmas.Bool.{and_parts}
 use Rattle.std.proofs.lemmas.List.{append-nil}
-use Rattle.chain.specs.Ledgers.{LedgersMeaning, Finds}
+use Rattle.chain.specs.Ledgers.{LedgersMeaning, Finds, Tenants}
 use Rattle.ledger_http.specs.declared.refusal.Refusal.{Refusal}
 use Rattle.ledger_http.specs.declared.refusal.Refusal.TheVariants.{Truncated}
 use Rattle.ledger_http.specs.declared.reply.Reply.{Reply}
@@ -10,9 +10,14 @@ use Rattle.ledger_http.specs.declared.reply.Reply.TheVariants.{Fixed}
 use Rattle.ledger_http.specs.ReplyText.{reply_text}
 use Rattle.ledger_http.specs.Message.{Begins, IsRefused, IsAnnounced}
 use Rattle.ledger_http.specs.Unread.{Unread, without, IsWhole}
-use Rattle.service.specs.Responds.{Responds, RefusesEarly, IsAnswered, IsLeftBy}
-use Rattle.clients.specs.Talk.{Talk, may_answer, is_empty}
-use Rattle.clients.specs.Answering.{MayCome, IsExchange, IsUnmoved, HasReplied, GivesUp}
+use Rattle.parts.specs.Parts.{chunks_left}
+use Rattle.parts.specs.declared.rest.Rest.{Rest}
+use Rattle.service.specs.Begun.{reply_of, reply_with}
+use Rattle.service.specs.declared.begun.Begun.{Begun}
+use Rattle.service.specs.Replies.{unavailable}
+use Rattle.service.specs.Responds.{Responds, RefusesEarly, IsAnswered, IsLeftBy, IsLeftSame}
+use Rattle.clients.specs.Talk.{Talk, may_answer, is_written}
+use Rattle.clients.specs.Answering.{AreHeld, MayCome, IsExchange, IsUnmoved, HasReplied, GivesUp}
 
 -- what comes later changes nothing of the first message
 abbrev pub BeginsStay : Type 0
@@ -154,18 +159,44 @@ answers_refused t gives ledgers moments old now refusal stays same refused = (
   ap (λ (unread : Unread). unread.ended) same,
 )
 
+-- what is put of a reply that is begun, and what is left of it, is the reply
+pub put_whole :
+    (tenants : Tenants) (begun : Begun) (unsent : List ℕ) → unsent ≡ reply_text begun.front →
+    unsent ++ chunks_left tenants begun.rest ≡ reply_text (reply_of tenants begun)
+put_whole tenants begun unsent put =
+    ap (λ (bytes : List ℕ). bytes ++ chunks_left tenants begun.rest) put ∙ at begun.rest
+  where
+    at : (rest : Option Rest) →
+        reply_text begun.front ++ chunks_left tenants rest ≡ reply_text (reply_with tenants begun.front rest)
+    at None = append-nil (reply_text begun.front)
+    at (Some rest) = refl
+
+-- what is held of a statement that is begun
+pub held_so :
+    {S : Type 0} (t : LedgersMeaning S) (bytes : List ℕ) (moment : ℕ) (old : Tenants) (ledgers : S)
+    (rest : Option Rest) →
+    IfSome rest (λ rest. t.is_live ledgers → IsLeftSame bytes moment old (t.tenants ledgers) rest) →
+    AreHeld t ledgers rest
+held_so t bytes moment old ledgers None left = tt
+held_so t bytes moment old ledgers (Some rest) left = λ live. (left live).1.1
+
+abbrev pub talk_of : Unread → List ℕ → Option Rest → Bool → Talk
+talk_of unread unsent rest goes_on =
+    record { unread = unread; unsent = unsent; rest = rest; goes_on = goes_on }
+
 -- the same as the client sees it, whose fields these are
 pub has_replied :
     {S C : Type 0} (t : LedgersMeaning S) (gives : C → ℕ → C → Type 0) (ledgers ledgers_now : S)
     (moments moments_now : C) (old : Talk) (inbox now : Unread) (outbox unsent : List ℕ)
-    (goes_on : Bool) (reply : Reply) (goes_on_now : Bool) →
-    ◌≡◌ {A = Talk} (record { unread = inbox; unsent = outbox; goes_on = goes_on }) old →
-    unsent ≡ reply_text reply →
+    (rest rest_now : Option Rest) (goes_on : Bool) (reply : Reply) (goes_on_now : Bool) →
+    talk_of inbox outbox rest goes_on ≡ old →
+    unsent ++ chunks_left (t.tenants ledgers_now) rest_now ≡ reply_text reply →
+    AreHeld t ledgers_now rest_now →
     IsExchange t gives ledgers moments inbox reply ledgers_now moments_now now goes_on_now
     × (now.ended ≡ inbox.ended) →
     HasReplied t gives ledgers moments old reply ledgers_now moments_now
-    (record { unread = now; unsent = unsent; goes_on = goes_on_now })
-has_replied t gives ledgers ledgers_now moments moments_now old inbox now outbox unsent goes_on reply goes_on_now is put exchanged =
+    (talk_of now unsent rest_now goes_on_now)
+has_replied t gives ledgers ledgers_now moments moments_now old inbox now outbox unsent rest rest_now goes_on reply goes_on_now is put held exchanged =
     let first : inbox ≡ old.unread = ap (λ (talk : Talk). talk.unread) is in
     record {
       exchange =
@@ -174,34 +205,31 @@ has_replied t gives ledgers ledgers_now moments moments_now old inbox now outbox
           IsExchange t gives ledgers moments unread reply ledgers_now moments_now now goes_on_now)
           first exchanged.0;
       unsent = put;
+      held = held;
       ended = exchanged.1 ∙ ap (λ (unread : Unread). unread.ended) first;
     }
 
-abbrev pub new_fields : Unread → List ℕ → Bool → Talk
-new_fields unread unsent goes_on = record { unread = unread; unsent = unsent; goes_on = goes_on }
-
 -- a client that may be answered goes on
 pub goes_on_still :
-    (old : Talk) (inbox : Unread) (outbox : List ℕ) (goes_on : Bool) →
-    ◌≡◌ {A = Talk} (record { unread = inbox; unsent = outbox; goes_on = goes_on }) old →
-    may_answer old ≡ true → true ≡ goes_on
-goes_on_still old inbox outbox goes_on is may =
-    sym (ap (λ (talk : Talk). talk.goes_on) is ∙ (and_parts old.goes_on (is_empty old.unsent) may).0)
+    (old : Talk) (inbox : Unread) (outbox : List ℕ) (rest : Option Rest) (goes_on : Bool) →
+    talk_of inbox outbox rest goes_on ≡ old → may_answer old ≡ true → true ≡ goes_on
+goes_on_still old inbox outbox rest goes_on is may =
+    sym (ap (λ (talk : Talk). talk.goes_on) is ∙ (and_parts old.goes_on (is_written old) may).0)
 
 pub is_unmoved :
     {S C : Type 0} (P : Unread → Type 0) (ledgers ledgers_now : S) (moments moments_now : C)
-    (old : Talk) (inbox now : Unread) (outbox : List ℕ) (goes_on : Bool) →
-    ◌≡◌ {A = Talk} (record { unread = inbox; unsent = outbox; goes_on = goes_on }) old →
+    (old : Talk) (inbox now : Unread) (outbox : List ℕ) (rest : Option Rest) (goes_on : Bool) →
+    talk_of inbox outbox rest goes_on ≡ old →
     IsUnmoved ledgers moments inbox ledgers_now moments_now now × P inbox →
     IsUnmoved {T = Talk} ledgers moments old ledgers_now moments_now
-    (record { unread = now; unsent = outbox; goes_on = goes_on })
+    (talk_of now outbox rest goes_on)
     × P old.unread
-is_unmoved P ledgers ledgers_now moments moments_now old inbox now outbox goes_on is unmoved = (
+is_unmoved P ledgers ledgers_now moments moments_now old inbox now outbox rest goes_on is unmoved = (
   record {
     ledgers_same = unmoved.0.ledgers_same;
     moments_same = unmoved.0.moments_same;
     same =
-        ap (λ (unread : Unread). new_fields unread outbox goes_on) unmoved.0.same ∙ is;
+        ap (λ (unread : Unread). talk_of unread outbox rest goes_on) unmoved.0.same ∙ is;
   },
   subst P (ap (λ (talk : Talk). talk.unread) is) unmoved.1,
 )
@@ -225,6 +253,7 @@ gives_up t gives stays ledgers moments talk announced = record {
       cut = record { ledgers = refl; moments = refl; ends = refl };
     }));
   };
-  unsent = refl;
+  unsent = append-nil (reply_text unavailable);
+  held = tt;
   ended = refl;
 }

@@ -1,5 +1,5 @@
 -- What is answered at a point of a round.
-use Rattle.std.proofs.Common.{◌≡◌, ◌≢◌, ◌⊎◌, inl, inr, refl, ap, sym, ◌∙◌, subst, ℕ, Bool, true, false}
+use Rattle.std.proofs.Common.{append-nil, ◌≡◌, ◌≢◌, ◌⊎◌, inl, inr, refl, ap, sym, ◌∙◌, subst, ℕ, Bool, true, false}
 use Rattle.std.proofs.Common.{List, [], ◌∷◌, ◌++◌, take, bytes_eq, Option, Some, Result, Ok, Err, IsOk, if◌then◌else◌}
 use Rattle.std.proofs.Math.Path.{fun_ext}
 use Rattle.std.proofs.lemmas.Bool.{true≢false, and_parts}
@@ -20,7 +20,7 @@ use Rattle.service.specs.Replies.{unavailable}
 use Rattle.service.specs.Responds.{Answers, Responds, RefusesEarly, IsLeftBy, IsLeftByAsked}
 use Rattle.service.specs.Responds as response
 use Rattle.service.specs.Seen.{Seen, Whole, Within, seen}
-use Rattle.clients.specs.Talk.{Talk, may_answer, is_empty}
+use Rattle.clients.specs.Talk.{Talk, may_answer, is_written}
 use Rattle.clients.specs.Answering.{HasReplied}
 use Rattle.clients.specs.Within.{replied_to, Asks, IsReady, after_asking, AnswersLeave, AreSeen}
 use Rattle.clients.specs.Within.{HeadsAreUnique}
@@ -92,6 +92,7 @@ module _ {S C : Type 0} (t : LedgersMeaning S) (gives : C → ℕ → C → Type
               reply exchange.by;
         };
     unsent = has.unsent;
+    held = has.held;
     ended = has.ended;
   }
 
@@ -172,7 +173,7 @@ answers_leave unique old new bytes question moment reply asks responds available
     (record { may = tt; own = answers.own; others = answers.others }))
 
 goes_on_of : (talk : Talk) → may_answer talk ≡ true → talk.goes_on ≡ true
-goes_on_of talk may = (and_parts talk.goes_on (is_empty talk.unsent) may).0
+goes_on_of talk may = (and_parts talk.goes_on (is_written talk) may).0
 
 -- a message that is ready gets this reply
 ready_replied :
@@ -194,7 +195,8 @@ ready_replied t gives stays ledgers ledgers_now moments moments_now talk size mo
           answers_at t gives ledgers ledgers_now moments moments_now talk.unread size moment reply
           talk.goes_on (goes_on_of talk ready.may) stays ready.whole given responds
           (early_of (take size talk.unread.bytes) question reply ready.asks) finds follows;
-      unsent = refl;
+      unsent = append-nil (reply_text reply);
+      held = tt;
       ended = refl;
     }
 

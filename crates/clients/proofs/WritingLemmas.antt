@@ -1,16 +1,19 @@
 -- What is written to each client.
-use Rattle.std.proofs.Common.{◌≡◌, ◌≢◌, refl, ap, sym, ◌∙◌, subst, ℕ, true, List, [], ◌∷◌, ◌++◌, append_assoc}
-use Rattle.std.proofs.lemmas.Bool.{and_parts, false≢true}
+use Rattle.std.proofs.Common.{◌≡◌, ◌≢◌, refl, ap, ap₂, sym, ◌∙◌, subst, ℕ, Bool, true, List, [], ◌∷◌, ◌++◌, Option, Some, None, is_none, if◌then◌else◌, append_assoc}
+use Rattle.std.proofs.lemmas.Bool.{and_parts, eq-eqb, false≢true, ne_eqb}
 use Rattle.std.proofs.lemmas.Grind.{flat_map-append}
 use Rattle.std.proofs.lemmas.List.{append-nil}
-use Rattle.chain.specs.Ledgers.{LedgersMeaning}
+use Rattle.chain.specs.Ledgers.{LedgersMeaning, Tenants}
 use Rattle.ledger_http.specs.declared.reply.Reply.{Reply}
 use Rattle.ledger_http.specs.ReplyText.{reply_text}
 use Rattle.service.specs.Connections.{texts_of}
-use Rattle.clients.specs.Talk.{Talk, is_empty}
+use Rattle.parts.specs.Parts.{chunks_left}
+use Rattle.parts.specs.declared.rest.Rest.{Rest}
+use Rattle.parts.proofs.LeftLemmas.{part_left}
+use Rattle.clients.specs.Talk.{IsWritten, Talk, is_empty, is_written, owed}
 use Rattle.clients.specs.Answering.{MayCome}
 use Rattle.clients.specs.Turns.{Told, if_told, told_to, Hears, HearTheirOwn}
-use Rattle.clients.specs.Deeds.{Room, Deed, Came, Ended, Replied, Wrote, client_of, IsDone, Begin, Then, if_own, come_from, written_in, written_to, told_in, all_told, sent_with, clients_of, AreExchanges, AreWritten, AreServed}
+use Rattle.clients.specs.Deeds.{Room, Deed, Came, Ended, Replied, Continued, Wrote, client_of, HasYet, IsDone, Begin, Then, machines_after, machines_then, if_own, come_from, written_in, written_to, told_in, all_told, sent_with, clients_of, AreExchanges, AreWritten, AreServed}
 use Rattle.clients.proofs.ClientLemmas.{by_client, if_own-own, if_own-other}
 use Rattle.clients.proofs.DeedLemmas.{one_deed_more}
 
@@ -24,57 +27,119 @@ nothing_left : (bytes : List ℕ) → is_empty bytes ≡ true → bytes ≡ []
 nothing_left [] empty = refl
 nothing_left (byte ∷ bytes) empty = absurd (false≢true empty)
 
--- what is to be written before a deed, with the replies by it, is what was written by it and what
--- is to be behind it
-abbrev pub Keeps : ℕ → Deed → Talk → Talk → Type 0
-Keeps client deed old new =
-    old.unsent ++ texts_of (told_to client (told_in deed)) ≡ written_in client deed ++ new.unsent
+none_left : (rest : Option Rest) → is_none rest ≡ true → rest ≡ None
+none_left None none = refl
+none_left (Some rest) none = absurd (false≢true none)
 
-keeps_own :
-    {S C : Type 0} (t : LedgersMeaning S) (gives : C → ℕ → C → Type 0) (old new : Room S C)
-    (deed : Deed) → IsDone t gives old deed new →
-    Keeps (client_of deed) deed (old.talks (client_of deed)) (new.talks (client_of deed))
-keeps_own t gives old new (Came client piece) done =
-    append-nil (old.talks client).unsent ∙ sym (ap (λ (talk : Talk). talk.unsent) done.does.0.same)
-keeps_own t gives old new (Ended client) done =
-    append-nil (old.talks client).unsent ∙ sym (ap (λ (talk : Talk). talk.unsent) done.does.same)
-keeps_own t gives old new (Wrote client bytes) done =
-    append-nil (old.talks client).unsent
-    ∙ sym (ap (λ (talk : Talk). talk.unsent) done.does.same)
-    ∙ ap (λ (front : List ℕ). front ++ (new.talks client).unsent) (sym (if_own-own client bytes))
-keeps_own t gives old new (Replied client reply) done =
-    ap (λ (unsent : List ℕ). unsent ++ texts_of (told_to client (told_in (Replied client reply))))
-    (nothing_left (old.talks client).unsent
-    (and_parts (old.talks client).goes_on (is_empty (old.talks client).unsent) done.does.1).1)
-    ∙ ap (λ (replies : List Reply). texts_of (replies ++ [])) (if_own-own client (reply ∷ []))
-    ∙ append-nil (reply_text reply)
-    ∙ sym done.does.0.unsent
+-- of a reply that is written nothing is left
+written_so : (talk : Talk) → is_written talk ≡ true → IsWritten talk
+written_so talk written =
+    let both = and_parts (is_empty talk.unsent) (is_none talk.rest) written in
+    (nothing_left talk.unsent both.0, none_left talk.rest both.1)
 
-keeps_other :
-    (deed : Deed) (other : ℕ) (old new : Talk) → other ≢ client_of deed → new ≡ old →
-    Keeps other deed old new
-keeps_other (Came client piece) other old new differ same =
-    append-nil old.unsent ∙ sym (ap (λ (talk : Talk). talk.unsent) same)
-keeps_other (Ended client) other old new differ same =
-    append-nil old.unsent ∙ sym (ap (λ (talk : Talk). talk.unsent) same)
-keeps_other (Wrote client bytes) other old new differ same =
-    append-nil old.unsent ∙ sym (ap (λ (talk : Talk). talk.unsent) same)
-    ∙ ap (λ (front : List ℕ). front ++ new.unsent) (sym (if_own-other client other bytes differ))
-keeps_other (Replied client reply) other old new differ same =
-    ap (λ (replies : List Reply). old.unsent ++ texts_of (replies ++ []))
-    (if_own-other client other (reply ∷ []) differ)
-    ∙ append-nil old.unsent
-    ∙ sym (ap (λ (talk : Talk). talk.unsent) same)
+-- what is owed before a deed, with the replies by it, is what was written by it and what is owed
+-- behind it
+abbrev pub Keeps : ℕ → Deed → Tenants → Talk → Tenants → Talk → Type 0
+Keeps client deed machines old machines_now new =
+    owed machines old ++ texts_of (told_to client (told_in deed))
+    ≡ written_in client deed ++ owed machines_now new
 
-keeps :
-    {S C : Type 0} (t : LedgersMeaning S) (gives : C → ℕ → C → Type 0) (old new : Room S C)
-    (deed : Deed) → IsDone t gives old deed new → (client : ℕ) →
-    Keeps client deed (old.talks client) (new.talks client)
-keeps t gives old new deed done =
-    by_client (λ (client : ℕ). Keeps client deed (old.talks client) (new.talks client))
-    (client_of deed) (keeps_own t gives old new deed done)
-    (λ other differ.
-    keeps_other deed other (old.talks other) (new.talks other) differ (done.others other differ))
+same_owed : (machines : Tenants) (old new : Talk) → owed machines new ≡ owed machines old →
+    owed machines old ++ [] ≡ owed machines new
+same_owed machines old new same = append-nil (owed machines old) ∙ sym same
+
+module _ {S C : Type 0} (t : LedgersMeaning S) (gives : C → ℕ → C → Type 0) where
+  keeps_own :
+      (machines : Tenants) (old new : Room S C) (deed : Deed) → IsDone t gives old deed new →
+      HasYet t machines (client_of deed) deed old →
+      Keeps (client_of deed) deed machines (old.talks (client_of deed))
+      (machines_after (client_of deed) deed (t.tenants new.ledgers) machines)
+      (new.talks (client_of deed))
+  keeps_own machines old new (Came client piece) done yet =
+      same_owed machines (old.talks client) (new.talks client) (ap (owed machines) done.does.0.same)
+  keeps_own machines old new (Ended client) done yet =
+      same_owed machines (old.talks client) (new.talks client) (ap (owed machines) done.does.same)
+  keeps_own machines old new (Wrote client bytes) done yet =
+      append-nil (owed machines (old.talks client))
+      ∙ sym (ap (owed machines) done.does.same)
+      ∙ append_assoc bytes (new.talks client).unsent (chunks_left machines (new.talks client).rest)
+      ∙ ap (λ (front : List ℕ). front ++ owed machines (new.talks client)) (sym (if_own-own client bytes))
+  keeps_own machines old new (Replied client reply) done yet =
+      let written = written_so (old.talks client)
+      (and_parts (old.talks client).goes_on (is_written (old.talks client)) done.does.1).1 in
+      ap₂ (λ (unsent : List ℕ) (rest : Option Rest).
+      (unsent ++ chunks_left machines rest) ++ texts_of (told_to client (told_in (Replied client reply))))
+      written.0 written.1
+      ∙ ap (λ (replies : List Reply). texts_of (replies ++ [])) (if_own-own client (reply ∷ []))
+      ∙ append-nil (reply_text reply)
+      ∙ sym done.does.0.unsent
+      ∙ ap (λ (b : Bool). owed (if b then t.tenants new.ledgers else machines) (new.talks client))
+      (sym (eq-eqb client client refl))
+  keeps_own machines old new (Continued client part) done yet =
+      let next = done.does.1 in
+      let so = yet refl in
+      let now = t.tenants old.ledgers in
+      append-nil (owed machines (old.talks client))
+      ∙ ap (λ (unsent : List ℕ). unsent ++ chunks_left machines (old.talks client).rest) next.written
+      ∙ sym so.1
+      ∙ ap (chunks_left now) next.left
+      ∙ sym (part_left now next.rest part (next.told so.0))
+      ∙ sym (ap (owed now) done.does.0.same)
+      ∙ sym (ap (λ (l : S). owed (t.tenants l) (new.talks client)) done.does.0.ledgers_same)
+      ∙ ap (λ (b : Bool). owed (if b then t.tenants new.ledgers else machines) (new.talks client))
+      (sym (eq-eqb client client refl))
+
+  other_machines :
+      (deed : Deed) (other : ℕ) (now before : Tenants) → other ≢ client_of deed →
+      machines_after other deed now before ≡ before
+  other_machines (Came client piece) other now before differ = refl
+  other_machines (Ended client) other now before differ = refl
+  other_machines (Wrote client bytes) other now before differ = refl
+  other_machines (Replied client reply) other now before differ =
+      ap (λ (b : Bool). if b then now else before) (ne_eqb client other (λ (same : client ≡ other). differ (sym same)))
+  other_machines (Continued client part) other now before differ =
+      ap (λ (b : Bool). if b then now else before) (ne_eqb client other (λ (same : client ≡ other). differ (sym same)))
+
+  none_written : (deed : Deed) (other : ℕ) → other ≢ client_of deed → written_in other deed ≡ []
+  none_written (Came client piece) other differ = refl
+  none_written (Ended client) other differ = refl
+  none_written (Replied client reply) other differ = refl
+  none_written (Continued client part) other differ = refl
+  none_written (Wrote client bytes) other differ = if_own-other client other bytes differ
+
+  none_told : (deed : Deed) (other : ℕ) → other ≢ client_of deed → texts_of (told_to other (told_in deed)) ≡ []
+  none_told (Came client piece) other differ = refl
+  none_told (Ended client) other differ = refl
+  none_told (Replied client reply) other differ =
+      ap (λ (replies : List Reply). texts_of (replies ++ [])) (if_own-other client other (reply ∷ []) differ)
+  none_told (Continued client part) other differ = refl
+  none_told (Wrote client bytes) other differ = refl
+
+  keeps_other :
+      (machines now : Tenants) (deed : Deed) (other : ℕ) (old new : Talk) → other ≢ client_of deed →
+      new ≡ old → Keeps other deed machines old (machines_after other deed now machines) new
+  keeps_other machines now deed other old new differ same =
+      ap (λ (texts : List ℕ). owed machines old ++ texts) (none_told deed other differ)
+      ∙ append-nil (owed machines old)
+      ∙ sym (ap (owed machines) same)
+      ∙ sym (ap (λ (m : Tenants). owed m new) (other_machines deed other now machines differ))
+      ∙ ap (λ (front : List ℕ). front ++ owed (machines_after other deed now machines) new)
+      (sym (none_written deed other differ))
+
+  pub keeps :
+      (machines : Tenants) (old new : Room S C) (deed : Deed) → IsDone t gives old deed new → (client : ℕ) →
+      HasYet t machines client deed old →
+      Keeps client deed machines (old.talks client)
+      (machines_after client deed (t.tenants new.ledgers) machines) (new.talks client)
+  keeps machines old new deed done =
+      by_client
+      (λ (client : ℕ). HasYet t machines client deed old →
+      Keeps client deed machines (old.talks client)
+      (machines_after client deed (t.tenants new.ledgers) machines) (new.talks client))
+      (client_of deed) (keeps_own machines old new deed done)
+      (λ other differ yet.
+      keeps_other machines (t.tenants new.ledgers) deed other (old.talks other) (new.talks other) differ
+      (done.others other differ))
 
 told_to-append : (client : ℕ) (front back : List Told) →
     told_to client (front ++ back) ≡ told_to client front ++ told_to client back
@@ -103,14 +168,18 @@ chained sent new_sent old_unsent told new_told written unsent next so_far keep m
 
 pub are_written :
     {S C : Type 0} (t : LedgersMeaning S) (gives : C → ℕ → C → Type 0) → AreWritten t gives
-are_written t gives first last deeds Begin client = sym (append-nil (first.talks client).unsent)
-are_written t gives first last deeds (Then earlier mid deed next lives done) client =
+are_written t gives first last deeds Begin before client goes =
+    sym (append-nil (owed before (first.talks client)))
+are_written t gives first last deeds (Then earlier mid deed next lives done) before client goes =
+    let machines = machines_then before lives client in
     chained (written_to client earlier) (written_to client (earlier ++ deed ∷ []))
-    (first.talks client).unsent (texts_of (told_to client (all_told earlier)))
-    (texts_of (told_to client (told_in deed))) (written_in client deed) (mid.talks client).unsent
-    (next.talks client).unsent (are_written t gives first mid earlier lives client)
-    (keeps t gives mid next deed done client) (one_deed_more (written_in client) earlier deed)
-    ∙ ap (λ (told : List ℕ). (first.talks client).unsent ++ told) (sym (texts-more client earlier deed))
+    (owed before (first.talks client)) (texts_of (told_to client (all_told earlier)))
+    (texts_of (told_to client (told_in deed))) (written_in client deed) (owed machines (mid.talks client))
+    (owed (machines_after client deed (t.tenants next.ledgers) machines) (next.talks client))
+    (are_written t gives first mid earlier lives before client goes.0)
+    (keeps t gives machines mid next deed done client goes.1) (one_deed_more (written_in client) earlier deed)
+    ∙ ap (λ (told : List ℕ). owed before (first.talks client) ++ told)
+    (sym (texts-more client earlier deed))
 
 -- only one client is still to send
 only_own : (room : ℕ → Talk) (client : ℕ) (later : List ℕ) → MayCome (room client).unread later →
@@ -124,7 +193,7 @@ only_own room client later may =
 pub are_served :
     {S C : Type 0} (t : LedgersMeaning S) (gives : C → ℕ → C → Type 0) → AreExchanges t gives →
     HearTheirOwn t gives → AreWritten t gives → AreServed t gives
-are_served {S} {C} t gives exchanges hear written first last deeds lives client new later may =
+are_served {S} {C} t gives exchanges hear written first last deeds lives before client goes new later may =
     let own = if_own-own client later in
     let told = told_to client (all_told deeds) in
     record {
@@ -148,6 +217,6 @@ are_served {S} {C} t gives exchanges hear written first last deeds lives client 
           (only_own last.talks client later may))
           client));
       begun =
-          written first last deeds lives client
-          ∙ ap (λ (talk : Talk). talk.unsent ++ texts_of told) new;
+          written first last deeds lives before client goes
+          ∙ ap (λ (talk : Talk). owed before talk ++ texts_of told) new;
     }

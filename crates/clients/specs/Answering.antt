@@ -1,18 +1,21 @@
 -- What answering a client's next message does.
-use Rattle.std.specs.Prelude.{◌≡◌, ℕ, Bool, true, false, List, [], ◌++◌, Some}
+use Rattle.std.specs.Prelude.{◌≡◌, ℕ, Bool, true, false, List, [], ◌++◌, Option, Some, IfSome}
 use Rattle.chain.specs.Ledgers.{LedgersMeaning}
 use Rattle.ledger_http.specs.declared.reply.Reply.{Reply}
 use Rattle.ledger_http.specs.declared.reply.Reply.TheVariants.{Fixed}
 use Rattle.ledger_http.specs.ReplyText.{reply_text}
 use Rattle.ledger_http.specs.Message.{IsAnnounced}
 use Rattle.ledger_http.specs.Unread.{Unread, IsShort}
+use Rattle.parts.specs.Parts.{IsHeld}
+use Rattle.parts.specs.declared.rest.Rest.{Rest}
+use Rattle.service.specs.Begun.{reply_of}
 use Rattle.service.specs.Replies.{unavailable}
 use Rattle.service.specs.Connections.{connection, Exchange}
 use Rattle.clients.specs.declared.client.Answered.{Answered}
 use Rattle.clients.specs.declared.client.Answered.TheVariants.{Replied, Wanting, Over}
 use Rattle.clients.specs.declared.exchanging.Exchanged.{Exchanged}
 use Rattle.clients.specs.declared.exchanging.Exchanged.TheVariants as exchanged
-use Rattle.clients.specs.Talk.{Talk, given_up}
+use Rattle.clients.specs.Talk.{Talk, given_up, owed}
 
 -- these bytes may come behind what has come: none, once the input has ended
 abbrev pub MayCome : Unread → List ℕ → Type 0
@@ -43,13 +46,20 @@ IsWanting unread = (unread.ended ≡ false) × IsShort unread.bytes
 abbrev pub IsOver : Unread → Type 0
 IsOver unread = (unread.ended ≡ true) × (unread.bytes ≡ [])
 
+-- what is left of a statement is held by the ledgers, as long as they are live
+abbrev pub AreHeld : {S : Type 0} → LedgersMeaning S → S → Option Rest → Type 0
+AreHeld t ledgers rest =
+    IfSome rest (λ rest. t.is_live ledgers → IsHeld (t.tenants ledgers) rest)
+
 -- what answering the first message of what has come gives
 abbrev pub Exchanges :
     {S C : Type 0} → LedgersMeaning S → (C → ℕ → C → Type 0) → S → C → Unread → S → C → Unread
     → Exchanged → Type 0
-Exchanges t gives ledgers moments old ledgers_now moments_now new (exchanged.Answered reply) =
-    IsExchange t gives ledgers moments old reply ledgers_now moments_now new true
+Exchanges t gives ledgers moments old ledgers_now moments_now new (exchanged.Answered begun) =
+    IsExchange t gives ledgers moments old (reply_of (t.tenants ledgers_now) begun) ledgers_now
+    moments_now new true
     × (new.ended ≡ old.ended)
+    × AreHeld t ledgers_now begun.rest
 Exchanges t gives ledgers moments old ledgers_now moments_now new (exchanged.Refused refusal) =
     IsExchange t gives ledgers moments old (Fixed refusal) ledgers_now moments_now new false
     × (new.ended ≡ old.ended)
@@ -58,14 +68,15 @@ Exchanges t gives ledgers moments old ledgers_now moments_now new exchanged.Want
 Exchanges t gives ledgers moments old ledgers_now moments_now new exchanged.Over =
     IsUnmoved ledgers moments old ledgers_now moments_now new × IsOver old
 
--- a reply to the client's next message is ready to be written
+-- a reply to the client's next message is ready to be written, of a statement its first part
 pub record HasReplied {S C : Type 0} (t : LedgersMeaning S) (gives : C → ℕ → C → Type 0)
     (ledgers : S) (moments : C) (old : Talk) (reply : Reply) (ledgers_now : S) (moments_now : C)
     (new : Talk) : Type 0 where
   pub exchange :
       IsExchange t gives ledgers moments old.unread reply ledgers_now moments_now new.unread
       new.goes_on
-  pub unsent : new.unsent ≡ reply_text reply
+  pub unsent : owed (t.tenants ledgers_now) new ≡ reply_text reply
+  pub held : AreHeld t ledgers_now new.rest
   pub ended : new.unread.ended ≡ old.unread.ended
 
 -- a reply is ready; or no message is whole, and more may come; or nothing is left to answer

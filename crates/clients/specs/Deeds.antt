@@ -1,10 +1,13 @@
 -- What happens to clients that are served at once, and what is written to each.
-use Rattle.std.specs.Prelude.{◌≡◌, ◌≢◌, ℕ, true, false, List, [], ◌∷◌, ◌++◌, nat_eq, if◌then◌else◌}
+use Rattle.std.specs.Prelude.{◌≡◌, ◌≢◌, ℕ, Bool, true, false, List, [], ◌∷◌, ◌++◌, Some, nat_eq, if◌then◌else◌}
 use Rattle.std.specs.List.{flat_map}
-use Rattle.chain.specs.Ledgers.{LedgersMeaning}
+use Rattle.chain.specs.Ledgers.{LedgersMeaning, Tenants}
 use Rattle.ledger_http.specs.declared.reply.Reply.{Reply}
+use Rattle.parts.specs.Parts.{IsPart, chunks_left}
+use Rattle.parts.specs.declared.rest.Part.{Part}
+use Rattle.parts.specs.declared.rest.Rest.{Rest}
 use Rattle.service.specs.Connections.{texts_of}
-use Rattle.clients.specs.Talk.{Talk, new_talk, received, input_ended, may_answer}
+use Rattle.clients.specs.Talk.{Talk, continued, owed, new_talk, received, input_ended, may_answer}
 use Rattle.clients.specs.Answering.{MayCome, IsUnmoved, HasReplied}
 use Rattle.clients.specs.Turns.{Sent, Clients, clients, Told, Turns, told_to, Hears}
 
@@ -14,12 +17,13 @@ pub record Room (S C : Type 0) : Type 0 where
   pub moments : C
   pub talks : ℕ → Talk
 
--- a piece came from a client; its input ended; a message of it was replied to; bytes of a reply
--- were written to it
+-- a piece came from a client; its input ended; a message of it was replied to; the next part of that
+-- reply was read; bytes of it were written to the client
 pub data Deed : Type 0 where
   Came : ℕ → List ℕ → Deed
   Ended : ℕ → Deed
   Replied : ℕ → Reply → Deed
+  Continued : ℕ → Part → Deed
   Wrote : ℕ → List ℕ → Deed
 
 -- the one client that a deed is about
@@ -27,7 +31,16 @@ abbrev pub client_of : Deed → ℕ
 client_of (Came client piece) = client
 client_of (Ended client) = client
 client_of (Replied client reply) = client
+client_of (Continued client part) = client
 client_of (Wrote client bytes) = client
+
+-- the part that comes next of a reply, as the ledgers have it, once all that was read is written
+pub record IsNextPart {S : Type 0} (t : LedgersMeaning S) (ledgers : S) (talk : Talk) (part : Part) :
+    Type 0 where
+  pub rest : Rest
+  pub written : talk.unsent ≡ []
+  pub left : talk.rest ≡ Some rest
+  pub told : t.is_live ledgers → IsPart [] (t.tenants ledgers rest.digest) rest part
 
 -- a deed, as its client sees it
 abbrev pub Does :
@@ -41,6 +54,9 @@ Does t gives (Ended client) ledgers moments old ledgers_now moments_now new =
 Does t gives (Replied client reply) ledgers moments old ledgers_now moments_now new =
     HasReplied t gives ledgers moments old reply ledgers_now moments_now new
     × (may_answer old ≡ true)
+Does t gives (Continued client part) ledgers moments old ledgers_now moments_now new =
+    IsUnmoved ledgers moments (continued part old) ledgers_now moments_now new
+    × IsNextPart t ledgers old part
 Does t gives (Wrote client bytes) ledgers moments old ledgers_now moments_now new =
     IsUnmoved ledgers moments old ledgers_now moments_now
     (record new { unsent = bytes ++ new.unsent })
@@ -70,6 +86,7 @@ abbrev pub came_in : ℕ → Deed → List ℕ
 came_in client (Came other piece) = if_own client other piece
 came_in client (Ended other) = []
 came_in client (Replied other reply) = []
+came_in client (Continued other part) = []
 came_in client (Wrote other bytes) = []
 
 abbrev pub come_from : ℕ → List Deed → List ℕ
@@ -80,6 +97,7 @@ abbrev pub written_in : ℕ → Deed → List ℕ
 written_in client (Came other piece) = []
 written_in client (Ended other) = []
 written_in client (Replied other reply) = []
+written_in client (Continued other part) = []
 written_in client (Wrote other bytes) = if_own client other bytes
 
 abbrev pub written_to : ℕ → List Deed → List ℕ
@@ -90,6 +108,7 @@ abbrev pub told_in : Deed → List Told
 told_in (Came client piece) = []
 told_in (Ended client) = []
 told_in (Replied client reply) = record { client = client; reply = reply } ∷ []
+told_in (Continued client part) = []
 told_in (Wrote client bytes) = []
 
 abbrev pub all_told : List Deed → List Told
@@ -128,31 +147,75 @@ AreExchanges {S} {C} t gives =
     → Turns S C t gives (clients_of first (λ client. come_from client deeds ++ later client))
     (all_told deeds) (clients_of last later)
 
--- what was written to a client, and what is to be, is what was to be and the replies to it, in order
+-- whether a deed reads something for a client
+abbrev pub reads_for : ℕ → Deed → Bool
+reads_for client (Came other piece) = false
+reads_for client (Ended other) = false
+reads_for client (Replied other reply) = nat_eq other client
+reads_for client (Continued other part) = nat_eq other client
+reads_for client (Wrote other bytes) = false
+
+-- the machines that were there when something was read for a client last
+abbrev pub machines_after : ℕ → Deed → Tenants → Tenants → Tenants
+machines_after client deed now before = if reads_for client deed then now else before
+
+-- a part is read for a client while the ledgers are live, and they have yet what was left for it
+-- when something was read for it last
+abbrev pub HasYet :
+    {S C : Type 0} → LedgersMeaning S → Tenants → ℕ → Deed → Room S C → Type 0
+HasYet t before client (Continued other part) room =
+    other ≡ client
+    → t.is_live room.ledgers
+    × (chunks_left (t.tenants room.ledgers) (room.talks client).rest
+    ≡ chunks_left before (room.talks client).rest)
+HasYet t before client (Came other piece) room = Unit {0}
+HasYet t before client (Ended other) room = Unit {0}
+HasYet t before client (Replied other reply) room = Unit {0}
+HasYet t before client (Wrote other bytes) room = Unit {0}
+
+module _ {S C : Type 0} {t : LedgersMeaning S} {gives : C → ℕ → C → Type 0} where
+  -- so behind deeds, where these were there before them
+  abbrev pub machines_then :
+      {first last : Room S C} {deeds : List Deed} → Tenants → Lives S C t gives first deeds last → ℕ
+      → Tenants
+  machines_then before Begin client = before
+  machines_then before (Then deeds last deed next lives done) client =
+      machines_after client deed (t.tenants next.ledgers) (machines_then before lives client)
+
+  -- each part was read so that a client was told
+  abbrev pub ReadsOn :
+      {first last : Room S C} {deeds : List Deed} → Tenants → ℕ → Lives S C t gives first deeds last
+      → Type 0
+  ReadsOn before client Begin = Unit {0}
+  ReadsOn before client (Then deeds last deed next lives done) =
+      ReadsOn before client lives × HasYet t (machines_then before lives client) client deed last
+
+-- what was written to a client, and what is owed, is what was owed and the replies to it, in order, as
+-- long as its replies went on as they were begun
 abbrev pub AreWritten :
     {S C : Type 0} → LedgersMeaning S → (C → ℕ → C → Type 0) → Type 0
 AreWritten {S} {C} t gives =
-    (first last : Room S C) (deeds : List Deed)
-    → Lives S C t gives first deeds last
-    → (client : ℕ)
-    → written_to client deeds ++ (last.talks client).unsent
-    ≡ (first.talks client).unsent ++ texts_of (told_to client (all_told deeds))
+    (first last : Room S C) (deeds : List Deed) (lives : Lives S C t gives first deeds last)
+    (before : Tenants) (client : ℕ)
+    → ReadsOn before client lives
+    → written_to client deeds ++ owed (machines_then before lives client) (last.talks client)
+    ≡ owed before (first.talks client) ++ texts_of (told_to client (all_told deeds))
 
 -- what is written to a new client is a beginning of the replies to its own messages, in order, one
 -- a message
 pub record IsServed {S C : Type 0} (t : LedgersMeaning S) (gives : C → ℕ → C → Type 0)
-    (came later written : List ℕ) (now : Talk) : Type 0 where
+    (came later written : List ℕ) (machines : Tenants) (now : Talk) : Type 0 where
   pub replies : List Reply
   pub heard : Hears S C t gives (sent_with (came ++ later) new_talk) replies (sent_with later now)
-  pub begun : written ++ now.unsent ≡ texts_of replies
+  pub begun : written ++ owed machines now ≡ texts_of replies
 
 abbrev pub AreServed : {S C : Type 0} → LedgersMeaning S → (C → ℕ → C → Type 0) → Type 0
 AreServed {S} {C} t gives =
-    (first last : Room S C) (deeds : List Deed)
-    → Lives S C t gives first deeds last
-    → (client : ℕ)
+    (first last : Room S C) (deeds : List Deed) (lives : Lives S C t gives first deeds last)
+    (before : Tenants) (client : ℕ)
+    → ReadsOn before client lives
     → first.talks client ≡ new_talk
     → (later : List ℕ)
     → MayCome (last.talks client).unread later
     → IsServed t gives (come_from client deeds) later (written_to client deeds)
-    (last.talks client)
+    (machines_then before lives client) (last.talks client)

@@ -1,5 +1,5 @@
 -- A message that is answered in a round.
-use Rattle.std.specs.Prelude.{◌≡◌, ◌≢◌, refl, ℕ, true, List, [], ◌∷◌, take, bytes_eq, Option, Ok, if◌then◌else◌}
+use Rattle.std.specs.Prelude.{◌≡◌, ◌≢◌, refl, ℕ, true, List, [], ◌∷◌, take, bytes_eq, Option, None, Ok, if◌then◌else◌}
 use Rattle.httparse.specs.Grammar.{RequestHead}
 use Rattle.chain.specs.Ledgers.{LedgersMeaning, Tenants}
 use Rattle.ledger_http.specs.declared.reply.Reply.{Reply}
@@ -19,7 +19,7 @@ use Rattle.clients.specs.Answering.{HasReplied}
 -- the next message, of so many bytes, is taken, and this reply to it is to be written
 abbrev pub replied_to : ℕ → Reply → Talk → Talk
 replied_to size reply talk =
-    record talk { unread = without size talk.unread; unsent = reply_text reply }
+    record talk { unread = without size talk.unread; unsent = reply_text reply; rest = None }
 
 -- the bytes ask this
 abbrev pub Asks : List ℕ → Question → Type 0

@@ -4,6 +4,7 @@ ghost use Rattle.ledger_http.specs.Limits.{longest_message};
 ghost use Rattle.ledger_http.specs.Message.{IsAnnounced};
 ghost use Rattle.ledger_http.specs.Progress.{HasLength};
 ghost use Rattle.clients.specs.Talk.{new_talk, received, input_ended, written, may_answer, given_up};
+ghost use Rattle.clients.specs.Talk.{continued, is_written};
 ghost use Rattle.clients.specs.Answering.{HasAnswered};
 ghost use Rattle.clients.specs.Within.{replied_to};
 ghost use Rattle.ledger_http.specs.Unread.{IsWhole};
@@ -12,6 +13,7 @@ use crate::exchanging::{Exchanged, exchange};
 use crate::outbox::Outbox;
 use chain::Ledgers;
 use ledger_http::{Inbox, Next, Refusal, Reply};
+use parts::{Part, Rest};
 use service::Moments;
 use std::alloc::{AllocError, Global};
 use std::marker::Model;
@@ -35,6 +37,8 @@ pub enum Answered {
 pub struct Client {
     inbox: Inbox,
     outbox: Outbox,
+    // What of the reply is left to be read.
+    rest: Option<Rest>,
     // Whether another message is answered behind the reply.
     goes_on: bool,
 }
@@ -47,6 +51,7 @@ impl Model for Client {
     ghost view = { λ client. record {
       unread = client.inbox;
       unsent = client.outbox;
+      rest = client.rest;
       goes_on = client.goes_on;
     } };
 }
@@ -59,6 +64,7 @@ impl Client {
         Client {
             inbox: Inbox::new(alloc),
             outbox: Outbox::new(),
+            rest: None,
             goes_on: true,
         }
     }
@@ -86,12 +92,19 @@ impl Client {
         self.inbox.end();
     }
 
+    /// Whether nothing of its last reply is left.
+    pub fn is_written(&self) -> bool
+        ensures { result ≡ is_written self.now }
+    {
+        self.outbox.is_empty() && self.rest.is_none()
+    }
+
     /// Whether its next message may be answered: the last reply is written, and was not the last
     /// of all.
     pub fn may_answer(&self) -> bool
         ensures { result ≡ may_answer self.now }
     {
-        self.goes_on && self.outbox.is_empty()
+        self.goes_on && self.is_written()
     }
 
     /// Answers its next message, if that is there. What is refused while it is read, as a message
@@ -111,12 +124,14 @@ impl Client {
         ensures follows { L.means.follows ledgers.old ledgers.new }
     {
         match exchange(alloc, ledgers, moments, &mut self.inbox) {
-            Exchanged::Answered(reply) => {
-                self.outbox.put(reply);
+            Exchanged::Answered(begun) => {
+                self.outbox.put(begun.front);
+                self.rest = begun.rest;
                 Answered::Replied
             }
             Exchanged::Refused(refusal) => {
                 self.outbox.put(Reply::Fixed(refusal));
+                self.rest = None;
                 self.goes_on = false;
                 Answered::Replied
             }
@@ -153,6 +168,22 @@ impl Client {
     {
         self.inbox.take(size);
         self.outbox.put(reply);
+        self.rest = None;
+    }
+
+    /// What of its reply is left to be read, if anything is.
+    pub fn rest(&self) -> Option<Rest>
+        ensures { result ≡ self.now.rest }
+    {
+        self.rest
+    }
+
+    /// The next part of its reply is to be written.
+    pub fn put_part(&mut self, part: Part)
+        ensures { self.new ≡ continued part self.old }
+    {
+        self.outbox.put(Reply::Whole(part.chunks));
+        self.rest = part.rest;
     }
 
     /// Whether a good head was found first, behind which a body of allowed length is due.
@@ -188,6 +219,7 @@ impl Client {
         ensures { self.new ≡ given_up self.old }
     {
         self.outbox.put(Reply::Fixed(Refusal::Unavailable));
+        self.rest = None;
         self.goes_on = false;
     }
 

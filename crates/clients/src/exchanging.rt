@@ -2,15 +2,15 @@
 ghost use Rattle.clients.specs.Answering.{Exchanges};
 
 use chain::Ledgers;
-use ledger_http::{Inbox, Next, Refusal, Reply, later_bytes_change_nothing};
-use service::{Moments, respond};
+use ledger_http::{Inbox, Next, Refusal, later_bytes_change_nothing};
+use service::{Begun, Moments, begin};
 use std::alloc::Global;
 
 /// What came of looking for a message.
 #[derive(Drop)]
 pub(crate) enum Exchanged {
     /// The reply to a message that was taken.
-    Answered(Reply),
+    Answered(Begun),
     /// What comes next is no message that is taken: the last reply.
     Refused(Refusal),
     /// The next message is not whole.
@@ -36,9 +36,9 @@ pub(crate) fn exchange<L: Ledgers, C: Moments>(
     match inbox.next() {
         Next::Whole(size) => {
             let moment = moments.moment();
-            let reply = respond(alloc, ledgers, inbox.front(size), moment);
+            let begun = begin(alloc, ledgers, inbox.front(size), moment);
             inbox.take(size);
-            Exchanged::Answered(reply)
+            Exchanged::Answered(begun)
         }
         Next::Refused(refusal) => Exchanged::Refused(refusal),
         Next::Wanting => Exchanged::Wanting,

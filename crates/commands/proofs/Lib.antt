@@ -13,7 +13,7 @@ mod HeldLemmas
 mod OpeningLemmas
 mod UndoneLemmas
 mod ServedLemmas
-mod LaterEntries
 mod WholeLemmas
 mod WholeStatements
 mod ReadBack
+mod PartLemmas

@@ -42,7 +42,7 @@ module _ {S C P : Type 0} (r : Rules S C P) where
         ledgers_left = keeps.ledgers;
         moments_left = keeps.moments;
         peers_left = keeps.peers;
-        each = λ client later may. each first last deeds served client refl later may;
+        each = λ before client reads later may. each first last deeds served before client reads refl later may;
         course = λ renewals live. course renewals first last deeds served live settled;
         alone = λ renewals events began end is. alone renewals first last deeds served events began end is;
         enough = enough;

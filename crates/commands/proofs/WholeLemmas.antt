@@ -25,7 +25,7 @@ use Rattle.records.specs.declared.transfer.Transfer.{Transfer}
 use Rattle.commands.specs.Desk.{span_of}
 use Rattle.commands.specs.PieceByPiece.{IsPieceOfLater, PiecesMakeTheWhole}
 use Rattle.commands.specs.Served.{ComeBehind, entries_of, last_time, piece_behind, up_to}
-use Rattle.commands.proofs.LaterEntries.{all_own, same_later}
+use Rattle.parts.proofs.LaterEntries.{all_own, same_later}
 
 -- tests that agree on all elements
 same_by :

@@ -37,7 +37,7 @@ use Rattle.commands.specs.PieceByPiece.{PiecesMakeTheStatement}
 use Rattle.commands.specs.Served.{entries_of, is_newest, text_by, transfer_within, transfers_asked}
 use Rattle.commands.specs.Statements.{answer_in}
 use Rattle.commands.specs.declared.asked.Asked.{Asked}
-use Rattle.commands.proofs.LaterEntries.{all_own}
+use Rattle.parts.proofs.LaterEntries.{all_own}
 use Rattle.commands.proofs.WholeLemmas.{make_the_whole}
 
 -- lists in an order

@@ -10,7 +10,7 @@ use Rattle.records.specs.Machine.{Machine}
 use Rattle.records.specs.Valid.{IsValid}
 use Rattle.commands.specs.Desk.{span_of}
 use Rattle.commands.specs.Extracts.{IsAskedTold}
-use Rattle.commands.specs.Pieces.{IsPiece}
+use Rattle.parts.specs.Pieces.{IsPiece}
 use Rattle.commands.specs.Served.{ComeBehind, entries_of, first_asked, served_text, up_to}
 use Rattle.commands.specs.declared.asked.Asked.{Asked}
 

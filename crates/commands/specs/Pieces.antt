@@ -3,16 +3,15 @@ use Rattle.std.specs.Prelude.{◌≡◌, ◌≢◌, ◌⊎◌, ℕ, List, Option
 use Rattle.std.specs.Prelude.{option_and_then}
 use Rattle.sqlite_disk.specs.declared.Disk as disk
 use Rattle.sqlite_trees.specs.Tree.{Trees}
-use Rattle.records.specs.Facts.{account_in}
 use Rattle.records.specs.Machine.{Machine}
 use Rattle.records.specs.declared.query.Span.{Span}
 use Rattle.wire.specs.declared.request.Request.TheVariants as asks
-use Rattle.chain.specs.AccountEntries.{account_entries_within}
 use Rattle.chain.specs.declared.account_entry.AccountEntry.{AccountEntry}
-use Rattle.chain.specs.declared.ledgers.BatchFault.{BatchFault}
-use Rattle.chain.specs.declared.ledgers.BatchFault.TheVariants as batch_fault
 use Rattle.chain.specs.declared.reads.Listed.{Listed}
-use Rattle.service.specs.Courses.{Tried}
+use Rattle.chain.specs.declared.reads.ReadFault.{ReadFault}
+use Rattle.chain.specs.declared.reads.ReadFault.TheVariants as fault
+use Rattle.parts.specs.Pieces.{IsPiece, LacksAccount}
+use Rattle.service.specs.Courses.{Ending, Tried}
 use Rattle.service.specs.Deeds.{Deed, Asked}
 use Rattle.commands.specs.Endings.{ending_told}
 use Rattle.service.specs.Openings.{run_meaning, Moves}
@@ -25,29 +24,14 @@ use Rattle.command_texts.specs.declared.fault.Fault.TheVariants.{NoTenant, NoAcc
 use Rattle.commands.specs.declared.orders.Done.{Done}
 use Rattle.commands.specs.declared.orders.Done.TheVariants.{Read}
 
--- the account's entries in the span, and the machine's clock
-pub record IsPiece (account : ℕ) (span : Span) (m : Machine) (listed : Listed AccountEntry)
-    : Type 0 where
-  pub there : account_in m account ≢ None
-  pub clock : listed.clock ≡ m.clock
-  pub entries : listed.entries.items ≡ account_entries_within m account span
-
--- what a machine answers: a piece, or that there is no such account
-abbrev pub IsAnswer : ℕ → Span → Machine → Option (Listed AccountEntry) → Type 0
-IsAnswer account span m (Some listed) = IsPiece account span m listed
-IsAnswer account span m None = account_in m account ≡ None
-
--- the machine answers, and stays as it is
-abbrev pub GivesPiece :
-    ℕ → Span → Machine → Option (Listed AccountEntry) → Machine → Type 0
-GivesPiece account span before answer after = (after ≡ before) × IsAnswer account span before answer
-
--- what is told of a batch that reads a piece
-abbrev pub piece_told : Result (Option (Listed AccountEntry)) BatchFault → Result Done Fault
-piece_told (Ok (Some listed)) = Ok (Read listed)
-piece_told (Ok None) = Err NoAccount
-piece_told (Err batch_fault.UnknownKey) = Err NoTenant
-piece_told (Err (batch_fault.Unavailable why)) = Err Unavailable
+-- what is told of a piece that was read
+abbrev pub piece_told : Result (Listed AccountEntry) ReadFault → Result Done Fault
+piece_told (Ok listed) = Ok (Read listed)
+piece_told (Err fault.UnknownKey) = Err NoTenant
+piece_told (Err fault.NoAccount) = Err NoAccount
+piece_told (Err fault.NoHistory) = Err Unavailable
+piece_told (Err (fault.Unavailable why)) = Err Unavailable
+piece_told (Err (fault.Sink why)) = Err Unavailable
 
 -- what a tenant's machine, if there is one, tells when it is asked for a piece
 abbrev pub IsPieceTold : ℕ → Span → Option Machine → Result Done Fault → Type 0
@@ -55,8 +39,7 @@ IsPieceTold account span tenant (Ok (Read listed)) =
     (m : Machine) × (tenant ≡ Some m) × IsPiece account span m listed
 IsPieceTold account span tenant (Ok done) = ⊥
 IsPieceTold account span tenant (Err NoTenant) = tenant ≡ None
-IsPieceTold account span tenant (Err NoAccount) =
-    (m : Machine) × (tenant ≡ Some m) × (account_in m account ≡ None)
+IsPieceTold account span tenant (Err NoAccount) = LacksAccount account tenant
 IsPieceTold account span tenant (Err Unavailable) = Unit {0}
 IsPieceTold account span tenant (Err fault) = ⊥
 
@@ -76,3 +59,9 @@ module _ {D : Type 0} {g : disk.Ghosts D} where
       ⊎ ((digest : List ℕ)
       × Moves (run_meaning store_meaning) old
       (Tried (asked_for digest account) (ending_told result)) new)
+
+  -- a deed was tried: so a part of a statement is read for a client, and nothing is as it was not for
+  -- any tenant
+  abbrev pub IsTried : Store D g → Store D g → Type 0
+  IsTried old new =
+      (deed : Deed) × ((ending : Ending) × Moves (run_meaning store_meaning) old (Tried deed ending) new)

@@ -11,7 +11,7 @@ use Rattle.clients.specs.Answering.{MayCome}
 use Rattle.clients.specs.Deeds.{Deed, IsServed, come_from, written_to}
 use Rattle.polling.specs.Courses.{AreRenewals, IsSince}
 use Rattle.polling.specs.Ending.{most_turns}
-use Rattle.polling.specs.Laws.{empty_hall}
+use Rattle.polling.specs.Laws.{ReadsThrough, empty_hall, machines_in}
 use Rattle.polling.specs.Peers.{Doing}
 use Rattle.polling.specs.Seating.{replies_in}
 use Rattle.polling.specs.Serving.{Hall, Rules, Serves, rules, tellings}
@@ -27,7 +27,8 @@ use Rattle.command_texts.specs.declared.fault.Fault.{Fault}
 -- clients were served from the first that came, until so many messages were replied to, and no
 -- more, or fewer were, since it was asked to end; or, with a fault, fewer were, and peers told 2^64 - 1
 -- times at least what had happened; each
--- was written a beginning of the replies to its own messages, in order, one a message; and over live
+-- was written a beginning of the replies to its own messages, in order, one a message, as long as
+-- its replies went on as they were begun; and over live
 -- ledgers all that was done is a course, in which each tenant sees its own deeds alone
 pub record ServesClients {S C P : Type 0} (r : Rules S C P) (ledgers : S) (moments : C) (peers : P)
     (most : ℕ) (ledgers_now : S) (moments_now : C) (peers_now : P) (result : Result Served Fault) :
@@ -39,10 +40,12 @@ pub record ServesClients {S C P : Type 0} (r : Rules S C P) (ledgers : S) (momen
   pub moments_left : last.room.moments ≡ moments_now
   pub peers_left : last.peers ≡ peers_now
   pub each :
-      (client : ℕ) (later : List ℕ)
+      (before : Tenants) (client : ℕ)
+      → ReadsThrough before client served
+      → (later : List ℕ)
       → MayCome (last.room.talks client).unread later
       → IsServed r.means r.gives (come_from client deeds) later (written_to client deeds)
-      (last.room.talks client)
+      (machines_in before served client) (last.room.talks client)
   pub course :
       (renewals : AreRenewals r)
       → r.means.is_live ledgers

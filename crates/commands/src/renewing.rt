@@ -12,9 +12,11 @@ ghost use Rattle.commands.specs.Openings.{IsOpeningFault};
 use crate::kept::Kept;
 use crate::opening::open_fault;
 use crate::orders::{Orders, carry_out};
+use crate::pieces::next_part;
 use crate::serving::Stops;
 use crate::settling::Settler;
 use command_texts::Fault;
+use parts::{Part, Rest};
 use polling::Steward;
 use records::Unavailable;
 use sqlite::Files;
@@ -154,6 +156,13 @@ impl<D: Disk + Drop, H: Home<D>, K: Clock, O: Orders> Steward<Kept<Store<D>>>
                     renew(self.home, self.clock, &mut self.pause, kept);
                 }
             }
+        }
+    }
+
+    fn reads(alloc: Global, kept: &mut Kept<Store<D>>, rest: &Rest) -> Option<Part> {
+        match kept {
+            Kept::Open(store) => next_part(alloc, store, rest),
+            Kept::Closed => None,
         }
     }
 

@@ -24,7 +24,8 @@ use crate::statements::statement_fault;
 use chain::{AccountEntry, ReadFault};
 use command_texts::Fault;
 use control::{Answer, Call, Entries, PieceAsked, entries_in};
-use records::{Drain, Order, RowSink, SinkFault, StatementRow, Transfer, put_all};
+use parts::row_of;
+use records::{Drain, Order, RowSink, SinkFault, Transfer, put_all};
 use statement::{
     Extract, Period, StatementWriter, extract_text, rows_make_a_statement, rows_make_an_extract,
 };
@@ -108,20 +109,6 @@ impl EntrySink for Gathered {
             return Err(SinkFault::Memory);
         }
         Ok(())
-    }
-}
-
-// The line of an entry in its account's statement.
-fn row_of(account: u128, entry: &AccountEntry) -> StatementRow
-    ensures { result ≡ row_of account entry.now }
-{
-    StatementRow {
-        timestamp: entry.transfer.timestamp,
-        transfer_id: entry.transfer.id,
-        side: entry.transfer.side_of(account),
-        kind: entry.transfer.flags.kind(),
-        amount: entry.transfer.amount,
-        balances: entry.balances,
     }
 }
 

@@ -65,11 +65,11 @@ pub(crate) fn serve_clients<L: Rounds, H: Steward<L> + Stops, C: Moments, P: Pee
             alloc, peers, &mut seats, ledgers, home, moments, &mut piece, left,
         );
         if left == 0 {
-            write_rest::<L, H, C, P>(peers, &mut seats);
+            write_rest::<L, H, C, P>(alloc, peers, &mut seats, ledgers);
             return Ok(Served::Enough);
         }
         if home.is_stopping() {
-            write_rest::<L, H, C, P>(peers, &mut seats);
+            write_rest::<L, H, C, P>(alloc, peers, &mut seats, ledgers);
             return Ok(Served::Stopped);
         }
     }

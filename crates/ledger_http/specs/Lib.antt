@@ -1,5 +1,6 @@
 pub mod RefusalTable
 pub mod ReplyText
+pub mod Chunks
 pub mod Limits
 pub mod Results
 pub mod Head

@@ -58,7 +58,7 @@ health_reply = response_text 200 Json health_body
 
 -- the bytes of a reply
 abbrev pub reply_text : Reply → List ℕ
-reply_text (Whole bytes) = bytes.items
+reply_text (Whole text) = text
 reply_text (Fixed refusal) = refusal_text refusal
 reply_text Page = page_reply
 reply_text Health = health_reply

@@ -3,6 +3,7 @@
 #![tactic(auto)]
 
 mod asking;
+mod chunk;
 mod content_type;
 mod early;
 mod ends;
@@ -19,9 +20,11 @@ mod reply;
 mod request;
 mod route;
 mod routing;
+mod text;
 mod writing;
 
 pub use asking::asked;
+pub use chunk::put_chunk;
 pub use content_type::ContentType;
 pub use early::Early;
 pub use inbox::{Inbox, Next};
@@ -32,4 +35,5 @@ pub use refusal::Refusal;
 pub use reply::Reply;
 pub use request::Asked;
 pub use route::Route;
+pub use text::Text;
 pub use writing::{WriteError, write_reply};

@@ -2,8 +2,9 @@ ghost use Rattle.std.specs.Prelude.{◌≡◌, IfOk};
 ghost use Rattle.std.specs.String.{string_bytes};
 ghost use Rattle.ledger_http.specs.ReplyText.{head_text, body_text, reply_text, early_reply};
 ghost use Rattle.ledger_http.specs.ReplyText.{health_reply};
+ghost use Rattle.ledger_http.specs.Chunks.{chunked_head, chunked_text};
 
-use crate::{ContentType, Early, Refusal};
+use crate::{ContentType, Early, Refusal, Text};
 use console::page_reply;
 use http::StatusCode;
 use std::alloc::{AllocError, Global};
@@ -11,7 +12,7 @@ use std::alloc::{AllocError, Global};
 /// A reply, from its status line on.
 #[derive(Debug, Drop)]
 pub enum Reply {
-    Whole(Vec<u8>),
+    Whole(Text),
     /// The constant reply of a refusal.
     Fixed(Refusal),
     /// The constant reply that has the console's page.
@@ -28,6 +29,17 @@ fn head(alloc: Global, kind: ContentType, length: usize) -> Result<String, Alloc
     let kind = kind.name();
     format!(in alloc;
         "HTTP/1.1 {status}\r\ncontent-length: {length}\r\ncontent-type: {kind}\r\n\r\n"
+    )
+}
+
+// All of a reply without refusal that stands before a body in chunks.
+fn chunked_head(alloc: Global, kind: ContentType) -> Result<String, AllocError>
+    ensures { IfOk result (λ head. string_bytes head ≡ chunked_head kind) }
+{
+    let status = StatusCode::OK;
+    let kind = kind.name();
+    format!(in alloc;
+        "HTTP/1.1 {status}\r\ncontent-type: {kind}\r\ntransfer-encoding: chunked\r\n\r\n"
     )
 }
 
@@ -50,7 +62,17 @@ impl Reply {
     {
         let mut bytes = head(alloc, kind, body.len())?.into_bytes();
         bytes.extend_from_slice(body)?;
-        Ok(Reply::Whole(bytes))
+        Ok(Reply::Whole(bytes.into()))
+    }
+
+    /// A reply without refusal whose body comes in chunks.
+    #[tactic(auto, unfolding(crate::specs::Chunks::chunked_text))]
+    pub fn of_chunks(alloc: Global, kind: ContentType, chunks: &[u8]) -> Result<Reply, AllocError>
+        ensures { IfOk result (λ reply. reply_text reply ≡ chunked_text kind chunks.now) }
+    {
+        let mut bytes = chunked_head(alloc, kind)?.into_bytes();
+        bytes.extend_from_slice(chunks)?;
+        Ok(Reply::Whole(bytes.into()))
     }
 
     #[tactic(auto, unfolding(crate::specs::ReplyText::page_reply))]
@@ -58,7 +80,7 @@ impl Reply {
         ensures { result.now ≡ reply_text self.now }
     {
         match self {
-            Reply::Whole(bytes) => bytes.as_slice(),
+            Reply::Whole(text) => text.as_slice(),
             Reply::Fixed(refusal) => refusal.reply().as_bytes(),
             Reply::Page => page_reply().as_bytes(),
             Reply::Health => health_reply().as_bytes(),

@@ -17,7 +17,7 @@ use Rattle.service.specs.OpeningLaws.{event_more, events_more, same_more, opened
 use Rattle.service.specs.EventLaws.{all_append, unavailable_tells_nothing, still_happen}
 use Rattle.service.specs.Replies.{unavailable}
 use Rattle.service.specs.OwnDeeds.{EachSeesItself}
-use Rattle.clients.specs.Deeds.{Room, Deed, Came, Ended, Replied, Wrote, IsDone, Lives}
+use Rattle.clients.specs.Deeds.{Room, Deed, Came, Ended, Replied, Continued, Wrote, IsDone, Lives}
 use Rattle.clients.specs.Deeds as life
 use Rattle.polling.specs.Serving.{Hall, Rules, Happens, Did, Tells, Stirs, Puts_off, Joins, Goes, Again, Rests, Passes, Fails, Serves, Begin, Then}
 use Rattle.polling.specs.Serving.{AreAsBefore, HasFailed, IsToldUnavailable, AreToldUnavailable}
@@ -129,6 +129,7 @@ still_deed t gives gone old new (Replied client reply) done told =
     still_by t gives _ _ reply (done.does.0.exchange [] (λ ended. refl)).by told.1
 still_deed t gives gone old new (Came client piece) done told = absurd told
 still_deed t gives gone old new (Ended client) done told = absurd told
+still_deed t gives gone old new (Continued client part) done told = absurd told
 still_deed t gives gone old new (Wrote client bytes) done told = absurd told
 
 still_deeds :
@@ -200,6 +201,9 @@ module _ {S C P : Type 0} (r : Rules S C P) (move : ResponsesMove r.means) (rene
   one_more Since Now last next more (Did (Ended client) room peers stays done settled hands) on anew
       led =
       unmoved_more Since Now last.room.ledgers room.ledgers done.does.ledgers_same (on [] refl) led
+  one_more Since Now last next more (Did (Continued client part) room peers stays done settled hands)
+      on anew led =
+      unmoved_more Since Now last.room.ledgers room.ledgers done.does.0.ledgers_same (on [] refl) led
   one_more Since Now last next more (Did (Wrote client bytes) room peers stays done settled hands)
       on anew led =
       unmoved_more Since Now last.room.ledgers room.ledgers done.does.ledgers_same (on [] refl) led

@@ -1,9 +1,10 @@
 -- Clients who go for good: how they stand, and that nothing is left for them.
-use Rattle.std.proofs.Common.{◌≡◌, ◌&&◌, inl, inr, refl, ap, sym, ◌∙◌, ℕ, Bool, true, false, List, [], ◌∷◌}
-use Rattle.std.proofs.lemmas.Bool.{false≢true, true≢false}
+use Rattle.std.proofs.Common.{◌≡◌, ◌&&◌, inl, inr, refl, ap, sym, ◌∙◌, ℕ, Bool, true, false, List, [], ◌∷◌, Option, Some, None, is_none}
+use Rattle.std.proofs.lemmas.Bool.{and_parts, false≢true, true≢false}
+use Rattle.parts.specs.declared.rest.Rest.{Rest}
 use Rattle.std.proofs.Math.Path.{fun_ext}
 use Rattle.clients.specs.Answering.{IsOver}
-use Rattle.clients.specs.Talk.{Talk, is_empty, may_answer}
+use Rattle.clients.specs.Talk.{IsWritten, Talk, is_empty, is_written, may_answer}
 use Rattle.polling.specs.Standing.{Standing, Away, New, Awaited, Owed, Begun, Kept, Overdue, Leaving}
 use Rattle.polling.specs.Standing.{has_seat, expired, leaving, with_standing, stands_behind, StandTold, MayClose, IsFinished}
 use Rattle.polling.specs.Peers.{Said}
@@ -98,12 +99,19 @@ none_of : (bytes : List ℕ) → is_empty bytes ≡ true → bytes ≡ []
 none_of [] none = refl
 none_of (byte ∷ bytes) none = absurd (false≢true none)
 
+no_rest : (rest : Option Rest) → is_none rest ≡ true → rest ≡ None
+no_rest None none = refl
+no_rest (Some rest) none = absurd (false≢true none)
+
+pub written_so : (talk : Talk) → is_written talk ≡ true → IsWritten talk
+written_so talk written =
+    let both = and_parts (is_empty talk.unsent) (is_none talk.rest) written in
+    (none_of talk.unsent both.0, no_rest talk.rest both.1)
+
 -- where no more comes, nothing is left for it
 pub over_finished : (talk : Talk) → may_answer talk ≡ true → IsOver talk.unread → IsFinished talk
-over_finished talk may over =
-    (none_of talk.unsent (and_last talk.goes_on (is_empty talk.unsent) may), inr over)
+over_finished talk may over = (written_so talk (and_last talk.goes_on (is_written talk) may), inr over)
 
 -- nor is where the last reply of all is written
-pub last_finished :
-    (talk : Talk) → talk.goes_on ≡ false → is_empty talk.unsent ≡ true → IsFinished talk
-last_finished talk last none = (none_of talk.unsent none, inl last)
+pub last_finished : (talk : Talk) → talk.goes_on ≡ false → is_written talk ≡ true → IsFinished talk
+last_finished talk last written = (written_so talk written, inl last)

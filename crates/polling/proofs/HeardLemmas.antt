@@ -3,17 +3,17 @@ use Rattle.std.proofs.Common.{◌≡◌, ◌≢◌, ⊎_elim, refl, ap, sym, ◌
 use Rattle.std.proofs.lemmas.Bool.{cases_eq, eq-eqb, ne_eqb}
 use Rattle.std.proofs.lemmas.Grind.{flat_map-append}
 use Rattle.std.proofs.lemmas.List.{append-nil}
-use Rattle.chain.specs.Ledgers.{LedgersMeaning}
+use Rattle.chain.specs.Ledgers.{LedgersMeaning, Tenants}
 use Rattle.ledger_http.specs.declared.reply.Reply.{Reply}
 use Rattle.ledger_http.specs.ReplyText.{reply_text}
 use Rattle.service.specs.Connections.{texts_of}
-use Rattle.clients.specs.Talk.{Talk}
+use Rattle.clients.specs.Talk.{Talk, owed}
 use Rattle.clients.specs.Answering.{MayCome}
 use Rattle.clients.specs.Turns.{Sent, Told, if_told, told_to, Hears, Nothing_yet, One_more, HearTheirOwn}
 use Rattle.clients.specs.Deeds.{Room, Deed, IsDone, Lives, if_own, come_from, written_in, written_to, told_in, all_told, came_in, sent_with, clients_of, MightCome, AreExchanges, AreWritten}
 use Rattle.clients.specs.Deeds as life
 use Rattle.polling.specs.Serving.{Hall, Rules, Happens, Did, Tells, Stirs, Puts_off, Joins, Goes, Again, Rests, Passes, Fails, Serves, Begin, Then}
-use Rattle.polling.specs.Laws.{EachIsServed}
+use Rattle.polling.specs.Laws.{EachIsServed, ReadsBy, ReadsThrough, machines_by, machines_in}
 
 -- what is heard behind what was heard
 hears_on :
@@ -189,63 +189,70 @@ module _ {S C P : Type 0} (r : Rules S C P) where
       (told_to client (all_told before)) (told_to client (all_told more)) earlier
       (step_heard hear exchanges mid next more happens client later may)))
 
-  -- what was written, and what is to be, is what was to be and the replies
-  abbrev pub WritesBy : Room S C → List Deed → Room S C → ℕ → Type 0
-  WritesBy first deeds last client =
-      written_to client deeds ++ (last.talks client).unsent
-      ≡ (first.talks client).unsent ++ texts_of (told_to client (all_told deeds))
+  -- what was written, and what is owed, is what was owed and the replies
+  abbrev pub WritesBy : Tenants → Room S C → List Deed → Tenants → Room S C → ℕ → Type 0
+  WritesBy before first deeds now last client =
+      written_to client deeds ++ owed now (last.talks client)
+      ≡ owed before (first.talks client) ++ texts_of (told_to client (all_told deeds))
 
   step_written :
-      AreWritten r.means r.gives → (last next : Hall S C P) (more : List Deed) →
-      Happens S C P r last more next → (client : ℕ) → WritesBy last.room more next.room client
-  step_written written last next more (Did deed room peers live done settled hands) client =
-      written last.room room (deed ∷ []) (one_deed last.room room deed done) client
-  step_written written last next more (Tells fresh told peers free does) client =
-      sym (append-nil (last.room.talks client).unsent)
-  step_written written last next more (Stirs doing peers may_stir does) client =
-      sym (append-nil (last.room.talks client).unsent)
-  step_written written last next more (Puts_off who peers is does) client =
-      sym (append-nil (last.room.talks client).unsent)
-  step_written written last next more (Joins who away) client =
-      sym (append-nil (last.room.talks client).unsent)
-  step_written written last next more (Goes who peers may_go) client =
-      sym (append-nil (last.room.talks client).unsent)
-  step_written written last next more (Again ledgers renews) client =
-      sym (append-nil (last.room.talks client).unsent)
-  step_written written last next more (Rests ledgers same) client =
-      sym (append-nil (last.room.talks client).unsent)
-  step_written written last next more (Passes moments given passed) client =
-      sym (append-nil (last.room.talks client).unsent)
-  step_written written last next more (Fails deeds room ledgers stands lives told failed begun) client =
-      written last.room room deeds lives client
+      AreWritten r.means r.gives → (last next : Hall S C P) (more : List Deed)
+      (happens : Happens S C P r last more next) (before : Tenants) (client : ℕ) →
+      ReadsBy before client happens →
+      WritesBy before last.room more (machines_by before happens client) next.room client
+  unfolding one_deed
+  step_written written last next more (Did deed room peers live done settled hands) before client yet =
+      written last.room room (deed ∷ []) (one_deed last.room room deed done) before client (tt, yet)
+  step_written written last next more (Tells fresh told peers free does) before client yet =
+      sym (append-nil (owed before (last.room.talks client)))
+  step_written written last next more (Stirs doing peers may_stir does) before client yet =
+      sym (append-nil (owed before (last.room.talks client)))
+  step_written written last next more (Puts_off who peers is does) before client yet =
+      sym (append-nil (owed before (last.room.talks client)))
+  step_written written last next more (Joins who away) before client yet =
+      sym (append-nil (owed before (last.room.talks client)))
+  step_written written last next more (Goes who peers may_go) before client yet =
+      sym (append-nil (owed before (last.room.talks client)))
+  step_written written last next more (Again ledgers renews) before client yet =
+      sym (append-nil (owed before (last.room.talks client)))
+  step_written written last next more (Rests ledgers same) before client yet =
+      sym (append-nil (owed before (last.room.talks client)))
+  step_written written last next more (Passes moments given passed) before client yet =
+      sym (append-nil (owed before (last.room.talks client)))
+  step_written written last next more (Fails deeds room ledgers stands lives told failed begun) before
+      client yet =
+      written last.room room deeds lives before client yet
 
   all_written :
-      AreWritten r.means r.gives → (first last : Hall S C P) (deeds : List Deed) →
-      Serves S C P r first deeds last → (client : ℕ) → WritesBy first.room deeds last.room client
-  all_written written first last deeds Begin client = sym (append-nil (last.room.talks client).unsent)
-  all_written written first last deeds (Then before mid more next serves happens) client =
-      let to_be = (first.room.talks client).unsent in
-      let texts_before = texts_of (told_to client (all_told before)) in
+      AreWritten r.means r.gives → (first last : Hall S C P) (deeds : List Deed)
+      (serves : Serves S C P r first deeds last) (before : Tenants) (client : ℕ) →
+      ReadsThrough before client serves →
+      WritesBy before first.room deeds (machines_in before serves client) last.room client
+  all_written written first last deeds Begin before client goes =
+      sym (append-nil (owed before (last.room.talks client)))
+  all_written written first last deeds (Then earlier mid more next serves happens) before client goes =
+      let to_be = owed before (first.room.talks client) in
+      let then_mid = machines_in before serves client in
+      let now = owed (machines_by then_mid happens client) (next.room.talks client) in
+      let texts_before = texts_of (told_to client (all_told earlier)) in
       let texts_more = texts_of (told_to client (all_told more)) in
-      ap (λ (front : List ℕ). front ++ (next.room.talks client).unsent)
-      (flat_map-append (written_in client) before more)
-      ∙ append_assoc (written_to client before) (written_to client more)
-      (next.room.talks client).unsent
-      ∙ ap (λ (rest : List ℕ). written_to client before ++ rest)
-      (step_written written mid next more happens client)
-      ∙ sym (append_assoc (written_to client before) (mid.room.talks client).unsent texts_more)
+      ap (λ (front : List ℕ). front ++ now) (flat_map-append (written_in client) earlier more)
+      ∙ append_assoc (written_to client earlier) (written_to client more) now
+      ∙ ap (λ (rest : List ℕ). written_to client earlier ++ rest)
+      (step_written written mid next more happens then_mid client goes.1)
+      ∙ sym (append_assoc (written_to client earlier) (owed then_mid (mid.room.talks client)) texts_more)
       ∙ ap (λ (front : List ℕ). front ++ texts_more)
-      (all_written written first mid before serves client)
+      (all_written written first mid earlier serves before client goes.0)
       ∙ append_assoc to_be texts_before texts_more
       ∙ ap (λ (rest : List ℕ). to_be ++ rest)
-      (sym (texts-append (told_to client (all_told before)) (told_to client (all_told more))))
+      (sym (texts-append (told_to client (all_told earlier)) (told_to client (all_told more))))
       ∙ ap (λ (replies : List Reply). to_be ++ texts_of replies)
-      (sym (told_to-append client before more))
+      (sym (told_to-append client earlier more))
 
   pub each_is_served :
       MightCome r.means r.gives → HearTheirOwn r.means r.gives → AreExchanges r.means r.gives →
       AreWritten r.means r.gives → EachIsServed r
-  each_is_served might hear exchanges written first last deeds serves client new later may = record {
+  each_is_served might hear exchanges written first last deeds serves before client goes new later may = record {
     replies = told_to client (all_told deeds);
     heard =
         subst
@@ -254,6 +261,6 @@ module _ {S C P : Type 0} (r : Rules S C P) where
         (told_to client (all_told deeds)) (sent_with later (last.room.talks client)))
         new (all_heard might hear exchanges first last deeds serves client later may);
     begun =
-        all_written written first last deeds serves client
-        ∙ ap (λ (talk : Talk). talk.unsent ++ texts_of (told_to client (all_told deeds))) new;
+        all_written written first last deeds serves before client goes
+        ∙ ap (λ (talk : Talk). owed before talk ++ texts_of (told_to client (all_told deeds))) new;
   }

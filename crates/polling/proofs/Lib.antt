@@ -4,6 +4,7 @@ pub mod KindLemmas
 pub mod WrittenLemmas
 pub mod FinishLemmas
 pub mod OneLemmas
+pub mod ThenLemmas
 pub mod AllLemmas
 pub mod SeatLemmas
 pub mod CloseLemmas

@@ -1,22 +1,22 @@
 -- One client among all: what is done for it is done in a hall.
-use Rattle.std.proofs.Common.{◌≡◌, ◌≢◌, ◌⊎◌, inl, inr, refl, ap, sym, ◌∙◌, subst, ℕ, Bool, true, false, List, [], ◌∷◌, ◌++◌, append_assoc, length, ◌+◌, take, if◌then◌else◌}
+use Rattle.std.proofs.Common.{◌≡◌, ◌≢◌, refl, ap, sym, ◌∙◌, subst, ℕ, Bool, true, false, List, [], ◌∷◌, ◌++◌, append_assoc, length, ◌+◌, take, if◌then◌else◌}
 use Rattle.std.proofs.lemmas.Bool.{eq-eqb, ne_eqb, true≢false}
 use Rattle.std.proofs.lemmas.List.{append-nil, take-append-drop, length-append}
 use Rattle.std.proofs.lemmas.Grind.{flat_map-append}
 use Rattle.ledger_http.specs.declared.reply.Reply.{Reply}
-use Rattle.clients.specs.Talk.{Talk, received, input_ended, written, may_answer}
+use Rattle.parts.specs.declared.rest.Part.{Part}
+use Rattle.clients.specs.Talk.{Talk, continued, received, input_ended, written, may_answer}
 use Rattle.clients.specs.Answering.{IsUnmoved, IsWanting, HasReplied}
-use Rattle.clients.specs.Deeds.{Deed, Came, Replied, Wrote, client_of, Does, told_in, all_told}
+use Rattle.clients.specs.Deeds.{Deed, Came, Replied, Continued, Wrote, client_of, Does, IsNextPart, told_in, all_told}
 use Rattle.clients.specs.Deeds as deed
 use Rattle.service.specs.Seen.{Whole}
 use Rattle.polling.specs.Peers.{Gave, Gave_none, Ended, Took, Took_none, Stirred, Hands}
 use Rattle.polling.specs.Standing.{Standing, Owed, begun, rested, leaving, with_standing, stands_after, MayGo, Lost_piece}
 use Rattle.service.specs.Openings.{run_meaning, IsSettled}
-use Rattle.polling.specs.Serving.{Hall, hall, Rules, Settles, IsDueOf, gone_with, Happens, Did, Stirs, Goes, Serves, Begin, Then}
-use Rattle.polling.specs.Seating.{with_talk, ServesOne, HasMoved, gone_by, stands_by, replies_in}
-use Rattle.polling.specs.declared.step.Step.{Step}
+use Rattle.polling.specs.Serving.{Hall, hall, Rules, Settles, IsDueOf, gone_with, Happens, Did, Stirs, Goes, Again, Serves, Begin, Then}
+use Rattle.polling.specs.Seating.{with_talk, ServesOne, replies_in}
 use Rattle.polling.specs.declared.step.Step.TheVariants as step
-use Rattle.polling.proofs.StandLemmas.{by_client, standing-own, standing-other, begun_unowed, after-append}
+use Rattle.polling.proofs.StandLemmas.{standing-own, begun_unowed}
 
 -- what follows is done behind what was done
 pub serves_on :
@@ -126,48 +126,6 @@ did_begin :
 did_begin deed stands moved owed =
     begun_unowed (stands (client_of deed))
     (sym (standing-own (client_of deed) (begun (stands (client_of deed))) stands) ∙ owed)
-
--- it stays so
-unowed_still :
-    (deeds : List Deed) (stands : ℕ → Standing) (client : ℕ) → stands client ≢ Owed →
-    stands_after deeds stands client ≢ Owed
-unowed_still [] stands client unowed = unowed
-unowed_still (deed ∷ deeds) stands client unowed =
-    let own = client_of deed in
-    unowed_still deeds (with_standing own (begun (stands own)) stands) client
-    (by_client
-    (λ each. stands each ≢ Owed → with_standing own (begun (stands own)) stands each ≢ Owed) own
-    (λ was owed. begun_unowed (stands own) (sym (standing-own own (begun (stands own)) stands) ∙ owed))
-    (λ other differ was owed.
-    was (sym (standing-other own other (begun (stands own)) stands differ) ∙ owed)) client unowed)
-
--- what may have been idle in both parts, where the second ends so
-moved_both :
-    (step : Step) (first last idle : Bool) (deeds : List Deed) (stands : ℕ → Standing) (client : ℕ) →
-    (idle ≡ false → (first ≡ false) ⊎ (last ≡ false)) → (first ≡ false → stands client ≢ Owed) →
-    HasMoved step last (stands_after deeds stands client) →
-    HasMoved step idle (stands_after deeds stands client)
-moved_both step.More first last idle deeds stands client either before behind =
-    λ moved.
-    elim (either moved) [
-      | inl one ↦ unowed_still deeds stands client (before one)
-      | inr other ↦ behind other
-    ]
-moved_both step.Waits first last idle deeds stands client either before behind = tt
-moved_both step.Goes first last idle deeds stands client either before behind = tt
-
--- deeds behind deeds, in the last step
-stands_by-append :
-    (last : Step) (client : ℕ) (before more : List Deed) (stands : ℕ → Standing) →
-    stands_by last client more (stands_after before stands)
-    ≡ stands_by last client (before ++ more) stands
-stands_by-append step.More client before more stands = sym (after-append before more stands)
-stands_by-append step.Waits client before more stands =
-    ap (λ (all : ℕ → Standing). with_standing client (rested (all client)) all)
-    (sym (after-append before more stands))
-stands_by-append step.Goes client before more stands =
-    ap (λ (all : ℕ → Standing). with_standing client (leaving (all client)) all)
-    (sym (after-append before more stands))
 
 module _ {S C P : Type 0} (r : Rules S C P) (client : ℕ) where
   -- nothing is done
@@ -330,6 +288,32 @@ module _ {S C P : Type 0} (r : Rules S C P) (client : ℕ) where
         did_begin (Wrote client bytes) stands,
       )
 
+  -- the ledgers were seen to
+  pub renewed :
+      (ledgers ledgers_now : S) (moments : C) (peers : P) (talk : Talk) → r.renews ledgers ledgers_now →
+      Stays r client ledgers moments peers talk ledgers_now moments peers talk true 0
+  renewed ledgers ledgers_now moments peers talk does talks gone stands stays = (
+    [],
+    once r (hall ledgers moments peers (with_talk client talk talks) gone stands)
+        (hall ledgers_now moments peers (with_talk client talk talks) gone stands) []
+        (Again ledgers_now does),
+    refl,
+    λ (moved : true ≡ false). absurd (true≢false moved),
+  )
+
+  -- the next part of a reply was read
+  pub continues :
+      (ledgers : S) (moments : C) (peers : P) (talk talk_now : Talk) (part : Part) →
+      talk_now ≡ continued part talk → IsNextPart r.means ledgers talk part →
+      Stays r client ledgers moments peers talk ledgers moments peers talk_now false 0
+  continues ledgers moments peers talk talk_now part is next talks gone stands stays = (
+    Continued client part ∷ [],
+    did_one r (Continued client part) ledgers ledgers moments moments peers peers talk talk_now talks
+        gone stands stays tt (record { ledgers_same = refl; moments_same = refl; same = is }, next) tt refl,
+    refl,
+    did_begin (Continued client part) stands,
+  )
+
   -- a message was replied to
   pub replied :
       (ledgers ledgers_now : S) (moments moments_now : C) (peers : P) (talk talk_now : Talk)
@@ -344,80 +328,3 @@ module _ {S C P : Type 0} (r : Rules S C P) (client : ℕ) where
     refl,
     did_begin (Replied client reply) stands,
   )
-
-  -- one step behind another
-  pub then_one :
-      (ledgers ledgers_then ledgers_now : S) (moments moments_then moments_now : C)
-      (peers peers_then peers_now : P) (talk talk_then talk_now : Talk) (last : Step)
-      (idle idle_last idle_all : Bool) (before behind all : ℕ) →
-      (idle_all ≡ false → (idle ≡ false) ⊎ (idle_last ≡ false)) → before + behind ≡ all →
-      Stays r client ledgers moments peers talk ledgers_then moments_then peers_then talk_then idle
-      before →
-      ServesOne r client ledgers_then moments_then peers_then talk_then ledgers_now moments_now
-      peers_now talk_now last idle_last behind →
-      ServesOne r client ledgers moments peers talk ledgers_now moments_now peers_now talk_now last
-      idle_all all
-  then_one ledgers ledgers_then ledgers_now moments moments_then moments_now peers peers_then
-      peers_now talk talk_then talk_now last idle idle_last idle_all before behind all either sum first
-      second talks gone stands stays =
-      let did = first talks gone stands stays in
-      let mid = stands_after did.0 stands in
-      let does = second talks gone mid stays in (
-        did.0 ++ does.0,
-        subst
-            (λ (now : ℕ → Standing).
-            Serves S C P r (hall ledgers moments peers (with_talk client talk talks) gone stands)
-            (did.0 ++ does.0)
-            (hall ledgers_now moments_now peers_now (with_talk client talk_now talks)
-            (gone_by last client gone) now))
-            (stands_by-append last client did.0 does.0 stands)
-            (serves_on r (hall ledgers moments peers (with_talk client talk talks) gone stands)
-            (hall ledgers_then moments_then peers_then (with_talk client talk_then talks) gone mid)
-            (hall ledgers_now moments_now peers_now (with_talk client talk_now talks)
-            (gone_by last client gone) (stands_by last client does.0 mid))
-            did.0 does.0 did.1 does.1),
-        replies_both did.0 does.0 before behind all did.2 does.2 sum,
-        subst (λ (now : ℕ → Standing). HasMoved last idle_all (now client))
-            (sym (after-append did.0 does.0 stands))
-            (moved_both last idle idle_last idle_all does.0 mid client either did.3 does.3),
-      )
-
-  -- where nothing more may be done, that is not asked
-  pub other_idle :
-      (ledgers ledgers_now : S) (moments moments_now : C) (peers peers_now : P)
-      (talk talk_now : Talk) (last : Step) (idle idle_all : Bool) (replies : ℕ) → last ≢ step.More →
-      ServesOne r client ledgers moments peers talk ledgers_now moments_now peers_now talk_now last
-      idle replies →
-      ServesOne r client ledgers moments peers talk ledgers_now moments_now peers_now talk_now last
-      idle_all replies
-  other_idle ledgers ledgers_now moments moments_now peers peers_now talk talk_now step.More idle
-      idle_all replies other serves =
-      absurd (other refl)
-  other_idle ledgers ledgers_now moments moments_now peers peers_now talk talk_now step.Waits idle
-      idle_all replies other serves =
-      λ talks gone stands stays.
-      let did = serves talks gone stands stays in (did.0, did.1, did.2, tt)
-  other_idle ledgers ledgers_now moments moments_now peers peers_now talk talk_now step.Goes idle
-      idle_all replies other serves =
-      λ talks gone stands stays.
-      let did = serves talks gone stands stays in (did.0, did.1, did.2, tt)
-
-  -- where less is told of what may have been idle
-  pub idle_too :
-      (ledgers ledgers_now : S) (moments moments_now : C) (peers peers_now : P)
-      (talk talk_now : Talk) (last : Step) (idle idle_all : Bool) (replies : ℕ) →
-      (idle_all ≡ false → idle ≡ false) →
-      ServesOne r client ledgers moments peers talk ledgers_now moments_now peers_now talk_now last
-      idle replies →
-      ServesOne r client ledgers moments peers talk ledgers_now moments_now peers_now talk_now last
-      idle_all replies
-  idle_too ledgers ledgers_now moments moments_now peers peers_now talk talk_now last idle idle_all
-      replies less serves talks gone stands stays =
-      let did = serves talks gone stands stays in (
-        did.0,
-        did.1,
-        did.2,
-        moved_both last true idle idle_all [] (stands_after did.0 stands) client
-            (λ (none : idle_all ≡ false). inr (less none))
-            (λ (never : true ≡ false). absurd (true≢false never)) did.3,
-      )

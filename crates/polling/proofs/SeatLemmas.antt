@@ -292,41 +292,41 @@ module _ {S C P : Type 0} where
 
   -- a client was written to, and may be let wait
   pub left_all :
-      (r : Rules S C P) (client : ℕ) (done : Step) (idle : Bool) (told : Step) (ledgers : S)
+      (r : Rules S C P) (client : ℕ) (done : Step) (idle : Bool) (told : Step) (ledgers ledgers_now : S)
       (moments : C) (peers peers_then peers_now : P) (seats seats_then seats_now : ℕ → Option Talk)
       (next : ℕ) → IsToldAs done idle told →
-      HadTurn r client ledgers moments peers seats ledgers moments peers_then seats_then done idle 0 →
+      HadTurn r client ledgers moments peers seats ledgers_now moments peers_then seats_then done idle 0 →
       IsFollowed r client told peers_then seats_then peers_now seats_now →
       (told ≡ step.Waits → (peers_now ≡ peers_then) × (seats_now ≡ seats_then)) →
       ServesAll r (held ledgers moments peers seats next)
-      (held ledgers moments peers_now seats_now next) 0
-  left_all r client done idle told ledgers moments peers peers_then peers_now seats seats_then
+      (held ledgers_now moments peers_now seats_now next) 0
+  left_all r client done idle told ledgers ledgers_now moments peers peers_then peers_now seats seats_then
       seats_now next (inl as_done) had followed same =
       serves_all r (idle ≡ true) (owing A_turn client ∷ []) [] (held ledgers moments peers seats next)
-      (held ledgers moments peers_now seats_now next) 0
-      (followed ledgers ledgers moments moments peers seats next idle 0
+      (held ledgers_now moments peers_now seats_now next) 0
+      (followed ledgers ledgers_now moments moments peers seats next idle 0
       (subst
       (λ (step : Step).
-      HadTurn r client ledgers moments peers seats ledgers moments peers_then seats_then step idle 0)
+      HadTurn r client ledgers moments peers seats ledgers_now moments peers_then seats_then step idle 0)
       (sym as_done.0) had))
-  left_all r client done idle told ledgers moments peers peers_then peers_now seats seats_then
+  left_all r client done idle told ledgers ledgers_now moments peers peers_then peers_now seats seats_then
       seats_now next (inr left) had followed same =
       let is = same left.1 in
       let turn =
       subst
       (λ (step : Step).
-      HadTurn r client ledgers moments peers seats ledgers moments peers_then seats_then step idle 0)
+      HadTurn r client ledgers moments peers seats ledgers_now moments peers_then seats_then step idle 0)
       left.0 had in
       subst
       (λ (now : P).
-      ServesAll r (held ledgers moments peers seats next) (held ledgers moments now seats_now next) 0)
+      ServesAll r (held ledgers moments peers seats next) (held ledgers_now moments now seats_now next) 0)
       (sym is.0)
       (subst
       (λ (now : ℕ → Option Talk).
       ServesAll r (held ledgers moments peers seats next)
-      (held ledgers moments peers_then now next) 0)
+      (held ledgers_now moments peers_then now next) 0)
       (sym is.1)
       (serves_all r ⊥ [] [] (held ledgers moments peers seats next)
-      (held ledgers moments peers_then seats_then next) 0
-      (served_at r client ledgers ledgers moments moments peers peers_then seats seats_then next
+      (held ledgers_now moments peers_then seats_then next) 0
+      (served_at r client ledgers ledgers_now moments moments peers peers_then seats seats_then next
       turn.talk turn.talk_now idle 0 turn.was turn.now turn.served)))

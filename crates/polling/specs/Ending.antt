@@ -1,7 +1,7 @@
 -- The turns of serving clients, and when it ends.
 use Rattle.std.specs.Prelude.{◌≡◌, ◌⊎◌, ℕ, Bool, false, ◌+◌, ◌-◌, ◌^◌, [], IfSome}
 use Rattle.std.specs.BTreeMap.{BTreeMap}
-use Rattle.clients.specs.Talk.{Talk}
+use Rattle.clients.specs.Talk.{IsWritten, Talk}
 use Rattle.polling.specs.Peers.{Said}
 use Rattle.polling.specs.Serving.{Hall, Rules}
 use Rattle.polling.specs.Seating.{Held, Keeps, LeadsAll, ServesAll, ServesOwed, seats_in}
@@ -70,7 +70,7 @@ GivesTurns S C P r most old new replies =
 
 -- nothing is left of any reply
 abbrev pub AreWritten : BTreeMap ℕ Talk → Type 0
-AreWritten clients = (client : ℕ) → IfSome (seats_in clients client) (λ talk. talk.unsent ≡ [])
+AreWritten clients = (client : ℕ) → IfSome (seats_in clients client) IsWritten
 
 -- what was done of what had happened
 abbrev pub HasDone :

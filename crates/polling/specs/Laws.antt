@@ -2,26 +2,66 @@
 use Rattle.std.specs.Prelude.{◌≡◌, ◌⊎◌, ◌≤◌, ◌+◌, ℕ, false, List}
 use Rattle.clients.specs.Talk.{new_talk}
 use Rattle.clients.specs.Answering.{MayCome}
+use Rattle.chain.specs.Ledgers.{Tenants}
 use Rattle.clients.specs.Deeds.{Deed, Lives, come_from, written_to, IsServed}
+use Rattle.clients.specs.Deeds.{HasYet, ReadsOn, machines_after, machines_then}
 use Rattle.polling.specs.Ending.{Ends, GivesTurns, Turns, most_turns}
 use Rattle.service.specs.Seen.{Whole}
 use Rattle.polling.specs.Standing.{Away, Debt, IsOwed, KeepsOnly}
-use Rattle.polling.specs.Serving.{Hall, hall, Rules, Serves, tellings, rounds_in}
+use Rattle.polling.specs.Serving.{Hall, hall, Rules, Happens, Did, Fails, Serves, Begin, Then, tellings, rounds_in}
 use Rattle.polling.specs.Seating.{AreEmpty, Held, held_by, Keeps, ServesAll, replies_in}
 use Rattle.polling.specs.declared.seats.Seats.{Seats}
 
+module _ {S C P : Type 0} {r : Rules S C P} where
+  -- the machines that were there when something was read for a client last: behind what happens, and
+  -- behind all that happened
+  abbrev pub machines_by :
+      {old new : Hall S C P} {deeds : List Deed} → Tenants → Happens S C P r old deeds new → ℕ
+      → Tenants
+  machines_by before (Did deed room peers turn done settled hands) client =
+      machines_after client deed (r.means.tenants room.ledgers) before
+  machines_by before (Fails deeds room ledgers stands lives told failed begun) client =
+      machines_then before lives client
+  machines_by before happens client = before
+
+  abbrev pub machines_in :
+      {first last : Hall S C P} {deeds : List Deed} → Tenants → Serves S C P r first deeds last → ℕ
+      → Tenants
+  machines_in before Begin client = before
+  machines_in before (Then deeds last more next serves happens) client =
+      machines_by (machines_in before serves client) happens client
+
+  -- the parts of its replies that a client was told were read while the ledgers had yet what was left
+  -- when the reply was begun
+  abbrev pub ReadsBy :
+      {old new : Hall S C P} {deeds : List Deed} → Tenants → ℕ → Happens S C P r old deeds new
+      → Type 0
+  ReadsBy {old} before client (Did deed room peers turn done settled hands) =
+      HasYet r.means before client deed old.room
+  ReadsBy before client (Fails deeds room ledgers stands lives told failed begun) =
+      ReadsOn before client lives
+  ReadsBy before client happens = Unit {0}
+
+  abbrev pub ReadsThrough :
+      {first last : Hall S C P} {deeds : List Deed} → Tenants → ℕ → Serves S C P r first deeds last
+      → Type 0
+  ReadsThrough before client Begin = Unit {0}
+  ReadsThrough before client (Then deeds last more next serves happens) =
+      ReadsThrough before client serves × ReadsBy (machines_in before serves client) client happens
+
 -- what is written to a new client is a beginning of the replies to its own messages, in order, one
--- a message, over ledgers to which a steward attends between them
+-- a message, over ledgers to which a steward attends between them, as long as its replies go on as
+-- they were begun
 abbrev pub EachIsServed : {S C P : Type 0} → Rules S C P → Type 0
 EachIsServed {S} {C} {P} r =
-    (first last : Hall S C P) (deeds : List Deed)
-    → Serves S C P r first deeds last
-    → (client : ℕ)
+    (first last : Hall S C P) (deeds : List Deed) (serves : Serves S C P r first deeds last)
+    (before : Tenants) (client : ℕ)
+    → ReadsThrough before client serves
     → first.room.talks client ≡ new_talk
     → (later : List ℕ)
     → MayCome (last.room.talks client).unread later
     → IsServed r.means r.gives (come_from client deeds) later (written_to client deeds)
-    (last.room.talks client)
+    (machines_in before serves client) (last.room.talks client)
 
 -- where the steward changes nothing and no messages share a round, the deeds are a run of the same
 -- ledgers

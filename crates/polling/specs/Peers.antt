@@ -1,6 +1,6 @@
 -- What those who are connected do.
 use Rattle.std.specs.Prelude.{◌≡◌, ◌≤◌, ℕ, List, length, take}
-use Rattle.clients.specs.Deeds.{Deed, Came, Replied, Wrote}
+use Rattle.clients.specs.Deeds.{Deed, Came, Replied, Continued, Wrote}
 use Rattle.clients.specs.Deeds as deed
 use Rattle.polling.specs.declared.peers.Told.{Told}
 use Rattle.polling.specs.declared.peers.Read.{Read}
@@ -28,6 +28,7 @@ abbrev pub Hands : {P : Type 0} → (P → Doing → P → Type 0) → Deed → 
 Hands does (Came client piece) old new = does old (Gave client piece) new
 Hands does (deed.Ended client) old new = does old (Ended client) new
 Hands does (Replied client reply) old new = new ≡ old
+Hands does (Continued client part) old new = new ≡ old
 Hands does (Wrote client bytes) old new = does old (Took client bytes) new
 
 -- what reading from a client gave

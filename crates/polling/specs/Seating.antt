@@ -2,7 +2,7 @@
 use Rattle.std.specs.Prelude.{◌≡◌, ◌≢◌, ◌≤◌, ◌<◌, ℕ, Bool, true, false, ◌&&◌, List, [], ◌∷◌, length, Option, Some, None, nat_eq, if◌then◌else◌}
 use Rattle.std.specs.BTreeMap.{BTreeMap, get}
 use Rattle.std.specs.Ordering.{nat_cmp}
-use Rattle.clients.specs.Talk.{Talk, is_empty, new_talk}
+use Rattle.clients.specs.Talk.{Talk, is_empty, is_written, new_talk}
 use Rattle.service.specs.Seen.{Seen, Whole}
 use Rattle.clients.specs.Deeds.{Deed, all_told}
 use Rattle.polling.specs.Standing.{Standing, Owed, rested, leaving, with_standing, stands_after, StandsIn, StandTold}
@@ -49,6 +49,10 @@ count_of replied = if replied then 1 else 0
 -- nothing was to be written to it, and nothing is
 abbrev pub has_nothing : Talk → Talk → Bool
 has_nothing talk talk_now = is_empty talk.unsent && is_empty talk_now.unsent
+
+-- nor was anything left to be read for it, nor is
+abbrev pub has_no_more : Talk → Talk → Bool
+has_no_more talk talk_now = is_written talk && is_written talk_now
 
 -- one client was served, whichever others there are, and nothing else was done; and where more may be
 -- done, something was, or it is told that nothing may have been

@@ -10,7 +10,7 @@ use Rattle.service.specs.Replies.{unavailable}
 use Rattle.service.specs.Seen.{Seen, Whole, seen}
 use Rattle.clients.specs.Answering.{IsWanting}
 use Rattle.clients.specs.Talk.{Talk, new_talk}
-use Rattle.clients.specs.Deeds.{Room, Deed, Came, Ended, Replied, Wrote, client_of, IsDone, Lives}
+use Rattle.clients.specs.Deeds.{Room, Deed, Came, Ended, Replied, Continued, Wrote, client_of, IsDone, Lives}
 use Rattle.clients.specs.Deeds as life
 use Rattle.polling.specs.Peers.{Doing, Asked, Said, Hands}
 use Rattle.polling.specs.Standing.{Standing, Awaited, has_seat, rested, leaving, with_standing, stands_behind, stands_after, MayGo, MayStir}
@@ -68,6 +68,7 @@ abbrev pub Settles : {S : Type 0} → LedgersMeaning S → Deed → S → Type 0
 Settles t (Replied client reply) ledgers = IsSettled (run_meaning t) ledgers
 Settles t (Came client piece) ledgers = Unit {0}
 Settles t (Ended client) ledgers = Unit {0}
+Settles t (Continued client part) ledgers = Unit {0}
 Settles t (Wrote client bytes) ledgers = Unit {0}
 
 -- a client is read only where its next message is not whole, and written to only where something is
@@ -76,6 +77,7 @@ abbrev pub IsDueOf : Deed → Talk → Type 0
 IsDueOf (Came client piece) talk = IsWanting talk.unread
 IsDueOf (Ended client) talk = IsWanting talk.unread
 IsDueOf (Replied client reply) talk = Unit {0}
+IsDueOf (Continued client part) talk = Unit {0}
 IsDueOf (Wrote client bytes) talk = talk.unsent ≢ []
 
 -- a deed of a client that has not gone, in its turn
@@ -123,6 +125,7 @@ abbrev pub IsToldUnavailable : (ℕ → Bool) → Deed → Type 0
 IsToldUnavailable gone (Replied client reply) = (gone client ≡ false) × (reply ≡ unavailable)
 IsToldUnavailable gone (Came client piece) = ⊥
 IsToldUnavailable gone (Ended client) = ⊥
+IsToldUnavailable gone (Continued client part) = ⊥
 IsToldUnavailable gone (Wrote client bytes) = ⊥
 
 module _ {S C : Type 0} {t : LedgersMeaning S} {gives : C → ℕ → C → Type 0} where
@@ -132,6 +135,7 @@ module _ {S C : Type 0} {t : LedgersMeaning S} {gives : C → ℕ → C → Type
       event_in reply (done.does.0.exchange [] (λ ended. refl)).by
   events_by (Came client piece) done = []
   events_by (Ended client) done = []
+  events_by (Continued client part) done = []
   events_by (Wrote client bytes) done = []
 
   abbrev pub events_of :

@@ -1,9 +1,9 @@
 -- How clients stand between their turns, and what is owed to them.
-use Rattle.std.specs.Prelude.{◌≡◌, ◌≢◌, ◌⊎◌, ℕ, Bool, true, false, List, [], ◌∷◌, Option, is_some, nat_eq, if◌then◌else◌}
+use Rattle.std.specs.Prelude.{◌≡◌, ◌≢◌, ◌⊎◌, ℕ, Bool, true, false, List, [], ◌∷◌, Option, None, is_some, nat_eq, if◌then◌else◌}
 use Rattle.std.specs.List.{Contains}
 use Rattle.clients.specs.Answering.{IsWanting, IsOver}
 use Rattle.clients.specs.Deeds.{Deed, client_of}
-use Rattle.clients.specs.Talk.{Talk}
+use Rattle.clients.specs.Talk.{IsWritten, Talk}
 use Rattle.polling.specs.Peers.{Doing, Gave, Gave_none, Took_none, Broke, Asked, Closed, Said, Stirred}
 use Rattle.polling.specs.declared.peers.Told.{Told}
 use Rattle.polling.specs.declared.peers.Told.TheVariants.{Joined, Ready, Late, Nothing}
@@ -100,11 +100,11 @@ stands_after (deed ∷ deeds) stands =
 
 -- nothing is left for a client: its replies are written, and no message of it is answered any more
 abbrev pub IsFinished : Talk → Type 0
-IsFinished talk = (talk.unsent ≡ []) × ((talk.goes_on ≡ false) ⊎ IsOver talk.unread)
+IsFinished talk = IsWritten talk × ((talk.goes_on ≡ false) ⊎ IsOver talk.unread)
 
 -- a client goes only for a reason: it was told as late; its connection was told as broken; a piece
--- of its next message is lost, since memory was wanting for it, which no contract can tell; or
--- nothing is left for it
+-- of its next message is lost, since memory was wanting for it, which no contract can tell; the next
+-- part of its reply could not be read; or nothing is left for it
 pub data MayGo {P : Type 0} (does : P → Doing → P → Type 0) (client : ℕ) (standing : Standing)
     (talk : Talk) (old new : P) : Type 0 where
   Told_late : standing ≡ Overdue → new ≡ old → MayGo does client standing talk old new
@@ -112,6 +112,8 @@ pub data MayGo {P : Type 0} (does : P → Doing → P → Type 0) (client : ℕ)
   Lost_piece :
       (piece : List ℕ) → IsWanting talk.unread → does old (Gave client piece) new →
       MayGo does client standing talk old new
+  Cut_short :
+      talk.unsent ≡ [] → talk.rest ≢ None → new ≡ old → MayGo does client standing talk old new
   Finished : IsFinished talk → new ≡ old → MayGo does client standing talk old new
 
 -- a client is closed only where it has no seat, or goes for good

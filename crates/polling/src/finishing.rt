@@ -1,6 +1,6 @@
 //! Writing what is left of replies, where no further message is answered.
-ghost use Rattle.std.specs.Prelude.{◌≡◌, ◌↔◌, Bool, false, [], ◌∷◌, IsTrue, IfSome, IfNone};
-ghost use Rattle.service.specs.Seen.{Seen};
+ghost use Rattle.std.specs.Prelude.{◌≡◌, Bool, false, [], ◌∷◌, IsTrue, IfSome, IfNone};
+ghost use Rattle.service.specs.Seen.{Seen, Whole};
 ghost use Rattle.polling.specs.Serving.{rules};
 ghost use Rattle.polling.specs.Standing.{A_seat, owing};
 ghost use Rattle.polling.specs.Seating.{HadTurn, HadNone, ServesOne, ServesAll, ServesOwed, seats_in, held_by};
@@ -9,41 +9,39 @@ ghost use Rattle.polling.specs.Ending.{IsToldAs, HasTurn, IsQuiet, AreWritten, E
 use crate::seats::Seats;
 use crate::serving::{follow, let_go};
 use crate::step::Step;
-use crate::turn::write_all;
+use crate::turn::write_on;
 use crate::{Peers, Steward, Told};
 use chain::Ledgers;
 use clients::Client;
 use service::Moments;
+use std::alloc::Global;
 use std::collections::BTreeMap;
-
-/// Whether nothing is left of the reply to a client.
-fn is_written(client: &Client) -> bool
-    ensures { IsTrue result ↔ (client.now.unsent ≡ []) }
-{
-    client.unsent().is_empty()
-}
 
 /// Whether nothing is left of any reply.
 fn are_written(clients: &BTreeMap<u64, Client>) -> bool
     ensures { IsTrue result → AreWritten clients.now }
 {
-    clients.values().all(|client| is_written(client))
+    clients.values().all(|client| client.is_written())
 }
 
 /// Writes what is left of the reply to a client. There is more to do where not all is written.
 fn write_left<L: Ledgers, H: Steward<L>, C: Moments, P: Peers>(
+    alloc: Global,
     peers: &mut P,
     number: u64,
     client: &mut Client,
+    ledgers: &mut L,
 ) -> Step
-    ensures { (done : Step) × ((idle : Bool) × IsToldAs done idle result ×
-        ((ledgers : Seen L) → (moments : C) →
+    requires { L.means.is_usable ledgers.old }
+    ensures serves { (done : Step) × ((idle : Bool) × IsToldAs done idle result × ((moments : C) →
         ServesOne (rules L.means C.gives H.renews H.waits P.does) number
-        ledgers moments peers.old client.old ledgers moments peers.new client.new done idle 0)) }
+        (Whole ledgers.old) moments peers.old client.old
+        (Whole ledgers.new) moments peers.new client.new done idle 0)) }
+    ensures usable { L.means.is_usable ledgers.new }
 {
-    match write_all::<L, H, C, P>(peers, number, client) {
+    match write_on::<L, H, C, P>(alloc, peers, number, client, ledgers) {
         Step::More => {
-            if is_written(client) {
+            if client.is_written() {
                 return Step::Waits;
             }
             Step::More
@@ -55,37 +53,45 @@ fn write_left<L: Ledgers, H: Steward<L>, C: Moments, P: Peers>(
 
 /// Writes what is left of the reply to the client with a number, where it is seated.
 fn write_in<L: Ledgers, H: Steward<L>, C: Moments, P: Peers>(
+    alloc: Global,
     peers: &mut P,
     clients: &mut BTreeMap<u64, Client>,
     number: u64,
+    ledgers: &mut L,
 ) -> Option<Step>
+    requires { L.means.is_usable ledgers.old }
     ensures written { IfSome result (λ step. (done : Step) × ((idle : Bool) ×
-        IsToldAs done idle step × ((ledgers : Seen L) → (moments : C) →
+        IsToldAs done idle step × ((moments : C) →
         HadTurn (rules L.means C.gives H.renews H.waits P.does) number
-        ledgers moments peers.old (seats_in clients.old)
-        ledgers moments peers.new (seats_in clients.new) done idle 0))) }
-    ensures none { IfNone result ((ledgers : Seen L) → (moments : C) → HadNone number
-        ledgers moments peers.old (seats_in clients.old)
-        ledgers moments peers.new (seats_in clients.new)) }
+        (Whole ledgers.old) moments peers.old (seats_in clients.old)
+        (Whole ledgers.new) moments peers.new (seats_in clients.new) done idle 0))) }
+    ensures none { IfNone result ((moments : C) → HadNone number
+        (Whole ledgers.old) moments peers.old (seats_in clients.old)
+        (Whole ledgers.new) moments peers.new (seats_in clients.new)) }
+    ensures usable { L.means.is_usable ledgers.new }
 {
     match clients.get_mut(&number) {
-        Some(client) => Some(write_left::<L, H, C, P>(peers, number, client)),
+        Some(client) => { Some(write_left::<L, H, C, P>(alloc, peers, number, client, ledgers)) }
         None => None,
     }
 }
 
 /// Writes what is left of the reply to a client, and lets it go where its connection is broken.
 fn write_one<L: Ledgers, H: Steward<L>, C: Moments, P: Peers>(
+    alloc: Global,
     peers: &mut P,
     seats: &mut Seats,
     number: u64,
+    ledgers: &mut L,
 )
-    ensures { (ledgers : L) → (moments : C) →
+    requires { L.means.is_usable ledgers.old }
+    ensures serves { (moments : C) →
         ServesAll (rules L.means C.gives H.renews H.waits P.does)
-        (held_by ledgers moments peers.old seats.old)
-        (held_by ledgers moments peers.new seats.new) 0 }
+        (held_by ledgers.old moments peers.old seats.old)
+        (held_by ledgers.new moments peers.new seats.new) 0 }
+    ensures usable { L.means.is_usable ledgers.new }
 {
-    match write_in::<L, H, C, P>(peers, &mut seats.clients, number) {
+    match write_in::<L, H, C, P>(alloc, peers, &mut seats.clients, number, ledgers) {
         Some(step) => follow::<L, H, C, P>(peers, &mut seats.clients, number, step),
         None => {}
     }
@@ -107,20 +113,24 @@ fn turn_away<L: Ledgers, H: Steward<L>, C: Moments, P: Peers>(peers: &mut P, sea
     seats.next += 1;
 }
 
-/// Does what the next thing that has happened asks for, but answers no message and reads nothing.
+/// Does what the next thing that has happened asks for, but answers no message and takes nothing in.
 /// Says whether anything had happened.
 fn write_next<L: Ledgers, H: Steward<L>, C: Moments, P: Peers>(
+    alloc: Global,
     peers: &mut P,
     seats: &mut Seats,
+    ledgers: &mut L,
 ) -> bool
-    ensures turn { IsTrue result → (ledgers : L) → (moments : C) →
+    requires { L.means.is_usable ledgers.old }
+    ensures turn { IsTrue result → (moments : C) →
         HasTurn (rules L.means C.gives H.renews H.waits P.does)
-        (held_by ledgers moments peers.old seats.old)
-        (held_by ledgers moments peers.new seats.new) 0 }
-    ensures quiet { result ≡ false → (ledgers : L) → (moments : C) →
+        (held_by ledgers.old moments peers.old seats.old)
+        (held_by ledgers.new moments peers.new seats.new) 0 }
+    ensures quiet { result ≡ false → (moments : C) →
         IsQuiet (rules L.means C.gives H.renews H.waits P.does)
-        (held_by ledgers moments peers.old seats.old)
-        (held_by ledgers moments peers.new seats.new) 0 }
+        (held_by ledgers.old moments peers.old seats.old)
+        (held_by ledgers.new moments peers.new seats.new) 0 }
+    ensures usable { L.means.is_usable ledgers.new }
 {
     match peers.told(seats.next) {
         Told::Joined => {
@@ -128,7 +138,7 @@ fn write_next<L: Ledgers, H: Steward<L>, C: Moments, P: Peers>(
             true
         }
         Told::Ready(number) => {
-            write_one::<L, H, C, P>(peers, seats, number);
+            write_one::<L, H, C, P>(alloc, peers, seats, number, ledgers);
             true
         }
         Told::Late(number) => {
@@ -140,22 +150,30 @@ fn write_next<L: Ledgers, H: Steward<L>, C: Moments, P: Peers>(
 }
 
 /// Writes what is left of all replies, until nothing is, or nothing more has happened. No message
-/// is answered and nothing is read; who is late is let go, and so is who comes.
-pub fn write_rest<L: Ledgers, H: Steward<L>, C: Moments, P: Peers>(peers: &mut P, seats: &mut Seats)
-    ensures serves { (ledgers : L) → (moments : C) →
+/// is answered, and nothing is taken in; who is late is let go, and so is who comes.
+pub fn write_rest<L: Ledgers, H: Steward<L>, C: Moments, P: Peers>(
+    alloc: Global,
+    peers: &mut P,
+    seats: &mut Seats,
+    ledgers: &mut L,
+)
+    requires { L.means.is_usable ledgers.old }
+    ensures serves { (moments : C) →
         ServesAll (rules L.means C.gives H.renews H.waits P.does)
-        (held_by ledgers moments peers.old seats.old)
-        (held_by ledgers moments peers.new seats.new) 0 }
-    ensures ends { (ledgers : L) → (moments : C) →
-        Ends (Seen L) C P (rules L.means C.gives H.renews H.waits P.does) (AreWritten seats.new.clients)
-        (held_by ledgers moments peers.old seats.old)
-        (held_by ledgers moments peers.new seats.new) 0 }
+        (held_by ledgers.old moments peers.old seats.old)
+        (held_by ledgers.new moments peers.new seats.new) 0 }
+    ensures ends { (moments : C) →
+        Ends (Seen L) C P (rules L.means C.gives H.renews H.waits P.does)
+        (AreWritten seats.new.clients)
+        (held_by ledgers.old moments peers.old seats.old)
+        (held_by ledgers.new moments peers.new seats.new) 0 }
+    ensures usable { L.means.is_usable ledgers.new }
 {
     for _ in 0..u64::MAX {
         if are_written(&seats.clients) {
             return;
         }
-        if !write_next::<L, H, C, P>(peers, seats) {
+        if !write_next::<L, H, C, P>(alloc, peers, seats, ledgers) {
             return;
         }
     }

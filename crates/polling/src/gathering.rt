@@ -75,7 +75,7 @@ fn kind_of(front: &[u8]) -> Kind
     }
 }
 
-/// What a client's next message is. A batch waits until the last reply is written.
+/// What a client's next message is. A batch or a question waits until the last reply is written.
 fn next_kind<L: Ledgers, H: Steward<L>>(client: &mut Client, steward: &H) -> Kind
     ensures kind { IsNextKind H.waits client.old result }
     ensures same { client.new ≡ client.old }
@@ -85,7 +85,7 @@ fn next_kind<L: Ledgers, H: Steward<L>>(client: &mut Client, steward: &H) -> Kin
     };
     let message = client.front(size);
     match kind_of(message) {
-        Kind::Batch(_) if !client.may_answer() => Kind::Other,
+        Kind::Batch(_) | Kind::Query if !client.may_answer() => Kind::Other,
         Kind::Batch(_) if steward.puts_off(message) => Kind::PutOff,
         kind => kind,
     }

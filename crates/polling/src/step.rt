@@ -1,5 +1,5 @@
 //! Steps of serving one client.
-ghost use Rattle.std.specs.Prelude.{◌≢◌, ◌≤◌, [], false};
+ghost use Rattle.std.specs.Prelude.{◌≡◌, ◌≢◌, ◌≤◌, [], false};
 ghost use Rattle.clients.specs.Answering.{IsWanting};
 ghost use Rattle.ledger_http.specs.Limits.{longest_message};
 ghost use Rattle.service.specs.Seen.{Seen};
@@ -82,9 +82,10 @@ pub(crate) fn write_some<L: Ledgers, H: Steward<L>, C: Moments, P: Peers>(
     client: &mut Client,
 ) -> Step
     requires { client.old.unsent ≢ [] }
-    ensures { (ledgers : Seen L) → (moments : C) →
+    ensures serves { (ledgers : Seen L) → (moments : C) →
         ServesOne (rules L.means C.gives H.renews H.waits P.does) number
         ledgers moments peers.old client.old ledgers moments peers.new client.new result false 0 }
+    ensures rest { client.new.rest ≡ client.old.rest }
 {
     match peers.write(number, client.unsent()) {
         Written::Took(count) => {

@@ -1,8 +1,11 @@
 //! Who sees to the ledgers.
-ghost use Rattle.std.specs.Prelude.{ℕ, List, IsTrue};
+ghost use Rattle.std.specs.Prelude.{[], ℕ, List, IfSome, IsTrue};
+ghost use Rattle.parts.specs.Parts.{IsPart};
 ghost use Rattle.service.specs.Openings.{run_meaning, IsSettled};
 
 use chain::Ledgers;
+use parts::{Part, Rest};
+use std::alloc::Global;
 
 /// Who sees to the ledgers between turns: opens them again where they have failed, does what an
 /// operator asks for, and does a piece of what is due.
@@ -23,6 +26,14 @@ pub trait Steward<L: Ledgers> {
     fn attend(&mut self, ledgers: &mut L)
         requires { L.means.is_usable ledgers.old }
         ensures renewed { renews ledgers.old ledgers.new }
+        ensures usable { L.means.is_usable ledgers.new };
+
+    /// Reads the part of a statement that comes next, where it can be read.
+    fn reads(alloc: Global, ledgers: &mut L, rest: &Rest) -> Option<Part>
+        requires { L.means.is_usable ledgers.old }
+        ensures renewed { renews ledgers.old ledgers.new }
+        ensures told { IfSome result (λ part. L.means.is_live ledgers.new
+            → IsPart [] (L.means.tenants ledgers.new rest.now.digest) rest.now part) }
         ensures usable { L.means.is_usable ledgers.new };
 
     /// Whether a client's next message, which is a batch, waits for the client's next turn, since

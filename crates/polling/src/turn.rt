@@ -1,15 +1,16 @@
 //! A client's turn.
-ghost use Rattle.std.specs.Prelude.{◌≡◌, true, false, not};
+ghost use Rattle.std.specs.Prelude.{◌≡◌, [], true, false, not, Some};
 ghost use Rattle.clients.specs.Answering.{IsWanting};
 ghost use Rattle.clients.specs.Talk.{may_answer};
 ghost use Rattle.service.specs.Seen.{Seen, Whole};
 ghost use Rattle.polling.specs.Serving.{rules};
-ghost use Rattle.polling.specs.Seating.{ServesOne, count_of, has_nothing};
+ghost use Rattle.polling.specs.Seating.{ServesOne, count_of, has_no_more, has_nothing};
 
 use crate::step::{Step, read_some, write_some};
 use crate::{Batch, Peers, Steward};
 use chain::Ledgers;
 use clients::{Answered, Client, giving_up_replies, whole_ledgers_are_seen};
+use parts::Rest;
 use service::Moments;
 use std::alloc::Global;
 
@@ -30,10 +31,11 @@ pub(crate) fn write_all<L: Ledgers, H: Steward<L>, C: Moments, P: Peers>(
     number: u64,
     client: &mut Client,
 ) -> Step
-    ensures { (ledgers : Seen L) → (moments : C) →
+    ensures serves { (ledgers : Seen L) → (moments : C) →
         ServesOne (rules L.means C.gives H.renews H.waits P.does) number
         ledgers moments peers.old client.old ledgers moments peers.new client.new result
         (has_nothing client.old client.new) 0 }
+    ensures rest { client.new.rest ≡ client.old.rest }
 {
     for _ in 0..MOST_WRITES {
         if client.unsent().is_empty() {
@@ -46,6 +48,61 @@ pub(crate) fn write_all<L: Ledgers, H: Steward<L>, C: Moments, P: Peers>(
         }
     }
     Step::More
+}
+
+/// Reads the next part of the reply to a client, and writes of it. Where it can't be read the client
+/// goes, and its reply stays cut short.
+fn read_part<L: Ledgers, H: Steward<L>, C: Moments, P: Peers>(
+    alloc: Global,
+    peers: &mut P,
+    number: u64,
+    client: &mut Client,
+    ledgers: &mut L,
+    rest: &Rest,
+) -> Step
+    requires usable { L.means.is_usable ledgers.old }
+    requires written { client.old.unsent ≡ [] }
+    requires left { client.old.rest ≡ Some rest.now }
+    ensures serves { (moments : C) → ServesOne (rules L.means C.gives H.renews H.waits P.does) number
+        (Whole ledgers.old) moments peers.old client.old
+        (Whole ledgers.new) moments peers.new client.new result false 0 }
+    ensures usable { L.means.is_usable ledgers.new }
+{
+    let Some(part) = H::reads(alloc, ledgers, rest) else {
+        return Step::Goes;
+    };
+    client.put_part(part);
+    write_all::<L, H, C, P>(peers, number, client)
+}
+
+/// Writes what is left of the reply to a client, as `write_all` does. Where nothing is, but a part is
+/// left to be read, that is read and written of.
+pub(crate) fn write_on<L: Ledgers, H: Steward<L>, C: Moments, P: Peers>(
+    alloc: Global,
+    peers: &mut P,
+    number: u64,
+    client: &mut Client,
+    ledgers: &mut L,
+) -> Step
+    requires { L.means.is_usable ledgers.old }
+    ensures serves { (moments : C) → ServesOne (rules L.means C.gives H.renews H.waits P.does) number
+        (Whole ledgers.old) moments peers.old client.old
+        (Whole ledgers.new) moments peers.new client.new result
+        (has_no_more client.old client.new) 0 }
+    ensures usable { L.means.is_usable ledgers.new }
+{
+    match write_all::<L, H, C, P>(peers, number, client) {
+        Step::More => {}
+        Step::Waits => return Step::Waits,
+        Step::Goes => return Step::Goes,
+    }
+    if !client.unsent().is_empty() {
+        return Step::More;
+    }
+    match client.rest() {
+        Some(rest) => read_part::<L, H, C, P>(alloc, peers, number, client, ledgers, &rest),
+        None => Step::More,
+    }
 }
 
 /// Reads more of a client's next message. Where memory is wanting for a body that is due, the last
@@ -150,17 +207,18 @@ pub(crate) fn finish<L: Ledgers, H: Steward<L>, C: Moments, P: Peers>(
     ensures few { answers ≡ false → result.replied ≡ false }
     ensures usable { L.means.is_usable ledgers.new }
 {
-    if answers && client.unsent().is_empty() {
+    if answers && client.is_written() {
         return turn::<L, H, C, P>(alloc, peers, number, client, ledgers, moments, piece);
     }
     Turned {
-        step: write_all::<L, H, C, P>(peers, number, client),
+        step: write_on::<L, H, C, P>(alloc, peers, number, client, ledgers),
         replied: false,
     }
 }
 
 /// A client's turn: what is left of the last reply is written, and one message at most answered, or
-/// a piece read of it. Behind the last reply of all it goes.
+/// a piece read of it. A turn in which a part was left to be read answers nothing. Behind the last
+/// reply of all the client goes.
 pub(crate) fn turn<L: Ledgers, H: Steward<L>, C: Moments, P: Peers>(
     alloc: Global,
     peers: &mut P,
@@ -177,7 +235,8 @@ pub(crate) fn turn<L: Ledgers, H: Steward<L>, C: Moments, P: Peers>(
         (count_of result.replied) }
     ensures usable { L.means.is_usable ledgers.new }
 {
-    match write_all::<L, H, C, P>(peers, number, client) {
+    let is_told_in_parts = client.rest().is_some();
+    match write_on::<L, H, C, P>(alloc, peers, number, client, ledgers) {
         Step::More => {}
         Step::Waits => {
             return Turned {
@@ -192,13 +251,19 @@ pub(crate) fn turn<L: Ledgers, H: Steward<L>, C: Moments, P: Peers>(
             };
         }
     }
+    if is_told_in_parts {
+        return Turned {
+            step: Step::More,
+            replied: false,
+        };
+    }
     if client.may_answer() {
         let batch = Batch::next_of(client);
         return answer_or_read::<L, H, C, P>(
             alloc, peers, number, client, ledgers, moments, piece, batch,
         );
     }
-    if client.goes_on() || !client.unsent().is_empty() {
+    if client.goes_on() || !client.is_written() {
         return Turned {
             step: Step::More,
             replied: false,

@@ -1,3 +1,4 @@
+mod booked;
 mod failing;
 mod firms;
 mod frail;
@@ -5,3 +6,4 @@ mod messages;
 mod rounds;
 mod scripted;
 mod serving;
+mod statements;

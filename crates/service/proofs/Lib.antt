@@ -1,6 +1,9 @@
 pub mod Texts
 pub mod BatchGives
 pub mod ShownReads
+pub mod BegunLemmas
+mod StatementLemmas
+mod FinishLemmas
 pub mod ServedReads
 pub mod Responses
 pub mod Isolation

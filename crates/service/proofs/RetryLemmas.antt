@@ -14,7 +14,9 @@ use Rattle.wire.specs.declared.request.Request.{Request}
 use Rattle.wire.specs.declared.request.Request.TheVariants as asks
 use Rattle.service.specs.Served.{left_by, served_by}
 use Rattle.service.specs.Deeds.{Deed, Asked, Joined, Keyed, after_deed}
-use Rattle.service.specs.OwnDeeds.{Happening, deed_of, own_happenings, after_all}
+use Rattle.chain.specs.Ledgers.{Tenants}
+use Rattle.service.specs.Courses.{Course, Event}
+use Rattle.service.specs.OwnDeeds.{Happening, deed_of, digest_since, own_happenings, after_all}
 use Rattle.service.specs.Retries.{IsAsked, HasAsked}
 use Rattle.service.proofs.OwnDeedLemmas.{after_more, sees_itself}
 
@@ -74,15 +76,38 @@ module _ (Leads : Machine → Machine → Type 0) (laws : StepLaws Leads)
     deed_leads (Joined digest) m = record { next = m; is = refl; leads = laws.itself m }
     deed_leads (Keyed was other) m = record { next = m; is = refl; leads = laws.itself m }
 
+    all_go : (owns : List Happening) (m : Machine) → Goes m (after_all (Some m) owns)
+    all_go [] m = record { next = m; is = refl; leads = laws.itself m }
+    all_go (own ∷ owns) m =
+        let goes = deed_leads (deed_of own) m in
+        let on = all_go owns goes.next in record {
+          next = on.next;
+          is = ap (λ (tenant : Option Machine). after_all tenant owns) goes.is ∙ on.is;
+          leads = laws.onward m goes.next on.next goes.leads on.leads;
+        }
+
     all_lead :
         (owns : List Happening) (m now : Machine) → after_all (Some m) owns ≡ Some now → Leads m now
-    all_lead [] m now is =
-        let same : m ≡ now = cc in subst (λ (n : Machine). Leads m n) same (laws.itself m)
-    all_lead (own ∷ owns) m now is =
-        let goes = deed_leads (deed_of own) m in
-        laws.onward m goes.next now goes.leads
-        (all_lead owns goes.next now
-        (sym (ap (λ (tenant : Option Machine). after_all tenant owns) goes.is) ∙ is))
+    all_lead owns m now is =
+        let goes = all_go owns m in
+        let same : Some goes.next ≡ Some now = sym goes.is ∙ is in
+        let next : goes.next ≡ now = cc in
+        subst (λ (n : Machine). Leads m n) next goes.leads
+
+    -- in a course a tenant's machine leads to the one that it has since, under the digest of then
+    pub course_leads :
+        (began last : Tenants) (events : List Event) → Course began events last →
+        (digest : List ℕ) (m : Machine) → began digest ≡ Some m →
+        (next : Machine) × (last (digest_since digest events) ≡ Some next) × Leads m next
+    course_leads began last events course digest m held =
+        let owns = own_happenings digest events in
+        let goes = all_go owns m in (
+          goes.next,
+          (sees_itself began last events course digest).left
+              ∙ ap (λ (tenant : Option Machine). after_all tenant owns) held
+              ∙ goes.is,
+          goes.leads,
+        )
 
     -- so is a tenant's machine led to by the one that a request of its own has left
     pub asked_leads :

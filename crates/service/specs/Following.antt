@@ -8,6 +8,11 @@ use Rattle.engine.specs.Following.{ContinuesAfter, IsToldAgain}
 use Rattle.wire.specs.declared.outcome.Outcome.{Outcome}
 use Rattle.wire.specs.declared.outcome.Outcome.TheVariants as told
 use Rattle.wire.specs.declared.request.Request.{Request}
+use Rattle.chain.specs.Ledgers.{Tenants}
+use Rattle.parts.specs.Parts.{IsHeld, chunks_left}
+use Rattle.parts.specs.declared.rest.Rest.{Rest}
+use Rattle.service.specs.Courses.{Course, Event}
+use Rattle.service.specs.OwnDeeds.{digest_since}
 use Rattle.service.specs.Served.{told_by, left_by}
 
 -- the clock that a reply tells, if it tells one
@@ -40,3 +45,13 @@ ToldStays WasAsked =
     (digest : List ℕ) (request : Request) (moment : ℕ) (m now : Machine)
     → WasAsked digest request moment m now
     → GoesOnFrom (left_by m moment request) now (told_by m moment request)
+
+-- what is left of a statement stays in a course, as long as its tenant has the digest that it had
+abbrev pub LeftStays : Type 0
+LeftStays =
+    (old new : Tenants) (events : List Event)
+    → Course old events new
+    → (rest : Rest)
+    → IsHeld old rest
+    → digest_since rest.digest events ≡ rest.digest
+    → chunks_left new (Some rest) ≡ chunks_left old (Some rest)

@@ -1,5 +1,6 @@
 pub mod Served
 pub mod Replies
+pub mod Begun
 pub mod Deeds
 pub mod DeedLaws
 pub mod Reading

@@ -10,6 +10,8 @@ use Rattle.ledger_http.specs.ReplyText.{early_reply, early_text, page_reply, hea
 use Rattle.ledger_http.specs.ReplyText.{reply_text}
 use Rattle.ledger_http.specs.Message.{HasHead, first_message, Begins}
 use Rattle.ledger_http.specs.Question.{Question, asked_of}
+use Rattle.parts.specs.declared.rest.Rest.{Rest}
+use Rattle.service.specs.Begun.{IsLeftOf}
 use Rattle.service.specs.Served.{served}
 use Rattle.service.specs.Deeds.{asking, IsDeedDone}
 use Rattle.service.specs.Replies.{AnswersTenant, unavailable, health_by}
@@ -65,6 +67,13 @@ pub record TellsFailure (has_failed : Bool) (bytes : List ℕ) (reply : Reply) :
   pub has : HasHead bytes head
   pub failure : has_failed ≡ true → IsOk (asked_of bytes head) → reply ≡ unavailable
 
+-- the bytes ask a question
+pub record IsQuestion (bytes : List ℕ) : Type 0 where
+  pub head : Option RequestHead
+  pub has : HasHead bytes head
+  pub question : Question
+  pub is : asked_of bytes head ≡ Ok question
+
 -- the bytes ask a question, and it is answered
 pub record IsAnswered (bytes : List ℕ) (reply : Reply) : Type 0 where
   pub asks : (head : Option RequestHead) → HasHead bytes head → IsOk (asked_of bytes head)
@@ -79,6 +88,10 @@ abbrev pub IsLeftBy : List ℕ → ℕ → Tenants → Tenants → Type 0
 IsLeftBy bytes moment old found =
     (head : Option RequestHead) × HasHead bytes head
     × IsLeftByAsked (asked_of bytes head) moment old found
+
+-- and of a statement something is left
+abbrev pub IsLeftSame : List ℕ → ℕ → Tenants → Tenants → Rest → Type 0
+IsLeftSame bytes moment old new rest = IsLeftBy bytes moment old new × IsLeftOf old new rest
 
 -- the question is asked by the tenant with this digest
 abbrev pub IsAsking : Result Question Early → List ℕ → Type 0

@@ -24,7 +24,7 @@ use Rattle.wire.specs.declared.request.Query.TheVariants as query
 use Rattle.wire.specs.declared.request.Request.{Request}
 use Rattle.wire.specs.declared.request.Request.TheVariants as asks
 use Rattle.wire.specs.Meaning.{meaning_of}
-use Rattle.statement.specs.Text.{statement_text}
+use Rattle.parts.specs.Chunks.{statement_chunks}
 
 -- what is told, and what is left
 pub record Served (M : Type 0) : Type 0 where
@@ -71,7 +71,7 @@ told_by m moment (asks.HistoryBalances asked) =
 told_by m moment (asks.Query asked) = query_told m asked
 told_by m moment (asks.LookupPending ids) = told.Holds m.clock (found_holds m ids)
 told_by m moment (asks.Statement account) =
-    answer_told (λ rows. told.Statement (statement_text rows)) (statement_answer m account Oldest)
+    answer_told (λ rows. told.Statement (statement_chunks rows)) (statement_answer m account Oldest)
 
 -- the machine after it: batches are steps, and reads change nothing
 abbrev pub left_by : Machine → ℕ → Request → Machine

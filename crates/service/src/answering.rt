@@ -1,5 +1,5 @@
 //! Answers one tenant's request.
-ghost use Rattle.std.specs.Prelude.{◌≡◌, ◌≢◌, ◌≤◌, ℕ, true, List, Result, Ok, Err, length};
+ghost use Rattle.std.specs.Prelude.{◌≡◌, ◌≢◌, ◌≤◌, ℕ, true, List, Result, Ok, Err, IfSome, length};
 ghost use Rattle.chain.specs.Ledgers.{Finds, LeadsNowhere};
 ghost use Rattle.sha2.specs.Sha256.{sha256};
 ghost use Rattle.ledger_http.specs.declared.refusal.Refusal.{Refusal};
@@ -8,15 +8,18 @@ ghost use Rattle.wire.specs.Meaning.{meaning_of, HasFew};
 ghost use Rattle.wire.specs.declared.request.Request.TheVariants.{Accounts, Transfers};
 ghost use Rattle.service.specs.Deeds as deed;
 ghost use Rattle.service.specs.Deeds.{IsDeedDone};
+ghost use Rattle.service.specs.Begun.{IsLeftOf, reply_of, whole};
 ghost use Rattle.service.specs.Replies.{Serves, batch_reply, unavailable};
 
 use crate::batches::{AccountBatch, TransferBatch};
+use crate::begun::Begun;
 use crate::querying::queried;
 use crate::reading::{
     history_of_balances, history_of_transfers, looked_up_accounts, looked_up_holds,
-    looked_up_transfers, statement,
+    looked_up_transfers,
 };
 use crate::showing::reply_to_read;
+use crate::statements::begin_statement;
 use chain::{BatchFault, Ledgers};
 use ledger_http::{Asked, Refusal, Reply};
 use records::{AccountEvent, TransferEvent};
@@ -84,49 +87,58 @@ fn transfers<L: Ledgers>(
     batch_reply(ledgers.in_batch(digest, work))
 }
 
-// Serves a request that is not refused.
+// Serves a request that is not refused, and begins the reply.
 fn serve_request<L: Ledgers>(
     alloc: Global,
     ledgers: &mut L,
     digest: &[u8; 32],
     request: Request,
     moment: u64,
-) -> Reply
+) -> Begun
     requires usable { L.means.is_usable ledgers.old }
     requires few { HasFew request }
     ensures serves { L.means.is_live ledgers.new → Serves (L.means.tenants ledgers.old)
-        (L.means.tenants ledgers.new) digest.now (Ok request) moment result }
-    ensures failed { L.means.has_failed ledgers.old ≡ true → result ≡ unavailable }
-    ensures finds { Finds L.means (result ≢ unavailable)
+        (L.means.tenants ledgers.new) digest.now (Ok request) moment
+        (reply_of (L.means.tenants ledgers.new) result) }
+    ensures failed { L.means.has_failed ledgers.old ≡ true → result ≡ whole unavailable }
+    ensures finds { Finds L.means (reply_of (L.means.tenants ledgers.new) result ≢ unavailable)
         (IsDeedDone (deed.Asked digest.now (Ok request) moment)) ledgers.old ledgers.new }
+    ensures left { IfSome result.rest (λ rest. L.means.is_live ledgers.new
+        → IsLeftOf (L.means.tenants ledgers.old) (L.means.tenants ledgers.new) rest) }
     ensures usable { L.means.is_usable ledgers.new }
     ensures follows { L.means.follows ledgers.old ledgers.new }
 {
     match request {
-        Request::Accounts(events) => accounts(alloc, ledgers, digest, events, moment),
-        Request::Transfers(events) => transfers(alloc, ledgers, digest, events, moment),
+        Request::Accounts(events) => {
+            Begun::whole(accounts(alloc, ledgers, digest, events, moment))
+        }
+        Request::Transfers(events) => {
+            Begun::whole(transfers(alloc, ledgers, digest, events, moment))
+        }
         Request::LookupAccounts(ids) => {
             let found = looked_up_accounts(alloc, ledgers, digest, ids.as_slice());
-            reply_to_read(alloc, found)
+            Begun::whole(reply_to_read(alloc, found))
         }
         Request::LookupTransfers(ids) => {
             let found = looked_up_transfers(alloc, ledgers, digest, ids.as_slice());
-            reply_to_read(alloc, found)
+            Begun::whole(reply_to_read(alloc, found))
         }
         Request::HistoryTransfers(asked) => {
-            reply_to_read(alloc, history_of_transfers(alloc, ledgers, digest, &asked))
+            let found = history_of_transfers(alloc, ledgers, digest, &asked);
+            Begun::whole(reply_to_read(alloc, found))
         }
         Request::HistoryBalances(asked) => {
-            reply_to_read(alloc, history_of_balances(alloc, ledgers, digest, &asked))
+            let found = history_of_balances(alloc, ledgers, digest, &asked);
+            Begun::whole(reply_to_read(alloc, found))
         }
-        Request::Query(query) => { reply_to_read(alloc, queried(alloc, ledgers, digest, &query)) }
+        Request::Query(query) => {
+            Begun::whole(reply_to_read(alloc, queried(alloc, ledgers, digest, &query)))
+        }
         Request::LookupPending(ids) => {
             let found = looked_up_holds(alloc, ledgers, digest, ids.as_slice());
-            reply_to_read(alloc, found)
+            Begun::whole(reply_to_read(alloc, found))
         }
-        Request::Statement(account) => {
-            reply_to_read(alloc, statement(alloc, ledgers, digest, account))
-        }
+        Request::Statement(account) => begin_statement(alloc, ledgers, digest, account),
     }
 }
 
@@ -153,28 +165,31 @@ fn refuse<L: Ledgers>(ledgers: &mut L, digest: &[u8; 32], refusal: Refusal) -> R
     }
 }
 
-/// Answers what a message asks, at a moment in nanoseconds.
+/// Begins the answer to what a message asks, at a moment in nanoseconds.
 pub(crate) fn answer<L: Ledgers>(
     alloc: Global,
     ledgers: &mut L,
     asked: &Asked,
     moment: u64,
-) -> Reply
+) -> Begun
     requires { L.means.is_usable ledgers.old }
     ensures serves { L.means.is_live ledgers.new → Serves (L.means.tenants ledgers.old)
         (L.means.tenants ledgers.new) (sha256 asked.now.key)
-        (meaning_of asked.now.route asked.now.account.now asked.now.body.now) moment result }
-    ensures failed { L.means.has_failed ledgers.old ≡ true → result ≡ unavailable }
-    ensures finds { Finds L.means (result ≢ unavailable) (IsDeedDone
-        (deed.Asked (sha256 asked.now.key)
+        (meaning_of asked.now.route asked.now.account.now asked.now.body.now) moment
+        (reply_of (L.means.tenants ledgers.new) result) }
+    ensures failed { L.means.has_failed ledgers.old ≡ true → result ≡ whole unavailable }
+    ensures finds { Finds L.means (reply_of (L.means.tenants ledgers.new) result ≢ unavailable)
+        (IsDeedDone (deed.Asked (sha256 asked.now.key)
         (meaning_of asked.now.route asked.now.account.now asked.now.body.now) moment)) ledgers.old
         ledgers.new }
+    ensures left { IfSome result.rest (λ rest. L.means.is_live ledgers.new
+        → IsLeftOf (L.means.tenants ledgers.old) (L.means.tenants ledgers.new) rest) }
     ensures usable { L.means.is_usable ledgers.new }
     ensures follows { L.means.follows ledgers.old ledgers.new }
 {
     let digest = digest(&asked.key);
     match meaning(alloc, asked) {
         Ok(request) => serve_request(alloc, ledgers, &digest, request, moment),
-        Err(refusal) => refuse(ledgers, &digest, refusal),
+        Err(refusal) => Begun::whole(refuse(ledgers, &digest, refusal)),
     }
 }

@@ -2,7 +2,7 @@
 ghost use Rattle.service.specs.ConnectionEvents.{ExchangesLeadOn, ConnectionsAreCourses};
 ghost use Rattle.service.specs.ConnectionEvents.{ServesEachAlone};
 ghost use Rattle.service.specs.Courses.{ResponsesHappen};
-ghost use Rattle.service.specs.Following.{ToldStays};
+ghost use Rattle.service.specs.Following.{LeftStays, ToldStays};
 ghost use Rattle.service.specs.Openings.{ResponsesMove};
 ghost use Rattle.service.specs.OwnDeeds.{EachSeesItself};
 ghost use Rattle.service.specs.Responds.{Isolates, PageTellsNothing, HealthTellsNothing, StandsAlone};
@@ -23,6 +23,7 @@ use engine::{
     steps_lead_to_later, steps_tell_their_clock, sums_fit, what_was_told_stays,
 };
 use ledger_http::{meanings_are_unique, messages_stand_alone};
+use parts::rests_stay;
 
 /// For any two ledgers that agree on the caller's machine, the same bytes at the same moment give
 /// the same reply and leave the same machine of the caller, and every other tenant's stays, unless
@@ -143,6 +144,16 @@ pub fn told_in_course_stays()
     continued_of_continued_continues();
     steps_tell_their_clock();
     what_was_told_stays();
+}
+
+/// What is left of a statement stays in any course, whatever any tenant does, as long as its own
+/// tenant has the key that it had: each later part tells what the first ledger would have told.
+pub fn left_in_course_stays()
+    ensures { LeftStays }
+{
+    steps_continue();
+    continued_of_continued_continues();
+    rests_stay();
 }
 
 /// Of live ledgers that may be called, and every response leaves them so, each tenant's books

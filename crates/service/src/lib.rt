@@ -4,6 +4,7 @@
 
 mod answering;
 mod batches;
+mod begun;
 mod exchanging;
 mod laws;
 mod moments;
@@ -14,17 +15,19 @@ mod round;
 mod serving;
 mod settles;
 mod showing;
+mod statements;
 mod turns;
 
+pub use begun::Begun;
 pub use laws::{
     connections_are_courses, connections_serve_each_alone, each_tenant_sees_itself,
-    failed_in_course_stays_failed, health_tells_nothing, ledgers_are_sound,
+    failed_in_course_stays_failed, health_tells_nothing, ledgers_are_sound, left_in_course_stays,
     messages_answered_alone, page_tells_nothing, responses_happen, responses_move,
     responses_move_within, retried_in_course_adds_nothing, rounds_answer_each,
     tenants_are_isolated, told_in_course_stays,
 };
 pub use moments::Moments;
-pub use responding::respond;
+pub use responding::{begin, respond};
 pub use round::respond_round;
 pub use serving::{ServeFault, serve};
 pub use settles::Settles;

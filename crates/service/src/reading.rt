@@ -5,14 +5,13 @@ ghost use Rattle.chain.specs.declared.reads.ReadFault.TheVariants.{Unavailable};
 ghost use Rattle.wire.specs.declared.request.Request.TheVariants.{LookupAccounts, LookupTransfers};
 ghost use Rattle.wire.specs.declared.request.Request.TheVariants.{LookupPending};
 ghost use Rattle.wire.specs.declared.request.Request.TheVariants.{HistoryTransfers};
-ghost use Rattle.wire.specs.declared.request.Request.TheVariants.{HistoryBalances, Statement};
+ghost use Rattle.wire.specs.declared.request.Request.TheVariants.{HistoryBalances};
 ghost use Rattle.chain.specs.Ledgers.{Finds, KeepsAll};
 ghost use Rattle.chain.specs.LedgerReads.{Reads, IsTold};
 ghost use Rattle.service.specs.Reading.{ShowsTo};
 
 use chain::{Ledgers, ReadFault};
-use records::{AccountFilter, Order, SinkFault, Streamed};
-use statement::{StatementWriter, rows_make_a_statement};
+use records::AccountFilter;
 use std::alloc::Global;
 use wire::Outcome;
 
@@ -114,28 +113,4 @@ pub(crate) fn history_of_balances<L: Ledgers>(
         clock: found.clock,
         balances: found.entries.into(),
     })
-}
-
-/// An account's statement, oldest entry first, made whole in memory.
-pub(crate) fn statement<L: Ledgers>(
-    alloc: Global,
-    ledgers: &mut L,
-    digest: &[u8; 32],
-    account: u128,
-) -> Result<Outcome, ReadFault>
-    requires { L.means.is_usable ledgers.old }
-    ensures told { L.means.is_live ledgers.new
-        → ShowsTo (L.means.tenants ledgers.old digest.now) (Statement account) result }
-    ensures failed { L.means.has_failed ledgers.old ≡ true → result ≡ Err (Unavailable Disk) }
-    ensures finds { Finds L.means (IsTold result) KeepsAll ledgers.old ledgers.new }
-    ensures reads { Reads L.means ledgers.old ledgers.new }
-{
-    rows_make_a_statement::<Streamed<Vec<u8>>>();
-    let mut writer = StatementWriter::new(alloc, Streamed::new(Vec::new(alloc)));
-    ledgers.each_statement_row(alloc, digest, account, Order::Oldest, &mut writer)?;
-    let (text, ended) = writer.finish();
-    match ended {
-        Ok(()) => Ok(Outcome::Statement(text.into_inner().into())),
-        Err(_) => Err(ReadFault::Sink(SinkFault::Write)),
-    }
 }

@@ -1,10 +1,13 @@
-ghost use Rattle.std.specs.Prelude.{◌≡◌};
+ghost use Rattle.std.specs.Prelude.{◌≡◌, IfSome};
 ghost use Rattle.chain.specs.Ledgers.{Finds};
-ghost use Rattle.service.specs.Responds.{Responds, RefusesEarly, TellsPage};
+ghost use Rattle.service.specs.Responds.{Responds, RefusesEarly, TellsPage, IsQuestion, IsLeftSame};
 ghost use Rattle.service.specs.Responds.{IsAnswered, IsLeftBy, TellsHealth, TellsFailure};
+ghost use Rattle.service.specs.Begun.{reply_of};
 ghost use Rattle.service.specs.Replies.{health_by, told_early};
 
 use crate::answering::answer;
+use crate::begun::Begun;
+use crate::statements::finish_statement;
 use chain::Ledgers;
 use ledger_http::{Early, Refusal, Reply, asked};
 use std::alloc::Global;
@@ -30,11 +33,40 @@ fn told_early<L: Ledgers>(ledgers: &L, early: Early) -> Reply
     }
 }
 
-/// The reply to the first message of `bytes`, at a moment in nanoseconds. What stands behind that
-/// message is not looked at, and no bytes at all are refused as cut short.
+/// Begins the reply to the first message of `bytes`, at a moment in nanoseconds. What stands behind
+/// that message is not looked at, and no bytes at all are refused as cut short.
 ///
 /// The reply and the caller's machine after it depend on the caller's machine, the bytes and the
 /// moment alone; every other tenant's machine stays.
+pub fn begin<L: Ledgers>(alloc: Global, ledgers: &mut L, bytes: &[u8], moment: u64) -> Begun
+    requires { L.means.is_usable ledgers.old }
+    ensures asks { IfSome result.rest (λ rest. IsQuestion bytes.now) }
+    ensures left { IfSome result.rest (λ rest. L.means.is_live ledgers.new
+        → IsLeftSame bytes.now moment (L.means.tenants ledgers.old)
+        (L.means.tenants ledgers.new) rest) }
+    ensures responds { L.means.is_live ledgers.new → Responds (L.means.tenants ledgers.old)
+        (L.means.tenants ledgers.new) bytes.now moment
+        (reply_of (L.means.tenants ledgers.new) result) }
+    ensures early { RefusesEarly bytes.now (reply_of (L.means.tenants ledgers.new) result) }
+    ensures page { TellsPage bytes.now (reply_of (L.means.tenants ledgers.new) result) }
+    ensures health { TellsHealth (L.means.has_failed ledgers.old) bytes.now
+        (reply_of (L.means.tenants ledgers.new) result) }
+    ensures failed { TellsFailure (L.means.has_failed ledgers.old) bytes.now
+        (reply_of (L.means.tenants ledgers.new) result) }
+    ensures finds { Finds L.means
+        (IsAnswered bytes.now (reply_of (L.means.tenants ledgers.new) result))
+        (IsLeftBy bytes.now moment) ledgers.old ledgers.new }
+    ensures usable { L.means.is_usable ledgers.new }
+    ensures follows { L.means.follows ledgers.old ledgers.new }
+{
+    match asked(alloc, bytes) {
+        Ok(asked) => answer(alloc, ledgers, &asked, moment),
+        Err(early) => Begun::whole(told_early(ledgers, early)),
+    }
+}
+
+/// The reply to the first message of `bytes`, at a moment in nanoseconds, as it is begun and then read
+/// to its end.
 pub fn respond<L: Ledgers>(alloc: Global, ledgers: &mut L, bytes: &[u8], moment: u64) -> Reply
     requires { L.means.is_usable ledgers.old }
     ensures responds { L.means.is_live ledgers.new → Responds (L.means.tenants ledgers.old)
@@ -48,8 +80,9 @@ pub fn respond<L: Ledgers>(alloc: Global, ledgers: &mut L, bytes: &[u8], moment:
     ensures usable { L.means.is_usable ledgers.new }
     ensures follows { L.means.follows ledgers.old ledgers.new }
 {
-    match asked(alloc, bytes) {
-        Ok(asked) => answer(alloc, ledgers, &asked, moment),
-        Err(early) => told_early(ledgers, early),
+    let Begun { front, rest } = begin(alloc, ledgers, bytes, moment);
+    match rest {
+        Some(rest) => finish_statement(alloc, ledgers, &front, rest),
+        None => front,
     }
 }

@@ -21,7 +21,8 @@ pub(crate) fn reply_to(alloc: Global, outcome: Outcome) -> Result<Reply, AllocEr
     reply_bytes(alloc, &outcome)
 }
 
-fn refusal_of(fault: ReadFault) -> Refusal
+/// The refusal that stands for a fault of a read.
+pub(crate) fn refusal_of(fault: ReadFault) -> Refusal
     ensures { result ≡ refusal_of fault }
 {
     match fault {

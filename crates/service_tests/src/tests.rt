@@ -1,4 +1,6 @@
 mod asserting;
+mod begun;
+mod chunks;
 mod connections;
 mod events;
 mod everybody;

@@ -275,7 +275,8 @@ impl<K: Clock, O: Operator> Peers for Sockets<'_, K, O> {
     }
 
     fn write(&mut self, client: u64, bytes: &[u8]) -> Written {
-        if self.guests.begins_reply(client) {
+        // A further part of a reply begins with the size of a chunk.
+        if self.guests.begins_reply(client) && bytes.starts_with(b"HTTP/") {
             self.operator.replies(bytes);
         }
         self.guests.write(client, bytes, self.time.now)

@@ -31,6 +31,8 @@ pub use laws::{
     rows_make_an_extract,
 };
 pub use layout::Layout;
+pub use line::line_of;
+pub use names::header_line;
 pub use period::Period;
 pub use statement::write_statement;
 pub use writer::StatementWriter;

@@ -3,6 +3,7 @@ use Rattle.std.specs.Prelude.{ℕ, List}
 use Rattle.serde_json.specs.Data.{Data}
 use Rattle.serde_json.specs.Written.{compact_text}
 use Rattle.ledger_http.specs.declared.content_type.ContentType.TheVariants.{Json, Csv}
+use Rattle.ledger_http.specs.Chunks.{chunked_text}
 use Rattle.ledger_http.specs.ReplyText.{body_text, refusal_text}
 use Rattle.wire.specs.declared.outcome.Outcome.{Outcome}
 use Rattle.wire.specs.declared.outcome.Outcome.TheVariants.{Refused, AccountResults}
@@ -25,4 +26,4 @@ outcome_text (Transfers clock transfers) = json_text (transfers_data clock trans
 outcome_text (Balances clock balances) = json_text (balances_data clock balances)
 outcome_text (Page clock next entries) = json_text (page_data clock next entries)
 outcome_text (Holds clock holds) = json_text (holds_data clock holds)
-outcome_text (Statement text) = body_text Csv text
+outcome_text (Statement chunks) = chunked_text Csv chunks

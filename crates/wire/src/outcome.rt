@@ -52,6 +52,6 @@ pub enum Outcome {
         clock: u64,
         holds: Items<Hold>,
     },
-    /// A statement, as CSV.
+    /// The chunks of a statement, as CSV.
     Statement(Items<u8>),
 }

@@ -50,7 +50,9 @@ pub fn reply_bytes(alloc: Global, outcome: &Outcome) -> Result<Reply, NoMemory>
             let body = clock_then_list(alloc, *clock, "pending", holds.as_slice())?;
             Reply::of_body(alloc, ContentType::Json, &body)
         }
-        Outcome::Statement(text) => Reply::of_body(alloc, ContentType::Csv, text.as_slice()),
+        Outcome::Statement(chunks) => {
+            Reply::of_chunks(alloc, ContentType::Csv, chunks.as_slice())
+        }
     }
 }
 

@@ -1,7 +1,9 @@
 //! Firms whose ledgers are kept in memory.
 ghost use Rattle.std.specs.Prelude.{◌≡◌};
 
+use chain::ReadFault;
 use clients::{Answered, Client};
+use parts::{Part, Rest};
 use plain::{Book, PlainTables};
 use records::Streamed;
 use service::{Moments, serve};
@@ -71,6 +73,11 @@ impl Firms {
             return None;
         }
         Some(client.answer(self.alloc, &mut self.book, &mut Always(1000)))
+    }
+
+    /// The next part of a statement.
+    pub(crate) fn part(&mut self, rest: &Rest) -> Result<Part, ReadFault> {
+        rest.part(self.alloc, &mut self.book, b"")
     }
 
     /// What a connection is written that sends this and nothing else.

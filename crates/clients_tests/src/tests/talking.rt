@@ -1,7 +1,11 @@
 use super::firms::Firms;
-use super::messages::{ANNOUNCED, FIRST, OF_FIRST, OF_SECOND, SECOND, TO_SECOND, UNAVAILABLE};
+use super::messages::{
+    ANNOUNCED, FIRST, OF_FIRST, OF_SECOND, SECOND, TO_SECOND, UNAVAILABLE, transfers,
+    with_statement,
+};
 use clients::{Answered, Client};
 use std::alloc::AllocError;
+use std::process::Abort;
 use std::test::Fail;
 
 /// A client, what it still sends, and what it was written.
@@ -136,5 +140,69 @@ fn gives_up_where_memory_is_wanting(rt: HostRuntime) -> Result<(), Fail> {
     }
     assert!(rt; client.unsent() == UNAVAILABLE.as_bytes());
     assert!(rt; !client.goes_on() && !client.may_answer());
+    Ok(())
+}
+
+/// More than a message or a part has.
+const ALL: usize = 1_000_000;
+
+// Has so many messages answered, of which each reply is whole.
+fn hears_replies(
+    rt: &impl Abort,
+    firms: &mut Firms,
+    talker: &mut Talker,
+    many: u32,
+) -> Result<(), AllocError> {
+    for _ in 0..many {
+        assert!(rt; firms.answer(&mut talker.client) == Some(Answered::Replied));
+        assert!(rt; talker.client.rest() == None && !talker.client.is_written());
+        talker.hear(ALL)?;
+        assert!(rt; talker.client.is_written() && talker.client.may_answer());
+    }
+    Ok(())
+}
+
+// Hears what is unsent of a statement, and has it go on by the part that is left.
+fn hears_a_part(rt: &impl Abort, firms: &mut Firms, talker: &mut Talker) -> Result<(), Fail> {
+    assert!(rt; !talker.client.unsent().is_empty());
+    talker.hear(ALL)?;
+    assert!(rt; talker.client.unsent().is_empty());
+    assert!(rt; !talker.client.is_written() && !talker.client.may_answer());
+    assert!(rt; firms.answer(&mut talker.client) == None);
+    let rest = talker.client.rest().ok_or("nothing is left")?;
+    let part = firms.part(&rest).map_err(|_| "no part")?;
+    talker.client.put_part(part);
+    assert!(rt; !talker.client.is_written() && !talker.client.may_answer());
+    Ok(())
+}
+
+// A client hears a statement in so many parts, between which another one has its messages answered.
+fn hears_a_statement<R: Abort + AllocGlobal>(rt: &R, entries: u32, parts: u32) -> Result<(), Fail> {
+    let sends = with_statement(rt.alloc(), entries)?;
+    let more = transfers(rt.alloc(), 2001, 2101)?;
+    let want = Firms::with(rt.alloc(), &[FIRST])?.serve(sends.as_bytes());
+    let mut firms = Firms::with(rt.alloc(), &[FIRST])?;
+    let mut talker = Talker::new(rt, sends.as_bytes());
+    talker.send(ALL)?;
+    hears_replies(rt, &mut firms, &mut talker, 2)?;
+    assert!(rt; firms.answer(&mut talker.client) == Some(Answered::Replied));
+    for _ in 1..parts {
+        hears_a_part(rt, &mut firms, &mut talker)?;
+        let mut other = Talker::new(rt, more.as_bytes());
+        other.send(ALL)?;
+        hears_replies(rt, &mut firms, &mut other, 1)?;
+    }
+    assert!(rt; talker.client.rest() == None);
+    talker.hear(ALL)?;
+    assert!(rt; want.starts_with(&talker.heard) && talker.heard.ends_with(b"\r\n0\r\n\r\n"));
+    hears_replies(rt, &mut firms, &mut talker, 1)?;
+    Ok(())
+}
+
+#[test]
+fn answers_nothing_before_the_last_part_is_written(rt: HostRuntime) -> Result<(), Fail> {
+    for (entries, parts) in [(499, 1), (500, 2), (1000, 3)] {
+        hears_a_statement(&rt, entries, parts)?;
+    }
     Ok(())
 }

@@ -1,5 +1,5 @@
 use super::sample::Narrow;
-use ledger_http::{ContentType, Early, Refusal, Reply, write_reply};
+use ledger_http::{ContentType, Early, Refusal, Reply, Text, put_chunk, write_reply};
 use records::Streamed;
 use std::alloc::AllocError;
 
@@ -140,5 +140,55 @@ fn writes_replies_or_a_beginning(rt: HostRuntime) -> Result<(), AllocError> {
     for room in 0..70 {
         assert!(rt; is_written(&rt, &reply, room), "with room for {room}");
     }
+    Ok(())
+}
+
+/// Bytes, and the chunk that has them (RFC 9112, 7.1): their number in hexadecimal digits, a line
+/// end, the bytes and a line end. That of no bytes is the last.
+const CHUNKS: [(&str, &str); 6] = [
+    ("", "0\r\n\r\n"),
+    ("\n", "1\r\n\n\r\n"),
+    ("0\r\n\r\n", "5\r\n0\r\n\r\n\r\n"),
+    ("ten bytes.", "a\r\nten bytes.\r\n"),
+    ("sixteen of bytes", "10\r\nsixteen of bytes\r\n"),
+    (
+        "thirty-one bytes, and not more.",
+        "1f\r\nthirty-one bytes, and not more.\r\n",
+    ),
+];
+
+#[test]
+fn puts_chunks_behind_others(rt: HostRuntime) -> Result<(), AllocError> {
+    let mut all = Vec::new(rt.alloc());
+    let mut want = Vec::new(rt.alloc());
+    for (bytes, chunk) in CHUNKS {
+        put_chunk(rt.alloc(), &mut all, bytes.as_bytes())?;
+        want.extend_from_slice(chunk.as_bytes())?;
+        assert!(rt; all.as_slice() == want.as_slice(), "behind {chunk}");
+    }
+    Ok(())
+}
+
+#[test]
+fn replies_in_chunks(rt: HostRuntime) -> Result<(), AllocError> {
+    let chunks = b"4\r\na\n1\n\r\n0\r\n\r\n";
+    let csv = b"HTTP/1.1 200 OK\r\ncontent-type: text/csv\r\ntransfer-encoding: chunked\r\n\r\n\
+        4\r\na\n1\n\r\n0\r\n\r\n";
+    let reply = Reply::of_chunks(rt.alloc(), ContentType::Csv, chunks)?;
+    assert!(rt; reply.bytes() == csv.as_slice());
+    let json =
+        b"HTTP/1.1 200 OK\r\ncontent-type: application/json\r\ntransfer-encoding: chunked\r\n\r\n";
+    let reply = Reply::of_chunks(rt.alloc(), ContentType::Json, b"")?;
+    assert!(rt; reply.bytes() == json.as_slice());
+    Ok(())
+}
+
+#[test]
+fn keeps_the_bytes_of_a_text(rt: HostRuntime) -> Result<(), AllocError> {
+    let text = Text::from(b"a\n1".to_vec(rt.alloc())?);
+    assert!(rt; text.as_slice() == b"a\n1".as_slice());
+    assert!(rt; text.into_vec().as_slice() == b"a\n1".as_slice());
+    let text = Text::from(b"0\r\n\r\n".to_vec(rt.alloc())?);
+    assert!(rt; Reply::Whole(text).bytes() == b"0\r\n\r\n".as_slice());
     Ok(())
 }

@@ -3,6 +3,7 @@ ghost use Rattle.std.specs.Prelude.{◌≡◌, ⊤};
 
 use super::frail::{Fate, Frail, Opens};
 use super::scripted::{Peer, Scripted};
+use parts::{Part, Rest};
 use plain::{Book, PlainTables};
 use polling::{Seats, Steward, serve_ready, write_rest};
 use records::Streamed;
@@ -30,11 +31,31 @@ impl Moments for Always {
 struct Never;
 
 impl Steward<Book> for Never {
-    ghost renews = { λ old new. new ≡ old };
+    ghost renews = { λ old new. ⊤ };
 
     fn is_settled(_ledgers: &Book) {}
 
     fn attend(&mut self, _ledgers: &mut Book) {}
+
+    fn reads(alloc: Global, ledgers: &mut Book, rest: &Rest) -> Option<Part> {
+        rest.part(alloc, ledgers, b"").ok()
+    }
+}
+
+/// Cannot read what is left of statements.
+#[derive(Drop)]
+struct Blind;
+
+impl Steward<Book> for Blind {
+    ghost renews = { λ old new. ⊤ };
+
+    fn is_settled(_ledgers: &Book) {}
+
+    fn attend(&mut self, _ledgers: &mut Book) {}
+
+    fn reads(_alloc: Global, _ledgers: &mut Book, _rest: &Rest) -> Option<Part> {
+        None
+    }
 }
 
 /// Puts off batches of more than so many bytes, so many times.
@@ -45,7 +66,7 @@ struct PutsOff {
 }
 
 impl Steward<Book> for PutsOff {
-    ghost renews = { λ old new. new ≡ old };
+    ghost renews = { λ old new. ⊤ };
 
     // Nothing is known of these.
     ghost waits = { λ message. ⊤ };
@@ -53,6 +74,10 @@ impl Steward<Book> for PutsOff {
     fn is_settled(_ledgers: &Book) {}
 
     fn attend(&mut self, _ledgers: &mut Book) {}
+
+    fn reads(alloc: Global, ledgers: &mut Book, rest: &Rest) -> Option<Part> {
+        rest.part(alloc, ledgers, b"").ok()
+    }
 
     fn puts_off(&self, message: &[u8]) -> bool {
         let left = self.left.get();
@@ -124,8 +149,32 @@ impl Firms {
         let mut seats = Seats::new(self.alloc);
         let replies = self.serve_seated(peers, &mut seats, most);
         peers.joins(another)?;
-        write_rest::<Book, Never, Always, Scripted<'a>>(peers, &mut seats);
+        write_rest::<Book, Never, Always, Scripted<'a>>(
+            self.alloc,
+            peers,
+            &mut seats,
+            &mut self.book,
+        );
         Ok(replies)
+    }
+
+    /// Serves clients, none of whom hears more than the first part of a statement, until so many
+    /// messages were replied to. Then what is left of the replies is written.
+    pub(crate) fn serve_blind(&mut self, peers: &mut Scripted, most: u64) -> u64 {
+        let mut seats = Seats::new(self.alloc);
+        let mut piece = [0; 100];
+        let replies = serve_ready(
+            self.alloc,
+            peers,
+            &mut seats,
+            &mut self.book,
+            &mut Blind,
+            &mut Always(1000),
+            &mut piece,
+            most,
+        );
+        write_rest::<Book, Blind, Always, Scripted>(self.alloc, peers, &mut seats, &mut self.book);
+        replies
     }
 
     /// Serves clients over ledgers of which the first round has a fate. Says how many messages were

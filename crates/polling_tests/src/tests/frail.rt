@@ -4,9 +4,11 @@ ghost use Rattle.chain.specs.Ledgers.{AreValid, KeepsAll};
 ghost use Rattle.plain.specs.BookLedgers.{machines_in};
 
 use chain::{BatchFault, Ledgers, RoundWork, Rounds, Work};
+use parts::{Part, Rest};
 use plain::Book;
 use polling::Steward;
 use records::Unavailable;
+use std::alloc::Global;
 
 /// What becomes of a round, once all of its messages are answered in it.
 #[derive(Clone, Copy, Debug, PartialEq, Eq)]
@@ -161,5 +163,9 @@ impl Steward<Frail> for Opens {
 
     fn attend(&mut self, ledgers: &mut Frail) {
         ledgers.is_shut = false;
+    }
+
+    fn reads(alloc: Global, ledgers: &mut Frail, rest: &Rest) -> Option<Part> {
+        rest.part(alloc, ledgers, b"").ok()
     }
 }

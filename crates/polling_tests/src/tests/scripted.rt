@@ -22,6 +22,8 @@ pub(crate) struct Peer<'a> {
     wanted: Vec<u64>,
     /// Behind how many things that were told it was first written to.
     written_at: Option<u64>,
+    /// Behind how many it took something, each time.
+    taken_at: Vec<u64>,
 }
 
 impl<'a> Peer<'a> {
@@ -36,6 +38,7 @@ impl<'a> Peer<'a> {
             takes,
             wanted: Vec::new(alloc),
             written_at: None,
+            taken_at: Vec::new(alloc),
         }
     }
 
@@ -52,6 +55,11 @@ impl<'a> Peer<'a> {
     /// Behind how many things that were told it was first written to.
     pub(crate) fn written_at(&self) -> Option<u64> {
         self.written_at
+    }
+
+    /// Behind how many things that were told it took something, each time.
+    pub(crate) fn taken_at(&self) -> &[u64] {
+        &self.taken_at
     }
 
     /// It never has to wait.
@@ -247,6 +255,9 @@ impl Peers for Scripted<'_> {
             return Written::Broken;
         }
         if peer.heard.extend_from_slice(&bytes[..count]).is_err() {
+            return Written::Broken;
+        }
+        if peer.taken_at.push(told).is_err() {
             return Written::Broken;
         }
         peer.takes -= count;

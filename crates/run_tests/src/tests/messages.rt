@@ -175,6 +175,15 @@ fn json(alloc: Global, body: &str) -> Result<String, AllocError> {
     reply(alloc, "200 OK", "application/json", body)
 }
 
+/// A reply with a statement of a few rows, which are one chunk (RFC 9112, 7.1).
+fn in_chunks(alloc: Global, csv: &str) -> Result<String, AllocError> {
+    let length = csv.len();
+    format!(in alloc;
+        "HTTP/1.1 200 OK\r\ncontent-type: text/csv\r\ntransfer-encoding: chunked\r\n\r\n\
+        {length:x}\r\n{csv}\r\n0\r\n\r\n"
+    )
+}
+
 /// A refusal, by its name and its status.
 fn refusal(alloc: Global, name: &str, status: &str) -> Result<String, AllocError> {
     let body = format!(in alloc; "{{\"error\":\"{name}\"}}")?;
@@ -191,7 +200,7 @@ pub fn wanted(alloc: Global, text: &str) -> Result<String, AllocError> {
         return json(alloc, &results(alloc, text)?);
     }
     if let Some(lines) = text.strip_prefix("csv") {
-        return reply(alloc, "200 OK", "text/csv", &statement(alloc, lines)?);
+        return in_chunks(alloc, &statement(alloc, lines)?);
     }
     match text.split_once(' ') {
         Some((name, status)) => refusal(alloc, name, status),

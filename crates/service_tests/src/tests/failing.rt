@@ -4,11 +4,12 @@ ghost use Rattle.chain.specs.Ledgers.{AreValid};
 ghost use Rattle.plain.specs.BookLedgers.{machines_in};
 
 use super::scripts::Answers;
-use chain::{BatchFault, Ledgers, ReadFault, Work};
+use chain::{AccountEntry, BatchFault, Ledgers, Listed, ReadFault, Work};
 use ledger_http::Reply;
+use parts::{Part, Rest, read_piece};
 use plain::Book;
-use records::{Order, RowSink, SinkFault, StatementRow, Unavailable};
-use service::respond;
+use records::{Order, RowSink, SinkFault, Span, StatementRow, Unavailable};
+use service::{Begun, begin, respond};
 use std::alloc::Global;
 use std::marker::Model;
 
@@ -188,6 +189,26 @@ impl FrailFirms {
             .ledgers
             .each_statement_row(self.alloc, digest, account, order, &mut taken);
         (taken.rows, ended)
+    }
+
+    /// Begins the reply to a message.
+    pub(crate) fn begin(&mut self, bytes: &[u8]) -> Begun {
+        begin(self.alloc, &mut self.ledgers, bytes, 0)
+    }
+
+    /// The next part of a statement.
+    pub(crate) fn part(&mut self, rest: &Rest) -> Result<Part, ReadFault> {
+        rest.part(self.alloc, &mut self.ledgers, b"")
+    }
+
+    /// An account's entries within a span of time, and the clock.
+    pub(crate) fn piece(
+        &mut self,
+        digest: &[u8; 32],
+        account: u128,
+        span: &Span,
+    ) -> Result<Listed<AccountEntry>, ReadFault> {
+        read_piece(self.alloc, &mut self.ledgers, digest, account, span)
     }
 }
 

@@ -52,9 +52,9 @@ fn transfers(alloc: Global, first: u64, end: u64) -> Result<String, AllocError> 
 }
 
 /// Sends these transfers.
-pub(crate) fn send(
+pub(crate) fn send<A: Answers>(
     alloc: Global,
-    firms: &mut Firms,
+    firms: &mut A,
     first: u64,
     end: u64,
 ) -> Result<(), AllocError> {

@@ -1,4 +1,5 @@
 //! Messages and replies, from texts in few words.
+use super::chunks::in_chunks;
 use super::events::{results, transfers};
 use service::Message;
 use std::alloc::{AllocError, Global};
@@ -138,12 +139,12 @@ pub(crate) fn good(alloc: Global, body: &str) -> Result<Vec<u8>, AllocError> {
 
 /// A statement with these lines, each a word.
 fn statement(alloc: Global, lines: &str) -> Result<Vec<u8>, AllocError> {
-    let mut body = HEADER.to_string(alloc)?;
+    let mut csv = HEADER.to_string(alloc)?;
     for line in lines.split_whitespace() {
-        body.push_str(line)?;
-        body.push_str("\n")?;
+        csv.push_str(line)?;
+        csv.push_str("\n")?;
     }
-    reply(alloc, "200 OK", "text/csv", &body)
+    in_chunks(alloc, &csv)
 }
 
 /// A refusal, by its name and its status.

@@ -1,10 +1,11 @@
 //! Statements of which a piece is refused: a reply is whole or `unavailable`, and a sink has a
 //! beginning.
 use super::asserting::same;
+use super::chunks::in_chunks;
 use super::failing::FrailFirms;
 use super::looked_at::send;
 use super::memory::UNAVAILABLE;
-use super::messages::{FIRST, HEADER, get, reply};
+use super::messages::{FIRST, HEADER, get};
 use super::scripts::{Answers, base};
 use chain::ReadFault;
 use records::{Order, Unavailable};
@@ -15,25 +16,25 @@ use tenants::{Key, digest};
 
 /// So many transfers have the ids and sums from 1 on, and timestamps from 5 on. They are read in
 /// three pieces.
-const ENTRIES: u64 = 1001;
+pub(crate) const ENTRIES: u64 = 1001;
 
 /// A firm with these transfers.
-fn filled(rt: &impl Abort, alloc: Global) -> Result<FrailFirms, Fail> {
+pub(crate) fn filled(rt: &impl Abort, alloc: Global) -> Result<FrailFirms, Fail> {
     let mut firms = base(rt, alloc)?;
     send(alloc, &mut firms, 1, 701)?;
     send(alloc, &mut firms, 701, ENTRIES + 1)?;
     Ok(firms.frail())
 }
 
-/// The reply that has the whole statement of account 1.
-fn whole(alloc: Global) -> Result<Vec<u8>, AllocError> {
-    let mut body = HEADER.to_string(alloc)?;
-    for id in 1..=ENTRIES {
+/// The reply that has the whole statement of account 1, with so many entries.
+pub(crate) fn whole(alloc: Global, entries: u64) -> Result<Vec<u8>, AllocError> {
+    let mut csv = HEADER.to_string(alloc)?;
+    for id in 1..=entries {
         let timestamp = id.saturating_add(4);
         let line = format!(in alloc; "{timestamp},{id},debit,single,1,0,{id},0,0\n")?;
-        body.push_str(&line)?;
+        csv.push_str(&line)?;
     }
-    reply(alloc, "200 OK", "text/csv", &body)
+    in_chunks(alloc, &csv)
 }
 
 /// A statement of which a piece is refused, behind so many others, is told as unavailable. Behind
@@ -59,7 +60,7 @@ fn is_whole_or_unavailable(
 #[test]
 fn tells_no_beginning_of_a_statement(rt: HostRuntime) -> Result<(), Fail> {
     let message = get(rt.alloc(), "/statement/1", FIRST)?;
-    let whole = whole(rt.alloc())?;
+    let whole = whole(rt.alloc(), ENTRIES)?;
     let mut firms = filled(&rt, rt.alloc())?;
     for why in [Unavailable::Memory, Unavailable::Size, Unavailable::Disk] {
         for before in [0, 1, 2] {

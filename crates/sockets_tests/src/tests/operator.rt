@@ -110,13 +110,47 @@ fn notes_turns_and_replies(rt: HostRuntime) -> Result<(), Fail> {
     clock.pass(300);
     assert_eq!(rt; scene.told(1, 1), Told::Nothing);
     assert_eq!(rt; notes.longest_turn(), Duration::from_millis(700));
-    assert_eq!(rt; scene.sockets.write(0, b"first"), Written::Took(5));
-    assert_eq!(rt; scene.sockets.write(0, b"second"), Written::Took(6));
+    assert_eq!(rt;
+        scene.sockets.write(0, b"HTTP/1.1 first"),
+        Written::Took(14)
+    );
+    assert_eq!(rt;
+        scene.sockets.write(0, b"HTTP/1.1 second"),
+        Written::Took(15)
+    );
     scene.sockets.shared(2);
     scene.sockets.answered(Batch::Transfers, b"reply");
     scene.sockets.close(0);
-    assert_eq!(rt; scene.sockets.write(0, b"third"), Written::Broken);
+    assert_eq!(rt; scene.sockets.write(0, b"HTTP/1.1 third"), Written::Broken);
     assert_eq!(rt; notes.answered(), (2, 2));
     assert_eq!(rt; notes.batches(), (0, 1));
+    Ok(())
+}
+
+const IN_PARTS: &[u8] = b"HTTP/1.1 200 OK\r\ntransfer-encoding: chunked\r\n\r\n2\r\na\n\r\n";
+
+// The first part is the beginning of the reply. Those behind it begin with the size of a chunk, as the
+// last one does, and the next reply is told again.
+#[test]
+fn notes_a_reply_in_parts_once(rt: HostRuntime) -> Result<(), Fail> {
+    let clock = Ticking::new(0);
+    let notes = Notes::new();
+    let mut scene = Scene::new(&rt, &clock, &notes, Allowed(9, 9, LONG, LONG, LONG))?;
+    scene.connect(&rt, 0)?;
+    assert_eq!(rt; scene.told(0, 3), Told::Joined);
+    assert_eq!(rt;
+        scene.sockets.write(0, IN_PARTS),
+        Written::Took(IN_PARTS.len())
+    );
+    for part in [b"2\r\nb\n\r\n", b"2\r\nc\n\r\n"] {
+        assert_eq!(rt; scene.sockets.write(0, part), Written::Took(7));
+    }
+    assert_eq!(rt; scene.sockets.write(0, b"0\r\n\r\n"), Written::Took(5));
+    assert_eq!(rt; notes.answered(), (1, 0));
+    assert_eq!(rt;
+        scene.sockets.write(0, IN_PARTS),
+        Written::Took(IN_PARTS.len())
+    );
+    assert_eq!(rt; notes.answered(), (2, 0));
     Ok(())
 }

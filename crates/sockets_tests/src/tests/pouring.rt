@@ -57,7 +57,9 @@ fn writes_a_great_reply_by_and_by(rt: HostRuntime) -> Result<(), Fail> {
         client.set_nonblocking(true)?;
     }
     assert_eq!(rt; scene.told(0, 3), Told::Joined);
-    let reply = Vec::from_elem(rt.alloc(), 9u8, 8_000_000)?;
+    let mut reply = Vec::new(rt.alloc());
+    reply.extend_from_slice(b"HTTP/1.1 ")?;
+    reply.resize(8_000_000, 9u8)?;
     let poured = pour_all(&mut scene, &reply)?;
     assert!(rt; poured.waits > 0 && poured.sent == 8_000_000);
     assert_eq!(rt; notes.answered(), (1, 0));

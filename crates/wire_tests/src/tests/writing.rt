@@ -201,13 +201,19 @@ fn tells_balances(rt: HostRuntime) -> Result<(), Fail> {
 
 #[test]
 fn tells_statements(rt: HostRuntime) -> Result<(), Fail> {
-    let csv = concat!(
+    let chunks = concat!(
+        "80\r\n",
         "timestamp,transfer_id,side,kind,amount,",
         "debits_pending,debits_posted,credits_pending,credits_posted\n",
-        "3,1,debit,single,10,0,10,0,0\n"
+        "3,1,debit,single,10,0,10,0,0\n",
+        "\r\n0\r\n\r\n"
     );
-    let outcome = Outcome::Statement(items(rt.alloc(), csv.as_bytes())?);
-    is_reply(&rt, &outcome, "128", "text/csv", csv)
+    let outcome = Outcome::Statement(items(rt.alloc(), chunks.as_bytes())?);
+    let head = "HTTP/1.1 200 OK\r\ncontent-type: text/csv\r\ntransfer-encoding: chunked\r\n\r\n";
+    let text = format!(in rt.alloc(); "{head}{chunks}")?;
+    let reply = reply_bytes(rt.alloc(), &outcome)?;
+    assert_eq!(rt; reply.bytes(), text.as_bytes());
+    Ok(())
 }
 
 #[test]
@@ -286,18 +292,8 @@ pub(super) fn is_json<R: Abort + AllocGlobal>(
     length: &str,
     body: &str,
 ) -> Result<(), Fail> {
-    is_reply(rt, outcome, length, "application/json", body)
-}
-
-fn is_reply<R: Abort + AllocGlobal>(
-    rt: &R,
-    outcome: &Outcome,
-    length: &str,
-    kind: &str,
-    body: &str,
-) -> Result<(), Fail> {
     let text = format!(in rt.alloc();
-        "HTTP/1.1 200 OK\r\ncontent-length: {length}\r\ncontent-type: {kind}\r\n\r\n{body}"
+        "HTTP/1.1 200 OK\r\ncontent-length: {length}\r\ncontent-type: application/json\r\n\r\n{body}"
     )?;
     let reply = reply_bytes(rt.alloc(), outcome)?;
     assert_eq!(rt; reply.bytes(), text.as_bytes(), "{body}");

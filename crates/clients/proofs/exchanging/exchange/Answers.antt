@@ -1,14 +1,22 @@
 use Rattle.std.proofs.Common.{refl}
-use Rattle.clients.proofs.ExchangeLemmas.{answers_whole, answers_refused}
+use Rattle.service.specs.Begun.{reply_of}
+use Rattle.clients.proofs.ExchangeLemmas.{answers_whole, answers_refused, held_so}
 use Rattle.clients.proofs.exchanging.exchange.Goals as goal
 
 pub returns-in-Whole-clause-exchanges : goal.returns-in-Whole-clause-exchanges
 returns-in-Whole-clause-exchanges g c =
+    let whole =
     answers_whole g.L.Ledgers.means g.C.Moments.gives _ _ _ _ c.args.inbox.now _ _ _ c.in-Whole.size _
-    c.respond-reply.result c.later_bytes_change_nothing.ensures.begins c.next.ensures.same
+    (reply_of (g.L.Ledgers.means.tenants c.begin-begun.new.ledgers) c.begin-begun.result)
+    c.later_bytes_change_nothing.ensures.begins c.next.ensures.same
     c.take.ensures c.front.ensures (rw c.in-Whole.is at c.next.ensures.next) c.moment-moment.ensures
-    c.respond-reply.ensures.responds c.respond-reply.ensures.early c.respond-reply.ensures.finds
-    c.respond-reply.ensures.follows
+    c.begin-begun.ensures.responds c.begin-begun.ensures.early c.begin-begun.ensures.finds
+    c.begin-begun.ensures.follows in (
+      whole.0,
+      whole.1,
+      held_so g.L.Ledgers.means c.front.result.now c.moment-moment.result
+          (g.L.Ledgers.means.tenants c.args.ledgers.now) c.begin-begun.new.ledgers c.begin-begun.result.rest c.begin-begun.ensures.left,
+    )
 
 pub returns-in-Refused-clause-exchanges : goal.returns-in-Refused-clause-exchanges
 returns-in-Refused-clause-exchanges g c =

@@ -54,13 +54,13 @@ returns-then-left-eq0-clause-served g c =
     let round = c.serve_ready-left in
     let mid = held_by round.new.ledgers round.new.moments round.new.peers round.new.seats in
     let new =
-    held_by round.new.ledgers round.new.moments c.write_rest.new.peers c.write_rest.new.seats in
+    held_by c.write_rest.new.ledgers round.new.moments c.write_rest.new.peers c.write_rest.new.seats in
     let one =
     c.serving_goes_on.ensures.served first before.last before.deeds before.served old mid
     round.result before.keeps round.ensures.serves in
     let all =
     c.serving_goes_on.ensures.served first one.last one.deeds one.all mid new 0 one.keeps
-    (c.write_rest.ensures.serves round.new.ledgers round.new.moments) in
+    (c.write_rest.ensures.serves round.new.moments) in
     serves_so (rules g.L.Ledgers.means g.C.Moments.gives g.H.Steward.renews g.H.Steward.waits g.P.Peers.does)
     c.each_is_served.ensures c.serving_is_a_course.ensures.course
     c.serving_is_a_course.ensures.alone (Whole c.args.ledgers.now) c.args.moments.now
@@ -85,13 +85,13 @@ returns-then-is_stopping-clause-served g c =
     let round = c.serve_ready-left in
     let mid = held_by round.new.ledgers round.new.moments round.new.peers round.new.seats in
     let new =
-    held_by round.new.ledgers round.new.moments c.write_rest-then-is_stopping.new.peers c.write_rest-then-is_stopping.new.seats in
+    held_by c.write_rest-then-is_stopping.new.ledgers round.new.moments c.write_rest-then-is_stopping.new.peers c.write_rest-then-is_stopping.new.seats in
     let one =
     c.serving_goes_on.ensures.served first before.last before.deeds before.served old mid
     round.result before.keeps round.ensures.serves in
     let all =
     c.serving_goes_on.ensures.served first one.last one.deeds one.all mid new 0 one.keeps
-    (c.write_rest-then-is_stopping.ensures.serves round.new.ledgers round.new.moments) in
+    (c.write_rest-then-is_stopping.ensures.serves round.new.moments) in
     serves_so (rules g.L.Ledgers.means g.C.Moments.gives g.H.Steward.renews g.H.Steward.waits g.P.Peers.does)
     c.each_is_served.ensures c.serving_is_a_course.ensures.course
     c.serving_is_a_course.ensures.alone (Whole c.args.ledgers.now) c.args.moments.now

@@ -6,57 +6,60 @@ use Rattle.polling.proofs.TurnLemmas.{turns_serve, next_turn, too_long, quiet_se
 use Rattle.polling.proofs.finishing.write_rest.Goals as goal
 
 pub loop-init : goal.loop-init
-loop-init g c ledgers moments = Start
+loop-init g c = (c.requires, λ moments. Start)
 
 pub returns-then-are_written-clause-serves : goal.returns-then-are_written-clause-serves
-returns-then-are_written-clause-serves g c ledgers moments =
+returns-then-are_written-clause-serves g c moments =
     turns_serve (rules g.L.Ledgers.means g.C.Moments.gives g.H.Steward.renews g.H.Steward.waits g.P.Peers.does)
-    (held_by ledgers moments c.args.peers.now c.args.seats.now)
-    (held_by ledgers moments c.loop.peers c.loop.seats) c.loop.counter 0
-    (c.loop.invariant ledgers moments)
+    (held_by c.args.ledgers.now moments c.args.peers.now c.args.seats.now)
+    (held_by c.loop.ledgers moments c.loop.peers c.loop.seats) c.loop.counter 0
+    (c.loop.invariant.1 moments)
 
 pub returns-then-not-write_next-clause-serves : goal.returns-then-not-write_next-clause-serves
-returns-then-not-write_next-clause-serves g c ledgers moments =
+returns-then-not-write_next-clause-serves g c moments =
     let r = rules g.L.Ledgers.means g.C.Moments.gives g.H.Steward.renews g.H.Steward.waits g.P.Peers.does in
-    let first = held_by ledgers moments c.args.peers.now c.args.seats.now in
-    let old = held_by ledgers moments c.loop.peers c.loop.seats in
-    let new = held_by ledgers moments c.write_next.new.peers c.write_next.new.seats in
+    let first = held_by c.args.ledgers.now moments c.args.peers.now c.args.seats.now in
+    let old = held_by c.loop.ledgers moments c.loop.peers c.loop.seats in
+    let new = held_by c.write_next.new.ledgers moments c.write_next.new.peers c.write_next.new.seats in
     quiet_serves r first new 0
     (quiet_then r first old new 0
-    (turns_serve r first old c.loop.counter 0 (c.loop.invariant ledgers moments))
-    (c.if-not-write_next.ensures.quiet refl ledgers moments))
+    (turns_serve r first old c.loop.counter 0 (c.loop.invariant.1 moments))
+    (c.if-not-write_next.ensures.quiet refl moments))
 
 pub returns-then-not-write_next-clause-ends : goal.returns-then-not-write_next-clause-ends
-returns-then-not-write_next-clause-ends g c ledgers moments =
+returns-then-not-write_next-clause-ends g c moments =
     let r = rules g.L.Ledgers.means g.C.Moments.gives g.H.Steward.renews g.H.Steward.waits g.P.Peers.does in
-    let first = held_by ledgers moments c.args.peers.now c.args.seats.now in
-    let old = held_by ledgers moments c.loop.peers c.loop.seats in
-    let new = held_by ledgers moments c.write_next.new.peers c.write_next.new.seats in
+    let first = held_by c.args.ledgers.now moments c.args.peers.now c.args.seats.now in
+    let old = held_by c.loop.ledgers moments c.loop.peers c.loop.seats in
+    let new = held_by c.write_next.new.ledgers moments c.write_next.new.peers c.write_next.new.seats in
     Quiet
     (quiet_then r first old new 0
-    (turns_serve r first old c.loop.counter 0 (c.loop.invariant ledgers moments))
-    (c.if-not-write_next.ensures.quiet refl ledgers moments))
+    (turns_serve r first old c.loop.counter 0 (c.loop.invariant.1 moments))
+    (c.if-not-write_next.ensures.quiet refl moments))
 
 pub loop-preserved : goal.loop-preserved
-loop-preserved g c ledgers moments =
-    let r = rules g.L.Ledgers.means g.C.Moments.gives g.H.Steward.renews g.H.Steward.waits g.P.Peers.does in
-    next_turn r (held_by ledgers moments c.args.peers.now c.args.seats.now)
-    (held_by ledgers moments c.loop.peers c.loop.seats)
-    (held_by ledgers moments c.write_next.new.peers c.write_next.new.seats) c.loop.counter 0 0 0 refl
-    (c.loop.invariant ledgers moments)
-    (c.if-not-write_next.ensures.turn refl ledgers moments)
+loop-preserved g c = (
+  c.if-not-write_next.ensures.usable,
+  λ moments.
+      let r = rules g.L.Ledgers.means g.C.Moments.gives g.H.Steward.renews g.H.Steward.waits g.P.Peers.does in
+      next_turn r (held_by c.args.ledgers.now moments c.args.peers.now c.args.seats.now)
+      (held_by c.loop.ledgers moments c.loop.peers c.loop.seats)
+      (held_by c.write_next.new.ledgers moments c.write_next.new.peers c.write_next.new.seats) c.loop.counter 0 0 0 refl
+      (c.loop.invariant.1 moments)
+      (c.if-not-write_next.ensures.turn refl moments),
+)
 
 pub returns-clause-serves : goal.returns-clause-serves
-returns-clause-serves g c ledgers moments =
+returns-clause-serves g c moments =
     turns_serve (rules g.L.Ledgers.means g.C.Moments.gives g.H.Steward.renews g.H.Steward.waits g.P.Peers.does)
-    (held_by ledgers moments c.args.peers.now c.args.seats.now)
-    (held_by ledgers moments c.loop.peers c.loop.seats) c.loop.counter 0
-    (c.loop.invariant ledgers moments)
+    (held_by c.args.ledgers.now moments c.args.peers.now c.args.seats.now)
+    (held_by c.loop.ledgers moments c.loop.peers c.loop.seats) c.loop.counter 0
+    (c.loop.invariant.1 moments)
 
 pub returns-clause-ends : goal.returns-clause-ends
-returns-clause-ends g c ledgers moments =
+returns-clause-ends g c moments =
     too_long (rules g.L.Ledgers.means g.C.Moments.gives g.H.Steward.renews g.H.Steward.waits g.P.Peers.does)
     (AreWritten c.loop.seats.clients)
-    (held_by ledgers moments c.args.peers.now c.args.seats.now)
-    (held_by ledgers moments c.loop.peers c.loop.seats) c.loop.counter 0 c.loop.auto.counter-end
-    c.loop-test.false (c.loop.invariant ledgers moments)
+    (held_by c.args.ledgers.now moments c.args.peers.now c.args.seats.now)
+    (held_by c.loop.ledgers moments c.loop.peers c.loop.seats) c.loop.counter 0 c.loop.auto.counter-end
+    c.loop-test.false (c.loop.invariant.1 moments)

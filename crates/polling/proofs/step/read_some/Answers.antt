@@ -1,6 +1,7 @@
 use Rattle.std.proofs.Common.{inr, refl, true, false}
 use Rattle.polling.specs.Serving.{rules}
-use Rattle.polling.proofs.OneLemmas.{stirred, then_one}
+use Rattle.polling.proofs.OneLemmas.{stirred}
+use Rattle.polling.proofs.ThenLemmas.{then_one}
 use Rattle.polling.proofs.step.read_some.Goals as goal
 
 pub returns : goal.returns

@@ -5,7 +5,8 @@ use Rattle.polling.specs.Standing.{IsFinished, Finished}
 use Rattle.polling.specs.Seating.{count_of, has_nothing}
 use Rattle.polling.specs.declared.step.Step.TheVariants as step
 use Rattle.polling.proofs.GoingLemmas.{over_finished}
-use Rattle.polling.proofs.OneLemmas.{goes, replied, unmoved, whole_unmoved, then_one}
+use Rattle.polling.proofs.OneLemmas.{goes, replied, unmoved, whole_unmoved}
+use Rattle.polling.proofs.ThenLemmas.{then_one}
 use Rattle.polling.proofs.turn.answer_or_read.Goals as goal
 
 pub returns-in-Replied-clause-serves : goal.returns-in-Replied-clause-serves
@@ -24,7 +25,7 @@ returns-in-Replied-clause-serves g c =
     c.answer.new.moments c.args.client.now c.answer.new.self c.in-Replied.ensures.answers.0
     c.in-Replied.ensures.answers.1)
     c.is_settled.ensures)
-    (c.write_all.ensures (Whole c.answer.new.ledgers) c.answer.new.moments)
+    (c.write_all.ensures.serves (Whole c.answer.new.ledgers) c.answer.new.moments)
 
 pub returns-in-Wanting-clause-serves : goal.returns-in-Wanting-clause-serves
 returns-in-Wanting-clause-serves g c =

@@ -5,7 +5,8 @@ use Rattle.clients.specs.Answering.{HasReplied}
 use Rattle.service.specs.Seen.{Whole}
 use Rattle.polling.specs.Serving.{rules}
 use Rattle.polling.specs.Seating.{has_nothing}
-use Rattle.polling.proofs.OneLemmas.{replied, unmoved, then_one}
+use Rattle.polling.proofs.OneLemmas.{replied, unmoved}
+use Rattle.polling.proofs.ThenLemmas.{then_one}
 use Rattle.polling.proofs.turn.read_or_give_up.Goals as goal
 
 pub returns-in-Ok : goal.returns-in-Ok
@@ -39,4 +40,4 @@ returns-in-Err g c moments =
     (ap given_up (sym c.reserve_due.ensures.same) ∙ sym c.give_up.ensures)
     (c.giving_up_replies.ensures c.args.ledgers.now moments c.args.client.now c.in-Err.ensures.due)))
     c.is_settled.ensures)
-    (c.write_all.ensures (Whole c.args.ledgers.now) moments)
+    (c.write_all.ensures.serves (Whole c.args.ledgers.now) moments)

@@ -4,7 +4,8 @@ use Rattle.clients.specs.Talk.{is_empty}
 use Rattle.polling.specs.Serving.{rules}
 use Rattle.polling.specs.Seating.{has_nothing}
 use Rattle.polling.specs.declared.step.Step.TheVariants as step
-use Rattle.polling.proofs.OneLemmas.{nothing, idle_too, other_idle, then_one}
+use Rattle.polling.proofs.OneLemmas.{nothing}
+use Rattle.polling.proofs.ThenLemmas.{idle_too, other_idle, then_one}
 use Rattle.polling.proofs.WrittenLemmas.{both_none, empty_so}
 use Rattle.polling.proofs.turn.write_all.Goals as goal
 
@@ -12,13 +13,14 @@ pub loop-init : goal.loop-init
 loop-init g c = (
   true,
   inr (refl, refl),
+  refl,
   λ ledgers moments.
       nothing (rules g.L.Ledgers.means g.C.Moments.gives g.H.Steward.renews g.H.Steward.waits g.P.Peers.does)
       c.args.number ledgers moments c.args.peers.now c.args.client.now,
 )
 
-pub returns-then-is_empty : goal.returns-then-is_empty
-returns-then-is_empty g c ledgers moments =
+pub returns-then-is_empty-clause-serves : goal.returns-then-is_empty-clause-serves
+returns-then-is_empty-clause-serves g c ledgers moments =
     let old = c.args.client.now in
     let new = c.loop.client in
     idle_too (rules g.L.Ledgers.means g.C.Moments.gives g.H.Steward.renews g.H.Steward.waits g.P.Peers.does)
@@ -36,10 +38,10 @@ returns-then-is_empty g c ledgers moments =
           ∙ empty_so c.unsent.result.now (sym c.is_empty.ensures ∙ c.if-is_empty.true)))
           ∙ some))
     ])
-    (c.loop.invariant.2 ledgers moments)
+    (c.loop.invariant.3 ledgers moments)
 
-pub returns-in-Waits : goal.returns-in-Waits
-returns-in-Waits g c ledgers moments =
+pub returns-in-Waits-clause-serves : goal.returns-in-Waits-clause-serves
+returns-in-Waits-clause-serves g c ledgers moments =
     let r = rules g.L.Ledgers.means g.C.Moments.gives g.H.Steward.renews g.H.Steward.waits g.P.Peers.does in
     other_idle r c.args.number ledgers ledgers moments moments c.args.peers.now
     c.write_some.new.peers c.args.client.now c.write_some.new.client step.Waits false
@@ -48,10 +50,10 @@ returns-in-Waits g c ledgers moments =
     ledgers ledgers ledgers moments moments moments c.args.peers.now c.loop.peers
     c.write_some.new.peers c.args.client.now c.loop.client c.write_some.new.client step.Waits
     c.loop.invariant.0 false false 0 0 0 (λ none. inr refl) refl
-    (c.loop.invariant.2 ledgers moments) (c.in-Waits.ensures ledgers moments))
+    (c.loop.invariant.3 ledgers moments) (c.in-Waits.ensures.serves ledgers moments))
 
-pub returns-in-Goes : goal.returns-in-Goes
-returns-in-Goes g c ledgers moments =
+pub returns-in-Goes-clause-serves : goal.returns-in-Goes-clause-serves
+returns-in-Goes-clause-serves g c ledgers moments =
     let r = rules g.L.Ledgers.means g.C.Moments.gives g.H.Steward.renews g.H.Steward.waits g.P.Peers.does in
     other_idle r c.args.number ledgers ledgers moments moments c.args.peers.now
     c.write_some.new.peers c.args.client.now c.write_some.new.client step.Goes false
@@ -60,22 +62,23 @@ returns-in-Goes g c ledgers moments =
     ledgers ledgers ledgers moments moments moments c.args.peers.now c.loop.peers
     c.write_some.new.peers c.args.client.now c.loop.client c.write_some.new.client step.Goes
     c.loop.invariant.0 false false 0 0 0 (λ none. inr refl) refl
-    (c.loop.invariant.2 ledgers moments) (c.in-Goes.ensures ledgers moments))
+    (c.loop.invariant.3 ledgers moments) (c.in-Goes.ensures.serves ledgers moments))
 
 pub loop-preserved : goal.loop-preserved
 loop-preserved g c = (
   false,
   inl refl,
+  c.in-More.ensures.rest ∙ c.loop.invariant.2,
   λ ledgers moments.
       then_one (rules g.L.Ledgers.means g.C.Moments.gives g.H.Steward.renews g.H.Steward.waits g.P.Peers.does)
       c.args.number ledgers ledgers ledgers moments moments moments c.args.peers.now c.loop.peers
       c.write_some.new.peers c.args.client.now c.loop.client c.write_some.new.client step.More
       c.loop.invariant.0 false false 0 0 0 (λ none. inr refl) refl
-      (c.loop.invariant.2 ledgers moments) (c.in-More.ensures ledgers moments),
+      (c.loop.invariant.3 ledgers moments) (c.in-More.ensures.serves ledgers moments),
 )
 
-pub returns : goal.returns
-returns g c ledgers moments =
+pub returns-clause-serves : goal.returns-clause-serves
+returns-clause-serves g c ledgers moments =
     let old = c.args.client.now in
     let new = c.loop.client in
     idle_too (rules g.L.Ledgers.means g.C.Moments.gives g.H.Steward.renews g.H.Steward.waits g.P.Peers.does)
@@ -86,4 +89,4 @@ returns g c ledgers moments =
       | inl moved ↦ moved
       | inr still ↦ let none = still.0 in absurd (omega (arith, none, c.loop-test.false))
     ])
-    (c.loop.invariant.2 ledgers moments)
+    (c.loop.invariant.3 ledgers moments)

@@ -9,6 +9,7 @@ abbrev pub invariant-loop : goal.invariant-loop
 invariant-loop g l =
     (idle : Bool)
     × ((idle ≡ false) ⊎ ((l.counter ≡ 0) × (l.client ≡ l.fn.client)))
+    × (l.client.rest ≡ l.fn.client.rest)
     × ((ledgers : Seen g.row.L.Denot) (moments : g.row.C.Denot)
     → Stays (rules g.L.Ledgers.means g.C.Moments.gives g.H.Steward.renews g.H.Steward.waits g.P.Peers.does)
     l.number ledgers moments l.fn.peers l.fn.client ledgers moments l.peers l.client idle 0)

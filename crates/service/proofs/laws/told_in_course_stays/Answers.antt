@@ -14,7 +14,7 @@ use Rattle.wire.specs.declared.request.Query.{Query}
 use Rattle.wire.specs.declared.request.Query.TheVariants as query
 use Rattle.wire.specs.declared.request.Request.{Request}
 use Rattle.wire.specs.declared.request.Request.TheVariants as asks
-use Rattle.statement.specs.Text.{statement_text}
+use Rattle.parts.specs.Chunks.{statement_chunks}
 use Rattle.service.specs.Following.{clock_in}
 use Rattle.service.specs.Served.{answer_told, batch_told, told_by, left_by, query_told}
 use Rattle.service.proofs.RetryLemmas.{StepLaws, asked_leads}
@@ -67,7 +67,7 @@ told_clock of_accounts of_transfers m moment (asks.HistoryBalances asked) =
 told_clock of_accounts of_transfers m moment (asks.Query asked) = query_clock m asked
 told_clock of_accounts of_transfers m moment (asks.LookupPending ids) = λ clock is. cc
 told_clock of_accounts of_transfers m moment (asks.Statement account) =
-    answer_clock (λ rows. told.Statement (statement_text rows)) m.clock
+    answer_clock (λ rows. told.Statement (statement_chunks rows)) m.clock
     (λ answer clock is. absurd (cc)) (statement_answer m account Oldest)
 
 pub returns : goal.returns

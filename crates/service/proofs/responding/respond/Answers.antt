@@ -1,88 +1,59 @@
-use Rattle.std.proofs.Common.{Result, Err, IsOk, refl, ap, sym, subst, ◌∙◌}
-use Rattle.ledger_http.specs.declared.early.Early.{Early}
-use Rattle.ledger_http.specs.Question.{Question, question_of}
-use Rattle.service.specs.Responds.{IsLeftByAsked}
-use Rattle.service.proofs.FindingLemmas.{finds_on, finds_same}
-use Rattle.service.specs.Replies.{told_early}
-use Rattle.service.proofs.Responses.{responds_to, early_of, no_page, no_health}
-use Rattle.service.proofs.Responses.{responds_told, telling_told, page_telling}
-use Rattle.service.proofs.Responses.{health_telling, failure_telling}
+use Rattle.std.proofs.Common.{◌≡◌, Option, IfSome, subst, sym}
+use Rattle.parts.specs.declared.rest.Rest.{Rest}
+use Rattle.ledger_http.specs.ReplyText.{reply_text}
+use Rattle.service.specs.Begun.{reply_of, reply_with}
+use Rattle.service.specs.Responds.{IsLeftSame, IsQuestion}
+use Rattle.service.proofs.BegunLemmas.{available_where_left, finds_on_behind, responds_on}
+use Rattle.service.proofs.Responses.{early_of, no_health, no_page}
 use Rattle.service.proofs.responding.respond.Goals as goal
 
-pub returns-in-Ok-clause-responds : goal.returns-in-Ok-clause-responds
-returns-in-Ok-clause-responds g c live =
-    let a = c.in-Ok.ensures in
-    responds_to _ _ _ a.head (question_of c.in-Ok.asked) _ _ a.has a.told
-    (c.answer.ensures.serves live)
+pub returns-in-Some-clause-early : goal.returns-in-Some-clause-early
+returns-in-Some-clause-early g c =
+    let q = subst (λ (r : Option Rest). IfSome r (λ rest. IsQuestion c.args.bytes.now)) c.in-Some.is c.begin-front.ensures.asks in
+    early_of _ q.head q.question _ q.has q.is
 
-pub returns-in-Ok-clause-early : goal.returns-in-Ok-clause-early
-returns-in-Ok-clause-early g c =
-    let a = c.in-Ok.ensures in
-    early_of _ a.head (question_of c.in-Ok.asked) _ a.has a.told
+pub returns-in-Some-clause-page : goal.returns-in-Some-clause-page
+returns-in-Some-clause-page g c =
+    let q = subst (λ (r : Option Rest). IfSome r (λ rest. IsQuestion c.args.bytes.now)) c.in-Some.is c.begin-front.ensures.asks in
+    no_page _ q.head q.question _ q.has q.is
 
-pub returns-in-Ok-clause-page : goal.returns-in-Ok-clause-page
-returns-in-Ok-clause-page g c =
-    let a = c.in-Ok.ensures in
-    no_page _ a.head (question_of c.in-Ok.asked) _ a.has a.told
+pub returns-in-Some-clause-health : goal.returns-in-Some-clause-health
+returns-in-Some-clause-health g c =
+    let q = subst (λ (r : Option Rest). IfSome r (λ rest. IsQuestion c.args.bytes.now)) c.in-Some.is c.begin-front.ensures.asks in
+    no_health _ _ q.head q.question _ q.has q.is
 
-pub returns-in-Err-clause-responds : goal.returns-in-Err-clause-responds
-returns-in-Err-clause-responds g c live =
-    let a = c.in-Err.ensures in
-    rw c.told_early.ensures
-    (responds_told _ _ _ a.head c.in-Err.early _ a.has a.told (λ is. a.unavailable (ap Err is)))
-
-pub returns-in-Err-clause-early : goal.returns-in-Err-clause-early
-returns-in-Err-clause-early g c =
-    let a = c.in-Err.ensures in
-    rw c.told_early.ensures
-    (telling_told _ _ a.head c.in-Err.early a.has a.told (λ is. a.unavailable (ap Err is)))
-
-pub returns-in-Err-clause-page : goal.returns-in-Err-clause-page
-returns-in-Err-clause-page g c =
-    let a = c.in-Err.ensures in
-    rw c.told_early.ensures (page_telling _ _ a.head c.in-Err.early _ a.has refl a.page)
-
-pub returns-in-Ok-clause-health : goal.returns-in-Ok-clause-health
-returns-in-Ok-clause-health g c =
-    let a = c.in-Ok.ensures in
-    no_health _ _ a.head (question_of c.in-Ok.asked) _ a.has a.told
-
-pub returns-in-Err-clause-health : goal.returns-in-Err-clause-health
-returns-in-Err-clause-health g c =
-    let a = c.in-Err.ensures in
-    rw c.told_early.ensures (health_telling _ _ a.head c.in-Err.early _ a.has refl a.health)
-
-pub returns-in-Ok-clause-failed : goal.returns-in-Ok-clause-failed
-returns-in-Ok-clause-failed g c =
-    let a = c.in-Ok.ensures in record {
-      head = a.head;
-      has = a.has;
-      failure = λ failed ok. c.answer.ensures.failed failed;
+pub returns-in-Some-clause-failed : goal.returns-in-Some-clause-failed
+returns-in-Some-clause-failed g c =
+    let f = c.begin-front.ensures.failed in record {
+      head = f.head;
+      has = f.has;
+      failure = λ failed ok. absurd (available_where_left (g.L.Ledgers.means.tenants c.begin-front.new.ledgers)
+          c.begin-front.result c.in-Some.rest c.in-Some.is (f.failure failed ok));
     }
 
-pub returns-in-Err-clause-failed : goal.returns-in-Err-clause-failed
-returns-in-Err-clause-failed g c =
-    let a = c.in-Err.ensures in
-    rw c.told_early.ensures (failure_telling _ _ a.head c.in-Err.early a.has a.told)
+pub returns-in-Some-clause-responds : goal.returns-in-Some-clause-responds
+returns-in-Some-clause-responds g c live =
+    let t = g.L.Ledgers.means in
+    let mid = g.met.L.Ledgers.lived c.begin-front.new.ledgers c.finish_statement.new.ledgers c.finish_statement.ensures.reads.follows live in
+    let q = subst (λ (r : Option Rest). IfSome r (λ rest. IsQuestion c.args.bytes.now)) c.in-Some.is c.begin-front.ensures.asks in
+    let left = subst (λ (r : Option Rest). IfSome r (λ rest. t.is_live c.begin-front.new.ledgers →
+    IsLeftSame c.args.bytes.now c.args.moment (t.tenants c.args.ledgers.now) (t.tenants c.begin-front.new.ledgers) rest)) c.in-Some.is c.begin-front.ensures.left mid in
+    responds_on (t.tenants c.args.ledgers.now) (t.tenants c.begin-front.new.ledgers) (t.tenants c.finish_statement.new.ledgers)
+    c.args.bytes.now c.args.moment (reply_of (t.tenants c.begin-front.new.ledgers) c.begin-front.result) c.finish_statement.result
+    (c.begin-front.ensures.responds mid)
+    (available_where_left (t.tenants c.begin-front.new.ledgers) c.begin-front.result c.in-Some.rest c.in-Some.is)
+    left.1.0 (c.finish_statement.ensures.reads.same live)
+    (λ ne.
+    subst (λ (r : Option Rest). reply_text c.finish_statement.result
+    ≡ reply_text (reply_with (t.tenants c.begin-front.new.ledgers) c.begin-front.result.front r)) (sym c.in-Some.is)
+    (c.finish_statement.ensures.text live ne)) q
 
-pub returns-in-Ok-clause-finds : goal.returns-in-Ok-clause-finds
-returns-in-Ok-clause-finds g c =
-    let a = c.in-Ok.ensures in
-    finds_on g.L.Ledgers.means _ _ _ _ _ _ (λ answered. answered.available)
-    (λ was now left. (
-      a.head,
-      a.has,
-      subst (λ (asked : Result Question Early). IsLeftByAsked asked c.args.moment was now)
-          (sym a.told) left,
-    ))
-    c.answer.ensures.finds
-
-pub returns-in-Err-clause-finds : goal.returns-in-Err-clause-finds
-returns-in-Err-clause-finds g c =
-    let a = c.in-Err.ensures in
-    finds_same g.L.Ledgers.means _ _ _
-    (λ answered.
-    let asks =
-    subst (λ (asked : Result Question Early). IsOk asked)
-    (a.told (λ is. answered.available (c.told_early.ensures ∙ ap (told_early _) is))) (answered.asks a.head a.has) in
-    cc)
+pub returns-in-Some-clause-finds : goal.returns-in-Some-clause-finds
+returns-in-Some-clause-finds g c =
+    let t = g.L.Ledgers.means in
+    finds_on_behind t c.args.ledgers.now c.begin-front.new.ledgers c.finish_statement.new.ledgers c.args.bytes.now c.args.moment
+    (reply_of (t.tenants c.begin-front.new.ledgers) c.begin-front.result) c.finish_statement.result c.begin-front.ensures.finds
+    (g.met.L.Ledgers.lived c.args.ledgers.now c.begin-front.new.ledgers c.begin-front.ensures.follows)
+    (λ live. (subst (λ (r : Option Rest). IfSome r (λ rest. t.is_live c.begin-front.new.ledgers →
+    IsLeftSame c.args.bytes.now c.args.moment (t.tenants c.args.ledgers.now) (t.tenants c.begin-front.new.ledgers) rest)) c.in-Some.is c.begin-front.ensures.left live).0)
+    c.finish_statement.ensures.finds

@@ -1,0 +1,86 @@
+//! Statements, which are told in parts.
+ghost use Rattle.std.specs.Prelude.{◌≡◌, ◌≢◌, ℕ, true, IfSome, Ok, Some};
+ghost use Rattle.chain.specs.Ledgers.{Finds, KeepsAll};
+ghost use Rattle.chain.specs.LedgerReads.{Reads};
+ghost use Rattle.ledger_http.specs.ReplyText.{reply_text};
+ghost use Rattle.wire.specs.declared.request.Request.TheVariants.{Statement};
+ghost use Rattle.service.specs.Begun.{IsLeftOf, reply_of, reply_with, whole};
+ghost use Rattle.service.specs.Deeds as deed;
+ghost use Rattle.service.specs.Deeds.{IsDeedDone};
+ghost use Rattle.service.specs.Replies.{Serves, unavailable};
+
+use crate::begun::Begun;
+use crate::showing::{refusal_of, reply_to};
+use chain::Ledgers;
+use ledger_http::{Refusal, Reply};
+use parts::Rest;
+use statement::header_line;
+use std::alloc::Global;
+use wire::Outcome;
+
+/// Begins the reply to who asks for an account's statement, oldest entry first.
+pub(crate) fn begin_statement<L: Ledgers>(
+    alloc: Global,
+    ledgers: &mut L,
+    digest: &[u8; 32],
+    account: u128,
+) -> Begun
+    requires { L.means.is_usable ledgers.old }
+    ensures serves { L.means.is_live ledgers.new → (moment : ℕ)
+        → Serves (L.means.tenants ledgers.old) (L.means.tenants ledgers.new) digest.now
+        (Ok (Statement account)) moment (reply_of (L.means.tenants ledgers.new) result) }
+    ensures failed { L.means.has_failed ledgers.old ≡ true → result ≡ whole unavailable }
+    ensures finds { (moment : ℕ) → Finds L.means
+        (reply_of (L.means.tenants ledgers.new) result ≢ unavailable)
+        (IsDeedDone (deed.Asked digest.now (Ok (Statement account)) moment))
+        ledgers.old ledgers.new }
+    ensures left { IfSome result.rest (λ rest. L.means.is_live ledgers.new
+        → IsLeftOf (L.means.tenants ledgers.old) (L.means.tenants ledgers.new) rest) }
+    ensures usable { L.means.is_usable ledgers.new }
+    ensures follows { L.means.follows ledgers.old ledgers.new }
+{
+    let rest = Rest::whole(*digest, account);
+    match rest.part(alloc, ledgers, header_line()) {
+        Ok(part) => match reply_to(alloc, Outcome::Statement(part.chunks.into_vec().into())) {
+            Ok(front) => Begun {
+                front,
+                rest: part.rest,
+            },
+            Err(_) => Begun::whole(Reply::Fixed(Refusal::Unavailable)),
+        },
+        Err(why) => Begun::whole(Reply::Fixed(refusal_of(why))),
+    }
+}
+
+/// Reads what is left of a statement to which a reply is begun.
+pub(crate) fn finish_statement<L: Ledgers>(
+    alloc: Global,
+    ledgers: &mut L,
+    front: &Reply,
+    rest: Rest,
+) -> Reply
+    requires { L.means.is_usable ledgers.old }
+    ensures text { L.means.is_live ledgers.new → result ≢ unavailable → reply_text result
+        ≡ reply_text (reply_with (L.means.tenants ledgers.old) front.now (Some rest)) }
+    ensures finds { Finds L.means (result ≢ unavailable) KeepsAll ledgers.old ledgers.new }
+    ensures reads { Reads L.means ledgers.old ledgers.new }
+{
+    let mut text = Vec::new(alloc);
+    if text.extend_from_slice(front.bytes()).is_err() {
+        return Reply::Fixed(Refusal::Unavailable);
+    }
+    let mut rest = rest;
+    'parts: for _ in 0..u64::MAX {
+        let Ok(part) = rest.part(alloc, ledgers, b"") else {
+            return Reply::Fixed(Refusal::Unavailable);
+        };
+        if text.extend_from_slice(part.chunks.as_slice()).is_err() {
+            return Reply::Fixed(Refusal::Unavailable);
+        }
+        match part.rest {
+            Some(more) => rest = more,
+            None => return Reply::Whole(text.into()),
+        }
+    }
+    Reply::Fixed(Refusal::Unavailable)
+}
