@@ -6,19 +6,21 @@ functions.
 
 `rt ci` tries each of them in a check of its own, and most of such a check is the same each time: the
 libraries below are read, and the crate's front end runs. Here one check has a wrong body in each of
-many functions, each of another name, and the prover says of each function whether it is proved, and
-where it is not. A wrong body is refused where that is said of the very function that it stands in, and
-not only of one that it calls. What a function's proof needs of others are their contracts, which no
-wrong body changes, so that none is refused for another's sake. What was not refused so is tried by
-itself, as `rt ci` does, and so is what changes more than functions' bodies.
+many functions, and the prover says of each function whether it is proved, and where it is not. A
+wrong body is refused where that is said of the very function that it stands in, and not only of one
+that it calls. What a function's proof needs of others are their contracts, which no wrong body
+changes, so that none is refused for another's sake. What was not refused so is tried by itself, as
+`rt ci` does, and so is what changes more than functions' bodies.
 
 Such a check is asked for these functions alone (`--only`), and proves them and what they call. All of
-the crate was proved from nothing before, in the same run. At the end the functions are proved as they
-stand, over what these checks kept: what was refused was refused for its body.
+the crate was proved from nothing before, in the same run. What a check was asked for beside the
+functions that it turns is proved there too, or lacks nothing but them: else each of its wrong bodies
+is tried by itself. So what was refused was refused for its body. The first check of a crate begins
+with nothing, and the others go on over what that one has proved.
 
-All else is the toolchain's own, from the library beside `rt`, in the two forms that its kits have; where
-that has not the parts that are called here, each wrong body is tried as `rt ci` does. There are as
-many lanes as `build/lanes.py` tells."""
+All else is the toolchain's own, from the library beside `rt`; where that has not the parts that are
+called here, each wrong body is tried as `rt ci` does. There are as many lanes as `build/lanes.py`
+tells."""
 
 import importlib.machinery
 import importlib.util
@@ -27,6 +29,7 @@ import os
 import pathlib
 import re
 import shutil
+import subprocess
 import sys
 import tempfile
 import threading
@@ -37,6 +40,8 @@ FN = re.compile(r"(\s*)(?:pub(?:\([^)]*\))? )?(?:const )?(?:unsafe )?fn (\w+)")
 # What macros of std and of the kit write functions of.
 DERIVED = {"clone", "cmp", "default", "drop", "eq", "fmt", "from", "hash", "partial_cmp"}
 SAYS = re.compile(r"fn (\S+): (.*)")
+# What is said of a function that lacks nothing but others.
+LACKS = re.compile(r"(?:no proof:|not proved;) it calls [^;]*, which (?:is|are) not proved")
 
 
 def toolchain():
@@ -115,7 +120,8 @@ class WrongBody:
         return not self.places or None in self.places
 
     def names(self):
-        return {name for name, _, _ in self.places}
+        """The names of the functions, each with its file."""
+        return {(name, file) for name, file, _ in self.places}
 
     def joins(self, group, texts, crate):
         """Whether it can be tried with others. Then the texts have its words too."""
@@ -131,31 +137,55 @@ class WrongBody:
         texts.update(changed)
         return True
 
-    def is_refused(self, lines):
+    def refusal(self, lines):
         """The line that says that a function of it is not proved, and not for what it calls; or
         None."""
         for line in lines:
             for name, file, within in self.places:
-                if is_of(line, name) or is_at(line, name, file, within):
+                if is_of(line, name, file) or is_at(line, name, file, within):
                     return line
         return None
 
 
-def is_of(line, name):
-    """Whether a line says of a function that it is not proved, for itself."""
+def module(file):
+    """The names of the modules that a file is, below its crate."""
+    names = file[len("src/") : -len(".rt")].split("/")
+    return [] if names in (["lib"], ["main"]) else names
+
+
+def speaks_of(line, name, file):
+    """What a line says of a function, if it says something of it."""
     said = SAYS.fullmatch(line)
-    if not said or name not in {re.sub(r"\+.*", "", it) for it in said[1].split("::")}:
-        return False
-    return said[2] == "not proved" or said[2].startswith("no proof") and "did not prove" in said[2]
+    if not said:
+        return None
+    _, *path = (re.sub(r"\+.*", "", it) for it in said[1].split("::"))
+    within = module(file)
+    return said[2] if path[: len(within)] == within and name in path[len(within) :] else None
+
+
+def is_of(line, name, file):
+    """Whether a line says of a function that it is not proved, for itself."""
+    said = speaks_of(line, name, file) or ""
+    return said == "not proved" or said.startswith("no proof") and "did not prove" in said
 
 
 def is_at(line, name, file, within):
     """Whether a line tells of what is not proved at a function's text, or in what is written of its
     proof."""
-    if re.match(rf"(\./)?proofs/(.*/)?{name}/\w+\.antt:\d+:\d+: error", line):
+    folder = "/".join([*module(file), ""])
+    if re.match(rf"(\./)?proofs/{folder}(.*/)?{name}/\w+\.antt:\d+:\d+: error", line):
         return True
     at = re.match(r"(?:note: )?(?:\./)?(src/\S+?):(\d+):\d+: (?:error: )?it is not proved", line)
     return bool(at) and at[1] == file and int(at[2]) in within
+
+
+def lacks_more(line, names):
+    """Whether a line says of a function that is not among these that it is not proved, and not for
+    what it calls alone."""
+    said = SAYS.fullmatch(line)
+    if not said or said[2] in ("proved", "assumed") or LACKS.fullmatch(said[2]):
+        return False
+    return not any(speaks_of(line, *it) for it in names)
 
 
 def groups(crate, edits):
@@ -190,125 +220,139 @@ def only(crate, names):
 
 def try_group(rt, crate, group, texts, flags, kept):
     """What is to be said of each edit of a group that was refused in one check of all."""
-    asked = only(crate, {(name, file) for it in group for name, file, _ in it.places})
-    ran = rt.checked(crate, texts, [*flags, *asked], kept)
+    names = {it for each in group for it in each.names()}
+    ran = rt.checked(crate, texts, [*flags, *only(crate, names)], kept)
     lines = ran.stdout.rstrip("\n").split("\n")
     is_read = not any(rt.unread(it, texts) for it in lines) and not rt.rtlib.STALE.search(ran.stdout)
     if not is_read or ran.returncode != 1 or not re.match(r"only=\d+ proved=\d+", lines[-1]):
         return {}
-    refused = {it.path: it.is_refused(lines) for it in group}
+    if any(lacks_more(it, names) for it in lines):
+        return {}
+    refused = {it.path: it.refusal(lines) for it in group}
     label = f"must-fail {crate.name}"
     return {path: f"{label}/{os.path.basename(path)}: refused, as it must be: {line[:160]}"
             for path, line in refused.items() if line}
 
 
-def try_together(rt):
-    """`must_fail_all` of `rt`: each edit with whether it was refused and what to say."""
-
-    def all_of(crate, edits, flags, *_):
-        if len(edits) < 2:
-            return [rt.must_fail(crate, it, flags) for it in edits]
-        told, names = {}, set()
-        with tempfile.TemporaryDirectory(prefix="rt-edits-") as kept:
-            for group, texts in groups(crate, edits):
-                told.update(try_group(rt, crate, group, texts, flags, kept))
-                names.update((name, file) for it in group for name, file, _ in it.places)
-            alone = {it: rt.must_fail(crate, it, flags, kept) for it in edits if it not in told}
-            asked = [] if alone else only(crate, names)
-            is_sound = not rt.checked(crate, {}, [*flags, *asked], kept).returncode
-        tried = {**{path: (True, text) for path, text in told.items()}, **alone}
-        return [tried[it] if is_sound and tried[it][0] else rt.must_fail(crate, it, flags)
-                for it in edits]
-
-    return all_of
-
-
 class Group:
-    """Wrong bodies that one check tries, and what it told of those that it refused, once it has run."""
+    """Wrong bodies that one check tries, and what it told of those that it refused, once it has
+    run."""
 
-    def __init__(self, edits, texts):
-        self.edits, self.texts, self.told, self.lock = edits, texts, None, threading.Lock()
+    def __init__(self, number, edits, texts):
+        self.number, self.edits, self.texts = number, edits, texts
+        self.told, self.lock = None, threading.Lock()
 
-    def refusal(self, rt, crate, path, flags, kept):
-        """What is to be said of one of them where the check of all refused it, else None."""
+    def refusal(self, rt, crate, path, flags, room):
+        """What is to be said of one of them where the check of all refused it, else None. What the
+        check has proved stays in the room for the others where this is the first."""
         with self.lock:
             if self.told is None:
-                self.told = try_group(rt, crate, self.edits, self.texts, flags, kept)
+                self.told = self.tried(rt, crate, flags, room)
         return self.told.get(path)
 
+    def tried(self, rt, crate, flags, room):
+        first, over = f"{room}/group-0", f"{room}/group-{self.number}"
+        has_first = self.number and os.path.isdir(first)
+        try:
+            rt.linked(first if has_first else f"{room}/seed", over)
+            return try_group(rt, crate, self.edits, self.texts, flags, over)
+        except (OSError, shutil.Error):
+            return {}
+        finally:
+            if self.number:
+                shutil.rmtree(over, ignore_errors=True)
 
-class Shared:
-    """For a kit whose `rt ci` has a task for each wrong body, over what another check of the crate
-    proved: the first task of a group tries all of it, the others wait for that one and take what it
-    told. What was not refused so is tried alone, over the same and then from nothing, as `rt ci` does.
 
-    That other check, which the wrong bodies begin with, is a second one of the crate as it stands. Where
-    all of them are in groups it is asked for the functions that these turn alone, and so is the last
-    one, which looks that they are proved over what it left."""
+class Together:
+    """`rt`, whose tasks for the wrong bodies of a crate wait for the first of their group: that one
+    tries all of it, and the others take what it told. And each group waits for the first one. What was
+    not refused so is tried alone, as `rt ci` does.
+
+    `rt` begins them with a check of the crate as it stands, and ends them with another one. Here they
+    begin with nothing, or with what the crate's own check has kept. Only in that case is there another
+    one in the end, since of each group its check has told that all else is proved."""
 
     def __init__(self, rt):
-        self.rt, self.groups, self.asked = rt, {}, {}
+        self.rt, self.groups, self.has_begun = rt, {}, set()
         self.edits_of, self.add_edits = rt.edits_of, rt.add_edits
         self.must_fail, self.checked = rt.must_fail, rt.checked
-        rt.edits_of, rt.add_edits = self.ordered, self.added
-        rt.must_fail, rt.checked = self.tried, self.begun
+        rt.edits_of, rt.add_edits, rt.seeded = self.ordered, self.added, self.seeded
+        rt.must_fail, rt.checked = self.tried, self.looked_at
 
     def ordered(self, crate):
         """`edits_of` of `rt`, with the first of each group in front."""
         good, bad = self.edits_of(crate)
-        found = [Group(*it) for it in groups(crate, good)]
+        found = [Group(number, *it) for number, it in enumerate(groups(crate, good))]
         self.groups[crate.folder] = {it.path: group for group in found for it in group.edits}
-        if len(self.groups[crate.folder]) == len(good):
-            turned = {(name, file) for group in found for it in group.edits for name, file, _ in it.places}
-            self.asked[crate.folder] = only(crate, turned)
         firsts = [group.edits[0].path for group in found]
         return [*firsts, *[it for it in good if it not in firsts]], bad
 
-    def begun(self, crate, texts, flags, kept):
-        """`checked` of `rt`: of a crate as it stands, over kept work, the turned functions alone."""
-        asked = self.asked.get(crate.folder, []) if kept and not texts else []
-        return self.checked(crate, texts, [*flags, *asked], kept)
+    def seeded(self, crate, _flags, start=None):
+        """`seeded` of `rt`, without a check."""
+        room = tempfile.mkdtemp(prefix=f"rt-edits-{os.getpid()}-")
+        self.rt.SEEDS.append(room)
+        if not start:
+            os.mkdir(f"{room}/seed")
+            return room
+        try:
+            self.rt.linked(start, f"{room}/seed")
+        except (OSError, shutil.Error):
+            return None
+        self.has_begun.add(crate.folder)
+        return room
+
+    def looked_at(self, crate, texts, flags, kept):
+        """`checked` of `rt`: of a crate as it stands, over what was kept, the turned functions alone, or
+        none where it began with nothing."""
+        if texts or not kept:
+            return self.checked(crate, texts, flags, kept)
+        if crate.folder not in self.has_begun:
+            return subprocess.CompletedProcess([], 0, "", "")
+        groups = set(self.groups[crate.folder].values())
+        turned = {it for group in groups for each in group.edits for it in each.names()}
+        return self.checked(crate, texts, [*flags, *only(crate, turned)], kept)
 
     def added(self, tasks, crate, edits, *given, **named):
-        """`add_edits` of `rt`, in which the tasks of a group wait for its first."""
+        """`add_edits` of `rt`, in which the tasks of a group wait for its first, and that for the first
+        of all."""
         results = self.add_edits(tasks, crate, edits, *given, **named)
-        firsts = {}
+        firsts, of_all = {}, None
         for number, path in enumerate(edits):
             key, group = (crate.name, "edits", number), self.groups[crate.folder].get(path)
             first = firsts.setdefault(group, key) if group else key
-            if first != key:
+            of_all = of_all or key
+            before = first if first != key else of_all if group else key
+            if before != key:
                 waits, *rest = tasks[key]
-                tasks[key] = ([*waits, first], *rest)
+                tasks[key] = ([*waits, before], *rest)
         return results
 
     def tried(self, crate, edit, flags, kept=None):
         """`must_fail` of `rt`: with kept work a group is tried in one check, and without alone."""
         group = self.groups.get(crate.folder, {}).get(edit) if kept else None
-        text = group and group.refusal(self.rt, crate, edit, flags, kept)
+        text = group and group.refusal(self.rt, crate, edit, flags, os.path.dirname(kept))
         return (self.rt.REFUSED, text) if text else self.must_fail(crate, edit, flags, kept)
 
 
-# What is called here, and the names of what it takes; and beside these, in either form of `rt`.
+# What is called here, and the names of what it takes.
 CALLED = {"unread": ["line", "changed"], "must_fail": ["crate", "edit", "flags", "kept"],
-          "checked": ["crate", "texts", "flags", "kept"]}
-AT_ONCE = {"must_fail_all": ["crate", "edits", "flags"]}
-ONE_BY_ONE = {"edits_of": ["crate"], "add_edits": ["tasks", "crate", "edits"]}
+          "checked": ["crate", "texts", "flags", "kept"], "linked": ["folder", "to"],
+          "seeded": ["crate", "flags", "start"], "edits_of": ["crate"],
+          "add_edits": ["tasks", "crate", "edits"]}
 
 
-def has(rt, called):
+def has_parts(rt):
     """Whether the toolchain has these."""
-    return hasattr(rt.rtlib, "STALE") and all(
+    return hasattr(rt.rtlib, "STALE") and hasattr(rt, "SEEDS") and all(
         hasattr(rt, name) and [*inspect.signature(getattr(rt, name)).parameters][: len(takes)] == takes
-        for name, takes in called.items())
+        for name, takes in CALLED.items())
 
 
 def main(words):
     rt = toolchain()
     os.environ.setdefault("RT_JOBS", str(lanes.lanes() or ""))
-    if has(rt, {**CALLED, **AT_ONCE}):
-        rt.must_fail_all = try_together(rt)
-    elif has(rt, {**CALLED, **ONE_BY_ONE}):
-        Shared(rt)
+    if has_parts(rt):
+        Together(rt)
     return rt.main(words or ["ci"])
 
 

@@ -30,6 +30,7 @@ import given
 import limits
 import little
 import many
+import parted
 import paused
 import queries
 import refused
@@ -70,6 +71,7 @@ TRIALS = {
     "stopped": stops.stopped,
     "copied": copied.copied,
     "statements": statements.statements,
+    "parted": parted.parted,
     "standby": standby.standby,
     "reader": use.gone_reader,
     "refused": refused.refused_bytes,

@@ -1,14 +1,16 @@
 -- The chunks of rows, by how many there are.
-use Rattle.std.proofs.Common.{◌≡◌, ◌∙◌, ℕ, zero, suc, ◌+◌, ◌<◌, ◌≤◌, ltb, true, false, List, [], ◌++◌, length, map, take, drop, get_or, refl, sym, ap, arith, inl, inr, append_assoc, drop-cons, add-one}
+use Rattle.std.proofs.Common.{◌≡◌, ◌∙◌, ℕ, zero, suc, ◌+◌, ◌<◌, ◌≤◌, Bool, ltb, true, false, List, [], ◌∷◌, ◌++◌, length, map, take, drop, get_or, refl, sym, ap, arith, inl, inr, append_assoc, length-append, drop-cons, add-one}
 use Rattle.std.proofs.lemmas.Bool.{cases_Bool, ltb-true, ltb-false}
 use Rattle.std.proofs.lemmas.Bool.Decides.{nat_tests}
 use Rattle.std.proofs.lemmas.List.{length-drop}
+use Rattle.std.specs.Fmt.{digits}
 use Rattle.ledger_http.specs.Chunks.{chunk}
+use Rattle.ledger_http.specs.ReplyText.{line_end}
 use Rattle.records.specs.declared.statement_row.StatementRow.{StatementRow}
 use Rattle.statement.specs.Text.{line_of, lines_of}
 use Rattle.chain.specs.AccountEntries.{row_of}
 use Rattle.chain.specs.declared.account_entry.AccountEntry.{AccountEntry}
-use Rattle.parts.specs.Chunks.{chunks_of, last_chunks, rows_in_a_chunk}
+use Rattle.parts.specs.Chunks.{chunks_of, last_chunks, part_chunks, rows_in_a_chunk}
 
 -- an entry's line more
 pub one_line_more :
@@ -87,3 +89,21 @@ many before rows least = at (length rows) refl
         more n before rows least
         ∙ ap (λ (xs : List ℕ). chunk (before ++ lines_of (take rows_in_a_chunk rows)) ++ xs)
         (enough n (length (drop rows_in_a_chunk rows)) [] (drop rows_in_a_chunk rows) (omega (arith, left, is, least)) (omega arith))
+
+-- a chunk has bytes, so each part has
+chunk_some : (bytes : List ℕ) → 0 < length (chunk bytes)
+chunk_some bytes =
+    let front = digits 16 false (length bytes) ++ line_end ++ bytes in
+    let size : length (chunk bytes) ≡ length front + 2 = length-append front line_end in
+    omega (arith, size)
+
+last_some : (lines : List ℕ) → 0 < length (last_chunks lines)
+last_some [] = chunk_some []
+last_some (byte ∷ bytes) =
+    let size : length (last_chunks (byte ∷ bytes)) ≡ length (chunk (byte ∷ bytes)) + length (chunk []) =
+    length-append (chunk (byte ∷ bytes)) (chunk []) in
+    omega (arith, size, chunk_some [])
+
+pub part_some : (is_last : Bool) (lines : List ℕ) → 0 < length (part_chunks is_last lines)
+part_some true lines = last_some lines
+part_some false lines = chunk_some lines

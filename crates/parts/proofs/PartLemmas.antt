@@ -1,5 +1,5 @@
 -- What is left of a statement behind a part of it.
-use Rattle.std.proofs.Common.{◌≡◌, ◌∙◌, ℕ, suc, ◌+◌, ◌-◌, ◌^◌, ◌<◌, ◌≤◌, min, Bool, true, false, cond, All, Option, Some, None, List, [], ◌∷◌, ◌++◌, length, map, filter, take, drop, refl, sym, ap, ap₂, subst, arith, append-nil}
+use Rattle.std.proofs.Common.{◌≡◌, ◌≢◌, ◌∙◌, ℕ, suc, ◌+◌, ◌-◌, ◌^◌, ◌<◌, ◌≤◌, min, Bool, true, false, cond, All, Option, Some, None, List, [], ◌∷◌, ◌++◌, length, map, filter, take, drop, refl, sym, ap, ap₂, subst, arith, append-nil}
 use Rattle.std.specs.List.{slice_get}
 use Rattle.std.proofs.lemmas.Bool.{ltb-true, ltb-false}
 use Rattle.std.proofs.lemmas.Bool.Decides.{nat_tests}
@@ -9,6 +9,7 @@ use Rattle.std.proofs.lemmas.Option.{get_or_from_slice_get, slice_get_within}
 use Rattle.records.specs.declared.filter.Order.TheVariants.{Oldest}
 use Rattle.records.specs.declared.statement_row.StatementRow.{StatementRow}
 use Rattle.records.specs.declared.transfer.Transfer.{Transfer}
+use Rattle.records.specs.Facts.{account_in}
 use Rattle.records.specs.Machine.{Machine}
 use Rattle.records.specs.Queries.{is_within}
 use Rattle.records.specs.Step.{max_clock}
@@ -21,10 +22,10 @@ use Rattle.chain.specs.declared.account_entry.AccountEntry.{AccountEntry}
 use Rattle.chain.proofs.EntriesUpToClock.{up_to_clock}
 use Rattle.chain.proofs.PageSpans.{rest_of_span, within_all}
 use Rattle.parts.specs.Chunks.{chunks_of, part_chunks, rows_in_a_chunk}
-use Rattle.parts.specs.Parts.{IsLeftBehind, IsPartOf, are_last, chunks_behind, chunks_in, rest_behind, rows_left, span_of}
+use Rattle.parts.specs.Parts.{IsLeftBehind, IsPart, IsPartOf, are_last, chunks_behind, chunks_in, rest_behind, rows_left, span_of}
 use Rattle.parts.specs.declared.rest.Part.{Part}
 use Rattle.parts.specs.declared.rest.Rest.{Rest}
-use Rattle.parts.proofs.ChunkLemmas.{few, many, many_so}
+use Rattle.parts.proofs.ChunkLemmas.{few, many, many_so, part_some}
 use Rattle.parts.proofs.LaterEntries.{all_own}
 
 -- the time behind the last entry
@@ -166,10 +167,16 @@ module _ (m : Machine) (valid : IsValid m) (rest : Rest) where
 
     -- with what is left it is all that was left
     pub parted :
-        (before : List ℕ) (part : Part) → IsPartOf before rest m.clock entries part →
-        (part.chunks ++ chunks_in m part.rest ≡ chunks_behind before m rest) × IsLeftBehind m rest part.rest
-    parted before part of =
-        let behind = of.behind bounded in (
-          told_so (are_last entries) before part refl of.made behind,
-          behind_so (are_last entries) part refl behind,
-        )
+        (before : List ℕ) (part : Part) → account_in m rest.account ≢ None →
+        IsPartOf before rest m.clock entries part → IsPart before (Some m) rest part
+    parted before part there of =
+        let behind = of.behind bounded in
+        record {
+          machine = m;
+          is = refl;
+          there = there;
+          some = subst (λ (cs : List ℕ). 0 < length cs) (sym of.made)
+              (part_some (are_last entries) (before ++ lines_of (map (row_of rest.account) entries)));
+          chunks = told_so (are_last entries) before part refl of.made behind;
+          behind = behind_so (are_last entries) part refl behind;
+        }

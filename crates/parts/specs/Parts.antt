@@ -1,5 +1,5 @@
 -- A statement that is told in parts, and what is left behind each.
-use Rattle.std.specs.Prelude.{◌≡◌, ◌≢◌, ◌≤◌, ◌-◌, ◌^◌, ◌++◌, ℕ, Bool, List, [], Option, Some, None, Result, Ok, Err, All, length, map, min, nat_lt, if◌then◌else◌}
+use Rattle.std.specs.Prelude.{◌≡◌, ◌≢◌, ◌<◌, ◌≤◌, ◌-◌, ◌^◌, ◌++◌, ℕ, Bool, List, [], Option, Some, None, Result, Ok, Err, All, length, map, min, nat_lt, if◌then◌else◌}
 use Rattle.engine.specs.Following.{ContinuesAfter}
 use Rattle.records.specs.Facts.{account_in}
 use Rattle.records.specs.Machine.{Machine}
@@ -87,12 +87,14 @@ abbrev pub IsLeftBehind : Machine → Rest → Option Rest → Type 0
 IsLeftBehind m rest None = Unit {0}
 IsLeftBehind m rest (Some behind) = IsBehind m rest behind
 
--- a part of what is left, in a tenant's machine: with what is left behind it, it is all of that
+-- a part of what is left, in a tenant's machine: with what is left behind it, it is all of that, and
+-- less is left than before, since it has bytes
 pub record IsPart (before : List ℕ) (tenant : Option Machine) (rest : Rest) (part : Part) :
     Type 0 where
   pub machine : Machine
   pub is : tenant ≡ Some machine
   pub there : account_in machine rest.account ≢ None
+  pub some : 0 < length part.chunks
   pub chunks : part.chunks ++ chunks_in machine part.rest ≡ chunks_behind before machine rest
   pub behind : IsLeftBehind machine rest part.rest
 

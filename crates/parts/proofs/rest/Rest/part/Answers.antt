@@ -1,6 +1,7 @@
-use Rattle.std.proofs.Common.{ℕ, ap, subst, ◌∙◌}
+use Rattle.std.proofs.Common.{ℕ, Option, ap, subst, sym, ◌∙◌}
+use Rattle.records.specs.Machine.{Machine}
 use Rattle.chain.specs.AccountEntries.{account_entries_within}
-use Rattle.parts.specs.Parts.{IsPartOf}
+use Rattle.parts.specs.Parts.{IsPart, IsPartOf}
 use Rattle.parts.proofs.PartLemmas.{parted}
 use Rattle.parts.proofs.rest.Rest.part.Goals as goal
 
@@ -12,6 +13,6 @@ returns-in-Ok-clause-told g c live =
     let old = g.met.L.Ledgers.lived c.args.ledgers.now c.read_piece.new.ledgers c.in_ok-listed.ensures.reads.follows live in
     let valid = g.met.L.Ledgers.valid c.args.ledgers.now old c.requires c.args.self.now.digest m told.1 in
     let so = parted m valid c.args.self.now c.in_ok-listed.listed.entries.items
-    (piece.entries ∙ ap (account_entries_within m c.args.self.now.account) c.span.ensures) c.args.before.now c.in-Ok.part
+    (piece.entries ∙ ap (account_entries_within m c.args.self.now.account) c.span.ensures) c.args.before.now c.in-Ok.part piece.there
     (subst (λ (clock : ℕ). IsPartOf c.args.before.now c.args.self.now clock c.in_ok-listed.listed.entries.items c.in-Ok.part) piece.clock c.in-Ok.ensures) in
-    record { machine = m; is = told.1; there = piece.there; chunks = so.0; behind = so.1 }
+    subst (λ (tenant : Option Machine). IsPart c.args.before.now tenant c.args.self.now c.in-Ok.part) (sym told.1) so
