@@ -8,3 +8,4 @@ mod lists;
 mod pieces;
 mod refusals;
 mod scene;
+mod steps;

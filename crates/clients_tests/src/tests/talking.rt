@@ -4,8 +4,7 @@ use super::messages::{
     with_statement,
 };
 use clients::{Answered, Client};
-use std::alloc::AllocError;
-use std::process::Abort;
+use std::alloc::{AllocError, Global};
 use std::test::Fail;
 
 /// A client, what it still sends, and what it was written.
@@ -17,11 +16,11 @@ struct Talker<'a> {
 }
 
 impl<'a> Talker<'a> {
-    fn new(rt: &impl AllocGlobal, sends: &'a [u8]) -> Talker<'a> {
+    fn new(alloc: Global, sends: &'a [u8]) -> Talker<'a> {
         Talker {
-            client: Client::new(rt.alloc()),
+            client: Client::new(alloc),
             sends,
-            heard: Vec::new(rt.alloc()),
+            heard: Vec::new(alloc),
         }
     }
 
@@ -73,8 +72,8 @@ fn writes_each_what_its_own_connection_is_written(rt: HostRuntime) -> Result<(),
     let to_first = Firms::with(rt.alloc(), &keys)?.serve(OF_FIRST.as_bytes());
     for (piece, most) in [(1, 4096), (2, 1), (7, 3), (4096, 100)] {
         let mut firms = Firms::with(rt.alloc(), &keys)?;
-        let mut one = Talker::new(&rt, OF_FIRST.as_bytes());
-        let mut other = Talker::new(&rt, OF_SECOND.as_bytes());
+        let mut one = Talker::new(rt.alloc(), OF_FIRST.as_bytes());
+        let mut other = Talker::new(rt.alloc(), OF_SECOND.as_bytes());
         talk(&mut firms, &mut one, &mut other, piece, most)?;
         assert!(rt; one.heard.as_slice() == to_first.as_slice());
         assert!(rt; other.heard.as_slice() == TO_SECOND.as_bytes());
@@ -82,127 +81,178 @@ fn writes_each_what_its_own_connection_is_written(rt: HostRuntime) -> Result<(),
     Ok(())
 }
 
+// Whether each has one message answered, whose reply it hears.
+fn have_a_turn(
+    firms: &mut Firms,
+    one: &mut Talker,
+    other: &mut Talker,
+) -> Result<bool, AllocError> {
+    let (first, second) = (one.heard.len(), other.heard.len());
+    let answers = [
+        firms.answer(&mut one.client),
+        firms.answer(&mut other.client),
+        firms.answer(&mut one.client),
+    ];
+    one.hear(4096)?;
+    other.hear(4096)?;
+    let is_heard = first < one.heard.len() && second < other.heard.len();
+    Ok(is_heard && answers == [Some(Answered::Replied), Some(Answered::Replied), None])
+}
+
 #[test]
 fn answers_one_message_of_each_client_a_turn(rt: HostRuntime) -> Result<(), Fail> {
     let keys = [FIRST, SECOND];
     let to_first = Firms::with(rt.alloc(), &keys)?.serve(OF_FIRST.as_bytes());
     let mut firms = Firms::with(rt.alloc(), &keys)?;
-    let mut one = Talker::new(&rt, OF_FIRST.as_bytes());
-    let mut other = Talker::new(&rt, OF_SECOND.as_bytes());
+    let mut one = Talker::new(rt.alloc(), OF_FIRST.as_bytes());
+    let mut other = Talker::new(rt.alloc(), OF_SECOND.as_bytes());
     one.send(4096)?;
     other.send(4096)?;
     for _ in 0..3 {
-        let (first, second) = (one.heard.len(), other.heard.len());
-        assert!(rt; firms.answer(&mut one.client) == Some(Answered::Replied));
-        assert!(rt; firms.answer(&mut other.client) == Some(Answered::Replied));
-        assert!(rt; firms.answer(&mut one.client) == None);
-        one.hear(4096)?;
-        other.hear(4096)?;
-        assert!(rt; first < one.heard.len() && second < other.heard.len());
+        assert!(rt; have_a_turn(&mut firms, &mut one, &mut other)?);
     }
-    assert!(rt; one.heard.as_slice() == to_first.as_slice());
-    assert!(rt; other.heard.as_slice() == TO_SECOND.as_bytes());
-    assert!(rt; firms.answer(&mut one.client) == Some(Answered::Over));
+    let are_heard = one.heard == to_first && other.heard.as_slice() == TO_SECOND.as_bytes();
+    assert!(rt; are_heard && firms.answer(&mut one.client) == Some(Answered::Over));
     assert!(rt; firms.answer(&mut other.client) == None);
     Ok(())
+}
+
+// What is answered behind so many bytes more that are taken.
+fn answer_behind(
+    firms: &mut Firms,
+    talker: &mut Talker,
+    most: usize,
+) -> Result<Option<Answered>, AllocError> {
+    talker.hear(most)?;
+    Ok(firms.answer(&mut talker.client))
+}
+
+// What is answered before anything is sent, then, where a byte of the reply is not taken yet, and
+// behind each reply.
+fn answers_of_one(
+    firms: &mut Firms,
+    talker: &mut Talker,
+) -> Result<[Option<Answered>; 6], AllocError> {
+    let before = firms.answer(&mut talker.client);
+    talker.send(4096)?;
+    let first = firms.answer(&mut talker.client);
+    let size = talker.client.unsent().len();
+    Ok([
+        before,
+        first,
+        answer_behind(firms, talker, size - size.min(1))?,
+        answer_behind(firms, talker, 1)?,
+        answer_behind(firms, talker, 4096)?,
+        answer_behind(firms, talker, 4096)?,
+    ])
 }
 
 #[test]
 fn answers_nothing_before_the_reply_is_written(rt: HostRuntime) -> Result<(), Fail> {
     let mut firms = Firms::with(rt.alloc(), &[FIRST])?;
-    let mut talker = Talker::new(&rt, OF_FIRST.as_bytes());
-    assert!(rt; firms.answer(&mut talker.client) == Some(Answered::Wanting));
-    talker.send(4096)?;
-    assert!(rt; firms.answer(&mut talker.client) == Some(Answered::Replied));
-    let size = talker.client.unsent().len();
-    talker.hear(size - size.min(1))?;
-    assert!(rt; firms.answer(&mut talker.client) == None);
-    talker.hear(1)?;
-    assert!(rt; firms.answer(&mut talker.client) == Some(Answered::Replied));
-    talker.hear(4096)?;
-    assert!(rt; firms.answer(&mut talker.client) == Some(Answered::Replied));
-    talker.hear(4096)?;
-    assert!(rt; firms.answer(&mut talker.client) == Some(Answered::Over));
+    let mut talker = Talker::new(rt.alloc(), OF_FIRST.as_bytes());
+    let answers = answers_of_one(&mut firms, &mut talker)?;
+    let replied = Some(Answered::Replied);
+    let (wanting, over) = (Some(Answered::Wanting), Some(Answered::Over));
+    assert!(rt; answers == [wanting, replied, None, replied, replied, over]);
     assert!(rt; talker.client.goes_on());
     Ok(())
+}
+
+// Whether a client whose body is announced is told where no memory is for it.
+fn gives_up(firms: &mut Firms, client: &mut Client) -> Result<bool, AllocError> {
+    let is_new = !client.is_announced() && client.reserve_due(9)? == 9;
+    client.receive(ANNOUNCED.as_bytes())?;
+    let is_wanting = firms.answer(client) == Some(Answered::Wanting);
+    let is_due = client.announced_length() == Some(132) && client.reserve_due(9)? == 5;
+    if client.may_answer() && client.is_announced() {
+        client.give_up();
+    }
+    let is_told = client.unsent() == UNAVAILABLE.as_bytes();
+    let is_over = !client.goes_on() && !client.may_answer();
+    Ok(is_new && is_wanting && is_due && is_told && is_over)
 }
 
 #[test]
 fn gives_up_where_memory_is_wanting(rt: HostRuntime) -> Result<(), Fail> {
     let mut firms = Firms::with(rt.alloc(), &[FIRST])?;
     let mut client = Client::new(rt.alloc());
-    assert!(rt; !client.is_announced() && client.reserve_due(9)? == 9);
-    client.receive(ANNOUNCED.as_bytes())?;
-    assert!(rt; firms.answer(&mut client) == Some(Answered::Wanting));
-    assert!(rt; client.announced_length() == Some(132) && client.reserve_due(9)? == 5);
-    if client.may_answer() && client.is_announced() {
-        client.give_up();
-    }
-    assert!(rt; client.unsent() == UNAVAILABLE.as_bytes());
-    assert!(rt; !client.goes_on() && !client.may_answer());
+    assert!(rt; gives_up(&mut firms, &mut client)?);
     Ok(())
 }
 
 /// More than a message or a part has.
 const ALL: usize = 1_000_000;
 
-// Has so many messages answered, of which each reply is whole.
-fn hears_replies(
-    rt: &impl Abort,
-    firms: &mut Firms,
-    talker: &mut Talker,
-    many: u32,
-) -> Result<(), AllocError> {
-    for _ in 0..many {
-        assert!(rt; firms.answer(&mut talker.client) == Some(Answered::Replied));
-        assert!(rt; talker.client.rest() == None && !talker.client.is_written());
-        talker.hear(ALL)?;
-        assert!(rt; talker.client.is_written() && talker.client.may_answer());
-    }
-    Ok(())
+// Whether the next message is answered by a whole reply, which is heard.
+fn hears_a_reply(firms: &mut Firms, talker: &mut Talker) -> Result<bool, AllocError> {
+    let is_replied = firms.answer(&mut talker.client) == Some(Answered::Replied);
+    let is_whole = talker.client.rest() == None && !talker.client.is_written();
+    talker.hear(ALL)?;
+    let is_next = talker.client.is_written() && talker.client.may_answer();
+    Ok(is_replied && is_whole && is_next)
 }
 
-// Hears what is unsent of a statement, and has it go on by the part that is left.
-fn hears_a_part(rt: &impl Abort, firms: &mut Firms, talker: &mut Talker) -> Result<(), Fail> {
-    assert!(rt; !talker.client.unsent().is_empty());
+// Hears what is unsent of a statement, and has it go on by the part that is left. Whether no message
+// may be answered meanwhile.
+fn hears_a_part(firms: &mut Firms, talker: &mut Talker) -> Result<bool, Fail> {
+    let has_some = !talker.client.unsent().is_empty();
     talker.hear(ALL)?;
-    assert!(rt; talker.client.unsent().is_empty());
-    assert!(rt; !talker.client.is_written() && !talker.client.may_answer());
-    assert!(rt; firms.answer(&mut talker.client) == None);
+    let is_heard = talker.client.unsent().is_empty() && !talker.client.is_written();
+    let waits = !talker.client.may_answer() && firms.answer(&mut talker.client) == None;
     let rest = talker.client.rest().ok_or("nothing is left")?;
     let part = firms.part(&rest).map_err(|_| "no part")?;
     talker.client.put_part(part);
-    assert!(rt; !talker.client.is_written() && !talker.client.may_answer());
-    Ok(())
+    let waits_on = !talker.client.is_written() && !talker.client.may_answer();
+    Ok(has_some && is_heard && waits && waits_on)
 }
 
-// A client hears a statement in so many parts, between which another one has its messages answered.
-fn hears_a_statement<R: Abort + AllocGlobal>(rt: &R, entries: u32, parts: u32) -> Result<(), Fail> {
-    let sends = with_statement(rt.alloc(), entries)?;
-    let more = transfers(rt.alloc(), 2001, 2101)?;
-    let want = Firms::with(rt.alloc(), &[FIRST])?.serve(sends.as_bytes());
-    let mut firms = Firms::with(rt.alloc(), &[FIRST])?;
-    let mut talker = Talker::new(rt, sends.as_bytes());
+// Whether another client has a message answered.
+fn another_is_answered(alloc: Global, firms: &mut Firms) -> Result<bool, Fail> {
+    let more = transfers(alloc, 2001, 2101)?;
+    let mut other = Talker::new(alloc, more.as_bytes());
+    other.send(ALL)?;
+    Ok(hears_a_reply(firms, &mut other)?)
+}
+
+// Whether a client hears what it wants in so many parts, between which another one has its messages
+// answered.
+fn hears_all(
+    alloc: Global,
+    firms: &mut Firms,
+    talker: &mut Talker,
+    parts: u32,
+    want: &[u8],
+) -> Result<bool, Fail> {
     talker.send(ALL)?;
-    hears_replies(rt, &mut firms, &mut talker, 2)?;
-    assert!(rt; firms.answer(&mut talker.client) == Some(Answered::Replied));
+    let mut is_right = hears_a_reply(firms, talker)? && hears_a_reply(firms, talker)?;
+    is_right = is_right && firms.answer(&mut talker.client) == Some(Answered::Replied);
     for _ in 1..parts {
-        hears_a_part(rt, &mut firms, &mut talker)?;
-        let mut other = Talker::new(rt, more.as_bytes());
-        other.send(ALL)?;
-        hears_replies(rt, &mut firms, &mut other, 1)?;
+        let is_heard = hears_a_part(firms, talker)? && another_is_answered(alloc, firms)?;
+        is_right = is_right && is_heard;
     }
-    assert!(rt; talker.client.rest() == None);
+    let is_last = talker.client.rest() == None;
     talker.hear(ALL)?;
-    assert!(rt; want.starts_with(&talker.heard) && talker.heard.ends_with(b"\r\n0\r\n\r\n"));
-    hears_replies(rt, &mut firms, &mut talker, 1)?;
-    Ok(())
+    let is_whole = want.starts_with(&talker.heard) && talker.heard.ends_with(b"\r\n0\r\n\r\n");
+    Ok(is_right && is_last && is_whole && hears_a_reply(firms, talker)?)
+}
+
+// Whether a client hears a statement of so many entries in so many parts.
+fn hears_a_statement(alloc: Global, entries: u32, parts: u32) -> Result<bool, Fail> {
+    let sends = with_statement(alloc, entries)?;
+    let want = Firms::with(alloc, &[FIRST])?.serve(sends.as_bytes());
+    let mut firms = Firms::with(alloc, &[FIRST])?;
+    let mut talker = Talker::new(alloc, sends.as_bytes());
+    hears_all(alloc, &mut firms, &mut talker, parts, &want)
 }
 
 #[test]
 fn answers_nothing_before_the_last_part_is_written(rt: HostRuntime) -> Result<(), Fail> {
     for (entries, parts) in [(499, 1), (500, 2), (1000, 3)] {
-        hears_a_statement(&rt, entries, parts)?;
+        assert!(rt;
+            hears_a_statement(rt.alloc(), entries, parts)?,
+            "{entries} entries"
+        );
     }
     Ok(())
 }

@@ -108,6 +108,11 @@ Options:
 A store that is being served is in use: take a copy, and check that.
 ";
 
+// Whether a fault is printed as this text.
+fn is_printed_as(rt: &HostRuntime, fault: &LineFault, text: &str) -> Result<bool, Fail> {
+    Ok(format!(in rt.alloc(); "{fault}")?.as_str() == text)
+}
+
 #[test]
 fn prints_faults(rt: HostRuntime) -> Result<(), Fail> {
     let helps = [
@@ -120,14 +125,9 @@ fn prints_faults(rt: HostRuntime) -> Result<(), Fail> {
     ];
     for (line, help) in helps {
         let fault = LineFault::Refused(refused(&rt, line)?);
-        assert_eq!(rt; format!(in rt.alloc(); "{fault}")?.as_str(), help);
+        assert!(rt; is_printed_as(&rt, &fault, help)?, "of {line}");
     }
-    let version = LineFault::Version;
-    assert_eq!(rt;
-        format!(in rt.alloc(); "{version}")?.as_str(),
-        version_text()
-    );
-    let memory = LineFault::Memory;
-    assert_eq!(rt; format!(in rt.alloc(); "{memory}")?.as_str(), "unavailable");
+    assert!(rt; is_printed_as(&rt, &LineFault::Version, version_text())?);
+    assert!(rt; is_printed_as(&rt, &LineFault::Memory, "unavailable")?);
     Ok(())
 }

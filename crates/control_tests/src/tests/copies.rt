@@ -1,17 +1,13 @@
 //! Copies, which take long.
-use super::scene::{at, calls, hears, is_told, sends};
+use super::steps::Step::{Answers, AnswersCopy, Calls, Hears, IsBusy, Orders, Sends, Tells};
+use super::steps::{Step, play};
 use command_texts::Fault;
-use control::{Call, Desk, Order, copied_body, copied_in};
+use control::{Call, copied_body, copied_in};
 use std::test::Fail;
 
 const COPIES: Call<'static> = Call::Copy {
     to: "/backup/ledger.db",
 };
-
-// Whether an order is that copy.
-fn is_the_copy(order: Option<Order>) -> bool {
-    matches!(order, Some(Order::Copy { to }) if to.as_str() == "/backup/ledger.db")
-}
 
 const MESSAGE: &str = "POST /control/copy HTTP/1.1\r\nHost: x\r\nContent-Length: 28\r\n\r\n\
     {\"to\" : \"/backup/ledger.db\"}";
@@ -20,62 +16,64 @@ const COPIED: &str = "HTTP/1.1 200 OK\r\ncontent-length: 18\r\n\
     content-type: application/json\r\nconnection: close\r\n\r\n{\"copied\":\"81920\"}";
 
 // Others are answered while somebody waits for a copy, however long that takes.
+const MEANWHILE: [Step; 15] = [
+    Sends(MESSAGE),
+    Orders(1, Some(COPIES)),
+    Orders(1, None),
+    IsBusy(false),
+    Calls(Call::Status),
+    Orders(1_000, Some(Call::Status)),
+    Answers(1_000, Ok("{}")),
+    Tells(1, Ok("{}")),
+    Orders(3_000, None),
+    AnswersCopy(3_000, Ok("{\"copied\":\"81920\"}")),
+    Hears(0, COPIED),
+    Calls(COPIES),
+    Orders(3_001, Some(COPIES)),
+    AnswersCopy(3_001, Err(Fault::Exists)),
+    Tells(2, Err(Fault::Exists)),
+];
+
 #[test]
 fn answers_a_copy_once_it_is_made(rt: HostRuntime) -> Result<(), Fail> {
-    let path = "copy.control";
-    let mut desk = Desk::open(&rt, path)?;
-    let mut caller = sends(&rt, path, MESSAGE.as_bytes())?;
-    assert!(rt; is_the_copy(desk.next(at(1))));
-    assert_eq!(rt; desk.next(at(1)), None);
-    assert!(rt; !desk.is_busy());
-    let mut other = calls(&rt, path, &Call::Status)?;
-    assert_eq!(rt; desk.next(at(1_000)), Some(Order::Status));
-    desk.answer(at(1_000), Ok(b"{}"));
-    assert!(rt; is_told(&rt, &mut other, Ok("{}"))?);
-    assert_eq!(rt; desk.next(at(3_000)), None);
-    let body = copied_body(rt.alloc(), 81_920)?;
-    desk.answer_copy(at(3_000), Ok(body.as_slice()));
-    assert_eq!(rt; hears(&rt, &mut caller)?.as_slice(), COPIED.as_bytes());
-    let mut next = calls(&rt, path, &COPIES)?;
-    assert!(rt; is_the_copy(desk.next(at(3_001))));
-    desk.answer_copy(at(3_001), Err(Fault::Exists));
-    assert!(rt; is_told(&rt, &mut next, Err(Fault::Exists))?);
-    desk.close(&rt);
-    Ok(())
+    play(&rt, "copy.control", &MEANWHILE, &[])
 }
 
 // There is one copy at a time. Who asks for another is refused, and who asks behind them is heard.
+const A_SECOND: [Step; 10] = [
+    Calls(COPIES),
+    Calls(COPIES),
+    Calls(Call::Tenants),
+    Orders(1, Some(COPIES)),
+    Orders(1, Some(Call::Tenants)),
+    Answers(1, Ok("{}")),
+    Tells(1, Err(Fault::Unavailable)),
+    Tells(2, Ok("{}")),
+    AnswersCopy(2, Ok("{\"copied\":\"1\"}")),
+    Tells(0, Ok("{\"copied\":\"1\"}")),
+];
+
 #[test]
 fn refuses_a_second_copy(rt: HostRuntime) -> Result<(), Fail> {
-    let path = "second.control";
-    let mut desk = Desk::open(&rt, path)?;
-    let mut first = calls(&rt, path, &COPIES)?;
-    let mut second = calls(&rt, path, &COPIES)?;
-    let mut third = calls(&rt, path, &Call::Tenants)?;
-    assert!(rt; is_the_copy(desk.next(at(1))));
-    assert_eq!(rt; desk.next(at(1)), Some(Order::Tenants));
-    desk.answer(at(1), Ok(b"{}"));
-    assert!(rt; is_told(&rt, &mut second, Err(Fault::Unavailable))?);
-    assert!(rt; is_told(&rt, &mut third, Ok("{}"))?);
-    desk.answer_copy(at(2), Ok(b"{\"copied\":\"1\"}"));
-    assert!(rt; is_told(&rt, &mut first, Ok("{\"copied\":\"1\"}"))?);
-    desk.close(&rt);
-    Ok(())
+    play(&rt, "second.control", &A_SECOND, &[])
 }
 
 // At the end a copy that is not made is refused.
+const UNMADE: [Step; 4] = [
+    Calls(COPIES),
+    Calls(Call::Stop),
+    Orders(1, Some(COPIES)),
+    Orders(1, Some(Call::Stop)),
+];
+
+const AT_THE_END: [Step; 2] = [
+    Tells(0, Err(Fault::Unavailable)),
+    Tells(1, Ok("{\"stopped\":true}")),
+];
+
 #[test]
 fn refuses_a_copy_at_the_end(rt: HostRuntime) -> Result<(), Fail> {
-    let path = "cut.control";
-    let mut desk = Desk::open(&rt, path)?;
-    let mut caller = calls(&rt, path, &COPIES)?;
-    let mut other = calls(&rt, path, &Call::Stop)?;
-    assert!(rt; is_the_copy(desk.next(at(1))));
-    assert_eq!(rt; desk.next(at(1)), Some(Order::Stop));
-    desk.close(&rt);
-    assert!(rt; is_told(&rt, &mut caller, Err(Fault::Unavailable))?);
-    assert!(rt; is_told(&rt, &mut other, Ok("{\"stopped\":true}"))?);
-    Ok(())
+    play(&rt, "cut.control", &UNMADE, &AT_THE_END)
 }
 
 // What a body tells of a copy.

@@ -1,57 +1,83 @@
 //! How a desk begins and ends.
-use super::scene::{at, calls, hears, is_told, reads_as, sends};
+use super::scene::reads_as;
+use super::steps::Step::{Answers, Calls, Hears, Orders, Sends, Tells};
+use super::steps::{Step, play};
 use command_texts::Fault;
-use control::{Call, Desk, Order, call};
+use control::{Call, Desk, call};
 use std::fs;
 use std::os::unix::fs::PermissionsExt;
 use std::test::Fail;
 
-// Who asks for the end is told of it once it has come, who comes last too; what else is asked then is
-// refused. Then nobody is there any more.
+// Whether nobody listens at a path.
+fn is_nobody_there(rt: &HostRuntime, path: &str) -> bool {
+    matches!(call(rt, rt.alloc(), path, &Call::Status), Ok(None))
+}
+
+// Its socket is its owner's alone, and goes with it.
 #[test]
-fn tells_the_end(rt: HostRuntime) -> Result<(), Fail> {
-    let path = "end.control";
-    let mut desk = Desk::open(&rt, path)?;
-    assert_eq!(rt;
-        fs::metadata(&rt, path)?.permissions().mode() & 0o777,
-        0o600
-    );
-    let mut first = calls(&rt, path, &Call::Stop)?;
-    let mut half = sends(&rt, path, b"GET")?;
-    let mut second = calls(&rt, path, &Call::Stop)?;
-    assert_eq!(rt; desk.next(at(1)), Some(Order::Stop));
-    assert_eq!(rt; desk.next(at(2)), Some(Order::Stop));
-    assert_eq!(rt; desk.next(at(100)), None);
-    desk.answer(at(100), Ok(b"{}"));
-    let mut third = calls(&rt, path, &Call::Stop)?;
-    let mut other = calls(&rt, path, &Call::Status)?;
+fn removes_its_socket(rt: HostRuntime) -> Result<(), Fail> {
+    let path = "mode.control";
+    let desk = Desk::open(&rt, path)?;
+    let mode = fs::metadata(&rt, path)?.permissions().mode();
     desk.close(&rt);
-    assert!(rt; is_told(&rt, &mut first, Ok("{\"stopped\":true}"))?);
-    assert!(rt; is_told(&rt, &mut second, Ok("{\"stopped\":true}"))?);
-    assert!(rt; is_told(&rt, &mut third, Ok("{\"stopped\":true}"))?);
-    assert!(rt; is_told(&rt, &mut other, Err(Fault::Unavailable))?);
-    assert!(rt; hears(&rt, &mut half)?.is_empty());
-    assert!(rt; matches!(call(&rt, rt.alloc(), path, &Call::Status), Ok(None)));
-    assert!(rt; fs::metadata(&rt, path).is_err());
+    assert_eq!(rt; mode & 0o777, 0o600);
+    assert!(rt; is_nobody_there(&rt, path) && fs::metadata(&rt, path).is_err());
     Ok(())
 }
 
-// A socket that was left is taken over, and no other file. A desk removes no socket but its own.
+// Who asks for the end is told of it once it has come, who comes last too; what else is asked then is
+// refused, and who has not sent all of a message is let go. Then nobody is there any more.
+const STOPS: [Step; 9] = [
+    Calls(Call::Stop),
+    Sends("GET"),
+    Calls(Call::Stop),
+    Orders(1, Some(Call::Stop)),
+    Orders(2, Some(Call::Stop)),
+    Orders(100, None),
+    Answers(100, Ok("{}")),
+    Calls(Call::Stop),
+    Calls(Call::Status),
+];
+
+const AT_THE_END: [Step; 5] = [
+    Tells(0, Ok("{\"stopped\":true}")),
+    Tells(2, Ok("{\"stopped\":true}")),
+    Tells(3, Ok("{\"stopped\":true}")),
+    Tells(4, Err(Fault::Unavailable)),
+    Hears(1, ""),
+];
+
+#[test]
+fn tells_the_end(rt: HostRuntime) -> Result<(), Fail> {
+    let path = "end.control";
+    play(&rt, path, &STOPS, &AT_THE_END)?;
+    assert!(rt; is_nobody_there(&rt, path) && fs::metadata(&rt, path).is_err());
+    Ok(())
+}
+
+// A socket that was left is taken over. A desk removes no socket but its own.
 #[test]
 fn takes_over_what_was_left(rt: HostRuntime) -> Result<(), Fail> {
     let path = "left.control";
     let before = Desk::open(&rt, path)?;
     let desk = Desk::open(&rt, path)?;
     before.close(&rt);
-    assert!(rt; fs::metadata(&rt, path).is_ok());
+    let is_left = fs::metadata(&rt, path).is_ok();
     drop(desk);
-    assert!(rt; matches!(call(&rt, rt.alloc(), path, &Call::Status), Ok(None)));
+    assert!(rt; is_left && is_nobody_there(&rt, path));
     Desk::open(&rt, path)?.close(&rt);
+    Ok(())
+}
+
+// A file that is no socket is left alone.
+#[test]
+fn takes_over_no_other_file(rt: HostRuntime) -> Result<(), Fail> {
+    let path = "kept.control";
     fs::write(&rt, path, b"kept")?;
-    assert!(rt; Desk::open(&rt, path).is_err());
-    assert!(rt; matches!(call(&rt, rt.alloc(), path, &Call::Status), Ok(None)));
-    assert_eq!(rt; fs::read(&rt, path)?.as_slice(), b"kept".as_slice());
+    let is_refused = Desk::open(&rt, path).is_err() && is_nobody_there(&rt, path);
+    let kept = fs::read(&rt, path)?;
     fs::remove_file(&rt, path)?;
+    assert!(rt; is_refused && kept.as_slice() == b"kept".as_slice());
     Ok(())
 }
 
@@ -82,6 +108,6 @@ const TOLD: [(&str, Result<&str, Fault>); 8] = [
 #[test]
 fn reads_replies(rt: HostRuntime) {
     for (reply, want) in TOLD {
-        assert!(rt; reads_as(&rt, reply.as_bytes(), want), "of {reply}");
+        assert!(rt; reads_as(&rt, reply.as_bytes(), &want), "of {reply}");
     }
 }

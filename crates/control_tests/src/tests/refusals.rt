@@ -1,8 +1,8 @@
 //! What is refused.
-use super::scene::{at, hears, sends};
+use super::scene::is_refused;
+use super::steps::Step::{Begins, Hears, IsBusy, Orders, Sends, SendsMany, Shuts};
+use super::steps::{Step, play};
 use control::Desk;
-use std::io::Write;
-use std::os::unix::net::UnixStream;
 use std::test::Fail;
 
 // Messages, the status of the reply, and the word in it.
@@ -97,63 +97,54 @@ fn refuses_what_is_no_call(rt: HostRuntime) -> Result<(), Fail> {
     let path = "refused.control";
     let mut desk = Desk::open(&rt, path)?;
     for (message, status, word) in REFUSED {
-        let mut caller = sends(&rt, path, message.as_bytes())?;
-        assert_eq!(rt; desk.next(at(1)), None, "of {message}");
-        let size = word.len().saturating_add(12);
-        let want = format!(in rt.alloc();
-            "HTTP/1.1 {status}\r\ncontent-length: {size}\r\ncontent-type: application/json\r\nconnection: close\r\n\r\n{{\"error\":\"{word}\"}}"
-        )?;
-        assert_eq!(rt;
-            hears(&rt, &mut caller)?.as_slice(),
-            want.as_bytes(),
-            "of {message}"
-        );
+        if !is_refused(&rt, path, &mut desk, message, status, word)? || desk.is_busy() {
+            return Err(Fail::new(format_args!("of {message}")));
+        }
     }
-    assert!(rt; !desk.is_busy());
     desk.close(&rt);
     Ok(())
 }
+
+const WITHOUT_END: &str = "GET /control/status HTTP/1.1\r\nx: ";
+
+const LONG_BODY: &str = "POST /control/keys HTTP/1.1\r\ncontent-length: 20000\r\n\r\n";
 
 // A message that is longer than sixteen kilobytes, with no end of its head or of its body.
+const LONG: [Step; 14] = [
+    Sends(WITHOUT_END),
+    Orders(1, None),
+    IsBusy(true),
+    SendsMany(0, 17_000),
+    Orders(1, None),
+    IsBusy(false),
+    Begins(0, "HTTP/1.1 400 "),
+    Sends(LONG_BODY),
+    Orders(1, None),
+    IsBusy(true),
+    SendsMany(1, 17_000),
+    Orders(1, None),
+    IsBusy(false),
+    Begins(1, "HTTP/1.1 400 "),
+];
+
 #[test]
 fn refuses_long_messages(rt: HostRuntime) -> Result<(), Fail> {
-    let path = "long.control";
-    let mut desk = Desk::open(&rt, path)?;
-    let beginnings = [
-        "GET /control/status HTTP/1.1\r\nx: ",
-        "POST /control/keys HTTP/1.1\r\ncontent-length: 20000\r\n\r\n",
-    ];
-    for beginning in beginnings {
-        let mut caller = sends(&rt, path, beginning.as_bytes())?;
-        assert_eq!(rt; desk.next(at(1)), None);
-        assert!(rt; desk.is_busy());
-        caller.write_all([b'1'; 17_000].as_slice())?;
-        assert_eq!(rt; desk.next(at(1)), None);
-        assert!(rt; !desk.is_busy());
-        assert!(rt; begins_as(&rt, &mut caller, b"HTTP/1.1 400 ")?);
-    }
-    desk.close(&rt);
-    Ok(())
-}
-
-// Whether what somebody is told begins so.
-fn begins_as(rt: &HostRuntime, caller: &mut UnixStream, front: &[u8]) -> Result<bool, Fail> {
-    Ok(hears(rt, caller)?.as_slice().starts_with(front))
+    play(&rt, "long.control", &LONG, &[])
 }
 
 // Who ends in the middle of a message is told so, and who ends before it is let go.
+const CUT: [Step; 8] = [
+    Sends("GET /control/st"),
+    Shuts(0),
+    Sends(""),
+    Shuts(1),
+    Orders(1, None),
+    IsBusy(false),
+    Begins(0, "HTTP/1.1 400 "),
+    Hears(1, ""),
+];
+
 #[test]
 fn tells_who_ends_in_the_middle(rt: HostRuntime) -> Result<(), Fail> {
-    let path = "middle.control";
-    let mut desk = Desk::open(&rt, path)?;
-    let mut cut = sends(&rt, path, b"GET /control/st")?;
-    cut.shutdown(std::net::Shutdown::Write)?;
-    let mut none = sends(&rt, path, b"")?;
-    none.shutdown(std::net::Shutdown::Write)?;
-    assert_eq!(rt; desk.next(at(1)), None);
-    assert!(rt; !desk.is_busy());
-    assert!(rt; begins_as(&rt, &mut cut, b"HTTP/1.1 400 ")?);
-    assert!(rt; hears(&rt, &mut none)?.is_empty());
-    desk.close(&rt);
-    Ok(())
+    play(&rt, "middle.control", &CUT, &[])
 }

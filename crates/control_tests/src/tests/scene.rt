@@ -1,6 +1,6 @@
 //! Those who call.
 use command_texts::Fault;
-use control::{Call, message, told};
+use control::{Call, Desk, message, told};
 use std::io::{Read, Write};
 use std::os::unix::net::UnixStream;
 use std::test::Fail;
@@ -35,16 +35,35 @@ pub(super) fn hears(rt: &HostRuntime, stream: &mut UnixStream) -> Result<Vec<u8>
 pub(super) fn is_told(
     rt: &HostRuntime,
     stream: &mut UnixStream,
-    want: Result<&str, Fault>,
+    want: &Result<&str, Fault>,
 ) -> Result<bool, Fail> {
     let heard = hears(rt, stream)?;
     Ok(reads_as(rt, heard.as_slice(), want))
 }
 
 /// Whether a reply tells this.
-pub(super) fn reads_as(rt: &HostRuntime, reply: &[u8], want: Result<&str, Fault>) -> bool {
-    match told(rt.alloc(), reply) {
-        Ok(body) => want.is_ok_and(|text| body.as_slice() == text.as_bytes()),
-        Err(fault) => want == Err(fault),
+pub(super) fn reads_as(rt: &HostRuntime, reply: &[u8], want: &Result<&str, Fault>) -> bool {
+    match (told(rt.alloc(), reply), want) {
+        (Ok(body), Ok(text)) => body.as_slice() == text.as_bytes(),
+        (Err(fault), Err(other)) => fault == *other,
+        _ => false,
     }
+}
+
+/// Whether a message orders nothing and is refused with a status and a word.
+pub(super) fn is_refused(
+    rt: &HostRuntime,
+    path: &str,
+    desk: &mut Desk,
+    message: &str,
+    status: &str,
+    word: &str,
+) -> Result<bool, Fail> {
+    let mut caller = sends(rt, path, message.as_bytes())?;
+    let is_ordered = desk.next(at(1)).is_some();
+    let size = word.len().saturating_add(12);
+    let want = format!(in rt.alloc();
+        "HTTP/1.1 {status}\r\ncontent-length: {size}\r\ncontent-type: application/json\r\nconnection: close\r\n\r\n{{\"error\":\"{word}\"}}"
+    )?;
+    Ok(!is_ordered && hears(rt, &mut caller)?.as_slice() == want.as_bytes())
 }

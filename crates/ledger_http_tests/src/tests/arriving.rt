@@ -185,15 +185,12 @@ fn is_told(rt: &impl AllocGlobal, bytes: &[u8], refusal: Refusal) -> Result<bool
     Ok(first_of(rt, bytes, 1)? == expected && first_of(rt, bytes, 4096)? == expected)
 }
 
-// The first case that is not told as it has to be.
-fn wrong_case(rt: &impl AllocGlobal) -> Result<Option<u8>, AllocError> {
-    for case in 0..u8::MAX {
-        let Some((line, headers, body, refusal)) = refused(case) else {
-            break;
-        };
+// The first message that is not told as it has to be.
+fn wrong_message(rt: &impl AllocGlobal) -> Result<Option<String>, AllocError> {
+    for (line, headers, body, refusal) in refused() {
         let text = message(rt, line, headers, body)?;
-        if !is_told(rt, text.as_bytes(), refusal)? {
-            return Ok(Some(case));
+        if !is_told(rt, text.as_bytes(), *refusal)? {
+            return Ok(Some(text));
         }
     }
     Ok(None)
@@ -201,7 +198,7 @@ fn wrong_case(rt: &impl AllocGlobal) -> Result<Option<u8>, AllocError> {
 
 #[test]
 fn refuses_what_is_no_message(rt: HostRuntime) -> Result<(), AllocError> {
-    assert_eq!(rt; wrong_case(&rt)?, None);
+    assert_eq!(rt; wrong_message(&rt)?, None);
     Ok(())
 }
 

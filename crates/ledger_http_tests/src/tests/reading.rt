@@ -20,15 +20,12 @@ fn is_told(rt: &impl AllocGlobal, bytes: &[u8], refusal: Refusal) -> bool {
     true
 }
 
-// The first case that is not told as it has to be.
-fn wrong_message(rt: &impl AllocGlobal) -> Result<Option<u8>, AllocError> {
-    for case in 0..u8::MAX {
-        let Some((line, headers, body, refusal)) = refused(case) else {
-            break;
-        };
+// The first message that is not told as it has to be.
+fn wrong_message(rt: &impl AllocGlobal) -> Result<Option<String>, AllocError> {
+    for (line, headers, body, refusal) in refused() {
         let text = message(rt, line, headers, body)?;
-        if !is_told(rt, text.as_bytes(), refusal) {
-            return Ok(Some(case));
+        if !is_told(rt, text.as_bytes(), *refusal) {
+            return Ok(Some(text));
         }
     }
     Ok(None)

@@ -4,61 +4,58 @@ use records::Streamed;
 use std::alloc::AllocError;
 
 // Each refusal with its status line, the length of its body and its name.
-fn row(case: u8) -> Option<(Refusal, &'static str, u8, &'static str)> {
-    Some(match case {
-        0 => (Refusal::BadHead, "400 Bad Request", 20, "bad_head"),
-        1 => (
-            Refusal::HeadTooLarge,
-            "431 Request Header Fields Too Large",
-            26,
-            "head_too_large",
-        ),
-        2 => (
-            Refusal::LengthRequired,
-            "411 Length Required",
-            27,
-            "length_required",
-        ),
-        3 => (
-            Refusal::BodyTooLarge,
-            "413 Payload Too Large",
-            26,
-            "body_too_large",
-        ),
-        4 => (Refusal::Truncated, "400 Bad Request", 21, "truncated"),
-        5 => (Refusal::NoRoute, "404 Not Found", 20, "no_route"),
-        6 => (
-            Refusal::BadMethod,
-            "405 Method Not Allowed",
-            22,
-            "bad_method",
-        ),
-        7 => (Refusal::UnknownKey, "401 Unauthorized", 23, "unknown_key"),
-        8 => (Refusal::BodyNotJson, "400 Bad Request", 25, "body_not_json"),
-        9 => (Refusal::BadField, "400 Bad Request", 21, "bad_field"),
-        10 => (
-            Refusal::TooManyEvents,
-            "413 Payload Too Large",
-            27,
-            "too_many_events",
-        ),
-        11 => (Refusal::NoAccount, "404 Not Found", 22, "no_account"),
-        12 => (Refusal::NoHistory, "409 Conflict", 22, "no_history"),
-        13 => (
-            Refusal::ClockExhausted,
-            "503 Service Unavailable",
-            27,
-            "clock_exhausted",
-        ),
-        14 => (
-            Refusal::Unavailable,
-            "503 Service Unavailable",
-            23,
-            "unavailable",
-        ),
-        _ => return None,
-    })
-}
+const ROWS: [(Refusal, &str, u8, &str); 15] = [
+    (Refusal::BadHead, "400 Bad Request", 20, "bad_head"),
+    (
+        Refusal::HeadTooLarge,
+        "431 Request Header Fields Too Large",
+        26,
+        "head_too_large",
+    ),
+    (
+        Refusal::LengthRequired,
+        "411 Length Required",
+        27,
+        "length_required",
+    ),
+    (
+        Refusal::BodyTooLarge,
+        "413 Payload Too Large",
+        26,
+        "body_too_large",
+    ),
+    (Refusal::Truncated, "400 Bad Request", 21, "truncated"),
+    (Refusal::NoRoute, "404 Not Found", 20, "no_route"),
+    (
+        Refusal::BadMethod,
+        "405 Method Not Allowed",
+        22,
+        "bad_method",
+    ),
+    (Refusal::UnknownKey, "401 Unauthorized", 23, "unknown_key"),
+    (Refusal::BodyNotJson, "400 Bad Request", 25, "body_not_json"),
+    (Refusal::BadField, "400 Bad Request", 21, "bad_field"),
+    (
+        Refusal::TooManyEvents,
+        "413 Payload Too Large",
+        27,
+        "too_many_events",
+    ),
+    (Refusal::NoAccount, "404 Not Found", 22, "no_account"),
+    (Refusal::NoHistory, "409 Conflict", 22, "no_history"),
+    (
+        Refusal::ClockExhausted,
+        "503 Service Unavailable",
+        27,
+        "clock_exhausted",
+    ),
+    (
+        Refusal::Unavailable,
+        "503 Service Unavailable",
+        23,
+        "unavailable",
+    ),
+];
 
 fn refusal_text(
     rt: &impl AllocGlobal,
@@ -72,18 +69,21 @@ fn refusal_text(
     )
 }
 
-fn is_replied(rt: &impl AllocGlobal, case: u8) -> Result<bool, AllocError> {
-    let Some((refusal, status, length, name)) = row(case) else {
-        return Ok(false);
-    };
+fn is_replied(
+    rt: &impl AllocGlobal,
+    refusal: Refusal,
+    status: &str,
+    length: u8,
+    name: &str,
+) -> Result<bool, AllocError> {
     let want = refusal_text(rt, status, length, name)?;
     Ok(Reply::Fixed(refusal).bytes() == want.as_bytes() && refusal.name() == name)
 }
 
 #[test]
 fn has_constant_replies(rt: HostRuntime) -> Result<(), AllocError> {
-    for case in 0..15 {
-        assert!(rt; is_replied(&rt, case)?, "case {case}");
+    for (refusal, status, length, name) in ROWS {
+        assert!(rt; is_replied(&rt, refusal, status, length, name)?, "{name}");
     }
     assert_eq!(rt; Refusal::HeadTooLarge.status().as_u16(), 431);
     Ok(())

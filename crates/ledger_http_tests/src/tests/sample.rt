@@ -58,264 +58,267 @@ impl Write for Narrow {
 /// A request line without its version, the headers behind it, the body, and why they are refused.
 pub(crate) type Refused = (&'static str, &'static str, &'static str, Refusal);
 
-/// Each refusal, and where one message meets several, the one that comes first.
-pub(crate) fn refused(case: u8) -> Option<Refused> {
-    Some(match case {
-        // Heads that are not good, whatever else is wrong with them.
-        0 => ("GET /\u{7f}", "", "", Refusal::BadHead),
-        1 => ("POST / HTTP/1.0\r\na: b", "", "", Refusal::BadHead),
-        2 => (
-            "POST /nowhere",
-            "content-length: 2\r\nContent-Length: 2\r\n",
-            "ab",
-            Refusal::BadHead,
-        ),
-        3 => (
-            "POST /accounts",
-            "content-length: 05\r\n",
-            "12345",
-            Refusal::BadHead,
-        ),
-        4 => (
-            "POST /accounts",
-            "content-length: +2\r\n",
-            "ab",
-            Refusal::BadHead,
-        ),
-        5 => (
-            "POST /accounts",
-            "content-length: 2, 2\r\n",
-            "ab",
-            Refusal::BadHead,
-        ),
-        6 => (
-            "POST /accounts",
-            "content-length:\r\n",
-            "",
-            Refusal::BadHead,
-        ),
-        7 => (
-            "POST /accounts",
-            "content-length: ٢\r\n",
-            "ab",
-            Refusal::BadHead,
-        ),
-        8 => (
-            "POST /nowhere",
-            "transfer-encoding:\r\n",
-            "",
-            Refusal::BadHead,
-        ),
-        9 => (
-            "POST /nowhere",
-            "Transfer-Encoding: chunked\r\n",
-            "0\r\n\r\n",
-            Refusal::BadHead,
-        ),
-        10 => ("GET /accounts", "a : b\r\n", "", Refusal::BadHead),
-        11 => ("GET /accounts", "a: b\r\n c\r\n", "", Refusal::BadHead),
-        12 => ("GET /accounts", "a: \u{1}\r\n", "", Refusal::BadHead),
-        13 => ("GET /accounts HTTP/1.1\n\n", "", "", Refusal::BadHead),
-        // No length, or one that is too long.
-        14 => ("POST /nowhere", "", "", Refusal::LengthRequired),
-        15 => ("get /accounts", "", "", Refusal::LengthRequired),
-        16 => (
-            "POST /nowhere",
-            "content-length: 2097153\r\n",
-            "",
-            Refusal::BodyTooLarge,
-        ),
-        17 => (
-            "GET /nowhere",
-            "content-length: 2097153\r\n",
-            "",
-            Refusal::BodyTooLarge,
-        ),
-        18 => (
-            "POST /accounts",
-            "content-length: 18446744073709551618\r\n",
-            "ab",
-            Refusal::BodyTooLarge,
-        ),
-        19 => (
-            "POST /accounts",
-            "content-length: 999999999999999999999999999999\r\n",
-            "",
-            Refusal::BodyTooLarge,
-        ),
-        // Bodies that are cut short.
-        20 => (
-            "POST /nowhere",
-            "content-length: 2097152\r\n",
-            "ab",
-            Refusal::Truncated,
-        ),
-        21 => (
-            "GET /nowhere",
-            "content-length: 3\r\n",
-            "ab",
-            Refusal::Truncated,
-        ),
-        // Paths without a route, whatever the method and the key.
-        22 => ("GET /é", "", "", Refusal::NoRoute),
-        23 => ("GET /?", "", "", Refusal::NoRoute),
-        24 => (
-            "POST /accounts/",
-            "content-length: 0\r\n",
-            "",
-            Refusal::NoRoute,
-        ),
-        25 => (
-            "POST //accounts",
-            "content-length: 0\r\n",
-            "",
-            Refusal::NoRoute,
-        ),
-        26 => (
-            "POST /transfers/",
-            "content-length: 0\r\n",
-            "",
-            Refusal::NoRoute,
-        ),
-        27 => (
-            "POST /transfers?x=1",
-            "content-length: 0\r\n",
-            "",
-            Refusal::NoRoute,
-        ),
-        28 => ("GET /statement", "", "", Refusal::NoRoute),
-        29 => ("GET /statement/", "", "", Refusal::NoRoute),
-        30 => ("GET /statement/1/", "", "", Refusal::NoRoute),
-        31 => ("GET /statement/1/2", "", "", Refusal::NoRoute),
-        // The method of another route, whatever the key.
-        32 => ("GET /accounts", "", "", Refusal::BadMethod),
-        33 => (
-            "get /accounts",
-            "content-length: 0\r\n",
-            "",
-            Refusal::BadMethod,
-        ),
-        34 => (
-            "HEAD /statement/1",
-            "content-length: 0\r\n",
-            "",
-            Refusal::BadMethod,
-        ),
-        35 => (
-            "POST /statement/01",
-            "content-length: 0\r\n",
-            "",
-            Refusal::BadMethod,
-        ),
-        // Keys that are missing, doubled or ill-formed, whatever the body.
-        36 => (
-            "POST /accounts",
-            "content-length: 1\r\n",
-            "[",
-            Refusal::UnknownKey,
-        ),
-        37 => ("GET /statement/01", "", "", Refusal::UnknownKey),
-        38 => (
-            "GET /statement/1",
-            "x-ledger-key: 000000000000000000000000000000000000000000000000000000000000000\r\n",
-            "",
-            Refusal::UnknownKey,
-        ),
-        39 => (
-            "GET /statement/1",
-            "x-ledger-key: 000000000000000000000000000000000000000000000000000000000000000g\r\n",
-            "",
-            Refusal::UnknownKey,
-        ),
-        40 => (
-            "GET /statement/1",
-            "x-ledger-key: é00000000000000000000000000000000000000000000000000000000000000\r\n",
-            "",
-            Refusal::UnknownKey,
-        ),
-        41 => (
-            "GET /statement/1",
-            "x-ledger-key:\r\n",
-            "",
-            Refusal::UnknownKey,
-        ),
-        42 => (
-            "GET /statement/1",
-            "x-ledger-key: 0000000000000000000000000000000000000000000000000000000000000000\r\n\
-         X-Ledger-Key: 0000000000000000000000000000000000000000000000000000000000000000\r\n",
-            "",
-            Refusal::UnknownKey,
-        ),
-        43 => (
-            "GET /statement/1",
-            "X-LEDGER-KEY: 0000000000000000000000000000000000000000000000000000000000000000\r\n\
-         x-ledger-key: 1\r\n",
-            "",
-            Refusal::UnknownKey,
-        ),
-        // The page by any method but GET, whatever the key.
-        44 => ("POST /", "", "", Refusal::LengthRequired),
-        45 => ("POST /", "content-length: 0\r\n", "", Refusal::BadMethod),
-        46 => ("HEAD /", "content-length: 0\r\n", "", Refusal::BadMethod),
-        47 => (
-            "OPTIONS /",
-            "content-length: 0\r\nx-ledger-key: 1\r\n",
-            "",
-            Refusal::BadMethod,
-        ),
-        48 => ("get /", "content-length: 0\r\n", "", Refusal::BadMethod),
-        // What is near the path of the page.
-        49 => ("GET //", "", "", Refusal::NoRoute),
-        50 => ("GET /index.html", "", "", Refusal::NoRoute),
-        51 => ("GET http://127.0.0.1/", "", "", Refusal::NoRoute),
-        // What is near the paths of queries and holds, and those paths by another method.
-        52 => ("POST /query", "content-length: 0\r\n", "", Refusal::NoRoute),
-        53 => (
-            "POST /query/accounts/",
-            "content-length: 0\r\n",
-            "",
-            Refusal::NoRoute,
-        ),
-        54 => (
-            "POST /query/pending",
-            "content-length: 0\r\n",
-            "",
-            Refusal::NoRoute,
-        ),
-        55 => (
-            "POST /pending",
-            "content-length: 0\r\n",
-            "",
-            Refusal::NoRoute,
-        ),
-        56 => ("GET /query/accounts", "", "", Refusal::BadMethod),
-        57 => ("GET /query/transfers", "", "", Refusal::BadMethod),
-        58 => ("GET /pending/lookup", "", "", Refusal::BadMethod),
-        59 => (
-            "PUT /pending/open",
-            "content-length: 0\r\n",
-            "",
-            Refusal::BadMethod,
-        ),
-        // Health by another method, and what is near its path.
-        60 => ("POST /health", "", "", Refusal::LengthRequired),
-        61 => (
-            "POST /health",
-            "content-length: 0\r\n",
-            "",
-            Refusal::BadMethod,
-        ),
-        62 => (
-            "HEAD /health",
-            "content-length: 0\r\nx-ledger-key: 1\r\n",
-            "",
-            Refusal::BadMethod,
-        ),
-        63 => ("GET /health/", "", "", Refusal::NoRoute),
-        64 => ("GET /health?x", "", "", Refusal::NoRoute),
-        65 => ("GET /Health", "", "", Refusal::NoRoute),
-        _ => return None,
-    })
+// Each refusal, and where one message meets several, the one that comes first.
+static REFUSED: [Refused; 66] = [
+    // Heads that are not good, whatever else is wrong with them.
+    ("GET /\u{7f}", "", "", Refusal::BadHead),
+    ("POST / HTTP/1.0\r\na: b", "", "", Refusal::BadHead),
+    (
+        "POST /nowhere",
+        "content-length: 2\r\nContent-Length: 2\r\n",
+        "ab",
+        Refusal::BadHead,
+    ),
+    (
+        "POST /accounts",
+        "content-length: 05\r\n",
+        "12345",
+        Refusal::BadHead,
+    ),
+    (
+        "POST /accounts",
+        "content-length: +2\r\n",
+        "ab",
+        Refusal::BadHead,
+    ),
+    (
+        "POST /accounts",
+        "content-length: 2, 2\r\n",
+        "ab",
+        Refusal::BadHead,
+    ),
+    (
+        "POST /accounts",
+        "content-length:\r\n",
+        "",
+        Refusal::BadHead,
+    ),
+    (
+        "POST /accounts",
+        "content-length: ٢\r\n",
+        "ab",
+        Refusal::BadHead,
+    ),
+    (
+        "POST /nowhere",
+        "transfer-encoding:\r\n",
+        "",
+        Refusal::BadHead,
+    ),
+    (
+        "POST /nowhere",
+        "Transfer-Encoding: chunked\r\n",
+        "0\r\n\r\n",
+        Refusal::BadHead,
+    ),
+    ("GET /accounts", "a : b\r\n", "", Refusal::BadHead),
+    ("GET /accounts", "a: b\r\n c\r\n", "", Refusal::BadHead),
+    ("GET /accounts", "a: \u{1}\r\n", "", Refusal::BadHead),
+    ("GET /accounts HTTP/1.1\n\n", "", "", Refusal::BadHead),
+    // No length, or one that is too long.
+    ("POST /nowhere", "", "", Refusal::LengthRequired),
+    ("get /accounts", "", "", Refusal::LengthRequired),
+    (
+        "POST /nowhere",
+        "content-length: 2097153\r\n",
+        "",
+        Refusal::BodyTooLarge,
+    ),
+    (
+        "GET /nowhere",
+        "content-length: 2097153\r\n",
+        "",
+        Refusal::BodyTooLarge,
+    ),
+    (
+        "POST /accounts",
+        "content-length: 18446744073709551618\r\n",
+        "ab",
+        Refusal::BodyTooLarge,
+    ),
+    (
+        "POST /accounts",
+        "content-length: 999999999999999999999999999999\r\n",
+        "",
+        Refusal::BodyTooLarge,
+    ),
+    // Bodies that are cut short.
+    (
+        "POST /nowhere",
+        "content-length: 2097152\r\n",
+        "ab",
+        Refusal::Truncated,
+    ),
+    (
+        "GET /nowhere",
+        "content-length: 3\r\n",
+        "ab",
+        Refusal::Truncated,
+    ),
+    // Paths without a route, whatever the method and the key.
+    ("GET /é", "", "", Refusal::NoRoute),
+    ("GET /?", "", "", Refusal::NoRoute),
+    (
+        "POST /accounts/",
+        "content-length: 0\r\n",
+        "",
+        Refusal::NoRoute,
+    ),
+    (
+        "POST //accounts",
+        "content-length: 0\r\n",
+        "",
+        Refusal::NoRoute,
+    ),
+    (
+        "POST /transfers/",
+        "content-length: 0\r\n",
+        "",
+        Refusal::NoRoute,
+    ),
+    (
+        "POST /transfers?x=1",
+        "content-length: 0\r\n",
+        "",
+        Refusal::NoRoute,
+    ),
+    ("GET /statement", "", "", Refusal::NoRoute),
+    ("GET /statement/", "", "", Refusal::NoRoute),
+    ("GET /statement/1/", "", "", Refusal::NoRoute),
+    ("GET /statement/1/2", "", "", Refusal::NoRoute),
+    // The method of another route, whatever the key.
+    ("GET /accounts", "", "", Refusal::BadMethod),
+    (
+        "get /accounts",
+        "content-length: 0\r\n",
+        "",
+        Refusal::BadMethod,
+    ),
+    (
+        "HEAD /statement/1",
+        "content-length: 0\r\n",
+        "",
+        Refusal::BadMethod,
+    ),
+    (
+        "POST /statement/01",
+        "content-length: 0\r\n",
+        "",
+        Refusal::BadMethod,
+    ),
+    // Keys that are missing, doubled or ill-formed, whatever the body.
+    (
+        "POST /accounts",
+        "content-length: 1\r\n",
+        "[",
+        Refusal::UnknownKey,
+    ),
+    ("GET /statement/01", "", "", Refusal::UnknownKey),
+    (
+        "GET /statement/1",
+        "x-ledger-key: 000000000000000000000000000000000000000000000000000000000000000\r\n",
+        "",
+        Refusal::UnknownKey,
+    ),
+    (
+        "GET /statement/1",
+        "x-ledger-key: 000000000000000000000000000000000000000000000000000000000000000g\r\n",
+        "",
+        Refusal::UnknownKey,
+    ),
+    (
+        "GET /statement/1",
+        "x-ledger-key: é00000000000000000000000000000000000000000000000000000000000000\r\n",
+        "",
+        Refusal::UnknownKey,
+    ),
+    (
+        "GET /statement/1",
+        "x-ledger-key:\r\n",
+        "",
+        Refusal::UnknownKey,
+    ),
+    (
+        "GET /statement/1",
+        "x-ledger-key: 0000000000000000000000000000000000000000000000000000000000000000\r\n\
+     X-Ledger-Key: 0000000000000000000000000000000000000000000000000000000000000000\r\n",
+        "",
+        Refusal::UnknownKey,
+    ),
+    (
+        "GET /statement/1",
+        "X-LEDGER-KEY: 0000000000000000000000000000000000000000000000000000000000000000\r\n\
+     x-ledger-key: 1\r\n",
+        "",
+        Refusal::UnknownKey,
+    ),
+    // The page by any method but GET, whatever the key.
+    ("POST /", "", "", Refusal::LengthRequired),
+    ("POST /", "content-length: 0\r\n", "", Refusal::BadMethod),
+    ("HEAD /", "content-length: 0\r\n", "", Refusal::BadMethod),
+    (
+        "OPTIONS /",
+        "content-length: 0\r\nx-ledger-key: 1\r\n",
+        "",
+        Refusal::BadMethod,
+    ),
+    ("get /", "content-length: 0\r\n", "", Refusal::BadMethod),
+    // What is near the path of the page.
+    ("GET //", "", "", Refusal::NoRoute),
+    ("GET /index.html", "", "", Refusal::NoRoute),
+    ("GET http://127.0.0.1/", "", "", Refusal::NoRoute),
+    // What is near the paths of queries and holds, and those paths by another method.
+    ("POST /query", "content-length: 0\r\n", "", Refusal::NoRoute),
+    (
+        "POST /query/accounts/",
+        "content-length: 0\r\n",
+        "",
+        Refusal::NoRoute,
+    ),
+    (
+        "POST /query/pending",
+        "content-length: 0\r\n",
+        "",
+        Refusal::NoRoute,
+    ),
+    (
+        "POST /pending",
+        "content-length: 0\r\n",
+        "",
+        Refusal::NoRoute,
+    ),
+    ("GET /query/accounts", "", "", Refusal::BadMethod),
+    ("GET /query/transfers", "", "", Refusal::BadMethod),
+    ("GET /pending/lookup", "", "", Refusal::BadMethod),
+    (
+        "PUT /pending/open",
+        "content-length: 0\r\n",
+        "",
+        Refusal::BadMethod,
+    ),
+    // Health by another method, and what is near its path.
+    ("POST /health", "", "", Refusal::LengthRequired),
+    (
+        "POST /health",
+        "content-length: 0\r\n",
+        "",
+        Refusal::BadMethod,
+    ),
+    (
+        "HEAD /health",
+        "content-length: 0\r\nx-ledger-key: 1\r\n",
+        "",
+        Refusal::BadMethod,
+    ),
+    ("GET /health/", "", "", Refusal::NoRoute),
+    ("GET /health?x", "", "", Refusal::NoRoute),
+    ("GET /Health", "", "", Refusal::NoRoute),
+];
+
+/// Messages that are refused. The table is named here alone, as each function that names it takes long
+/// to prove.
+pub(crate) fn refused() -> &'static [Refused] {
+    &REFUSED
 }
 
 /// A message of these parts.

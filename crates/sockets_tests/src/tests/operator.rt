@@ -12,28 +12,55 @@ const LONG: u64 = 60_000;
 
 const SHORT: u64 = 200;
 
-// It rings each time that somebody comes to the listener, who is no client.
+// What is told and how often it has rung while somebody comes to a listener twice, who is no client:
+// where the client has come, where it is ready, behind each that comes, and where both were taken and
+// the client sends again. And what is read of it before.
+fn told_of_comers(
+    rt: &HostRuntime,
+    scene: &mut Scene<'_>,
+    notes: &Notes,
+) -> Result<([(Told, u64); 5], (usize, Read)), Fail> {
+    let mut listener = TcpListener::bind(rt, SocketAddr::from((Ipv4Addr::LOCALHOST, 0)))?;
+    scene.sockets.watcher()?.watch(&mut listener)?;
+    scene.connect(rt, 0)?;
+    let joined = (scene.told(0, 3), notes.rung());
+    let ready = (scene.told(1, 3), notes.rung());
+    let idle = scene.read_all(0);
+    let _first = TcpStream::connect(rt, listener.local_addr()?)?;
+    let one = (scene.told(1, 1), notes.rung());
+    let _second = TcpStream::connect(rt, listener.local_addr()?)?;
+    let two = (scene.told(1, 1), notes.rung());
+    let _taken = (listener.accept()?, listener.accept()?);
+    scene.send(rt, 0, 4)?;
+    let sent = (scene.told(1, 3), notes.rung());
+    Ok(([joined, ready, one, two, sent], idle))
+}
+
+// It rings each time that somebody comes to the listener.
+const RINGS: [(Told, u64); 5] = [
+    (Told::Joined, 0),
+    (Told::Ready(0), 0),
+    (Told::Nothing, 1),
+    (Told::Nothing, 2),
+    (Told::Ready(0), 2),
+];
+
 #[test]
 fn rings_where_somebody_comes_to_what_is_watched(rt: HostRuntime) -> Result<(), Fail> {
     let clock = Ticking::new(0);
     let notes = Notes::new();
     let mut scene = Scene::new(&rt, &clock, &notes, Allowed(9, 9, LONG, LONG, LONG))?;
-    let mut listener = TcpListener::bind(&rt, SocketAddr::from((Ipv4Addr::LOCALHOST, 0)))?;
-    scene.sockets.watcher()?.watch(&mut listener)?;
-    scene.connect(&rt, 0)?;
-    assert_eq!(rt; scene.told(0, 3), Told::Joined);
-    assert_eq!(rt; scene.told(1, 3), Told::Ready(0));
-    assert_eq!(rt; scene.read_all(0), (0, Read::Waits));
-    assert_eq!(rt; notes.rung(), 0);
-    let _first = TcpStream::connect(&rt, listener.local_addr()?)?;
-    assert_eq!(rt; (scene.told(1, 1), notes.rung()), (Told::Nothing, 1));
-    let _second = TcpStream::connect(&rt, listener.local_addr()?)?;
-    assert_eq!(rt; (scene.told(1, 1), notes.rung()), (Told::Nothing, 2));
-    assert!(rt; listener.accept().is_ok() && listener.accept().is_ok());
-    scene.send(&rt, 0, 4)?;
-    assert_eq!(rt; scene.told(1, 3), Told::Ready(0));
+    let (told, idle) = told_of_comers(&rt, &mut scene, &notes)?;
+    assert_eq!(rt; (told, idle), (RINGS, (0, Read::Waits)));
     assert_eq!(rt; (scene.read_all(0), notes.rung()), ((4, Read::Waits), 2));
     Ok(())
+}
+
+// What a hundred waits tell, and how long they take.
+fn waits(rt: &HostRuntime, scene: &mut Scene<'_>) -> Result<(Told, Duration), Fail> {
+    let begun = rt.monotonic()?;
+    let told = scene.told(0, 100);
+    Ok((told, rt.monotonic()?.saturating_sub(begun)))
 }
 
 // While a call is read a hundred waits take no hundred seconds.
@@ -43,10 +70,8 @@ fn waits_for_nobody_while_the_operator_calls(rt: HostRuntime) -> Result<(), Fail
     let notes = Notes::new();
     let mut scene = Scene::new(&rt, &clock, &notes, Allowed(9, 9, LONG, LONG, LONG))?;
     notes.begin_call();
-    let begun = rt.monotonic()?;
-    assert_eq!(rt; scene.told(0, 100), Told::Nothing);
-    let passed = rt.monotonic()?.saturating_sub(begun);
-    assert!(rt; passed < Duration::from_secs(20));
+    let (told, passed) = waits(&rt, &mut scene)?;
+    assert!(rt; told == Told::Nothing && passed < Duration::from_secs(20));
     Ok(())
 }
 
@@ -95,39 +120,88 @@ fn counts_who_makes_room(rt: HostRuntime) -> Result<(), Fail> {
     take_steps(&rt, 0, Allowed(1, 9, LONG, LONG, LONG), &steps)
 }
 
-// A turn lasts from when something is told until more is asked for. Each reply is told as it begins,
-// and none to who is gone.
+// What is told of one who is ready for 700 milliseconds, and the longest turn so far, before and
+// behind that.
+fn turn_of_one(
+    rt: &HostRuntime,
+    scene: &mut Scene<'_>,
+    clock: &Ticking,
+    notes: &Notes,
+) -> Result<[(Told, Duration); 3], Fail> {
+    scene.connect(rt, 0)?;
+    let joined = (scene.told(0, 3), notes.longest_turn());
+    clock.pass(700);
+    let ready = (scene.told(1, 3), notes.longest_turn());
+    clock.pass(300);
+    Ok([joined, ready, (scene.told(1, 1), notes.longest_turn())])
+}
+
+// A turn lasts from when something is told until more is asked for.
 #[test]
-fn notes_turns_and_replies(rt: HostRuntime) -> Result<(), Fail> {
+fn notes_the_longest_turn(rt: HostRuntime) -> Result<(), Fail> {
+    let clock = Ticking::new(0);
+    let notes = Notes::new();
+    let mut scene = Scene::new(&rt, &clock, &notes, Allowed(9, 9, LONG, LONG, LONG))?;
+    let told = turn_of_one(&rt, &mut scene, &clock, &notes)?;
+    let took = Duration::from_millis(700);
+    assert_eq!(rt;
+        told,
+        [
+            (Told::Joined, Duration::ZERO),
+            (Told::Ready(0), Duration::ZERO),
+            (Told::Nothing, took),
+        ]
+    );
+    Ok(())
+}
+
+// Each reply is told as it begins, and none to who is gone.
+#[test]
+fn notes_replies(rt: HostRuntime) -> Result<(), Fail> {
     let clock = Ticking::new(0);
     let notes = Notes::new();
     let mut scene = Scene::new(&rt, &clock, &notes, Allowed(9, 9, LONG, LONG, LONG))?;
     scene.connect(&rt, 0)?;
-    assert_eq!(rt; scene.told(0, 3), Told::Joined);
-    assert_eq!(rt; notes.longest_turn(), Duration::ZERO);
-    clock.pass(700);
-    assert_eq!(rt; scene.told(1, 3), Told::Ready(0));
-    clock.pass(300);
-    assert_eq!(rt; scene.told(1, 1), Told::Nothing);
-    assert_eq!(rt; notes.longest_turn(), Duration::from_millis(700));
-    assert_eq!(rt;
-        scene.sockets.write(0, b"HTTP/1.1 first"),
-        Written::Took(14)
-    );
-    assert_eq!(rt;
-        scene.sockets.write(0, b"HTTP/1.1 second"),
-        Written::Took(15)
-    );
+    let joined = scene.told(0, 3);
+    let first = scene.sockets.write(0, b"HTTP/1.1 first");
+    let second = scene.sockets.write(0, b"HTTP/1.1 second");
     scene.sockets.shared(2);
     scene.sockets.answered(Batch::Transfers, b"reply");
     scene.sockets.close(0);
-    assert_eq!(rt; scene.sockets.write(0, b"HTTP/1.1 third"), Written::Broken);
-    assert_eq!(rt; notes.answered(), (2, 2));
-    assert_eq!(rt; notes.batches(), (0, 1));
+    let third = scene.sockets.write(0, b"HTTP/1.1 third");
+    assert_eq!(rt;
+        (joined, first, second, third),
+        (
+            Told::Joined,
+            Written::Took(14),
+            Written::Took(15),
+            Written::Broken
+        )
+    );
+    assert_eq!(rt; (notes.answered(), notes.batches()), ((2, 2), (0, 1)));
     Ok(())
 }
 
 const IN_PARTS: &[u8] = b"HTTP/1.1 200 OK\r\ntransfer-encoding: chunked\r\n\r\n2\r\na\n\r\n";
+
+// What is written to client 0 of a reply in parts, and of the next one its first, and how many replies
+// were told behind each; whether all was taken.
+fn replies_told(scene: &mut Scene<'_>, notes: &Notes) -> ([u64; 5], bool) {
+    let parts: [&[u8]; 5] = [
+        IN_PARTS,
+        b"2\r\nb\n\r\n",
+        b"2\r\nc\n\r\n",
+        b"0\r\n\r\n",
+        IN_PARTS,
+    ];
+    let mut replies = [0; 5];
+    let mut are_taken = true;
+    for (told, part) in replies.iter_mut().zip(parts) {
+        are_taken = are_taken && scene.sockets.write(0, part) == Written::Took(part.len());
+        *told = notes.answered().0;
+    }
+    (replies, are_taken)
+}
 
 // The first part is the beginning of the reply. Those behind it begin with the size of a chunk, as the
 // last one does, and the next reply is told again.
@@ -137,20 +211,8 @@ fn notes_a_reply_in_parts_once(rt: HostRuntime) -> Result<(), Fail> {
     let notes = Notes::new();
     let mut scene = Scene::new(&rt, &clock, &notes, Allowed(9, 9, LONG, LONG, LONG))?;
     scene.connect(&rt, 0)?;
-    assert_eq!(rt; scene.told(0, 3), Told::Joined);
-    assert_eq!(rt;
-        scene.sockets.write(0, IN_PARTS),
-        Written::Took(IN_PARTS.len())
-    );
-    for part in [b"2\r\nb\n\r\n", b"2\r\nc\n\r\n"] {
-        assert_eq!(rt; scene.sockets.write(0, part), Written::Took(7));
-    }
-    assert_eq!(rt; scene.sockets.write(0, b"0\r\n\r\n"), Written::Took(5));
-    assert_eq!(rt; notes.answered(), (1, 0));
-    assert_eq!(rt;
-        scene.sockets.write(0, IN_PARTS),
-        Written::Took(IN_PARTS.len())
-    );
-    assert_eq!(rt; notes.answered(), (2, 0));
+    let joined = scene.told(0, 3);
+    let told = replies_told(&mut scene, &notes);
+    assert_eq!(rt; (joined, told), (Told::Joined, ([1, 1, 1, 1, 2], true)));
     Ok(())
 }

@@ -47,26 +47,38 @@ fn pour_all(scene: &mut Scene<'_>, reply: &[u8]) -> Result<Poured, Fail> {
     Ok(poured)
 }
 
+// Whether the clients wait for what they read.
+fn set_waiting(scene: &Scene<'_>, do_wait: bool) -> Result<(), Fail> {
+    for client in &scene.clients {
+        client.set_nonblocking(!do_wait)?;
+    }
+    Ok(())
+}
+
+// What is written of a reply to one that has just come, and how much came in the end.
+fn pour_to_one(rt: &HostRuntime, scene: &mut Scene<'_>, reply: &[u8]) -> Result<Poured, Fail> {
+    scene.connect(rt, 0)?;
+    set_waiting(scene, false)?;
+    if scene.told(0, 3) != Told::Joined {
+        return Err(Fail::new(format_args!("nobody has joined")));
+    }
+    let mut poured = pour_all(scene, reply)?;
+    scene.sockets.close(0);
+    set_waiting(scene, true)?;
+    poured.came = poured.came.saturating_add(scene.hear(0)?);
+    Ok(poured)
+}
+
 #[test]
 fn writes_a_great_reply_by_and_by(rt: HostRuntime) -> Result<(), Fail> {
-    let clock = Ticking::new(0);
-    let notes = Notes::new();
-    let mut scene = Scene::new(&rt, &clock, &notes, Allowed(9, 9, LONG, LONG, LONG))?;
-    scene.connect(&rt, 0)?;
-    for client in &scene.clients {
-        client.set_nonblocking(true)?;
-    }
-    assert_eq!(rt; scene.told(0, 3), Told::Joined);
     let mut reply = Vec::new(rt.alloc());
     reply.extend_from_slice(b"HTTP/1.1 ")?;
     reply.resize(8_000_000, 9u8)?;
-    let poured = pour_all(&mut scene, &reply)?;
-    assert!(rt; poured.waits > 0 && poured.sent == 8_000_000);
-    assert_eq!(rt; notes.answered(), (1, 0));
-    scene.sockets.close(0);
-    for client in &scene.clients {
-        client.set_nonblocking(false)?;
-    }
-    assert_eq!(rt; scene.hear(0)?.saturating_add(poured.came), 8_000_000);
+    let clock = Ticking::new(0);
+    let notes = Notes::new();
+    let mut scene = Scene::new(&rt, &clock, &notes, Allowed(9, 9, LONG, LONG, LONG))?;
+    let Poured { sent, came, waits } = pour_to_one(&rt, &mut scene, &reply)?;
+    assert!(rt; waits > 0 && notes.answered() == (1, 0));
+    assert_eq!(rt; (sent, came), (8_000_000, 8_000_000));
     Ok(())
 }

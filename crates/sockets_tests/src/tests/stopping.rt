@@ -56,8 +56,14 @@ fn serves_nobody_behind_the_end(rt: HostRuntime) -> Result<(), Fail> {
     take_steps(&rt, 0, Allowed(9, 9, LONG, LONG, LONG), &ENDED)
 }
 
-// How many turns a client has that asks for another in each and sends on, until nothing is told.
-fn turns_of_one(rt: &HostRuntime, scene: &mut Scene<'_>) -> Result<usize, Fail> {
+// How many turns a client has that comes before the end, asks for another in each and sends on, until
+// nothing is told.
+fn turns_of_one(rt: &HostRuntime, scene: &mut Scene<'_>, notes: &Notes) -> Result<usize, Fail> {
+    scene.connect(rt, 10)?;
+    if scene.told(0, 3) != Told::Joined {
+        return Err(Fail::new(format_args!("nobody has joined")));
+    }
+    notes.stop();
     for turns in 0..100 {
         if scene.sockets.told(1) != Told::Ready(0) {
             return Ok(turns);
@@ -75,12 +81,8 @@ fn ends_behind_a_second_though_one_sends_on(rt: HostRuntime) -> Result<(), Fail>
     let clock = Ticking::new(150);
     let notes = Notes::new();
     let mut scene = Scene::new(&rt, &clock, &notes, Allowed(9, 9, LONG, LONG, LONG))?;
-    scene.connect(&rt, 10)?;
-    assert_eq!(rt; scene.told(0, 3), Told::Joined);
-    notes.stop();
-    let turns = turns_of_one(&rt, &mut scene)?;
-    assert!(rt; turns > 3 && turns < 8);
-    assert_eq!(rt; scene.told(1, 9), Told::Nothing);
+    let turns = turns_of_one(&rt, &mut scene, &notes)?;
+    assert!(rt; turns > 3 && turns < 8 && scene.told(1, 9) == Told::Nothing);
     Ok(())
 }
 
@@ -129,15 +131,25 @@ fn write_on(scene: &mut Scene<'_>, reply: &[u8], taken: usize, reads: bool) -> R
     Ok(sent)
 }
 
+// How much is taken of a reply before it is asked to stop, and in all.
+fn write_all(
+    rt: &HostRuntime,
+    scene: &mut Scene<'_>,
+    notes: &Notes,
+    reads: bool,
+) -> Result<(usize, usize), Fail> {
+    let reply = Vec::from_elem(rt.alloc(), 9u8, 8_000_000)?;
+    let taken = begin_reply(rt, scene, &reply)?;
+    notes.stop();
+    Ok((taken, write_on(scene, &reply, taken, reads)?))
+}
+
 #[test]
 fn waits_for_who_has_not_taken_all_of_a_reply(rt: HostRuntime) -> Result<(), Fail> {
     let clock = Ticking::new(0);
     let notes = Notes::new();
     let mut scene = Scene::new(&rt, &clock, &notes, Allowed(9, 9, LONG, LONG, LONG))?;
-    let reply = Vec::from_elem(rt.alloc(), 9u8, 8_000_000)?;
-    let taken = begin_reply(&rt, &mut scene, &reply)?;
-    notes.stop();
-    let sent = write_on(&mut scene, &reply, taken, true)?;
+    let (_, sent) = write_all(&rt, &mut scene, &notes, true)?;
     assert_eq!(rt; (sent, scene.told(1, 9)), (8_000_000, Told::Nothing));
     Ok(())
 }
@@ -148,11 +160,7 @@ fn waits_no_longer_than_a_second(rt: HostRuntime) -> Result<(), Fail> {
     let clock = Ticking::new(350);
     let notes = Notes::new();
     let mut scene = Scene::new(&rt, &clock, &notes, Allowed(9, 9, LONG, LONG, LONG))?;
-    let reply = Vec::from_elem(rt.alloc(), 9u8, 8_000_000)?;
-    let taken = begin_reply(&rt, &mut scene, &reply)?;
-    notes.stop();
-    let sent = write_on(&mut scene, &reply, taken, false)?;
-    assert!(rt; taken <= sent && sent < 8_000_000);
-    assert_eq!(rt; scene.told(1, 9), Told::Nothing);
+    let (taken, sent) = write_all(&rt, &mut scene, &notes, false)?;
+    assert!(rt; taken <= sent && sent < 8_000_000 && scene.told(1, 9) == Told::Nothing);
     Ok(())
 }
