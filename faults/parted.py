@@ -78,21 +78,29 @@ def is_whole(connection, lines):
     want(told == ("200 OK", "text/csv", bytes_of(lines)), f"a statement ends by {told[2][-300:]!r}")
 
 
-def is_cut(connection, lines, is_killed=False):
-    """The statement ends behind a chunk, or anywhere where the process was killed, with no chunk of no
-    bytes. How many of its entries were told."""
+def told_of(connection, lines, may_break=False):
+    """How many of its entries are told in whole chunks, and whether that is all of it. It may end inside
+    a chunk only where the process ends meanwhile."""
     want(connection.up_to(b"\r\n\r\n") == STATEMENT_HEAD, "another head than a statement's")
     chunks = []
     try:
         while connection.read or connection.more():
             chunks.append(connection.chunk())
     except Lost:
-        want(is_killed, f"a statement ends inside a chunk, behind {len(chunks)} whole ones")
-    want(chunks and chunks[-1], f"a statement that should be cut short has {len(chunks)} chunks")
-    rows = CHUNK_ROWS * len(chunks)
-    want(b"".join(chunks) == bytes_of(lines[:1 + rows]) and rows + 1 < len(lines),
-         f"{len(chunks)} chunks of a statement that was cut short are not its first {rows} entries")
+        want(may_break, f"a statement ends inside a chunk, behind {len(chunks)} whole ones")
     connection.close()
+    is_ended = b"" in chunks
+    want(b"" not in chunks[:-1], f"a chunk of no bytes is one of {len(chunks)}")
+    rows = len(lines) - 1 if is_ended else CHUNK_ROWS * len(chunks)
+    want(b"".join(chunks) == bytes_of(lines[:1 + rows]),
+         f"{len(chunks)} chunks of a statement are not its first {rows} entries")
+    return rows, is_ended
+
+
+def is_cut(connection, lines, may_break=False):
+    """The statement is cut short. How many of its entries were told."""
+    rows, is_ended = told_of(connection, lines, may_break)
+    want(not is_ended and rows, f"a statement that should be cut short has {rows} entries")
     return rows
 
 
@@ -138,18 +146,20 @@ def refuse_meanwhile(house, control, lines):
 
 
 def stop_meanwhile(house, control, lines):
-    """The service is told to stop: who has begun is told all of it."""
+    """The service is told to stop: who reads on at once is told all of it. On a busy machine that may
+    take longer than the second for which anybody is waited for."""
     connection, stop = asked(house), begun(house, "stop")
-    is_whole(connection, lines)
+    rows, is_ended = told_of(connection, lines, may_break=True)
     told = heard(stop)
     want(told == STOPPED, f"stop beside a statement: {told}")
     start_again(house, control)
+    return None if is_ended else rows
 
 
 def kill_meanwhile(house, control, lines):
     """The service is killed."""
     connection = asked(house)
     house.service.served.kill()
-    rows = is_cut(connection, lines, is_killed=True)
+    rows = is_cut(connection, lines, may_break=True)
     start_again(house, control)
     return rows

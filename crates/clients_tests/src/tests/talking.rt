@@ -160,10 +160,11 @@ fn answers_nothing_before_the_reply_is_written(rt: HostRuntime) -> Result<(), Fa
 }
 
 // Whether a client whose body is announced is told where no memory is for it.
-fn gives_up(firms: &mut Firms, client: &mut Client) -> Result<bool, AllocError> {
+fn gives_up(alloc: Global, firms: &mut Firms) -> Result<bool, AllocError> {
+    let mut client = Client::new(alloc);
     let is_new = !client.is_announced() && client.reserve_due(9)? == 9;
     client.receive(ANNOUNCED.as_bytes())?;
-    let is_wanting = firms.answer(client) == Some(Answered::Wanting);
+    let is_wanting = firms.answer(&mut client) == Some(Answered::Wanting);
     let is_due = client.announced_length() == Some(132) && client.reserve_due(9)? == 5;
     if client.may_answer() && client.is_announced() {
         client.give_up();
@@ -176,8 +177,7 @@ fn gives_up(firms: &mut Firms, client: &mut Client) -> Result<bool, AllocError> 
 #[test]
 fn gives_up_where_memory_is_wanting(rt: HostRuntime) -> Result<(), Fail> {
     let mut firms = Firms::with(rt.alloc(), &[FIRST])?;
-    let mut client = Client::new(rt.alloc());
-    assert!(rt; gives_up(&mut firms, &mut client)?);
+    assert!(rt; gives_up(rt.alloc(), &mut firms)?);
     Ok(())
 }
 
