@@ -66,17 +66,28 @@ fn talk(
     Ok(())
 }
 
+const KEYS: [&str; 2] = [FIRST, SECOND];
+
+// What the first is written who is alone.
+fn heard_alone(alloc: Global) -> Result<Vec<u8>, Fail> {
+    Ok(Firms::with(alloc, &KEYS)?.serve(OF_FIRST.as_bytes()))
+}
+
+// What two are written who send and hear in turns of so many bytes.
+fn heard_in_turns(alloc: Global, piece: usize, most: usize) -> Result<(Vec<u8>, Vec<u8>), Fail> {
+    let mut firms = Firms::with(alloc, &KEYS)?;
+    let mut one = Talker::new(alloc, OF_FIRST.as_bytes());
+    let mut other = Talker::new(alloc, OF_SECOND.as_bytes());
+    talk(&mut firms, &mut one, &mut other, piece, most)?;
+    Ok((one.heard, other.heard))
+}
+
 #[test]
 fn writes_each_what_its_own_connection_is_written(rt: HostRuntime) -> Result<(), Fail> {
-    let keys = [FIRST, SECOND];
-    let to_first = Firms::with(rt.alloc(), &keys)?.serve(OF_FIRST.as_bytes());
+    let to_first = heard_alone(rt.alloc())?;
     for (piece, most) in [(1, 4096), (2, 1), (7, 3), (4096, 100)] {
-        let mut firms = Firms::with(rt.alloc(), &keys)?;
-        let mut one = Talker::new(rt.alloc(), OF_FIRST.as_bytes());
-        let mut other = Talker::new(rt.alloc(), OF_SECOND.as_bytes());
-        talk(&mut firms, &mut one, &mut other, piece, most)?;
-        assert!(rt; one.heard.as_slice() == to_first.as_slice());
-        assert!(rt; other.heard.as_slice() == TO_SECOND.as_bytes());
+        let (first, second) = heard_in_turns(rt.alloc(), piece, most)?;
+        assert!(rt; first == to_first && second.as_slice() == TO_SECOND.as_bytes());
     }
     Ok(())
 }
@@ -99,21 +110,33 @@ fn have_a_turn(
     Ok(is_heard && answers == [Some(Answered::Replied), Some(Answered::Replied), None])
 }
 
-#[test]
-fn answers_one_message_of_each_client_a_turn(rt: HostRuntime) -> Result<(), Fail> {
-    let keys = [FIRST, SECOND];
-    let to_first = Firms::with(rt.alloc(), &keys)?.serve(OF_FIRST.as_bytes());
-    let mut firms = Firms::with(rt.alloc(), &keys)?;
-    let mut one = Talker::new(rt.alloc(), OF_FIRST.as_bytes());
-    let mut other = Talker::new(rt.alloc(), OF_SECOND.as_bytes());
+// Whether each has its three messages answered, a turn each, and then the first is over.
+fn have_all_turns(
+    firms: &mut Firms,
+    one: &mut Talker,
+    other: &mut Talker,
+) -> Result<bool, AllocError> {
     one.send(4096)?;
     other.send(4096)?;
+    let mut are_answered = true;
     for _ in 0..3 {
-        assert!(rt; have_a_turn(&mut firms, &mut one, &mut other)?);
+        are_answered = have_a_turn(firms, one, other)? && are_answered;
     }
-    let are_heard = one.heard == to_first && other.heard.as_slice() == TO_SECOND.as_bytes();
-    assert!(rt; are_heard && firms.answer(&mut one.client) == Some(Answered::Over));
-    assert!(rt; firms.answer(&mut other.client) == None);
+    let ends = [
+        firms.answer(&mut one.client),
+        firms.answer(&mut other.client),
+    ];
+    Ok(are_answered && ends == [Some(Answered::Over), None])
+}
+
+#[test]
+fn answers_one_message_of_each_client_a_turn(rt: HostRuntime) -> Result<(), Fail> {
+    let to_first = heard_alone(rt.alloc())?;
+    let mut firms = Firms::with(rt.alloc(), &KEYS)?;
+    let mut one = Talker::new(rt.alloc(), OF_FIRST.as_bytes());
+    let mut other = Talker::new(rt.alloc(), OF_SECOND.as_bytes());
+    assert!(rt; have_all_turns(&mut firms, &mut one, &mut other)?);
+    assert!(rt; one.heard == to_first && other.heard.as_slice() == TO_SECOND.as_bytes());
     Ok(())
 }
 
