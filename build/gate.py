@@ -1,8 +1,7 @@
-"""The gate: `rt ci`, in which a crate's wrong bodies are tried together where they turn different
-functions.
+"""The gate: `rt ci`, in which a crate's wrong bodies are tried together, one of each function.
 
     python3 build/gate.py                      the gate
-    python3 build/gate.py must-fail [CRATE..]  the wrong bodies alone
+    python3 build/gate.py must-fail [CRATE..]  all wrong bodies, and nothing else
 
 `rt ci` tries each of them in a check of its own, and most of such a check is the same each time: the
 libraries below are read, and the crate's front end runs. Here one check has a wrong body in each of
@@ -15,8 +14,11 @@ changes, so that none is refused for another's sake. What was not refused so is 
 Such a check is asked for these functions alone (`--only`), and proves them and what they call. All of
 the crate was proved from nothing before, in the same run. What a check was asked for beside the
 functions that it turns is proved there too, or lacks nothing but them: else each of its wrong bodies
-is tried by itself. So what was refused was refused for its body. The first check of a crate begins
-with nothing, and the others go on over what that one has proved.
+is tried by itself. So what was refused was refused for its body.
+
+The gate tries one wrong body of each function that has any, the first by name, in one check a crate;
+and those that are tried by themselves. `must-fail` tries the others too: each further one of a function
+costs a check, which goes on over what the first has proved.
 
 All else is the toolchain's own, from the library beside `rt`; where that has not the parts that are
 called here, each wrong body is tried as `rt ci` does. There are as many lanes as `build/lanes.py`
@@ -41,7 +43,7 @@ FN = re.compile(r"(\s*)(?:pub(?:\([^)]*\))? )?(?:const )?(?:unsafe )?fn (\w+)")
 DERIVED = {"clone", "cmp", "default", "drop", "eq", "fmt", "from", "hash", "partial_cmp"}
 SAYS = re.compile(r"fn (\S+): (.*)")
 # What is said of a function that lacks nothing but others.
-LACKS = re.compile(r"(?:no proof:|not proved;) it calls [^;]*, which (?:is|are) not proved")
+LACKS = re.compile(r"(?:no proof:|not proved;)(?: [^;]*, which (?:is|are) not proved(?:;|$))+")
 
 
 def toolchain():
@@ -183,7 +185,7 @@ def lacks_more(line, names):
     """Whether a line says of a function that is not among these that it is not proved, and not for
     what it calls alone."""
     said = SAYS.fullmatch(line)
-    if not said or said[2] in ("proved", "assumed") or LACKS.fullmatch(said[2]):
+    if not said or said[2].startswith(("proved", "assumed")) or LACKS.fullmatch(said[2]):
         return False
     return not any(speaks_of(line, *it) for it in names)
 
@@ -272,17 +274,22 @@ class Together:
     begin with nothing, or with what the crate's own check has kept. Only in that case is there another
     one in the end, since of each group its check has told that all else is proved."""
 
-    def __init__(self, rt):
-        self.rt, self.groups, self.has_begun = rt, {}, set()
+    def __init__(self, rt, are_all):
+        self.rt, self.are_all, self.groups, self.has_begun = rt, are_all, {}, set()
         self.edits_of, self.add_edits = rt.edits_of, rt.add_edits
         self.must_fail, self.checked = rt.must_fail, rt.checked
         rt.edits_of, rt.add_edits, rt.seeded = self.ordered, self.added, self.seeded
         rt.must_fail, rt.checked = self.tried, self.looked_at
 
     def ordered(self, crate):
-        """`edits_of` of `rt`, with the first of each group in front."""
+        """`edits_of` of `rt`, with the first of each group in front: all, or the first group and those
+        that are tried by themselves. What cannot be read is told of all."""
         good, bad = self.edits_of(crate)
         found = [Group(number, *it) for number, it in enumerate(groups(crate, good))]
+        if not self.are_all:
+            later = [it.path for group in found[1:] for it in group.edits]
+            bad = [*bad, *[it for it in later if self.rt.read_edit(it, crate.folder)[1]]]
+            good, found = [it for it in good if it not in later], found[:1]
         self.groups[crate.folder] = {it.path: group for group in found for it in group.edits}
         firsts = [group.edits[0].path for group in found]
         return [*firsts, *[it for it in good if it not in firsts]], bad
@@ -338,7 +345,7 @@ class Together:
 CALLED = {"unread": ["line", "changed"], "must_fail": ["crate", "edit", "flags", "kept"],
           "checked": ["crate", "texts", "flags", "kept"], "linked": ["folder", "to"],
           "seeded": ["crate", "flags", "start"], "edits_of": ["crate"],
-          "add_edits": ["tasks", "crate", "edits"]}
+          "add_edits": ["tasks", "crate", "edits"], "read_edit": ["edit", "folder"]}
 
 
 def has_parts(rt):
@@ -352,7 +359,7 @@ def main(words):
     rt = toolchain()
     os.environ.setdefault("RT_JOBS", str(lanes.lanes() or ""))
     if has_parts(rt):
-        Together(rt)
+        Together(rt, are_all=words[:1] == ["must-fail"])
     return rt.main(words or ["ci"])
 
 
