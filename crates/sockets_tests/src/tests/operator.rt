@@ -120,8 +120,8 @@ fn counts_who_makes_room(rt: HostRuntime) -> Result<(), Fail> {
     take_steps(&rt, 0, Allowed(1, 9, LONG, LONG, LONG), &steps)
 }
 
-// What is told of one who is ready for 700 milliseconds, and the longest turn so far, before and
-// behind that.
+// What is told, and the longest turn so far, where 700 milliseconds pass behind the first thing that is
+// told, and 300 behind the second.
 fn turn_of_one(
     rt: &HostRuntime,
     scene: &mut Scene<'_>,
@@ -148,7 +148,7 @@ fn notes_the_longest_turn(rt: HostRuntime) -> Result<(), Fail> {
         told,
         [
             (Told::Joined, Duration::ZERO),
-            (Told::Ready(0), Duration::ZERO),
+            (Told::Ready(0), took),
             (Told::Nothing, took),
         ]
     );
