@@ -13,8 +13,8 @@ changes, so that none is refused for another's sake. What was not refused so is 
 
 Such a check is asked for these functions alone (`--only`), and proves them and what they call. All of
 the crate was proved from nothing before, in the same run. What a check was asked for beside the
-functions that it turns is proved there too, or lacks nothing but them: else each of its wrong bodies
-is tried by itself. So what was refused was refused for its body.
+functions that it turns is proved there too, or stands on what is not: else each of its wrong bodies is
+tried by itself. So what was refused was refused for its body.
 
 The gate tries one wrong body of each function that has any, the first by name, in one check a crate;
 and those that are tried by themselves. `must-fail` tries the others too: each further one of a function
@@ -42,8 +42,8 @@ FN = re.compile(r"(\s*)(?:pub(?:\([^)]*\))? )?(?:const )?(?:unsafe )?fn (\w+)")
 # What macros of std and of the kit write functions of.
 DERIVED = {"clone", "cmp", "default", "drop", "eq", "fmt", "from", "hash", "partial_cmp"}
 SAYS = re.compile(r"fn (\S+): (.*)")
-# What is said of a function that lacks nothing but others.
-LACKS = re.compile(r"(?:no proof:|not proved;)(?: [^;]*, which (?:is|are) not proved(?:;|$))+")
+# What is said of a function that stands on others which are not proved, so that nothing is known of it.
+LACKS = re.compile(r"(?:no proof:|not proved;) .*, which (?:is|are) not proved(?:;.*)?")
 
 
 def toolchain():
@@ -182,8 +182,8 @@ def is_at(line, name, file, within):
 
 
 def lacks_more(line, names):
-    """Whether a line says of a function that is not among these that it is not proved, and not for
-    what it calls alone."""
+    """Whether a line says of a function that is not among these that it is not proved, though all
+    that it stands on is."""
     said = SAYS.fullmatch(line)
     if not said or said[2].startswith(("proved", "assumed")) or LACKS.fullmatch(said[2]):
         return False
