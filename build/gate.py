@@ -13,8 +13,8 @@ changes, so that none is refused for another's sake. What was not refused so is 
 
 Such a check is asked for these functions alone (`--only`), and proves them and what they call. All of
 the crate was proved from nothing before, in the same run. What a check was asked for beside the
-functions that it turns is proved there too, or stands on what is not: else each of its wrong bodies is
-tried by itself. So what was refused was refused for its body.
+functions that it turns is proved there too, or lacks nothing but them: else each of its wrong bodies
+is tried by itself. So what was refused was refused for its body.
 
 The gate tries one wrong body of each function that has any, the first by name, in one check a crate;
 and those that are tried by themselves. `must-fail` tries the others too: each further one of a function
@@ -42,8 +42,8 @@ FN = re.compile(r"(\s*)(?:pub(?:\([^)]*\))? )?(?:const )?(?:unsafe )?fn (\w+)")
 # What macros of std and of the kit write functions of.
 DERIVED = {"clone", "cmp", "default", "drop", "eq", "fmt", "from", "hash", "partial_cmp"}
 SAYS = re.compile(r"fn (\S+): (.*)")
-# What is said of a function that stands on others which are not proved, so that nothing is known of it.
-LACKS = re.compile(r"(?:no proof:|not proved;) .*, which (?:is|are) not proved(?:;.*)?")
+# What is said of a function that lacks nothing but others.
+LACKS = re.compile(r"(?:no proof:|not proved;)(?: [^;]*, which (?:is|are) not proved(?:;|$))+")
 
 
 def toolchain():
@@ -139,12 +139,15 @@ class WrongBody:
         texts.update(changed)
         return True
 
-    def refusal(self, lines):
-        """The line that says that a function of it is not proved, and not for what it calls; or
-        None."""
+    def refusal(self, lines, names):
+        """The line that says that a function of it is not proved, and not for what it calls, in a check
+        that turns the functions with these names; or None."""
         for line in lines:
             for name, file, within in self.places:
-                if is_of(line, name, file) or is_at(line, name, file, within):
+                is_one = sum(other == name for other, _ in names) == 1
+                if is_of(line, name, None if is_one else file):
+                    return line
+                if is_in(line, name, None if is_one else file) or is_at(line, file, within):
                     return line
         return None
 
@@ -155,13 +158,14 @@ def module(file):
     return [] if names in (["lib"], ["main"]) else names
 
 
-def speaks_of(line, name, file):
-    """What a line says of a function, if it says something of it."""
+def speaks_of(line, name, file=None):
+    """What a line says of a function, if it says something of it. If a file is given, of the one in its
+    modules: but a method in another file than its type's is named by the modules of the type."""
     said = SAYS.fullmatch(line)
     if not said:
         return None
     _, *path = (re.sub(r"\+.*", "", it) for it in said[1].split("::"))
-    within = module(file)
+    within = module(file) if file else []
     return said[2] if path[: len(within)] == within and name in path[len(within) :] else None
 
 
@@ -171,23 +175,25 @@ def is_of(line, name, file):
     return said == "not proved" or said.startswith("no proof") and "did not prove" in said
 
 
-def is_at(line, name, file, within):
-    """Whether a line tells of what is not proved at a function's text, or in what is written of its
-    proof."""
-    folder = "/".join([*module(file), ""])
-    if re.match(rf"(\./)?proofs/{folder}(.*/)?{name}/\w+\.antt:\d+:\d+: error", line):
-        return True
+def is_in(line, name, file):
+    """Whether a line tells of what is refused in what is written of a function's proof."""
+    folder = "/".join([*module(file), ""]) if file else ""
+    return bool(re.match(rf"(\./)?proofs/{folder}(.*/)?{name}/\w+\.antt:\d+:\d+: error", line))
+
+
+def is_at(line, file, within):
+    """Whether a line tells of what is not proved at these lines of a file."""
     at = re.match(r"(?:note: )?(?:\./)?(src/\S+?):(\d+):\d+: (?:error: )?it is not proved", line)
     return bool(at) and at[1] == file and int(at[2]) in within
 
 
 def lacks_more(line, names):
-    """Whether a line says of a function that is not among these that it is not proved, though all
-    that it stands on is."""
+    """Whether a line says of a function with none of these names that it is not proved, and not for what
+    it stands on alone."""
     said = SAYS.fullmatch(line)
     if not said or said[2].startswith(("proved", "assumed")) or LACKS.fullmatch(said[2]):
         return False
-    return not any(speaks_of(line, *it) for it in names)
+    return not any(speaks_of(line, name) for name, _ in names)
 
 
 def groups(crate, edits):
@@ -230,7 +236,7 @@ def try_group(rt, crate, group, texts, flags, kept):
         return {}
     if any(lacks_more(it, names) for it in lines):
         return {}
-    refused = {it.path: it.refusal(lines) for it in group}
+    refused = {it.path: it.refusal(lines, names) for it in group}
     label = f"must-fail {crate.name}"
     return {path: f"{label}/{os.path.basename(path)}: refused, as it must be: {line[:160]}"
             for path, line in refused.items() if line}
