@@ -14,7 +14,7 @@ use Rattle.rows.specs.declared.all_rows.TenantOfDigest.{TenantOfDigest}
 use Rattle.rows.specs.TypedRows.{lists_of}
 use Rattle.audit.specs.declared.damage.Damage.{Damage}
 use Rattle.audit.specs.declared.tenant.Found.{Found}
-use Rattle.audit.specs.Damage.{kind_number, damage_cmp, IsDamage, IsFirstDamage, TellsFirst, Finds, earlier_of, earlier, with_digest}
+use Rattle.audit.specs.Damage.{kind_number, damage_cmp, IsDamage, IsFirstDamage, TellsFirst, FindsWrong, earlier_of, earlier, with_digest}
 use Rattle.audit.specs.Sound.{AreSound}
 use Rattle.audit.specs.Table.{IsWrong}
 
@@ -117,7 +117,7 @@ one_tenant version tenants tenant (Some first) (Some second) old new = by_order 
 in_digest : (k d p : Ordering) → d ≡ Equal → ordering_then k p ≢ Less → ordering_then k (ordering_then d p) ≢ Less
 in_digest k d p same not = subst (λ (r : Ordering). ordering_then k (ordering_then r p) ≢ Less) (sym same) not
 
-pub tells_own : (version : ℕ) (tenant : TenantOfDigest) (found : Option Found) → Finds version (lists_of tenant.rows) found → TellsOwn version tenant (option_map (with_digest tenant.digest) found)
+pub tells_own : (version : ℕ) (tenant : TenantOfDigest) (found : Option Found) → FindsWrong version (lists_of tenant.rows) found → TellsOwn version tenant (option_map (with_digest tenant.digest) found)
 tells_own version tenant None none = λ damage wrong. none damage.kind damage.place wrong.1
 tells_own version tenant (Some found) first = (
   (refl, first.is),

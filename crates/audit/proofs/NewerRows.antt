@@ -16,7 +16,7 @@ use Rattle.audit.specs.Newer.{none_failed, LeadsTo, with_derived, SoundRowsAreRe
 use Rattle.audit.specs.Order.{in_order}
 use Rattle.audit.specs.Sound.{AreRowsOf}
 use Rattle.audit.specs.Table.{IsBadTime}
-use Rattle.audit.specs.Told.{Tells, entries_told}
+use Rattle.audit.specs.Told.{TellsRows, entries_told}
 use Rattle.audit.proofs.InOrderLemmas.{in_order_same}
 use Rattle.audit.proofs.PassedRows.{Laws, fits, times, replayed, same_clock, can_come, machine_is, told_valid}
 use Rattle.audit.proofs.Readable.{told_of, tells_typed}
@@ -27,7 +27,7 @@ pub are_read : Laws → SoundRowsAreRead
 are_read laws version rows m valid r = shaped r.typed rows r.cells (fits laws version rows m valid r)
 
 -- what is read is what the rows tell
-same_told : (laws : Laws) (version : ℕ) (rows : FileRows) (told : TypedRows) (m : Machine) → IsValid m → (r : AreRowsOf version m rows) → Tells rows told → told_of r.typed ≡ told
+same_told : (laws : Laws) (version : ℕ) (rows : FileRows) (told : TypedRows) (m : Machine) → IsValid m → (r : AreRowsOf version m rows) → TellsRows rows told → told_of r.typed ≡ told
 same_told laws version rows told m valid r tells =
     let mine = tells_typed r.typed rows r.cells (fits laws version rows m valid r) in
     laws.reading (told_of r.typed) told mine.fits tells.fits (mine.cells ∙ sym tells.cells)

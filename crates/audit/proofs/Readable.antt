@@ -12,7 +12,7 @@ use Rattle.rows.specs.TypedRows.{TypedRows, FileRows, cells_of}
 use Rattle.rows.specs.Widths.{AreStorable, IsStorableAccount, IsStorableTransfer, IsStorableBalance, IsStorableStatus, IsStorableHistory}
 use Rattle.audit.specs.Order.{IsBadRow}
 use Rattle.audit.specs.Shapes.{IsNatural, IsAccountRow, IsTransferRow, IsStatusRow, IsHistoryRow, IsMisshapen}
-use Rattle.audit.specs.Told.{Tells}
+use Rattle.audit.specs.Told.{TellsRows}
 
 -- rows in another order fit a file too
 pub storable : (xs ys : TypedRows) → AreSameRows xs ys → AreStorable xs → AreStorable ys
@@ -30,7 +30,7 @@ storable xs ys same fit = record {
 abbrev pub told_of : TypedRows → TypedRows
 told_of typed = record typed { balances = []; statuses = []; history = [] }
 
-pub tells_typed : (typed : TypedRows) (rows : FileRows) → cells_of typed ≡ rows → AreStorable typed → Tells rows (told_of typed)
+pub tells_typed : (typed : TypedRows) (rows : FileRows) → cells_of typed ≡ rows → AreStorable typed → TellsRows rows (told_of typed)
 tells_typed typed rows cells fit = record {
   fits = record {
     clock = fit.clock;

@@ -15,10 +15,10 @@ use Rattle.rows.specs.Tables.{AreKeyed, history_key, HasDistinctKeys, IsAscendin
 use Rattle.rows.specs.TypedRows.{TypedRows, FileRows}
 use Rattle.running.specs.Entries.{CanCome, machine_of, FailedIdsStandApart}
 use Rattle.audit.specs.declared.damage.DamageKind.TheVariants as kind
-use Rattle.audit.specs.Damage.{Finds}
+use Rattle.audit.specs.Damage.{FindsWrong}
 use Rattle.audit.specs.Order.{in_order}
 use Rattle.audit.specs.Sound.{AreSound}
-use Rattle.audit.specs.Told.{Tells, entries_told, machine_told, prescribed}
+use Rattle.audit.specs.Told.{TellsRows, entries_told, machine_told, prescribed}
 use Rattle.audit.proofs.DerivedRows.{HasDerived, has_derived, lacks_derived, themselves}
 use Rattle.audit.proofs.GoodFailed.{failed_apart, failed_kept, ascending_from_pairs}
 use Rattle.audit.proofs.InOrderLemmas.{in_order_same, in_order_up}
@@ -76,7 +76,7 @@ ordered keys version told valid =
 abbrev machine_of_rows : TypedRows → Machine
 machine_of_rows told = record (machine_told told) { failed = told.failed }
 
-pub sound_if_clear : KeysAreDistinct → FailedIdsStandApart → (version : ℕ) (rows : FileRows) (told : TypedRows) → Tells rows told → IsValid (machine_told told) → Finds version rows None → AreSound version rows
+pub sound_if_clear : KeysAreDistinct → FailedIdsStandApart → (version : ℕ) (rows : FileRows) (told : TypedRows) → TellsRows rows told → IsValid (machine_told told) → FindsWrong version rows None → AreSound version rows
 unfolding rows_for
 sound_if_clear keys apart version rows told tells valid clear =
     let m = machine_told told in

@@ -8,11 +8,11 @@ use Rattle.rows.specs.Widths.{AreStorable}
 use Rattle.audit.specs.declared.damage.DamageKind.{DamageKind}
 use Rattle.audit.specs.declared.damage.DamageKind.TheVariants as kind
 use Rattle.audit.specs.declared.tenant.Found.{Found}
-use Rattle.audit.specs.Damage.{kind_number, IsFirstFound, Finds}
+use Rattle.audit.specs.Damage.{kind_number, IsFirstFound, FindsWrong}
 use Rattle.audit.specs.Order.{IsFirstPlace, Differ}
 use Rattle.audit.specs.Stages.{IsClearBelow, FindsBelow}
 use Rattle.audit.specs.Table.{IsToldWrong, IsWrong}
-use Rattle.audit.specs.Told.{Tells}
+use Rattle.audit.specs.Told.{TellsRows}
 
 -- a kind by its number
 abbrev kind_with : ℕ → DamageKind
@@ -56,7 +56,7 @@ above_none kind.FailedId = omega arith
 pub none_yet : (version : ℕ) (rows : FileRows) → IsClearBelow version rows 1
 none_yet version rows k place less wrong = let some = above_none k in absurd (omega (arith, less, some))
 
-pub all_clear : (version : ℕ) (rows : FileRows) → IsClearBelow version rows 9 → Finds version rows None
+pub all_clear : (version : ℕ) (rows : FileRows) → IsClearBelow version rows 9 → FindsWrong version rows None
 all_clear version rows clear k place wrong = clear k place (at_most_last k) wrong
 
 -- one kind more
@@ -102,7 +102,7 @@ first_found version rows k place below first = record {
 abbrev pub OneReading : Type 0
 OneReading = (xs ys : TypedRows) → AreStorable xs → AreStorable ys → cells_of xs ≡ cells_of ys → xs ≡ ys
 
-wrong_if_told : (version : ℕ) (rows : FileRows) (told : TypedRows) (k : DamageKind) (place : ℕ) → Tells rows told → IsToldWrong version rows told k place → IsWrong version rows k place
+wrong_if_told : (version : ℕ) (rows : FileRows) (told : TypedRows) (k : DamageKind) (place : ℕ) → TellsRows rows told → IsToldWrong version rows told k place → IsWrong version rows k place
 wrong_if_told version rows told kind.Shape place tells wrong = wrong
 wrong_if_told version rows told kind.Timestamp place tells wrong = (told, tells, wrong)
 wrong_if_told version rows told kind.Entry place tells wrong = (told, tells, wrong)
@@ -113,13 +113,13 @@ wrong_if_told version rows told kind.Clock place tells wrong = (told, tells, wro
 wrong_if_told version rows told kind.FailedId place tells wrong = (told, tells, wrong)
 
 abbrev IsSomeToldWrong : ℕ → FileRows → DamageKind → ℕ → Type 0
-IsSomeToldWrong version rows k place = (told : TypedRows) × Tells rows told × IsToldWrong version rows told k place
+IsSomeToldWrong version rows k place = (told : TypedRows) × TellsRows rows told × IsToldWrong version rows told k place
 
-as_told : OneReading → (version : ℕ) (rows : FileRows) (told : TypedRows) (k : DamageKind) (place : ℕ) → Tells rows told → IsSomeToldWrong version rows k place → IsToldWrong version rows told k place
+as_told : OneReading → (version : ℕ) (rows : FileRows) (told : TypedRows) (k : DamageKind) (place : ℕ) → TellsRows rows told → IsSomeToldWrong version rows k place → IsToldWrong version rows told k place
 as_told one version rows told k place tells wrong =
     subst (λ (t : TypedRows). IsToldWrong version rows t k place) (one wrong.0 told wrong.1.fits tells.fits (wrong.1.cells ∙ sym tells.cells)) wrong.2
 
-pub told_if_wrong : OneReading → (version : ℕ) (rows : FileRows) (told : TypedRows) (k : DamageKind) (place : ℕ) → Tells rows told → IsWrong version rows k place → IsToldWrong version rows told k place
+pub told_if_wrong : OneReading → (version : ℕ) (rows : FileRows) (told : TypedRows) (k : DamageKind) (place : ℕ) → TellsRows rows told → IsWrong version rows k place → IsToldWrong version rows told k place
 told_if_wrong one version rows told kind.Shape place tells wrong = wrong
 told_if_wrong one version rows told kind.Timestamp place tells wrong = as_told one version rows told kind.Timestamp place tells wrong
 told_if_wrong one version rows told kind.Entry place tells wrong = as_told one version rows told kind.Entry place tells wrong
@@ -129,21 +129,21 @@ told_if_wrong one version rows told kind.History place tells wrong = as_told one
 told_if_wrong one version rows told kind.Clock place tells wrong = as_told one version rows told kind.Clock place tells wrong
 told_if_wrong one version rows told kind.FailedId place tells wrong = as_told one version rows told kind.FailedId place tells wrong
 
-pub first_of_told : OneReading → (version : ℕ) (rows : FileRows) (told : TypedRows) (k : DamageKind) (o : Option ℕ) → Tells rows told → IsFirstPlace (IsToldWrong version rows told k) o → IsFirstPlace (IsWrong version rows k) o
+pub first_of_told : OneReading → (version : ℕ) (rows : FileRows) (told : TypedRows) (k : DamageKind) (o : Option ℕ) → TellsRows rows told → IsFirstPlace (IsToldWrong version rows told k) o → IsFirstPlace (IsWrong version rows k) o
 first_of_told one version rows told k None tells none = λ place wrong. none place (told_if_wrong one version rows told k place tells wrong)
 first_of_told one version rows told k (Some first) tells is =
     (wrong_if_told version rows told k first tells is.0, λ place less wrong. is.1 place less (told_if_wrong one version rows told k place tells wrong))
 
 -- what is answered where a kind is found, and where it is not
-pub answers_found : (version : ℕ) (rows : FileRows) (k : DamageKind) (place : ℕ) (o : Option ℕ) (r : Option Found) → IsClearBelow version rows (kind_number k) → IsFirstPlace (IsWrong version rows k) o → o ≡ Some place → r ≡ Some (record { kind = k; place = place }) → Finds version rows r
+pub answers_found : (version : ℕ) (rows : FileRows) (k : DamageKind) (place : ℕ) (o : Option ℕ) (r : Option Found) → IsClearBelow version rows (kind_number k) → IsFirstPlace (IsWrong version rows k) o → o ≡ Some place → r ≡ Some (record { kind = k; place = place }) → FindsWrong version rows r
 answers_found version rows k place o r clear first at is =
-    subst (Finds version rows) (sym is) (first_found version rows k place clear (subst (IsFirstPlace (IsWrong version rows k)) at first))
+    subst (FindsWrong version rows) (sym is) (first_found version rows k place clear (subst (IsFirstPlace (IsWrong version rows k)) at first))
 
 pub still_clear : (version : ℕ) (rows : FileRows) (k : DamageKind) (o : Option ℕ) → IsClearBelow version rows (kind_number k) → IsFirstPlace (IsWrong version rows k) o → o ≡ None → IsClearBelow version rows (kind_number k + 1)
 still_clear version rows k o clear first at = clear_more version rows k clear (subst (IsFirstPlace (IsWrong version rows k)) at first)
 
-pub finds_below : (version : ℕ) (rows : FileRows) (n : ℕ) (r : Option Found) (f : Found) → r ≡ Some f → Finds version rows r → FindsBelow version rows n r
-finds_below version rows n r f is found = subst (FindsBelow version rows n) (sym is) (subst (Finds version rows) is found)
+pub finds_below : (version : ℕ) (rows : FileRows) (n : ℕ) (r : Option Found) (f : Found) → r ≡ Some f → FindsWrong version rows r → FindsBelow version rows n r
+finds_below version rows n r f is found = subst (FindsBelow version rows n) (sym is) (subst (FindsWrong version rows) is found)
 
 -- the same differences
 pub same_difference : {R C : Type 0} (cells : R → C) (xs stored : List C) (ys wanted : List R) (o : Option ℕ) → xs ≡ stored → ys ≡ wanted → IsFirstPlace (Differ xs (map cells ys)) o → IsFirstPlace (Differ stored (map cells wanted)) o

@@ -12,12 +12,12 @@ use Rattle.audit.specs.declared.meeting.Meeting.{Meeting}
 use Rattle.audit.specs.declared.replayed.Replayed.{Replayed}
 use Rattle.audit.specs.declared.replayed.Replayed.TheVariants.{Accepted}
 use Rattle.audit.specs.Meeting.{HasMet, IsToldOf, Met}
-use Rattle.audit.specs.Replayed.{IfAccepted}
+use Rattle.audit.specs.Replayed.{IfAllAccepted}
 use Rattle.audit.specs.declared.damage.DamageKind.TheVariants as kind
 use Rattle.audit.specs.Order.{IsFirstPlace, Differ, in_order}
 use Rattle.audit.specs.Stages.{IsClearBelow}
 use Rattle.audit.specs.Table.{IsBadTime, IsRefusedRow}
-use Rattle.audit.specs.Told.{Tells, entries_told, machine_told}
+use Rattle.audit.specs.Told.{TellsRows, entries_told, machine_told}
 use Rattle.audit.proofs.DerivedRows.{has_derived}
 
 -- a clock changes nothing of it
@@ -41,16 +41,16 @@ pub told_list : {F : Type 0} (items : F → List HistoryRow) (old new : F) (rows
 told_list items old new rows none told = told old (sym (append-nil (items old))) ∙ ap (λ (xs : List HistoryRow). xs ++ rows) none
 
 -- what holds where all entries are accepted
-pub where_accepted : (replayed : Replayed) (running : Running) (P : Type 0) → replayed ≡ Accepted running → IfAccepted replayed P → P
-where_accepted replayed running P is holds = subst (λ (x : Replayed). IfAccepted x P) is holds
+pub where_accepted : (replayed : Replayed) (running : Running) (P : Type 0) → replayed ≡ Accepted running → IfAllAccepted replayed P → P
+where_accepted replayed running P is holds = subst (λ (x : Replayed). IfAllAccepted x P) is holds
 
 -- rows that are the same differ nowhere
 pub nowhere : {A : Type 0} (xs ys : List A) → xs ≡ ys → IsFirstPlace (Differ xs ys) None
 nowhere xs ys same place differ = differ (ap (λ zs. slice_get zs place) same)
 
 -- no time is bad, and no entry is refused, where kinds below are clear
-pub good_times : (version : ℕ) (rows : FileRows) (typed : TypedRows) → IsClearBelow version rows 4 → Tells rows typed → (place : ℕ) → IsBadTime typed place → ⊥
+pub good_times : (version : ℕ) (rows : FileRows) (typed : TypedRows) → IsClearBelow version rows 4 → TellsRows rows typed → (place : ℕ) → IsBadTime typed place → ⊥
 good_times version rows typed clear tells place bad = clear kind.Timestamp place (omega arith) (typed, tells, bad)
 
-pub none_refused : (version : ℕ) (rows : FileRows) (typed : TypedRows) → IsClearBelow version rows 4 → Tells rows typed → (place : ℕ) → IsRefusedRow typed place → ⊥
+pub none_refused : (version : ℕ) (rows : FileRows) (typed : TypedRows) → IsClearBelow version rows 4 → TellsRows rows typed → (place : ℕ) → IsRefusedRow typed place → ⊥
 none_refused version rows typed clear tells place bad = clear kind.Entry place (omega arith) (typed, tells, bad)

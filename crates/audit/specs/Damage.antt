@@ -64,9 +64,9 @@ pub record IsFirstFound (version : ℕ) (rows : FileRows) (found : Found) : Type
       (nat_cmp other.place found.place) ≢ Less
 
 -- what is found in a tenant's rows, if they are damaged
-abbrev pub Finds : ℕ → FileRows → Option Found → Type 0
-Finds version rows None = (kind : DamageKind) (place : ℕ) → IsWrong version rows kind place → ⊥
-Finds version rows (Some found) = IsFirstFound version rows found
+abbrev pub FindsWrong : ℕ → FileRows → Option Found → Type 0
+FindsWrong version rows None = (kind : DamageKind) (place : ℕ) → IsWrong version rows kind place → ⊥
+FindsWrong version rows (Some found) = IsFirstFound version rows found
 
 -- the earlier of two, or the first where they are the same
 abbrev pub earlier_of : Ordering → Damage → Damage → Damage

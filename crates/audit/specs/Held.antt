@@ -9,7 +9,7 @@ use Rattle.audit.specs.declared.told.Told.{Told}
 use Rattle.audit.specs.declared.entries.EntryPlace.{EntryPlace}
 use Rattle.audit.specs.declared.entries.RowPlace.{RowPlace}
 use Rattle.audit.specs.declared.entries.RowPlace.TheVariants.{Account, Transfer}
-use Rattle.audit.specs.Told.{Tells, account_times, transfer_times}
+use Rattle.audit.specs.Told.{TellsRows, account_times, transfer_times}
 
 -- the clock, the timestamps and the failed ids of the rows
 pub record Holds (told : Told) (rows : TypedRows) : Type 0 where
@@ -20,7 +20,7 @@ pub record Holds (told : Told) (rows : TypedRows) : Type 0 where
 
 -- they are those of rows of a file
 abbrev pub IsHeld : FileRows → Told → Type 0
-IsHeld rows told = (typed : TypedRows) × Tells rows typed × Holds told typed
+IsHeld rows told = (typed : TypedRows) × TellsRows rows typed × Holds told typed
 
 -- the entry that stands there
 abbrev pub entry_at : TypedRows → RowPlace → Option Entry
@@ -40,4 +40,4 @@ pub record ArePlacesOf
 -- these entries are read from the rows at these places
 abbrev pub AreEntriesIn : FileRows → List EntryPlace → List Entry → Type 0
 AreEntriesIn rows places entries =
-    (typed : TypedRows) × Tells rows typed × ArePlacesOf typed entries places
+    (typed : TypedRows) × TellsRows rows typed × ArePlacesOf typed entries places

@@ -12,7 +12,7 @@ use Rattle.audit.specs.Order.{in_order}
 use Rattle.audit.specs.Shapes.{AreShaped}
 use Rattle.audit.specs.Sound.{AreRowsOf}
 use Rattle.audit.specs.Table.{IsBadTime}
-use Rattle.audit.specs.Told.{Tells, entries_told}
+use Rattle.audit.specs.Told.{TellsRows, entries_told}
 
 -- the machine in which no id has failed
 abbrev pub none_failed : Machine → Machine
@@ -42,14 +42,14 @@ SoundRowsAreRead =
 abbrev pub SoundTimesAreOwn : Type 0
 SoundTimesAreOwn =
     (version : ℕ) (rows : FileRows) (told : TypedRows) (m : Machine) →
-    IsValid m → AreRowsOf version m rows → Tells rows told →
+    IsValid m → AreRowsOf version m rows → TellsRows rows told →
     (place : ℕ) → IsBadTime told place → ⊥
 
 -- and leads to the machine
 abbrev pub SoundRowsLead : Type 0
 SoundRowsLead =
     (version : ℕ) (rows : FileRows) (told : TypedRows) (m : Machine) →
-    IsValid m → AreRowsOf version m rows → Tells rows told → LeadsTo m told
+    IsValid m → AreRowsOf version m rows → TellsRows rows told → LeadsTo m told
 
 -- with the rows that it prescribes in another version they are its rows there
 abbrev pub DerivedRowsAreTheirs : Type 0

@@ -17,6 +17,6 @@ IsReplayed told (Accepted running) =
 IsReplayed told (Refused place) = IsFirstPlace (IsRefusedRow told) (Some place)
 
 -- a fact, if all entries are accepted
-abbrev pub IfAccepted : Replayed → Type 0 → Type 0
-IfAccepted (Accepted running) P = P
-IfAccepted (Refused place) P = Unit {0}
+abbrev pub IfAllAccepted : Replayed → Type 0 → Type 0
+IfAllAccepted (Accepted running) P = P
+IfAllAccepted (Refused place) P = Unit {0}

@@ -13,7 +13,7 @@ use Rattle.audit.specs.declared.damage.DamageKind.{DamageKind}
 use Rattle.audit.specs.declared.damage.DamageKind.TheVariants as kind
 use Rattle.audit.specs.Order.{in_order, IsBadRow, Differ}
 use Rattle.audit.specs.Shapes.{IsMisshapen}
-use Rattle.audit.specs.Told.{Tells, account_times, transfer_times, entries_told, machine_told, prescribed}
+use Rattle.audit.specs.Told.{TellsRows, account_times, transfer_times, entries_told, machine_told, prescribed}
 
 -- a timestamp above 0, which stands among these once
 pub record IsOwnTime (times : List ℕ) (timestamp : ℕ) : Type 0 where
@@ -83,4 +83,4 @@ IsToldWrong version rows told kind.FailedId place =
 abbrev pub IsWrong : ℕ → FileRows → DamageKind → ℕ → Type 0
 IsWrong version rows kind.Shape place = IsMisshapen rows place
 IsWrong version rows kind place =
-    (told : TypedRows) × Tells rows told × IsToldWrong version rows told kind place
+    (told : TypedRows) × TellsRows rows told × IsToldWrong version rows told kind place

@@ -12,7 +12,7 @@ use Rattle.running.specs.Entries.{time_of, machine_of}
 use Rattle.audit.specs.Order.{in_order}
 
 -- the clock, accounts, transfers and failed ids of a file's rows
-pub record Tells (rows : FileRows) (told : TypedRows) : Type 0 where
+pub record TellsRows (rows : FileRows) (told : TypedRows) : Type 0 where
   pub fits : AreStorable told
   pub cells : cells_of told ≡ record rows { balances = []; statuses = []; history = [] }
 

@@ -4,7 +4,7 @@ ghost use Rattle.std.specs.Prelude.{◌≡◌, ◌<◌, List, length, Some, IsSo
 ghost use Rattle.rows.specs.TypedRows.{TypedRows, lists_of};
 ghost use Rattle.running.specs.declared.entry.Entry.{Entry};
 ghost use Rattle.audit.specs.Held.{AreEntriesIn, entry_at};
-ghost use Rattle.audit.specs.Told.{Tells};
+ghost use Rattle.audit.specs.Told.{TellsRows};
 
 use crate::cells::value_at;
 use crate::entries::{EntryPlace, RowPlace};
@@ -48,9 +48,10 @@ fn entry_in_time(rows: &TenantRows, places: &[EntryPlace], place: usize) -> Entr
 
 // The entry that stands there.
 fn entry_in(rows: &TenantRows, row: RowPlace) -> Entry
-    requires { (typed : TypedRows) × Tells (lists_of rows.now) typed × IsSome (entry_at typed row) }
+    requires { (typed : TypedRows)
+        × TellsRows (lists_of rows.now) typed × IsSome (entry_at typed row) }
     ensures { (typed : TypedRows) →
-        Tells (lists_of rows.now) typed → IsSome (entry_at typed row) →
+        TellsRows (lists_of rows.now) typed → IsSome (entry_at typed row) →
         entry_at typed row ≡ Some result }
 {
     match row {

@@ -8,9 +8,9 @@ ghost use Rattle.running.specs.Entries.{IsFirstRefused, machine_of};
 ghost use Rattle.running.specs.History.{IsToldMore};
 ghost use Rattle.audit.specs.Order.{IsFirstPlace};
 ghost use Rattle.audit.specs.Held.{Holds, ArePlacesOf};
-ghost use Rattle.audit.specs.Told.{Tells, entries_told};
+ghost use Rattle.audit.specs.Told.{TellsRows, entries_told};
 ghost use Rattle.audit.specs.Table.{IsBadTime, IsRowOf, IsRefusedRow};
-ghost use Rattle.audit.specs.Replayed.{IfAccepted, IsReplayed};
+ghost use Rattle.audit.specs.Replayed.{IfAllAccepted, IsReplayed};
 
 use crate::cells::first_same;
 use crate::entries::places;
@@ -37,18 +37,18 @@ pub(crate) fn replay_told<H: HistoryTaker>(
     history: &mut H,
 ) -> Result<Replayed, AllocError>
     requires { (typed : TypedRows)
-        × Tells (lists_of rows.now) typed
+        × TellsRows (lists_of rows.now) typed
         × Holds told.now typed
         × ((place : ℕ) → IsBadTime typed place → ⊥) }
     ensures replayed { IfOk result
         (λ replayed. (typed : TypedRows) →
-        Tells (lists_of rows.now) typed → Holds told.now typed →
+        TellsRows (lists_of rows.now) typed → Holds told.now typed →
         ((place : ℕ) → IsBadTime typed place → ⊥) → IsReplayed typed replayed) }
     ensures told { IfOk result
         (λ replayed. (typed : TypedRows) →
-        Tells (lists_of rows.now) typed → Holds told.now typed →
+        TellsRows (lists_of rows.now) typed → Holds told.now typed →
         ((place : ℕ) → IsBadTime typed place → ⊥) →
-        IfAccepted replayed
+        IfAllAccepted replayed
         (IsToldMore H.told history.old history.new new_machine (machine_of (entries_told typed)))) }
 {
     let places = places(alloc, told)?;
@@ -67,13 +67,13 @@ pub(crate) fn history_told(
     told: &Told,
 ) -> Result<Vec<HistoryRow>, AllocError>
     requires { (typed : TypedRows)
-        × Tells (lists_of rows.now) typed
+        × TellsRows (lists_of rows.now) typed
         × Holds told.now typed
         × ((place : ℕ) → IsBadTime typed place → ⊥)
         × ((place : ℕ) → IsRefusedRow typed place → ⊥) }
     ensures { IfOk result
         (λ list. (typed : TypedRows) →
-        Tells (lists_of rows.now) typed → Holds told.now typed →
+        TellsRows (lists_of rows.now) typed → Holds told.now typed →
         ((place : ℕ) → IsBadTime typed place → ⊥) →
         list.items ≡ history_rows (machine_of (entries_told typed))) }
 {
@@ -86,11 +86,11 @@ pub(crate) fn history_told(
 
 fn refused_place(source: &InTime, n: usize) -> usize
     requires { (typed : TypedRows)
-        × Tells (lists_of source.now.rows.now) typed
+        × TellsRows (lists_of source.now.rows.now) typed
         × ArePlacesOf typed (entries_told typed) source.now.places.items
         × IsFirstRefused new_machine (entries_told typed) n }
     ensures { (typed : TypedRows) →
-        Tells (lists_of source.now.rows.now) typed →
+        TellsRows (lists_of source.now.rows.now) typed →
         ArePlacesOf typed (entries_told typed) source.now.places.items →
         IsFirstRefused new_machine (entries_told typed) n →
         IsFirstPlace (IsRefusedRow typed) (Some result) }
@@ -100,9 +100,9 @@ fn refused_place(source: &InTime, n: usize) -> usize
 
 // The place of an entry in its table.
 fn place_of(rows: &TenantRows, entry: &Entry) -> Option<usize>
-    requires { (typed : TypedRows) × Tells (lists_of rows.now) typed }
+    requires { (typed : TypedRows) × TellsRows (lists_of rows.now) typed }
     ensures { (typed : TypedRows) →
-        Tells (lists_of rows.now) typed →
+        TellsRows (lists_of rows.now) typed →
         IsFirstPlace (λ place. IsRowOf typed place entry.now) result }
 {
     match entry {

@@ -15,7 +15,7 @@ ghost use Rattle.audit.specs.Meeting.{HasMet, IsToldOf};
 ghost use Rattle.audit.specs.Order.{IsFirstPlace, in_order};
 ghost use Rattle.audit.specs.Stages.{IsClearBelow};
 ghost use Rattle.audit.specs.Table.{IsWrong};
-ghost use Rattle.audit.specs.Told.{Tells, machine_told};
+ghost use Rattle.audit.specs.Told.{TellsRows, machine_told};
 
 use crate::cells::first_difference;
 use crate::derived::{balance_rows, history_rows, status_rows};
@@ -34,7 +34,7 @@ pub(crate) fn first_bad_balance(
     running: &Running,
 ) -> Result<Option<usize>, AllocError>
     requires { (typed : TypedRows)
-        × Tells (lists_of rows.now) typed × IsRunning (machine_told typed) running.now }
+        × TellsRows (lists_of rows.now) typed × IsRunning (machine_told typed) running.now }
     ensures { IfOk result
         (IsFirstPlace (IsWrong version (lists_of rows.now) kind.Balance)) }
 {
@@ -51,7 +51,7 @@ pub(crate) fn first_bad_status(
     running: &Running,
 ) -> Result<Option<usize>, AllocError>
     requires { (typed : TypedRows)
-        × Tells (lists_of rows.now) typed × IsRunning (machine_told typed) running.now }
+        × TellsRows (lists_of rows.now) typed × IsRunning (machine_told typed) running.now }
     ensures { IfOk result
         (IsFirstPlace (IsWrong version (lists_of rows.now) kind.Status)) }
 {
@@ -70,7 +70,7 @@ pub(crate) fn first_bad_history(
     meeting: &Meeting,
 ) -> Result<Option<usize>, AllocError>
     requires met { (typed : TypedRows)
-        × Tells (lists_of rows.now) typed
+        × TellsRows (lists_of rows.now) typed
         × Holds told.now typed
         × IsValid (machine_told typed)
         × HasMet (lists_of rows.now) typed meeting.now }

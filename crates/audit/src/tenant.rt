@@ -4,12 +4,12 @@ ghost use Rattle.std.specs.Prelude.{◌≡◌, Some, IfOk, IfNone};
 ghost use Rattle.rows.specs.TypedRows.{TypedRows, lists_of};
 ghost use Rattle.running.specs.Entries.{machine_of};
 ghost use Rattle.running.specs.Running.{IsRunning};
-ghost use Rattle.audit.specs.Damage.{Finds};
+ghost use Rattle.audit.specs.Damage.{FindsWrong};
 ghost use Rattle.audit.specs.Held.{Holds, IsHeld};
 ghost use Rattle.audit.specs.Meeting.{HasMet};
 ghost use Rattle.audit.specs.Sound.{AreSound};
 ghost use Rattle.audit.specs.Stages.{IsClearBelow, FindsBelow};
-ghost use Rattle.audit.specs.Told.{Tells, entries_told, machine_told};
+ghost use Rattle.audit.specs.Told.{TellsRows, entries_told, machine_told};
 
 use crate::DamageKind;
 use crate::derived::settle_if_it_can;
@@ -37,7 +37,7 @@ pub(crate) fn find(
     version: u32,
     rows: &TenantRows,
 ) -> Result<Option<Found>, AllocError>
-    ensures first { IfOk result (Finds version (lists_of rows.now)) }
+    ensures first { IfOk result (FindsWrong version (lists_of rows.now)) }
     ensures sound { IfOk result (λ found. IfNone found (AreSound version (lists_of rows.now))) }
 {
     cells_tell_rows();
@@ -66,7 +66,7 @@ fn find_in_entries(
 ) -> Result<Option<Found>, AllocError>
     requires tells { IsHeld (lists_of rows.now) told.now }
     requires clear { IsClearBelow version (lists_of rows.now) 3 }
-    ensures first { IfOk result (Finds version (lists_of rows.now)) }
+    ensures first { IfOk result (FindsWrong version (lists_of rows.now)) }
     ensures sound { IfOk result (λ found. IfNone found (AreSound version (lists_of rows.now))) }
 {
     cells_tell_rows();
@@ -87,12 +87,12 @@ fn find_behind(
     meeting: &Meeting,
 ) -> Result<Option<Found>, AllocError>
     requires running { (typed : TypedRows)
-        × Tells (lists_of rows.now) typed
+        × TellsRows (lists_of rows.now) typed
         × Holds told.now typed
         × IsRunning (machine_of (entries_told typed)) running
         × HasMet (lists_of rows.now) typed meeting.now }
     requires clear { IsClearBelow version (lists_of rows.now) 4 }
-    ensures first { IfOk result (Finds version (lists_of rows.now)) }
+    ensures first { IfOk result (FindsWrong version (lists_of rows.now)) }
     ensures sound { IfOk result (λ found. IfNone found (AreSound version (lists_of rows.now))) }
 {
     cells_tell_rows();
@@ -124,7 +124,7 @@ fn find_in_tables(
     meeting: &Meeting,
 ) -> Result<Option<Found>, AllocError>
     requires running { (typed : TypedRows)
-        × Tells (lists_of rows.now) typed
+        × TellsRows (lists_of rows.now) typed
         × Holds told.now typed
         × IsRunning (machine_told typed) running
         × HasMet (lists_of rows.now) typed meeting.now }
@@ -150,7 +150,7 @@ fn find_in_sums(
     running: Running,
 ) -> Result<Option<Found>, AllocError>
     requires running { (typed : TypedRows)
-        × Tells (lists_of rows.now) typed × IsRunning (machine_told typed) running }
+        × TellsRows (lists_of rows.now) typed × IsRunning (machine_told typed) running }
     requires clear { IsClearBelow version (lists_of rows.now) 4 }
     ensures { IfOk result (FindsBelow version (lists_of rows.now) 6) }
 {

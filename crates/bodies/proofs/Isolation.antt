@@ -12,7 +12,7 @@ use Rattle.service.specs.OwnDeeds.{SeesItself, EachSeesItself, after_all, own_ha
 use Rattle.bodies.specs.declared.plain_reply.PlainReply.{PlainReply}
 use Rattle.bodies.specs.declared.plain_reply.PlainReply.TheVariants.{Body, Refused, Unavailable}
 use Rattle.bodies.specs.Answer.{meant_by, plain_answer}
-use Rattle.bodies.specs.Response.{IsResponse, ResponsesLeadOn, Isolates, ending_of}
+use Rattle.bodies.specs.Response.{IsResponse, ResponsesLeadOn, IsolatesBodies, ending_of}
 
 is_done : (reply : PlainReply) → reply ≢ Unavailable → ending_of reply ≡ Done
 is_done (Body bytes) answered = refl
@@ -47,7 +47,7 @@ unseen digest body other moment differs =
     rw (false_from_ne_true (bytes_eq digest other)
     (λ same. differs (sym ((bytes_eq-Decides digest other).0 same)))) refl
 
-pub isolated : ResponsesLeadOn → EachSeesItself → Isolates
+pub isolated : ResponsesLeadOn → EachSeesItself → IsolatesBodies
 unfolding answered_body
 isolated lead each digest body moment old new old' new' reply reply' one other same answered
     answered' =

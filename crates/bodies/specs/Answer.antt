@@ -44,7 +44,7 @@ said Unavailable = Err refusal.Unavailable
 
 -- what work on a tenant's tables gives for a body: the reply that says what its machine tells, and
 -- the machine after it
-pub record Gives (body : List ℕ) (moment : ℕ) (m : Machine) (reply : PlainReply)
+pub record GivesPlain (body : List ℕ) (moment : ℕ) (m : Machine) (reply : PlainReply)
     (after : Machine) : Type 0 where
   pub told : said reply ≡ plain_answer (Some m) body moment
   pub left : after ≡ (served_by m (meant_by body) moment).left

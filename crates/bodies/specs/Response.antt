@@ -40,7 +40,7 @@ ResponsesLeadOn =
     → Course first (events ++ event_of digest body moment reply ∷ []) (machines_in new)
 
 -- two books that agree on a tenant answer it alike and leave it alike, and all other tenants stay
-pub record AgreesOn (digest : List ℕ) (old new old' new' : List Tenant)
+pub record AgreesOnBody (digest : List ℕ) (old new old' new' : List Tenant)
     (reply reply' : PlainReply) : Type 0 where
   pub same_reply : said reply ≡ said reply'
   pub same_machine : machine_with digest new ≡ machine_with digest new'
@@ -48,8 +48,8 @@ pub record AgreesOn (digest : List ℕ) (old new old' new' : List Tenant)
   pub others' : KeepsOthers digest (machines_in old') (machines_in new')
 
 -- the law of isolation, for the definitions alone
-abbrev pub Isolates : Type 0
-Isolates =
+abbrev pub IsolatesBodies : Type 0
+IsolatesBodies =
     (digest body : List ℕ) (moment : ℕ) (old new old' new' : List Tenant)
     (reply reply' : PlainReply)
     → IsResponse digest body moment old new reply
@@ -57,4 +57,4 @@ Isolates =
     → machine_with digest old ≡ machine_with digest old'
     → reply ≢ Unavailable
     → reply' ≢ Unavailable
-    → AgreesOn digest old new old' new' reply reply'
+    → AgreesOnBody digest old new old' new' reply reply'

@@ -1,5 +1,5 @@
-ghost use Rattle.bodies.specs.Answer.{Gives};
-ghost use Rattle.bodies.specs.Response.{IsResponse, ResponsesLeadOn, Isolates};
+ghost use Rattle.bodies.specs.Answer.{GivesPlain};
+ghost use Rattle.bodies.specs.Response.{IsResponse, ResponsesLeadOn, IsolatesBodies};
 
 use crate::plain_reply::PlainReply;
 use chain::{BatchFault, BatchReply, Tables, Work, run_transfers};
@@ -21,7 +21,7 @@ struct Transfers<'a> {
 impl Work for Transfers<'_> {
     type Output = PlainReply;
 
-    ghost gives = { λ work. Gives work.body.now work.moment };
+    ghost gives = { λ work. GivesPlain work.body.now work.moment };
 
     fn run<T: Tables>(self, tables: &mut T) -> Result<PlainReply, Unavailable> {
         let events = match read_transfers(self.alloc, self.body) {
@@ -74,7 +74,7 @@ pub fn responses_lead_on()
 /// unless one of them answers that it is unavailable. It does nothing: `respond_plain` gives its
 /// premises.
 pub fn isolates()
-    ensures { Isolates }
+    ensures { IsolatesBodies }
 {
     responses_lead_on();
     each_tenant_sees_itself();

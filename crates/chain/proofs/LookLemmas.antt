@@ -13,7 +13,7 @@ use Rattle.chain.specs.declared.ledgers.BatchFault.{BatchFault}
 use Rattle.chain.specs.declared.ledgers.BatchFault.TheVariants as batch_fault
 use Rattle.chain.specs.declared.reads.ReadFault.{ReadFault}
 use Rattle.chain.specs.declared.reads.ReadFault.TheVariants as fault
-use Rattle.chain.specs.LedgerReads.{IsShown, IsTold, Reads, Seen, seen_in}
+use Rattle.chain.specs.LedgerReads.{IsShown, IsTold, ReadsOnly, Seen, seen_in}
 use Rattle.chain.specs.Ledgers.{Tenants, LedgersMeaning, KeepsAll, KeepsOthers, IsDone, IsRun, Finds, IsAnswered, LeadsBy}
 use Rattle.records.specs.Reads.{AccountAnswer}
 use Rattle.chain.specs.declared.reading.AccountFault.{AccountFault}
@@ -119,7 +119,7 @@ module _ {O : Type 0} (gives : Machine → O → Machine → Type 0)
   pub read_so :
       {S : Type 0} (t : LedgersMeaning S) (digest : List ℕ) (old new : S) (result : Result O BatchFault) →
       (t.is_live new → IsRun gives digest (t.tenants old) (t.tenants new) result) →
-      t.is_usable new → t.follows old new → Reads t old new
+      t.is_usable new → t.follows old new → ReadsOnly t old new
   read_so t digest old new result run usable follows = record {
     same = λ live. run_keeps digest (t.tenants old) (t.tenants new) result (run live);
     usable = usable;

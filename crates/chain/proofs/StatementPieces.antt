@@ -27,7 +27,7 @@ use Rattle.chain.specs.declared.reads.Listed.{Listed}
 use Rattle.chain.specs.declared.reads.ReadFault.{ReadFault}
 use Rattle.chain.specs.declared.reads.ReadFault.TheVariants as fault
 use Rattle.chain.specs.AccountEntries.{account_entries, account_entries_within, account_entry, entry_time, first_piece, piece_behind, row_of}
-use Rattle.chain.specs.LedgerReads.{HandsOut, IsBegun, IsTold, Reads, RefusesNext, Seen, is_refused, rows_of, seen_by, seen_in, seen_of_list}
+use Rattle.chain.specs.LedgerReads.{HandsOut, IsBegun, IsTold, ReadsOnly, RefusesNext, Seen, is_refused, rows_of, seen_by, seen_in, seen_of_list}
 use Rattle.chain.specs.Ledgers.{AreValid, Finds, IsAnswered, IsRun, KeepsAll, LeadsBy, LedgersMeaning, Tenants}
 use Rattle.chain.specs.Looks.{Answers, account_answer}
 use Rattle.chain.specs.Pages.{IsRecord, all_within, behind_last, span_behind}
@@ -76,7 +76,7 @@ pub record HasRead {S : Type 0} (t : LedgersMeaning S) (old new : S) : Type 0 wh
   pub follows : t.follows old new
   pub found : (found : Tenants) → t.may_find new found → t.may_find old found ⊎ (t.is_live old × KeepsAll (t.tenants old) found)
 
-pub as_reads : {S : Type 0} (t : LedgersMeaning S) (old new : S) → HasRead t old new → Reads t old new
+pub as_reads : {S : Type 0} (t : LedgersMeaning S) (old new : S) → HasRead t old new → ReadsOnly t old new
 as_reads t old new read = record { same = read.same; usable = read.usable; follows = read.follows }
 
 -- the same fault is told or not, whatever else might have been answered

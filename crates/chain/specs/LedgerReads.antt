@@ -127,7 +127,7 @@ IsTold (Err fault.NoAccount) = Unit {0}
 IsTold (Err fault.NoHistory) = Unit {0}
 
 -- a read changes no tenant's machine, and calls are still allowed
-pub record Reads {S : Type 0} (t : LedgersMeaning S) (old new : S) : Type 0 where
+pub record ReadsOnly {S : Type 0} (t : LedgersMeaning S) (old new : S) : Type 0 where
   pub same : t.is_live new → KeepsAll (t.tenants old) (t.tenants new)
   pub usable : t.is_usable new
   pub follows : t.follows old new

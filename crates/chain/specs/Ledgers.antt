@@ -37,7 +37,7 @@ abbrev pub KeepsOthers : List ℕ → Tenants → Tenants → Type 0
 KeepsOthers digest old new = (other : List ℕ) → other ≢ digest → new other ≡ old other
 
 -- what a batch of work leaves of one tenant's tables: if it answers, no mark is open
-pub record IsOver {S O : Type 0} (t : Meaning S) (old new : S) (result : Result O Unavailable) :
+pub record IsWorkOver {S O : Type 0} (t : Meaning S) (old new : S) (result : Result O Unavailable) :
     Type 0 where
   pub usable : OnOk result (t.is_usable new)
   pub unmarked : t.is_live new → OnOk result ((t.state new).marked ≡ None)

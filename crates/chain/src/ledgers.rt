@@ -6,7 +6,7 @@ ghost use Rattle.records.specs.Queries.{queried_transfers};
 ghost use Rattle.records.specs.Reads.{history_answer, history_balances_answer, statement_answer};
 ghost use Rattle.chain.specs.Ledgers.{LedgersMeaning, AreValid, KeepsAll, IsRun, Finds};
 ghost use Rattle.chain.specs.Ledgers.{IsAnswered, LeadsBy, LeadsNowhere};
-ghost use Rattle.chain.specs.LedgerReads.{seen_in, IsListed, IsPaged, HandsOut, is_refused, Reads, IsTold};
+ghost use Rattle.chain.specs.LedgerReads.{seen_in, IsListed, IsPaged, HandsOut, is_refused, ReadsOnly, IsTold};
 ghost use Rattle.chain.specs.declared.ledgers.BatchFault.TheVariants as batch_fault;
 ghost use Rattle.chain.specs.declared.reads.ReadFault.TheVariants as read_fault;
 
@@ -98,7 +98,7 @@ pub trait Ledgers {
         ensures failed { means.has_failed self.old ≡ true
             → result ≡ Err (read_fault.Unavailable Disk) }
         ensures finds { Finds means (IsTold result) KeepsAll self.old self.new }
-        ensures reads { Reads means self.old self.new }
+        ensures reads { ReadsOnly means self.old self.new }
     {
         let by = AccountsById;
         read_answer(self.in_batch(digest, Lookup { alloc, by, ids }))
@@ -118,7 +118,7 @@ pub trait Ledgers {
         ensures failed { means.has_failed self.old ≡ true
             → result ≡ Err (read_fault.Unavailable Disk) }
         ensures finds { Finds means (IsTold result) KeepsAll self.old self.new }
-        ensures reads { Reads means self.old self.new }
+        ensures reads { ReadsOnly means self.old self.new }
     {
         let by = TransfersById;
         read_answer(self.in_batch(digest, Lookup { alloc, by, ids }))
@@ -139,7 +139,7 @@ pub trait Ledgers {
         ensures failed { means.has_failed self.old ≡ true
             → result ≡ Err (read_fault.Unavailable Disk) }
         ensures finds { Finds means (IsTold result) KeepsAll self.old self.new }
-        ensures reads { Reads means self.old self.new }
+        ensures reads { ReadsOnly means self.old self.new }
     {
         let by = HoldsById;
         read_answer(self.in_batch(digest, Lookup { alloc, by, ids }))
@@ -159,7 +159,7 @@ pub trait Ledgers {
         ensures failed { means.has_failed self.old ≡ true
             → result ≡ Err (read_fault.Unavailable Disk) }
         ensures finds { Finds means (IsTold result) KeepsAll self.old self.new }
-        ensures reads { Reads means self.old self.new }
+        ensures reads { ReadsOnly means self.old self.new }
     {
         let query = OpenHolds { asked: *asked };
         read_answer(self.in_batch(digest, PageOf { alloc, query }))
@@ -179,7 +179,7 @@ pub trait Ledgers {
         ensures failed { means.has_failed self.old ≡ true
             → result ≡ Err (read_fault.Unavailable Disk) }
         ensures finds { Finds means (IsTold result) KeepsAll self.old self.new }
-        ensures reads { Reads means self.old self.new }
+        ensures reads { ReadsOnly means self.old self.new }
     {
         let query = AccountQuery { asked: *asked };
         read_answer(self.in_batch(digest, PageOf { alloc, query }))
@@ -199,7 +199,7 @@ pub trait Ledgers {
         ensures failed { means.has_failed self.old ≡ true
             → result ≡ Err (read_fault.Unavailable Disk) }
         ensures finds { Finds means (IsTold result) KeepsAll self.old self.new }
-        ensures reads { Reads means self.old self.new }
+        ensures reads { ReadsOnly means self.old self.new }
     {
         let query = TransferQuery { asked: *asked };
         read_answer(self.in_batch(digest, PageOf { alloc, query }))
@@ -218,7 +218,7 @@ pub trait Ledgers {
         ensures failed { means.has_failed self.old ≡ true
             → result ≡ Err (read_fault.Unavailable Disk) }
         ensures finds { Finds means (IsTold result) KeepsAll self.old self.new }
-        ensures reads { Reads means self.old self.new }
+        ensures reads { ReadsOnly means self.old self.new }
     {
         let asked = *asked;
         account_answer(self.in_batch(digest, TransfersOf { alloc, asked }))
@@ -238,7 +238,7 @@ pub trait Ledgers {
         ensures failed { means.has_failed self.old ≡ true
             → result ≡ Err (read_fault.Unavailable Disk) }
         ensures finds { Finds means (IsTold result) KeepsAll self.old self.new }
-        ensures reads { Reads means self.old self.new }
+        ensures reads { ReadsOnly means self.old self.new }
     {
         let asked = *asked;
         account_answer(self.in_batch(digest, BalancesOf { alloc, asked }))
@@ -264,7 +264,7 @@ pub trait Ledgers {
         ensures failed { means.has_failed self.old ≡ true
             → result ≡ Err (read_fault.Unavailable Disk) }
         ensures finds { Finds means (IsTold result) KeepsAll self.old self.new }
-        ensures reads { Reads means self.old self.new }
+        ensures reads { ReadsOnly means self.old self.new }
     {
         let mut span = first_piece(order);
         'pieces: for _ in 0..u64::MAX {

@@ -1,7 +1,7 @@
 ghost use Rattle.std.specs.Prelude.{IfOk};
 ghost use Rattle.records.specs.Machine.{Machine};
 ghost use Rattle.chain.specs.Tables.{IsFresh};
-ghost use Rattle.chain.specs.Ledgers.{IsOver};
+ghost use Rattle.chain.specs.Ledgers.{IsWorkOver};
 
 use crate::Tables;
 use records::Unavailable;
@@ -20,5 +20,5 @@ pub trait Work {
         requires fresh { T.means.is_live tables.old → IsFresh (T.means.state tables.old) }
         ensures gives { T.means.is_live tables.new → IfOk result (λ output.
             gives self (T.means.state tables.old).now output (T.means.state tables.new).now) }
-        ensures over { IsOver T.means tables.old tables.new result };
+        ensures over { IsWorkOver T.means tables.old tables.new result };
 }

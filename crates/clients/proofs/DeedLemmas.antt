@@ -11,20 +11,20 @@ use Rattle.parts.specs.declared.rest.Part.{Part}
 use Rattle.service.specs.Connections.{connection, Exchange}
 use Rattle.clients.specs.Talk.{Talk, received, is_written}
 use Rattle.clients.specs.Answering.{MayCome}
-use Rattle.clients.specs.Turns.{Sent, Clients, clients, Told, Turn, Turns, Nothing, More}
-use Rattle.clients.specs.Deeds.{Room, Deed, Came, Ended, Replied, Continued, Wrote, client_of, IsDone, Begin, Then, came_in, come_from, told_in, all_told, sent_with, sent_by, clients_of, AreExchanges}
+use Rattle.clients.specs.Turns.{Sent, Clients, clients, ToldReply, Turn, ClientTurns, Nothing, More}
+use Rattle.clients.specs.Deeds.{Room, Act, Came, Ended, Replied, Continued, Wrote, client_of, IsActed, Begin, Then, came_in, come_from, told_in, all_told, sent_with, sent_by, clients_of, AreExchanges}
 use Rattle.clients.proofs.ClientLemmas.{by_client, if_own-own, if_own-other}
 
 -- what one deed adds to a list of all deeds
 pub one_deed_more :
-    {A : Type 0} (part : Deed → List A) (deeds : List Deed) (deed : Deed) →
+    {A : Type 0} (part : Act → List A) (deeds : List Act) (deed : Act) →
     flat_map part (deeds ++ deed ∷ []) ≡ flat_map part deeds ++ part deed
 one_deed_more part deeds deed =
     flat_map-append part deeds (deed ∷ [])
     ∙ ap (λ rest. flat_map part deeds ++ rest) (append-nil (part deed))
 
 -- another client has not sent this
-came_in-other : (deed : Deed) (other : ℕ) → other ≢ client_of deed → came_in other deed ≡ []
+came_in-other : (deed : Act) (other : ℕ) → other ≢ client_of deed → came_in other deed ≡ []
 came_in-other (Came client piece) other differ = if_own-other client other piece differ
 came_in-other (Ended client) other differ = refl
 came_in-other (Replied client reply) other differ = refl
@@ -32,7 +32,7 @@ came_in-other (Continued client part) other differ = refl
 came_in-other (Wrote client bytes) other differ = refl
 
 -- what is still to come behind a deed, with what came by it, was still to come before it
-abbrev pub before : Deed → (ℕ → List ℕ) → ℕ → List ℕ
+abbrev pub before : Act → (ℕ → List ℕ) → ℕ → List ℕ
 before deed later client = came_in client deed ++ later client
 
 may_come_other :
@@ -44,7 +44,7 @@ may_come_other old new came later same none may =
 
 may_come_own :
     {S C : Type 0} (t : LedgersMeaning S) (gives : C → ℕ → C → Type 0) (old new : Room S C)
-    (deed : Deed) (later : List ℕ) → IsDone t gives old deed new →
+    (deed : Act) (later : List ℕ) → IsActed t gives old deed new →
     MayCome (new.talks (client_of deed)).unread later →
     MayCome (old.talks (client_of deed)).unread (came_in (client_of deed) deed ++ later)
 may_come_own t gives old new (Came client piece) later done may =
@@ -60,7 +60,7 @@ may_come_own t gives old new (Wrote client bytes) later done may =
 
 pub may_come_before :
     {S C : Type 0} (t : LedgersMeaning S) (gives : C → ℕ → C → Type 0) (old new : Room S C)
-    (deed : Deed) (later : ℕ → List ℕ) → IsDone t gives old deed new →
+    (deed : Act) (later : ℕ → List ℕ) → IsActed t gives old deed new →
     ((client : ℕ) → MayCome (new.talks client).unread (later client)) →
     (client : ℕ) → MayCome (old.talks client).unread (before deed later client)
 may_come_before t gives old new deed later done may =
@@ -73,7 +73,7 @@ may_come_before t gives old new deed later done may =
 -- all others have sent the same
 sent_same_other :
     {S C : Type 0} (t : LedgersMeaning S) (gives : C → ℕ → C → Type 0) (old new : Room S C)
-    (deed : Deed) (later : ℕ → List ℕ) → IsDone t gives old deed new →
+    (deed : Act) (later : ℕ → List ℕ) → IsActed t gives old deed new →
     (other : ℕ) → other ≢ client_of deed →
     sent_with (later other) (new.talks other) ≡ sent_with (before deed later other) (old.talks other)
 sent_same_other t gives old new deed later done other differ =
@@ -103,7 +103,7 @@ received_sent piece later old new is =
 -- behind a deed that is no reply all that came is the same
 came_same :
     {S C : Type 0} (t : LedgersMeaning S) (gives : C → ℕ → C → Type 0) (old new : Room S C)
-    (client : ℕ) (piece : List ℕ) (later : ℕ → List ℕ) → IsDone t gives old (Came client piece) new →
+    (client : ℕ) (piece : List ℕ) (later : ℕ → List ℕ) → IsActed t gives old (Came client piece) new →
     clients_of new later ≡ clients_of old (before (Came client piece) later)
 came_same t gives old new client piece later done =
     same_clients old new (before (Came client piece) later) later done.does.0.ledgers_same
@@ -119,7 +119,7 @@ came_same t gives old new client piece later done =
 
 ended_same :
     {S C : Type 0} (t : LedgersMeaning S) (gives : C → ℕ → C → Type 0) (old new : Room S C)
-    (client : ℕ) (later : ℕ → List ℕ) → IsDone t gives old (Ended client) new →
+    (client : ℕ) (later : ℕ → List ℕ) → IsActed t gives old (Ended client) new →
     clients_of new later ≡ clients_of old later
 ended_same t gives old new client later done =
     same_clients old new later later done.does.ledgers_same done.does.moments_same
@@ -132,7 +132,7 @@ ended_same t gives old new client later done =
 wrote_same :
     {S C : Type 0} (t : LedgersMeaning S) (gives : C → ℕ → C → Type 0) (old new : Room S C)
     (client : ℕ) (bytes : List ℕ) (later : ℕ → List ℕ) →
-    IsDone t gives old (Wrote client bytes) new → clients_of new later ≡ clients_of old later
+    IsActed t gives old (Wrote client bytes) new → clients_of new later ≡ clients_of old later
 wrote_same t gives old new client bytes later done =
     same_clients old new later later done.does.ledgers_same done.does.moments_same
     (by_client
@@ -144,7 +144,7 @@ wrote_same t gives old new client bytes later done =
 continued_same :
     {S C : Type 0} (t : LedgersMeaning S) (gives : C → ℕ → C → Type 0) (old new : Room S C)
     (client : ℕ) (part : Part) (later : ℕ → List ℕ) →
-    IsDone t gives old (Continued client part) new → clients_of new later ≡ clients_of old later
+    IsActed t gives old (Continued client part) new → clients_of new later ≡ clients_of old later
 continued_same t gives old new client part later done =
     same_clients old new later later done.does.0.ledgers_same done.does.0.moments_same
     (by_client
@@ -157,7 +157,7 @@ continued_same t gives old new client part later done =
 replied_turn :
     {S C : Type 0} (t : LedgersMeaning S) (gives : C → ℕ → C → Type 0) (old new : Room S C)
     (client : ℕ) (reply : Reply) (later : ℕ → List ℕ) →
-    IsDone t gives old (Replied client reply) new →
+    IsActed t gives old (Replied client reply) new →
     MayCome (old.talks client).unread (later client) →
     Turn t gives (clients_of old later) (record { client = client; reply = reply })
     (clients_of new later)
@@ -177,22 +177,22 @@ replied_turn t gives old new client reply later done may = record {
 }
 
 abbrev pub TurnsTo :
-    {S C : Type 0} → LedgersMeaning S → (C → ℕ → C → Type 0) → Clients S C → List Told → Clients S C
+    {S C : Type 0} → LedgersMeaning S → (C → ℕ → C → Type 0) → Clients S C → List ToldReply → Clients S C
     → Type 0
-TurnsTo {S} {C} t gives first all last = Turns S C t gives first all last
+TurnsTo {S} {C} t gives first all last = ClientTurns S C t gives first all last
 
 stay :
     {S C : Type 0} (t : LedgersMeaning S) (gives : C → ℕ → C → Type 0) (first old new : Clients S C)
-    (all : List Told) → TurnsTo t gives first all old → new ≡ old →
+    (all : List ToldReply) → TurnsTo t gives first all old → new ≡ old →
     TurnsTo t gives first (all ++ []) new
 stay t gives first old new all turns same =
-    subst (λ (told : List Told). TurnsTo t gives first told new) (sym (append-nil all))
+    subst (λ (told : List ToldReply). TurnsTo t gives first told new) (sym (append-nil all))
     (subst (λ now. TurnsTo t gives first all now) (sym same) turns)
 
 one_deed :
     {S C : Type 0} (t : LedgersMeaning S) (gives : C → ℕ → C → Type 0) (first : Clients S C)
-    (old new : Room S C) (deed : Deed) (all : List Told) (later : ℕ → List ℕ) →
-    IsDone t gives old deed new →
+    (old new : Room S C) (deed : Act) (all : List ToldReply) (later : ℕ → List ℕ) →
+    IsActed t gives old deed new →
     ((client : ℕ) → MayCome (old.talks client).unread (before deed later client)) →
     TurnsTo t gives first all (clients_of old (before deed later)) →
     TurnsTo t gives first (all ++ told_in deed) (clients_of new later)
@@ -213,7 +213,7 @@ one_deed t gives first old new (Replied client reply) all later done may turns =
     (clients_of new later) turns
     (replied_turn t gives old new client reply later done (may client))
 
-come_from-more : (client : ℕ) (deeds : List Deed) (deed : Deed) (later : List ℕ) →
+come_from-more : (client : ℕ) (deeds : List Act) (deed : Act) (later : List ℕ) →
     come_from client deeds ++ (came_in client deed ++ later)
     ≡ come_from client (deeds ++ deed ∷ []) ++ later
 come_from-more client deeds deed later =
@@ -221,7 +221,7 @@ come_from-more client deeds deed later =
     ∙ ap (λ (came : List ℕ). came ++ later) (sym (one_deed_more (came_in client) deeds deed))
 
 -- all that came, and what comes later
-abbrev pub in_all : List Deed → (ℕ → List ℕ) → ℕ → List ℕ
+abbrev pub in_all : List Act → (ℕ → List ℕ) → ℕ → List ℕ
 in_all deeds later client = come_from client deeds ++ later client
 
 -- whatever came in whatever pieces, the replies are those of turns over all that came
@@ -237,7 +237,7 @@ are_exchanges t gives first last deeds (Then earlier mid deed next lives done) l
     TurnsTo t gives (clients_of first all) (all_told (earlier ++ deed ∷ [])) (clients_of next later))
     came
     (subst
-    (λ (told : List Told).
+    (λ (told : List ToldReply).
     TurnsTo t gives (clients_of first (in_all earlier (before deed later))) told
     (clients_of next later))
     (sym (one_deed_more told_in earlier deed))

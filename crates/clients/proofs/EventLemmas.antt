@@ -3,7 +3,7 @@ use Rattle.std.proofs.Common.{◌⊎◌, inl, inr, ℕ, List, [], ◌++◌, appe
 use Rattle.std.proofs.lemmas.List.{append-nil}
 use Rattle.chain.specs.Ledgers.{LedgersMeaning}
 use Rattle.ledger_http.specs.declared.reply.Reply.{Reply}
-use Rattle.service.specs.Connections.{Connection, IsAnswered, IsTurnedAway, LacksMemory}
+use Rattle.service.specs.Connections.{Connection, IsFirstAnswered, IsTurnedAway, LacksMemory}
 use Rattle.service.specs.Courses.{Event, Course, Begin}
 use Rattle.service.specs.ConnectionEvents.{event_in, ExchangesLeadOn}
 use Rattle.service.specs.OwnDeeds.{EachSeesItself}
@@ -17,7 +17,7 @@ StaysDead {S} t = (a b : S) → t.follows a b → t.is_live b → t.is_live a
 live_before :
     {S C : Type 0} (t : LedgersMeaning S) (gives : C → ℕ → C → Type 0) (old new : Connection S C)
     (reply : Reply) → StaysDead t →
-    IsAnswered t gives old reply new ⊎ (IsTurnedAway old reply new ⊎ LacksMemory old reply new) →
+    IsFirstAnswered t gives old reply new ⊎ (IsTurnedAway old reply new ⊎ LacksMemory old reply new) →
     t.is_live new.ledgers → t.is_live old.ledgers
 live_before t gives old new reply lived (inl answered) live =
     lived old.ledgers new.ledgers answered.follows live

@@ -15,9 +15,9 @@ use Rattle.parts.specs.declared.rest.Rest.{Rest}
 use Rattle.service.specs.Begun.{reply_of, reply_with}
 use Rattle.service.specs.declared.begun.Begun.{Begun}
 use Rattle.service.specs.Replies.{unavailable}
-use Rattle.service.specs.Responds.{Responds, RefusesEarly, IsAnswered, IsLeftBy, IsLeftSame}
+use Rattle.service.specs.Responds.{Responds, RefusesEarly, IsQuestionAnswered, IsLeftBy, IsLeftSame}
 use Rattle.clients.specs.Talk.{Talk, may_answer, is_written}
-use Rattle.clients.specs.Answering.{AreHeld, MayCome, IsExchange, IsUnmoved, HasReplied, GivesUp}
+use Rattle.clients.specs.Answering.{AreHeld, MayCome, IsExchange, IsUnmoved, IsReplyReady, TellsGivenUp}
 
 -- what comes later changes nothing of the first message
 abbrev pub BeginsStay : Type 0
@@ -46,7 +46,7 @@ unfoldable pub answers_at :
     (t.is_live ledgers_now →
     Responds (t.tenants ledgers) (t.tenants ledgers_now) (take size old.bytes) moment reply) →
     RefusesEarly (take size old.bytes) reply →
-    Finds t (IsAnswered (take size old.bytes) reply) (IsLeftBy (take size old.bytes) moment) ledgers
+    Finds t (IsQuestionAnswered (take size old.bytes) reply) (IsLeftBy (take size old.bytes) moment) ledgers
     ledgers_now →
     t.follows ledgers ledgers_now →
     IsExchange t gives ledgers moments old reply ledgers_now moments_now (without size old) goes_on
@@ -79,7 +79,7 @@ pub answers_whole :
     (t.is_live ledgers_now →
     Responds (t.tenants ledgers) (t.tenants ledgers_now) message moment reply) →
     RefusesEarly message reply →
-    Finds t (IsAnswered message reply) (IsLeftBy message moment) ledgers ledgers_now →
+    Finds t (IsQuestionAnswered message reply) (IsLeftBy message moment) ledgers ledgers_now →
     t.follows ledgers ledgers_now →
     IsExchange t gives ledgers moments old reply ledgers_now moments_now now true
     × (now.ended ≡ old.ended)
@@ -101,7 +101,7 @@ answers_whole t gives ledgers ledgers_now moments moments_now old same now messa
           (subst (λ (bytes : List ℕ). RefusesEarly bytes reply) first early)
           (subst
           (λ (bytes : List ℕ).
-          Finds t (IsAnswered bytes reply) (IsLeftBy bytes moment) ledgers ledgers_now)
+          Finds t (IsQuestionAnswered bytes reply) (IsLeftBy bytes moment) ledgers ledgers_now)
           first finds)
           follows),
       ap (λ (unread : Unread). unread.ended) left,
@@ -194,7 +194,7 @@ pub has_replied :
     AreHeld t ledgers_now rest_now →
     IsExchange t gives ledgers moments inbox reply ledgers_now moments_now now goes_on_now
     × (now.ended ≡ inbox.ended) →
-    HasReplied t gives ledgers moments old reply ledgers_now moments_now
+    IsReplyReady t gives ledgers moments old reply ledgers_now moments_now
     (talk_of now unsent rest_now goes_on_now)
 has_replied t gives ledgers ledgers_now moments moments_now old inbox now outbox unsent rest rest_now goes_on reply goes_on_now is put held exchanged =
     let first : inbox ≡ old.unread = ap (λ (talk : Talk). talk.unread) is in
@@ -240,7 +240,7 @@ AnnouncedStays = (unread later : List ℕ) → IsAnnounced unread → IsAnnounce
 
 pub gives_up :
     {S C : Type 0} (t : LedgersMeaning S) (gives : C → ℕ → C → Type 0) → AnnouncedStays →
-    GivesUp t gives
+    TellsGivenUp t gives
 gives_up t gives stays ledgers moments talk announced = record {
   exchange = λ later may. record {
     open_before = refl;

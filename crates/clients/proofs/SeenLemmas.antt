@@ -13,22 +13,22 @@ use Rattle.ledger_http.specs.ReplyText.{reply_text}
 use Rattle.ledger_http.specs.Results.{and_then}
 use Rattle.ledger_http.specs.Message.{First, first_message}
 use Rattle.ledger_http.specs.Question.{Question, as_early, question_in, asked_of}
-use Rattle.service.specs.Connections.{connection, Connection, IsAnswered, IsTurnedAway, LacksMemory}
+use Rattle.service.specs.Connections.{connection, Connection, IsFirstAnswered, IsTurnedAway, LacksMemory}
 use Rattle.service.specs.Courses.{Replied}
 use Rattle.service.specs.Deeds.{asking, tenant_of, after_deed, IsDeedDone}
 use Rattle.service.specs.Replies.{unavailable}
-use Rattle.service.specs.Responds.{Answers, Responds, RefusesEarly, IsLeftBy, IsLeftByAsked}
+use Rattle.service.specs.Responds.{AnswersAsked, Responds, RefusesEarly, IsLeftBy, IsLeftByAsked}
 use Rattle.service.specs.Responds as response
-use Rattle.service.specs.Seen.{Seen, Whole, Within, seen}
+use Rattle.service.specs.Seen.{SeenAt, Whole, Within, seen}
 use Rattle.clients.specs.Talk.{Talk, may_answer, is_written}
-use Rattle.clients.specs.Answering.{HasReplied}
-use Rattle.clients.specs.Within.{replied_to, Asks, IsReady, after_asking, AnswersLeave, AreSeen}
+use Rattle.clients.specs.Answering.{IsReplyReady}
+use Rattle.clients.specs.Within.{replied_to, Asks, IsNextReady, after_asking, AnswersLeave, AreSeen}
 use Rattle.clients.specs.Within.{HeadsAreUnique}
 use Rattle.clients.specs.Within.{RepliesWithin, TellsUnavailable}
 use Rattle.clients.proofs.ExchangeLemmas.{BeginsStay, answers_at}
 
 -- a connection over ledgers, at a point where no round is open
-abbrev pub seen_over : {S C : Type 0} → Connection S C → Connection (Seen S) C
+abbrev pub seen_over : {S C : Type 0} → Connection S C → Connection (SeenAt S) C
 seen_over old = record {
   ledgers = Whole old.ledgers;
   unread = old.unread;
@@ -39,8 +39,8 @@ seen_over old = record {
 module _ {S C : Type 0} (t : LedgersMeaning S) (gives : C → ℕ → C → Type 0) where
   seen_by :
       (old new : Connection S C) (reply : Reply) →
-      IsAnswered t gives old reply new ⊎ (IsTurnedAway old reply new ⊎ LacksMemory old reply new) →
-      IsAnswered (seen t) gives (seen_over old) reply (seen_over new)
+      IsFirstAnswered t gives old reply new ⊎ (IsTurnedAway old reply new ⊎ LacksMemory old reply new) →
+      IsFirstAnswered (seen t) gives (seen_over old) reply (seen_over new)
       ⊎ (IsTurnedAway (seen_over old) reply (seen_over new)
       ⊎ LacksMemory (seen_over old) reply (seen_over new))
   seen_by old new reply (inl answered) =
@@ -165,7 +165,7 @@ after_by false old new question moment digest is done =
 pub answers_leave : HeadsAreUnique → AnswersLeave
 answers_leave unique old new bytes question moment reply asks responds available =
     let answers =
-    subst (λ (asked : Result Question Early). Answers old new asked moment (reply_text reply))
+    subst (λ (asked : Result Question Early). AnswersAsked old new asked moment (reply_text reply))
     (ap (asked_of bytes) (unique bytes responds.head asks.0 responds.has asks.1) ∙ asks.2)
     (responds.answered available) in
     fun_ext (λ digest.
@@ -179,15 +179,15 @@ goes_on_of talk may = (and_parts talk.goes_on (is_written talk) may).0
 ready_replied :
     {S C : Type 0} (t : LedgersMeaning S) (gives : C → ℕ → C → Type 0) → BeginsStay →
     (ledgers ledgers_now : S) (moments moments_now : C) (talk : Talk) (size moment : ℕ)
-    (question : Question) (reply : Reply) → IsReady talk size question →
+    (question : Question) (reply : Reply) → IsNextReady talk size question →
     gives moments moment moments_now →
     (t.is_live ledgers_now →
     Responds (t.tenants ledgers) (t.tenants ledgers_now) (take size talk.unread.bytes) moment
     reply) →
-    Finds t (response.IsAnswered (take size talk.unread.bytes) reply)
+    Finds t (response.IsQuestionAnswered (take size talk.unread.bytes) reply)
     (IsLeftBy (take size talk.unread.bytes) moment) ledgers ledgers_now →
     t.follows ledgers ledgers_now →
-    HasReplied t gives ledgers moments talk reply ledgers_now moments_now
+    IsReplyReady t gives ledgers moments talk reply ledgers_now moments_now
     (replied_to size reply talk)
 ready_replied t gives stays ledgers ledgers_now moments moments_now talk size moment question reply
     ready given responds finds follows = record {

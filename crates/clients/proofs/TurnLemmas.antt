@@ -5,9 +5,9 @@ use Rattle.std.proofs.lemmas.Grind.{flat_map-append}
 use Rattle.std.proofs.lemmas.List.{append-nil}
 use Rattle.chain.specs.Ledgers.{LedgersMeaning}
 use Rattle.ledger_http.specs.declared.reply.Reply.{Reply}
-use Rattle.clients.specs.Turns.{Sent, Clients, Told, Turn, Nothing, More, if_told, told_to, HearsOne, Hears, Nothing_yet, One_more, HearTheirOwn}
+use Rattle.clients.specs.Turns.{Sent, Clients, ToldReply, Turn, Nothing, More, if_told, told_to, HearsFirst, Hears, Nothing_yet, One_more, HearTheirOwn}
 
-pub told_to-more : (client : ℕ) (all : List Told) (told : Told) →
+pub told_to-more : (client : ℕ) (all : List ToldReply) (told : ToldReply) →
     told_to client (all ++ told ∷ []) ≡ told_to client all ++ if_told client told
 told_to-more client all told =
     flat_map-append (if_told client) all (told ∷ [])
@@ -16,7 +16,7 @@ told_to-more client all told =
 hears_if :
     {S C : Type 0} (t : LedgersMeaning S) (gives : C → ℕ → C → Type 0) (first old new : Sent)
     (replies : List Reply) (reply : Reply) (b : Bool) → Hears S C t gives first replies old →
-    (b ≡ true → HearsOne t gives old reply new) → (b ≡ false → new ≡ old) →
+    (b ≡ true → HearsFirst t gives old reply new) → (b ≡ false → new ≡ old) →
     Hears S C t gives first (replies ++ (if b then reply ∷ [] else [])) new
 hears_if t gives first old new replies reply true heard own other =
     One_more replies old reply new heard (own refl)
@@ -26,8 +26,8 @@ hears_if {S} {C} t gives first old new replies reply false heard own other =
 
 turn_heard :
     {S C : Type 0} (t : LedgersMeaning S) (gives : C → ℕ → C → Type 0) (old new : Clients S C)
-    (told : Told) → Turn t gives old told new →
-    HearsOne t gives (old.sent told.client) told.reply (new.sent told.client)
+    (told : ToldReply) → Turn t gives old told new →
+    HearsFirst t gives (old.sent told.client) told.reply (new.sent told.client)
 turn_heard t gives old new told turn = record {
   ledgers = old.ledgers;
   moments = old.moments;
@@ -47,7 +47,7 @@ hear_their_own {S} {C} t gives first last all (More before mid told next turns t
     (told_to client before) told.reply (nat_eq told.client client)
     (hear_their_own t gives first mid before turns client)
     (λ own.
-    subst (λ (i : ℕ). HearsOne t gives (mid.sent i) told.reply (next.sent i))
+    subst (λ (i : ℕ). HearsFirst t gives (mid.sent i) told.reply (next.sent i))
     (eqb-true told.client client own) (turn_heard t gives mid next told turn))
     (λ other.
     turn.others client (λ (same : client ≡ told.client). eqb-false told.client client other (sym same))))

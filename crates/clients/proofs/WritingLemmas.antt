@@ -10,10 +10,10 @@ use Rattle.service.specs.Connections.{texts_of}
 use Rattle.parts.specs.Parts.{chunks_left}
 use Rattle.parts.specs.declared.rest.Rest.{Rest}
 use Rattle.parts.proofs.LeftLemmas.{part_left}
-use Rattle.clients.specs.Talk.{IsWritten, Talk, is_empty, is_written, owed}
+use Rattle.clients.specs.Talk.{HasNothingUnsent, Talk, is_empty, is_written, owed}
 use Rattle.clients.specs.Answering.{MayCome}
-use Rattle.clients.specs.Turns.{Told, if_told, told_to, Hears, HearTheirOwn}
-use Rattle.clients.specs.Deeds.{Room, Deed, Came, Ended, Replied, Continued, Wrote, client_of, HasYet, IsDone, Begin, Then, machines_after, machines_then, if_own, come_from, written_in, written_to, told_in, all_told, sent_with, clients_of, AreExchanges, AreWritten, AreServed}
+use Rattle.clients.specs.Turns.{ToldReply, if_told, told_to, Hears, HearTheirOwn}
+use Rattle.clients.specs.Deeds.{Room, Act, Came, Ended, Replied, Continued, Wrote, client_of, HasYet, IsActed, Begin, Then, machines_after, machines_then, if_own, come_from, written_in, written_to, told_in, all_told, sent_with, clients_of, AreExchanges, AreWritten, AreServed}
 use Rattle.clients.proofs.ClientLemmas.{by_client, if_own-own, if_own-other}
 use Rattle.clients.proofs.DeedLemmas.{one_deed_more}
 
@@ -32,14 +32,14 @@ none_left None none = refl
 none_left (Some rest) none = absurd (false≢true none)
 
 -- of a reply that is written nothing is left
-written_so : (talk : Talk) → is_written talk ≡ true → IsWritten talk
+written_so : (talk : Talk) → is_written talk ≡ true → HasNothingUnsent talk
 written_so talk written =
     let both = and_parts (is_empty talk.unsent) (is_none talk.rest) written in
     (nothing_left talk.unsent both.0, none_left talk.rest both.1)
 
 -- what is owed before a deed, with the replies by it, is what was written by it and what is owed
 -- behind it
-abbrev pub Keeps : ℕ → Deed → Tenants → Talk → Tenants → Talk → Type 0
+abbrev pub Keeps : ℕ → Act → Tenants → Talk → Tenants → Talk → Type 0
 Keeps client deed machines old machines_now new =
     owed machines old ++ texts_of (told_to client (told_in deed))
     ≡ written_in client deed ++ owed machines_now new
@@ -50,7 +50,7 @@ same_owed machines old new same = append-nil (owed machines old) ∙ sym same
 
 module _ {S C : Type 0} (t : LedgersMeaning S) (gives : C → ℕ → C → Type 0) where
   keeps_own :
-      (machines : Tenants) (old new : Room S C) (deed : Deed) → IsDone t gives old deed new →
+      (machines : Tenants) (old new : Room S C) (deed : Act) → IsActed t gives old deed new →
       HasYet t machines (client_of deed) deed old →
       Keeps (client_of deed) deed machines (old.talks (client_of deed))
       (machines_after (client_of deed) deed (t.tenants new.ledgers) machines)
@@ -90,7 +90,7 @@ module _ {S C : Type 0} (t : LedgersMeaning S) (gives : C → ℕ → C → Type
       (sym (eq-eqb client client refl))
 
   other_machines :
-      (deed : Deed) (other : ℕ) (now before : Tenants) → other ≢ client_of deed →
+      (deed : Act) (other : ℕ) (now before : Tenants) → other ≢ client_of deed →
       machines_after other deed now before ≡ before
   other_machines (Came client piece) other now before differ = refl
   other_machines (Ended client) other now before differ = refl
@@ -100,14 +100,14 @@ module _ {S C : Type 0} (t : LedgersMeaning S) (gives : C → ℕ → C → Type
   other_machines (Continued client part) other now before differ =
       ap (λ (b : Bool). if b then now else before) (ne_eqb client other (λ (same : client ≡ other). differ (sym same)))
 
-  none_written : (deed : Deed) (other : ℕ) → other ≢ client_of deed → written_in other deed ≡ []
+  none_written : (deed : Act) (other : ℕ) → other ≢ client_of deed → written_in other deed ≡ []
   none_written (Came client piece) other differ = refl
   none_written (Ended client) other differ = refl
   none_written (Replied client reply) other differ = refl
   none_written (Continued client part) other differ = refl
   none_written (Wrote client bytes) other differ = if_own-other client other bytes differ
 
-  none_told : (deed : Deed) (other : ℕ) → other ≢ client_of deed → texts_of (told_to other (told_in deed)) ≡ []
+  none_told : (deed : Act) (other : ℕ) → other ≢ client_of deed → texts_of (told_to other (told_in deed)) ≡ []
   none_told (Came client piece) other differ = refl
   none_told (Ended client) other differ = refl
   none_told (Replied client reply) other differ =
@@ -116,7 +116,7 @@ module _ {S C : Type 0} (t : LedgersMeaning S) (gives : C → ℕ → C → Type
   none_told (Wrote client bytes) other differ = refl
 
   keeps_other :
-      (machines now : Tenants) (deed : Deed) (other : ℕ) (old new : Talk) → other ≢ client_of deed →
+      (machines now : Tenants) (deed : Act) (other : ℕ) (old new : Talk) → other ≢ client_of deed →
       new ≡ old → Keeps other deed machines old (machines_after other deed now machines) new
   keeps_other machines now deed other old new differ same =
       ap (λ (texts : List ℕ). owed machines old ++ texts) (none_told deed other differ)
@@ -127,7 +127,7 @@ module _ {S C : Type 0} (t : LedgersMeaning S) (gives : C → ℕ → C → Type
       (sym (none_written deed other differ))
 
   pub keeps :
-      (machines : Tenants) (old new : Room S C) (deed : Deed) → IsDone t gives old deed new → (client : ℕ) →
+      (machines : Tenants) (old new : Room S C) (deed : Act) → IsActed t gives old deed new → (client : ℕ) →
       HasYet t machines client deed old →
       Keeps client deed machines (old.talks client)
       (machines_after client deed (t.tenants new.ledgers) machines) (new.talks client)
@@ -141,16 +141,16 @@ module _ {S C : Type 0} (t : LedgersMeaning S) (gives : C → ℕ → C → Type
       keeps_other machines (t.tenants new.ledgers) deed other (old.talks other) (new.talks other) differ
       (done.others other differ))
 
-told_to-append : (client : ℕ) (front back : List Told) →
+told_to-append : (client : ℕ) (front back : List ToldReply) →
     told_to client (front ++ back) ≡ told_to client front ++ told_to client back
 told_to-append client front back = flat_map-append (if_told client) front back
 
 -- the texts of all replies to a client, with those of one deed more
-texts-more : (client : ℕ) (deeds : List Deed) (deed : Deed) →
+texts-more : (client : ℕ) (deeds : List Act) (deed : Act) →
     texts_of (told_to client (all_told (deeds ++ deed ∷ [])))
     ≡ texts_of (told_to client (all_told deeds)) ++ texts_of (told_to client (told_in deed))
 texts-more client deeds deed =
-    ap (λ (all : List Told). texts_of (told_to client all)) (one_deed_more told_in deeds deed)
+    ap (λ (all : List ToldReply). texts_of (told_to client all)) (one_deed_more told_in deeds deed)
     ∙ ap texts_of (told_to-append client (all_told deeds) (told_in deed))
     ∙ texts-append (told_to client (all_told deeds)) (told_to client (told_in deed))
 

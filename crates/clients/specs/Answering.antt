@@ -6,7 +6,7 @@ use Rattle.ledger_http.specs.declared.reply.Reply.TheVariants.{Fixed}
 use Rattle.ledger_http.specs.ReplyText.{reply_text}
 use Rattle.ledger_http.specs.Message.{IsAnnounced}
 use Rattle.ledger_http.specs.Unread.{Unread, IsShort}
-use Rattle.parts.specs.Parts.{IsHeld}
+use Rattle.parts.specs.Parts.{IsRestHeld}
 use Rattle.parts.specs.declared.rest.Rest.{Rest}
 use Rattle.service.specs.Begun.{reply_of}
 use Rattle.service.specs.Replies.{unavailable}
@@ -43,33 +43,33 @@ abbrev pub IsWanting : Unread → Type 0
 IsWanting unread = (unread.ended ≡ false) × IsShort unread.bytes
 
 -- nothing is left to answer
-abbrev pub IsOver : Unread → Type 0
-IsOver unread = (unread.ended ≡ true) × (unread.bytes ≡ [])
+abbrev pub IsAllAnswered : Unread → Type 0
+IsAllAnswered unread = (unread.ended ≡ true) × (unread.bytes ≡ [])
 
 -- what is left of a statement is held by the ledgers, as long as they are live
 abbrev pub AreHeld : {S : Type 0} → LedgersMeaning S → S → Option Rest → Type 0
 AreHeld t ledgers rest =
-    IfSome rest (λ rest. t.is_live ledgers → IsHeld (t.tenants ledgers) rest)
+    IfSome rest (λ rest. t.is_live ledgers → IsRestHeld (t.tenants ledgers) rest)
 
 -- what answering the first message of what has come gives
-abbrev pub Exchanges :
+abbrev pub ExchangesFirst :
     {S C : Type 0} → LedgersMeaning S → (C → ℕ → C → Type 0) → S → C → Unread → S → C → Unread
     → Exchanged → Type 0
-Exchanges t gives ledgers moments old ledgers_now moments_now new (exchanged.Answered begun) =
+ExchangesFirst t gives ledgers moments old ledgers_now moments_now new (exchanged.Answered begun) =
     IsExchange t gives ledgers moments old (reply_of (t.tenants ledgers_now) begun) ledgers_now
     moments_now new true
     × (new.ended ≡ old.ended)
     × AreHeld t ledgers_now begun.rest
-Exchanges t gives ledgers moments old ledgers_now moments_now new (exchanged.Refused refusal) =
+ExchangesFirst t gives ledgers moments old ledgers_now moments_now new (exchanged.Refused refusal) =
     IsExchange t gives ledgers moments old (Fixed refusal) ledgers_now moments_now new false
     × (new.ended ≡ old.ended)
-Exchanges t gives ledgers moments old ledgers_now moments_now new exchanged.Wanting =
+ExchangesFirst t gives ledgers moments old ledgers_now moments_now new exchanged.Wanting =
     IsUnmoved ledgers moments old ledgers_now moments_now new × IsWanting old
-Exchanges t gives ledgers moments old ledgers_now moments_now new exchanged.Over =
-    IsUnmoved ledgers moments old ledgers_now moments_now new × IsOver old
+ExchangesFirst t gives ledgers moments old ledgers_now moments_now new exchanged.Over =
+    IsUnmoved ledgers moments old ledgers_now moments_now new × IsAllAnswered old
 
 -- a reply to the client's next message is ready to be written, of a statement its first part
-pub record HasReplied {S C : Type 0} (t : LedgersMeaning S) (gives : C → ℕ → C → Type 0)
+pub record IsReplyReady {S C : Type 0} (t : LedgersMeaning S) (gives : C → ℕ → C → Type 0)
     (ledgers : S) (moments : C) (old : Talk) (reply : Reply) (ledgers_now : S) (moments_now : C)
     (new : Talk) : Type 0 where
   pub exchange :
@@ -84,15 +84,15 @@ abbrev pub HasAnswered :
     {S C : Type 0} → LedgersMeaning S → (C → ℕ → C → Type 0) → S → C → Talk → S → C → Talk
     → Answered → Type 0
 HasAnswered t gives ledgers moments old ledgers_now moments_now new Replied =
-    (reply : Reply) × HasReplied t gives ledgers moments old reply ledgers_now moments_now new
+    (reply : Reply) × IsReplyReady t gives ledgers moments old reply ledgers_now moments_now new
 HasAnswered t gives ledgers moments old ledgers_now moments_now new Wanting =
     IsUnmoved ledgers moments old ledgers_now moments_now new × IsWanting old.unread
 HasAnswered t gives ledgers moments old ledgers_now moments_now new Over =
-    IsUnmoved ledgers moments old ledgers_now moments_now new × IsOver old.unread
+    IsUnmoved ledgers moments old ledgers_now moments_now new × IsAllAnswered old.unread
 
 -- where memory is wanting for a body that is due, the last reply says so
-abbrev pub GivesUp : {S C : Type 0} → LedgersMeaning S → (C → ℕ → C → Type 0) → Type 0
-GivesUp {S} {C} t gives =
+abbrev pub TellsGivenUp : {S C : Type 0} → LedgersMeaning S → (C → ℕ → C → Type 0) → Type 0
+TellsGivenUp {S} {C} t gives =
     (ledgers : S) (moments : C) (talk : Talk)
     → IsAnnounced talk.unread.bytes
-    → HasReplied t gives ledgers moments talk unavailable ledgers moments (given_up talk)
+    → IsReplyReady t gives ledgers moments talk unavailable ledgers moments (given_up talk)

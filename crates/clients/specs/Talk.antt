@@ -53,8 +53,8 @@ owed tenants talk = talk.unsent ++ chunks_left tenants talk.rest
 abbrev pub is_written : Talk → Bool
 is_written talk = is_empty talk.unsent && is_none talk.rest
 
-abbrev pub IsWritten : Talk → Type 0
-IsWritten talk = (talk.unsent ≡ []) × (talk.rest ≡ None)
+abbrev pub HasNothingUnsent : Talk → Type 0
+HasNothingUnsent talk = (talk.unsent ≡ []) × (talk.rest ≡ None)
 
 -- the next message is answered only when the reply to the last one is written
 abbrev pub may_answer : Talk → Bool

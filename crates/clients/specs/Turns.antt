@@ -31,37 +31,37 @@ abbrev pub connection_of : {S C : Type 0} → ℕ → Clients S C → Connection
 connection_of client clients = connected clients.ledgers clients.moments (clients.sent client)
 
 -- a reply, and to whom
-pub record Told : Type 0 where
+pub record ToldReply : Type 0 where
   pub client : ℕ
   pub reply : Reply
 
 -- one message of one client is answered to that client, and no other's are touched
 pub record Turn {S C : Type 0} (t : LedgersMeaning S) (gives : C → ℕ → C → Type 0)
-    (old : Clients S C) (told : Told) (new : Clients S C) : Type 0 where
+    (old : Clients S C) (told : ToldReply) (new : Clients S C) : Type 0 where
   pub exchange :
       Exchange t gives (connection_of told.client old) told.reply (connection_of told.client new)
   pub others : (other : ℕ) → other ≢ told.client → new.sent other ≡ old.sent other
 
 -- turns, one after the other
-pub data Turns (S C : Type 0) (t : LedgersMeaning S) (gives : C → ℕ → C → Type 0)
-    (first : Clients S C) : List Told → Clients S C → Type 0 where
-  Nothing : Turns S C t gives first [] first
+pub data ClientTurns (S C : Type 0) (t : LedgersMeaning S) (gives : C → ℕ → C → Type 0)
+    (first : Clients S C) : List ToldReply → Clients S C → Type 0 where
+  Nothing : ClientTurns S C t gives first [] first
   More :
-      (all : List Told) (last : Clients S C) (told : Told) (next : Clients S C) →
-      Turns S C t gives first all last → Turn t gives last told next →
-      Turns S C t gives first (all ++ told ∷ []) next
+      (all : List ToldReply) (last : Clients S C) (told : ToldReply) (next : Clients S C) →
+      ClientTurns S C t gives first all last → Turn t gives last told next →
+      ClientTurns S C t gives first (all ++ told ∷ []) next
 
 -- the replies to one client
-abbrev pub if_told : ℕ → Told → List Reply
+abbrev pub if_told : ℕ → ToldReply → List Reply
 if_told client told = if nat_eq told.client client then told.reply ∷ [] else []
 
-abbrev pub told_to : ℕ → List Told → List Reply
+abbrev pub told_to : ℕ → List ToldReply → List Reply
 told_to client all = flat_map (if_told client) all
 
 -- the messages of all clients that were read whole, as events
 abbrev pub events_in_turns :
     {S C : Type 0} {t : LedgersMeaning S} {gives : C → ℕ → C → Type 0} {first last : Clients S C}
-    {all : List Told} → Turns S C t gives first all last → List Event
+    {all : List ToldReply} → ClientTurns S C t gives first all last → List Event
 events_in_turns Nothing = []
 events_in_turns (More all last told next turns turn) =
     events_in_turns turns ++ event_in told.reply turn.exchange.by
@@ -70,7 +70,8 @@ events_in_turns (More all last told next turns turn) =
 abbrev pub TurnsLeadOn :
     {S C : Type 0} → LedgersMeaning S → (C → ℕ → C → Type 0) → Type 0
 TurnsLeadOn {S} {C} t gives =
-    (first last : Clients S C) (all : List Told) (turns : Turns S C t gives first all last)
+    (first last : Clients S C) (all : List ToldReply)
+    (turns : ClientTurns S C t gives first all last)
     → t.is_live last.ledgers
     → (began : Tenants) (events : List Event)
     → Course began events (t.tenants first.ledgers)
@@ -80,14 +81,15 @@ TurnsLeadOn {S} {C} t gives =
 abbrev pub ServeEachAlone :
     {S C : Type 0} → LedgersMeaning S → (C → ℕ → C → Type 0) → Type 0
 ServeEachAlone {S} {C} t gives =
-    (first last : Clients S C) (all : List Told) (turns : Turns S C t gives first all last)
+    (first last : Clients S C) (all : List ToldReply)
+    (turns : ClientTurns S C t gives first all last)
     → t.is_live last.ledgers
     → (digest : List ℕ)
     → SeesItself (t.tenants first.ledgers) (events_in_turns turns) (t.tenants last.ledgers) digest
 
 -- what stands first of what one client has sent gets this reply, by the ledgers as they are then
-pub record HearsOne {S C : Type 0} (t : LedgersMeaning S) (gives : C → ℕ → C → Type 0) (old : Sent)
-    (reply : Reply) (new : Sent) : Type 0 where
+pub record HearsFirst {S C : Type 0} (t : LedgersMeaning S) (gives : C → ℕ → C → Type 0)
+    (old : Sent) (reply : Reply) (new : Sent) : Type 0 where
   pub ledgers : S
   pub moments : C
   pub ledgers_then : S
@@ -102,14 +104,14 @@ pub data Hears (S C : Type 0) (t : LedgersMeaning S) (gives : C → ℕ → C �
   Nothing_yet : Hears S C t gives first [] first
   One_more :
       (replies : List Reply) (last : Sent) (reply : Reply) (next : Sent) →
-      Hears S C t gives first replies last → HearsOne t gives last reply next →
+      Hears S C t gives first replies last → HearsFirst t gives last reply next →
       Hears S C t gives first (replies ++ reply ∷ []) next
 
 -- each client hears the replies to its own messages, and no others
 abbrev pub HearTheirOwn :
     {S C : Type 0} → LedgersMeaning S → (C → ℕ → C → Type 0) → Type 0
 HearTheirOwn {S} {C} t gives =
-    (first last : Clients S C) (all : List Told)
-    → Turns S C t gives first all last
+    (first last : Clients S C) (all : List ToldReply)
+    → ClientTurns S C t gives first all last
     → (client : ℕ)
     → Hears S C t gives (first.sent client) (told_to client all) (last.sent client)

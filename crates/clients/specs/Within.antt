@@ -14,7 +14,7 @@ use Rattle.service.specs.Replies.{unavailable}
 use Rattle.service.specs.Responds.{Responds}
 use Rattle.service.specs.Seen.{Whole, Within, seen}
 use Rattle.clients.specs.Talk.{Talk, may_answer}
-use Rattle.clients.specs.Answering.{HasReplied}
+use Rattle.clients.specs.Answering.{IsReplyReady}
 
 -- the next message, of so many bytes, is taken, and this reply to it is to be written
 abbrev pub replied_to : ℕ → Reply → Talk → Talk
@@ -27,7 +27,7 @@ Asks bytes question =
     (head : Option RequestHead) × HasHead bytes head × (asked_of bytes head ≡ Ok question)
 
 -- the next message may be answered, has so many bytes, and asks this
-pub record IsReady (talk : Talk) (size : ℕ) (question : Question) : Type 0 where
+pub record IsNextReady (talk : Talk) (size : ℕ) (question : Question) : Type 0 where
   pub may : may_answer talk ≡ true
   pub whole : IsWhole talk.unread.bytes size
   pub asks : Asks (take size talk.unread.bytes) question
@@ -52,8 +52,9 @@ AnswersLeave =
 abbrev pub AreSeen : {S C : Type 0} → LedgersMeaning S → (C → ℕ → C → Type 0) → Type 0
 AreSeen {S} {C} t gives =
     (ledgers ledgers_now : S) (moments moments_now : C) (old new : Talk) (reply : Reply)
-    → HasReplied t gives ledgers moments old reply ledgers_now moments_now new
-    → HasReplied (seen t) gives (Whole ledgers) moments old reply (Whole ledgers_now) moments_now new
+    → IsReplyReady t gives ledgers moments old reply ledgers_now moments_now new
+    → IsReplyReady (seen t) gives (Whole ledgers) moments old reply
+    (Whole ledgers_now) moments_now new
 
 -- the reply that a message gets in a round is to the client's next message, whether or not the
 -- ledgers behind the round are live
@@ -61,13 +62,13 @@ abbrev pub RepliesWithin : {S C : Type 0} → LedgersMeaning S → (C → ℕ �
 RepliesWithin {S} {C} t gives =
     (ledgers : S) (machines : Tenants) (moments moments_now : C) (talk : Talk) (size : ℕ)
     (question : Question) (moment : ℕ) (reply : Reply)
-    → IsReady talk size question
+    → IsNextReady talk size question
     → gives moments moment moments_now
     → t.follows ledgers ledgers
     → (t.is_live ledgers
     → Responds machines (after_asking question moment machines) (take size talk.unread.bytes)
     moment reply)
-    → HasReplied (seen t) gives (Within ledgers machines) moments talk reply
+    → IsReplyReady (seen t) gives (Within ledgers machines) moments talk reply
     (Within ledgers (after_asking question moment machines)) moments_now
     (replied_to size reply talk)
 
@@ -77,11 +78,11 @@ abbrev pub TellsUnavailable : {S C : Type 0} → LedgersMeaning S → (C → ℕ
 TellsUnavailable {S} {C} t gives =
     (ledgers : S) (moments moments_now : C) (talk : Talk) (size : ℕ) (question : Question)
     (moment : ℕ)
-    → IsReady talk size question
+    → IsNextReady talk size question
     → gives moments moment moments_now
     → t.follows ledgers ledgers
     → (has :
-    HasReplied t gives ledgers moments talk unavailable ledgers moments_now
+    IsReplyReady t gives ledgers moments talk unavailable ledgers moments_now
     (replied_to size unavailable talk))
     × (event_in unavailable (has.exchange [] (λ ended. refl)).by
     ≡ Replied (Ok question) moment unavailable ∷ [])

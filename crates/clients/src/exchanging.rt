@@ -1,5 +1,5 @@
 //! One message of what has come from a client, and its reply.
-ghost use Rattle.clients.specs.Answering.{Exchanges};
+ghost use Rattle.clients.specs.Answering.{ExchangesFirst};
 
 use chain::Ledgers;
 use ledger_http::{Inbox, Next, Refusal, later_bytes_change_nothing};
@@ -27,7 +27,7 @@ pub(crate) fn exchange<L: Ledgers, C: Moments>(
     inbox: &mut Inbox,
 ) -> Exchanged
     requires { L.means.is_usable ledgers.old }
-    ensures exchanges { Exchanges L.means C.gives ledgers.old moments.old inbox.old
+    ensures exchanges { ExchangesFirst L.means C.gives ledgers.old moments.old inbox.old
         ledgers.new moments.new inbox.new result }
     ensures usable { L.means.is_usable ledgers.new }
     ensures follows { L.means.follows ledgers.old ledgers.new }

@@ -1,5 +1,5 @@
 //! Laws of many clients. The functions do nothing; their contracts are the laws.
-ghost use Rattle.clients.specs.Answering.{GivesUp};
+ghost use Rattle.clients.specs.Answering.{TellsGivenUp};
 ghost use Rattle.clients.specs.Deeds.{MightCome, AreExchanges, AreWritten, AreServed};
 ghost use Rattle.clients.specs.Turns.{TurnsLeadOn, ServeEachAlone, HearTheirOwn};
 ghost use Rattle.clients.specs.Within.{AreSeen, AnswersLeave, RepliesWithin, TellsUnavailable};
@@ -55,7 +55,7 @@ pub fn clients_are_served_in_rounds<L: Ledgers, C: Moments>()
 
 /// A client that gives up has replied to the message whose body is due, whatever comes later.
 pub fn giving_up_replies<L: Ledgers, C: Moments>()
-    ensures { GivesUp L.means C.gives }
+    ensures { TellsGivenUp L.means C.gives }
 {
     later_bytes_change_nothing();
 }

@@ -3,7 +3,7 @@ use Rattle.std.specs.Prelude.{◌≡◌, ◌⊎◌, ℕ, List, [], ◌∷◌, �
 use Rattle.std.specs.Io.KnownBytes.{Appends}
 use Rattle.ledger_http.specs.declared.route.Route.{Route}
 use Rattle.wire.specs.declared.body_fault.BodyFault.{BodyFault}
-use Rattle.wire.specs.Faults.{IsFaultOf, place_in, refusal_in, told_place, told_refusal}
+use Rattle.wire.specs.Faults.{IsBodyFaultOn, place_in, refusal_in, told_place, told_refusal}
 use Rattle.command_texts.specs.BodyLines.{body_line}
 use Rattle.command_texts.specs.Routes.{posted_route}
 
@@ -21,7 +21,7 @@ TellsBad route body old new status =
     (fault : BodyFault)
     × (refusal_in route body ≡ told_refusal (Some fault))
     × (place_in route body ≡ told_place (Some fault))
-    × IsFaultOf route body fault
+    × IsBodyFaultOn route body fault
     × (status ≡ 1)
     × Appends old new (body_line fault)
 

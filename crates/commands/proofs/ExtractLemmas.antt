@@ -1,7 +1,7 @@
 -- The statement of a period: what was read of it, and what is written.
 use Rattle.std.proofs.Common.{◌≡◌, ◌∙◌, ℕ, Bool, true, false, List, Option, Result, Ok, length, map, ap, sym, subst}
 use Rattle.chain.specs.Ledgers.{LedgersMeaning}
-use Rattle.chain.specs.LedgerReads.{IsHanded, Reads, Seen, seen_in}
+use Rattle.chain.specs.LedgerReads.{IsHanded, ReadsOnly, Seen, seen_in}
 use Rattle.chain.specs.declared.reads.ReadFault.{ReadFault}
 use Rattle.records.specs.Machine.{Machine}
 use Rattle.records.specs.Reads.{Found, found_transfers}
@@ -29,7 +29,7 @@ handed p seen new last law empty all =
 module _ {S : Type 0} (t : LedgersMeaning S)
     (then : (a b c : S) → t.follows a b → t.follows b c → t.follows a c)
     (lived : (a b : S) → t.follows a b → t.is_live b → t.is_live a) where
-  pub reads_then : (a b c : S) → Reads t a b → Reads t b c → Reads t a c
+  pub reads_then : (a b c : S) → ReadsOnly t a b → ReadsOnly t b c → ReadsOnly t a c
   reads_then a b c one two = record {
     same = λ live digest. two.same live digest ∙ one.same (lived b c two.follows live) digest;
     usable = two.usable;

@@ -9,8 +9,8 @@ use Rattle.sqlite.specs.Effect.{Database}
 use Rattle.sqlite.specs.Files.{file_state, image_of}
 use Rattle.audit.specs.declared.damage.Damage.{Damage}
 use Rattle.openings.specs.AtPath.{LeavesPath}
-use Rattle.openings.specs.Found.{FindsNone, FindsOne, IsThere, Yields}
-use Rattle.openings.specs.Told.{IsDamagedLedger, IsTold}
+use Rattle.openings.specs.Found.{FindsNoSchema, FindsOne, AreOnlyThere, Yields}
+use Rattle.openings.specs.Told.{IsDamagedLedger, IsFaultTold}
 use Rattle.openings.specs.declared.opening.OpenFault.{OpenFault}
 use Rattle.openings.specs.declared.opening.OpenFault.TheVariants.{Damaged, NotALedger}
 use Rattle.std.proofs.KnownBytes.{Appends-trans}
@@ -23,7 +23,7 @@ use Rattle.tenants.specs.KeyText.{key_of}
 use Rattle.command_texts.specs.Lines.{key_line, tenants_line}
 use Rattle.command_texts.specs.Words.{IsDigestOfKey}
 use Rattle.command_texts.specs.declared.fault.Fault.TheVariants.{BadKey}
-use Rattle.control.specs.Listing.{IsListed, rows_data}
+use Rattle.control.specs.Listing.{HasLines, rows_data}
 use Rattle.store.specs.Refused.{RefusesToOpen}
 use Rattle.store.specs.Stores.{IsLive, IsLiveAt, OfDatabase, OfDatabaseAt, OfDatabases}
 use Rattle.store.specs.declared.place.Place.{Place}
@@ -32,7 +32,7 @@ use Rattle.store.specs.declared.store.Store.{Store}
 use Rattle.commands.specs.GivenKeys.{AreLinesTold, IsGivenKey, IsKeyTold, key_text}
 use Rattle.commands.specs.Holding.{IsDamagedAt}
 use Rattle.commands.specs.Listing.{row_of}
-use Rattle.commands.specs.OverFiles.{AreTold}
+use Rattle.commands.specs.OverFiles.{AreListedTold}
 use Rattle.commands.specs.Program.{IsNoKey}
 use Rattle.commands.specs.declared.given_key.GivenKey.{GivenKey}
 use Rattle.commands.specs.declared.given_key.GivenKey.TheVariants.{Word, Input, Drawn}
@@ -40,7 +40,7 @@ use Rattle.commands.specs.declared.given_key.GivenKey.TheVariants.{Word, Input, 
 module _ {D : Type 0} (g : disk.Ghosts D) (image : Image) where
   first_damage :
       (files left : Files D) (damage : Damage) → image_of g files ≡ image →
-      IsTold g files (Damaged damage) left → FindsOne (IsDamagedLedger damage) image
+      IsFaultTold g files (Damaged damage) left → FindsOne (IsDamagedLedger damage) image
   first_damage files left damage is (inl (inl missing)) = absurd (let e = missing.1 in cc)
   first_damage files left damage is (inl (inr refused)) = absurd (let e = refused.0 in cc)
   first_damage files left damage is (inr found) = subst (FindsOne (IsDamagedLedger damage)) is found
@@ -51,14 +51,14 @@ module _ {D : Type 0} (g : disk.Ghosts D) (image : Image) where
       IsDamagedAt g image damage left
   damage_left damage left (files, held, refuses) = record {
     first = λ clean. first_damage files left damage held.holds (refuses.told clean);
-    stays = subst (λ (i : Image). Yields g left (IsThere i)) held.holds (refuses.stay tt).holds;
+    stays = subst (λ (i : Image). Yields g left (AreOnlyThere i)) held.holds (refuses.stay tt).holds;
   }
 
   others_left :
       (left : Files D) → LeavesPath g image (RefusesToOpen g) NotALedger (Some left) →
-      Yields g left (IsThere image)
+      Yields g left (AreOnlyThere image)
   others_left left (files, held, refuses) =
-      subst (λ (i : Image). Yields g left (IsThere i)) held.holds (refuses.stay tt).holds
+      subst (λ (i : Image). Yields g left (AreOnlyThere i)) held.holds (refuses.stay tt).holds
 
   refused_as :
       (fault told : OpenFault) (kept : Option (Files D)) (left : Files D) → fault ≡ told →
@@ -80,21 +80,21 @@ module _ {D : Type 0} (g : disk.Ghosts D) (image : Image) where
   pub others_stay :
       (fault : OpenFault) (kept : Option (Files D)) (left : Files D) → fault ≡ NotALedger →
       kept ≡ Some left → LeavesPath g image (RefusesToOpen g) fault kept →
-      Yields g left (IsThere image)
+      Yields g left (AreOnlyThere image)
   others_stay fault kept left is there refused =
       others_left left (refused_as fault NotALedger kept left is there refused)
 
   -- what is there is what was there: no table, if there is none
   pub none_was :
       ((file : D) → g.may_leave file (g.seen file)) → (files : Files D) →
-      AreClean g files.log files.db → Yields g files (IsThere image) → FindsNone (image_of g files) →
-      ∥ FindsNone image ∥₁
+      AreClean g files.log files.db → Yields g files (AreOnlyThere image) → FindsNoSchema (image_of g files) →
+      ∥ FindsNoSchema image ∥₁
   none_was stays files clean yields none =
       ∥∥₁_map (yields clean (image_of g files) (stays files.log, stays files.db))
       (λ found. record {
         db = none.db;
         sound = none.sound;
-        there = subst (IsThere image) (sym (none.there.holds found.0 found.2)) found.1;
+        there = subst (AreOnlyThere image) (sym (none.there.holds found.0 found.2)) found.1;
         is = none.is;
       })
 
@@ -123,18 +123,18 @@ module _ {D : Type 0} {g : disk.Ghosts D} where
       (old new : Store D g) (before behind : Option (List ℕ)) (tenants shown : List ListedTenant)
       (body given lines : List ℕ) → IsLive new → OfDatabase (λ db. AreListed db.trees tenants) old →
       shown ≡ tenants → body ≡ compact_text (rows_data (map row_of shown)) → given ≡ body →
-      IsListed given lines → Appends before behind (tenants_line ++ lines) →
-      OfDatabases (λ a b. AreTold a.trees before behind) old new
+      HasLines given lines → Appends before behind (tenants_line ++ lines) →
+      OfDatabases (λ a b. AreListedTold a.trees before behind) old new
   listed_then old new before behind tenants shown body given lines live read same is taken listed told =
-      of_then (λ (a : Database). AreTold a.trees before behind) old new live
+      of_then (λ (a : Database). AreListedTold a.trees before behind) old new live
       (so_at (λ (a : Database). AreListed a.trees tenants)
-      (λ (a : Database). AreTold a.trees before behind) old.place
+      (λ (a : Database). AreListedTold a.trees before behind) old.place
       (λ db theirs. record {
         tenants = tenants;
         theirs = theirs;
         lines = lines;
         listed =
-            subst (λ (text : List ℕ). IsListed text lines)
+            subst (λ (text : List ℕ). HasLines text lines)
             (taken ∙ is ∙ ap (λ (all : List ListedTenant). compact_text (rows_data (map row_of all))) same)
             listed;
         told = told;

@@ -10,9 +10,9 @@ use Rattle.sqlite.specs.Effect.{Database}
 use Rattle.sqlite.specs.Files.{image_of}
 use Rattle.audit.specs.declared.damage.Damage.{Damage}
 use Rattle.openings.specs.AtPath.{LeavesPath}
-use Rattle.openings.specs.Found.{FilesStay, FindsOne, IsOfLedger, IsThere, Yields}
+use Rattle.openings.specs.Found.{FilesStay, FindsOne, IsOfLedger, AreOnlyThere, Yields}
 use Rattle.openings.specs.Refused.{RefusesToMake}
-use Rattle.openings.specs.Told.{IsToldBy, IsToldOfMaking, Tells}
+use Rattle.openings.specs.Told.{IsToldBy, IsToldOfMaking, Warrants}
 use Rattle.openings.specs.declared.opening.OpenFault.{OpenFault}
 use Rattle.openings.specs.declared.opening.OpenFault.TheVariants as opening
 use Rattle.migrate.specs.Ledgers.{RefusesFiles}
@@ -54,10 +54,10 @@ module _ (Finds : OpenFault → Type 0) where
   found_if (opening.Unavailable why) finds = tt
 
 module _ {D : Type 0} (g : disk.Ghosts D) where
-  module _ (Tells : OpenFault → Database → Type 0) where
+  module _ (Warrants : OpenFault → Database → Type 0) where
     there :
         (files left : Files D) (fault : OpenFault) → IsOfLedger fault →
-        IsToldBy Tells g files fault left → FindsOne (Tells fault) (image_of g files)
+        IsToldBy Warrants g files fault left → FindsOne (Warrants fault) (image_of g files)
     there files left fault of (inl (inl missing)) = absurd (subst IsOfLedger missing.1 of)
     there files left fault of (inl (inr refused)) = absurd (subst IsOfLedger refused.0 of)
     there files left fault of (inr found) = found
@@ -65,13 +65,13 @@ module _ {D : Type 0} (g : disk.Ghosts D) where
     -- an opening that speaks of a ledger has found what it tells in the files
     pub found_in :
         (image : Image) (files left : Files D) (fault : OpenFault) → image_of g files ≡ image →
-        (AreClean g left.log left.db → IsToldBy Tells g files fault left) →
+        (AreClean g left.log left.db → IsToldBy Warrants g files fault left) →
         (IsOfLedger fault → FilesStay g files left) → IsOfLedger fault →
-        HasFound g Tells image fault
+        HasFound g Warrants image fault
     found_in image files left fault is tells stay of = record {
       left = left;
-      is = λ clean. subst (FindsOne (Tells fault)) is (there files left fault of (tells clean));
-      stays = subst (λ (i : Image). Yields g left (IsThere i)) is (stay of).holds;
+      is = λ clean. subst (FindsOne (Warrants fault)) is (there files left fault of (tells clean));
+      stays = subst (λ (i : Image). Yields g left (AreOnlyThere i)) is (stay of).holds;
     }
 
   -- so has one of the files at a path
@@ -79,10 +79,10 @@ module _ {D : Type 0} (g : disk.Ghosts D) where
       (image : Image) (fault : OpenFault) (kept : Option (Files D)) →
       LeavesPath g image (RefusesToOpen g) fault kept → RefusesImage g image (open_fault fault)
   at_path image fault None none =
-      found_so (HasFound g Tells image) fault (none_found (HasFound g Tells image) fault none)
+      found_so (HasFound g Warrants image) fault (none_found (HasFound g Warrants image) fault none)
   at_path image fault (Some left) (files, held, refuses) =
-      found_so (HasFound g Tells image) fault (found_if (HasFound g Tells image) fault
-      (found_in Tells image files left fault held.holds refuses.told refuses.stay))
+      found_so (HasFound g Warrants image) fault (found_if (HasFound g Warrants image) fault
+      (found_in Warrants image files left fault held.holds refuses.told refuses.stay))
 
   -- so has one that is to migrate a ledger
   older_at_path :
@@ -101,7 +101,7 @@ module _ {D : Type 0} (g : disk.Ghosts D) where
   found_some files left fault refuses =
       found_if (HasFoundSome g) fault (λ (of : IsOfLedger fault). (
         image_of g files,
-        found_in Tells (image_of g files) files left fault refl refuses.told refuses.stay of,
+        found_in Warrants (image_of g files) files left fault refl refuses.told refuses.stay of,
       ))
 
   -- a making speaks of a ledger's version, or of its rows, only where the disk has lied
@@ -124,7 +124,7 @@ module _ {D : Type 0} (g : disk.Ghosts D) where
     making_found :
         (fault : OpenFault) →
         (AreClean g left.log left.db → IsToldOfMaking g files fault left) →
-        (IsOfLedger fault → Yields g left (IsThere image)) →
+        (IsOfLedger fault → Yields g left (AreOnlyThere image)) →
         RefusesImage g image (open_fault fault)
     making_found opening.InUse told stays = tt
     making_found opening.Unreadable told stays = tt
@@ -154,21 +154,21 @@ module _ {D : Type 0} (g : disk.Ghosts D) where
       (image : Image) (fault : OpenFault) (kept : Option (Files D)) →
       LeavesPath g image (RefusesToMake g) fault kept → RefusesImage g image (open_fault fault)
   making_at_path image fault None none =
-      found_so (HasFound g Tells image) fault (none_found (HasFound g Tells image) fault none)
+      found_so (HasFound g Warrants image) fault (none_found (HasFound g Warrants image) fault none)
   making_at_path image fault (Some left) (files, held, refuses) =
       making_found image files left fault refuses.told
-      (λ of. subst (λ (i : Image). Yields g left (IsThere i)) held.holds (refuses.stay of).holds)
+      (λ of. subst (λ (i : Image). Yields g left (AreOnlyThere i)) held.holds (refuses.stay of).holds)
 
   -- files that hold what others did, which held what was there, hold that
   stays_through :
       ((file : D) → g.may_leave file (g.seen file)) → (image : Image) (files left : Files D) →
-      Yields g files (IsThere image) → FilesStay g files left → Yields g left (IsThere image)
+      Yields g files (AreOnlyThere image) → FilesStay g files left → Yields g left (AreOnlyThere image)
   stays_through stays image files left yields stay clean other outcome =
       ∥∥₁_map₂ (yields (stay.honest clean) (image_of g files) (stays files.log, stays files.db))
       (stay.holds clean other outcome)
       (λ first found. (
         found.0,
-        subst (IsThere image) (sym (found.1.holds first.0 first.2)) first.1,
+        subst (AreOnlyThere image) (sym (found.1.holds first.0 first.2)) first.1,
         found.2,
       ))
 
@@ -198,7 +198,7 @@ module _ {D : Type 0} (g : disk.Ghosts D) where
   pub making_found_in :
       ((file : D) → g.may_leave file (g.seen file)) → (image : Image) (files left : Files D)
       (fault : OpenFault) (told : Fault) → told ≡ open_fault fault →
-      Yields g files (IsThere image) → RefusesToMake g files (fault, left) →
+      Yields g files (AreOnlyThere image) → RefusesToMake g files (fault, left) →
       RefusesImage g image told
   making_found_in stays image files left fault told is yields refused =
       subst (RefusesImage g image) (sym is)

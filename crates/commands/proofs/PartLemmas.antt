@@ -2,7 +2,7 @@
 use Rattle.std.proofs.Common.{◌≡◌, ◌⊎◌, ◌∙◌, inl, inr, ℕ, List, [], Option, Some, IfSome, Result, Ok, Err, refl, sym, subst}
 use Rattle.std.specs.Result.{result_ok}
 use Rattle.records.specs.Machine.{Machine}
-use Rattle.chain.specs.LedgerReads.{IsTold, Reads}
+use Rattle.chain.specs.LedgerReads.{IsTold, ReadsOnly}
 use Rattle.chain.specs.Ledgers.{Tenants, LedgersMeaning, Finds, KeepsAll}
 use Rattle.chain.specs.declared.reads.ReadFault.{ReadFault}
 use Rattle.chain.specs.declared.reads.ReadFault.TheVariants as fault
@@ -76,7 +76,7 @@ module _ {S : Type 0} (t : LedgersMeaning S) (digest : List ℕ) (account : ℕ)
       untold Unavailable refl found (finds.found found may)
 
   pub read_moves :
-      {A : Type 0} (result : Result A ReadFault) → Reads t old new → Finds t (IsTold result) KeepsAll old new →
+      {A : Type 0} (result : Result A ReadFault) → ReadsOnly t old new → Finds t (IsTold result) KeepsAll old new →
       IsSettled (run_meaning t) new → (t.is_live new → t.is_live old) →
       Moves (run_meaning t) old (Tried (asked_for digest account) (read_ending result)) new
   read_moves result reads finds settled lived = record {

@@ -12,7 +12,7 @@ use Rattle.records.specs.declared.transfer.Transfer.{Transfer}
 use Rattle.statement.specs.Extract.{Keeps, closing_of, kept_of, opening_of}
 use Rattle.statement.specs.Written.{extract_text}
 use Rattle.statement.specs.Writer.{TakesRow}
-use Rattle.commands.specs.Served.{Gathers, IsGathered, TakesEntry, entries_of, last_time, text_by, transfer_within}
+use Rattle.commands.specs.Served.{Gathers, IsGathered, WritesEntry, entries_of, last_time, text_by, transfer_within}
 use Rattle.commands.specs.declared.asked.Asked.{Asked}
 use Rattle.commands.specs.declared.served_statements.Gathered.{Gathered}
 use Rattle.commands.specs.declared.served_statements.Whole.{Whole}
@@ -62,7 +62,7 @@ pieces_more pieces piece =
 -- a whole statement that takes entries writes their lines
 pub lines_taken :
     {O : Type 0} (written : O → Option (List ℕ)) (old new : Whole O) (entries : List AccountEntry)
-    → TakesRows (TakesEntry written) old entries new
+    → TakesRows (WritesEntry written) old entries new
     → TakesRows (TakesRow written) old.writer (map (row_of old.account) entries) new.writer
 lines_taken {O} written old new [] same = ap (λ (w : Whole O). w.writer) same
 lines_taken written old new (entry ∷ entries) taken = (

@@ -1,19 +1,19 @@
 -- What was done behind what was done before.
 use Rattle.std.proofs.Common.{◌≡◌, ◌≢◌, ◌≤◌, ◌<◌, refl, ℕ, List, Result, Ok, OnErr}
 use Rattle.service.specs.Openings.{run_meaning, IsSettled}
-use Rattle.clients.specs.Deeds.{Deed}
-use Rattle.polling.specs.Courses.{IsCourse, ServesEachAlone}
+use Rattle.clients.specs.Deeds.{Act}
+use Rattle.polling.specs.Courses.{IsCourse, CoursesServeEachAlone}
 use Rattle.polling.specs.Ending.{Ends, Quiet, Long, most_turns}
 use Rattle.polling.specs.Ending as ending
 use Rattle.polling.specs.Laws.{EachIsServed, empty_hall}
-use Rattle.polling.specs.Seating.{Held, Keeps, replies_in}
-use Rattle.polling.specs.Serving.{Hall, Rules, Serves, tellings}
+use Rattle.polling.specs.Seating.{Held, HoldsHall, replies_in}
+use Rattle.polling.specs.Serving.{Hall, Terms, Passes, tellings}
 use Rattle.command_texts.specs.declared.fault.Fault.{Fault}
 use Rattle.commands.specs.Serving.{ServesClients}
 use Rattle.commands.specs.declared.serving.Served.{Served}
 use Rattle.commands.specs.declared.serving.Served.TheVariants.{Enough}
 
-module _ {S C P : Type 0} (r : Rules S C P) where
+module _ {S C P : Type 0} (r : Terms S C P) where
   -- serving that ended otherwise than by enough
   pub ended_short :
       (is_enough : Type 0) (old new : Held S C P) (replies : ℕ) → (is_enough → ⊥) →
@@ -24,11 +24,11 @@ module _ {S C P : Type 0} (r : Rules S C P) where
 
   -- what was served of whom nothing had come
   pub serves_so :
-      EachIsServed r → IsCourse r → ServesEachAlone r →
+      EachIsServed r → IsCourse r → CoursesServeEachAlone r →
       (ledgers : S) (moments : C) (peers : P) → IsSettled (run_meaning r.means) ledgers →
-      (last : Hall S C P) (deeds : List Deed)
-      (served : Serves S C P r (empty_hall ledgers moments peers) deeds last) (now : Held S C P) →
-      Keeps now last → (most : ℕ) (result : Result Served Fault) →
+      (last : Hall S C P) (deeds : List Act)
+      (served : Passes S C P r (empty_hall ledgers moments peers) deeds last) (now : Held S C P) →
+      HoldsHall now last → (most : ℕ) (result : Result Served Fault) →
       (result ≡ Ok Enough → replies_in deeds ≡ most) →
       (result ≢ Ok Enough → replies_in deeds < most) → OnErr result (most_turns ≤ tellings served) →
       ServesClients r ledgers moments peers most now.ledgers now.moments now.peers result

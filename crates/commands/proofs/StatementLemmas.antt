@@ -14,7 +14,7 @@ use Rattle.statement.specs.Writer.{RefusesRow, TakesRow, drain_of, has_begun}
 use Rattle.statement.specs.declared.writer.StatementWriter.{StatementWriter}
 use Rattle.command_texts.specs.declared.fault.Fault.{Fault}
 use Rattle.command_texts.specs.declared.fault.Fault.TheVariants.{Output}
-use Rattle.commands.specs.Statements.{HasBegun, IsStatementTold, statement_fault}
+use Rattle.commands.specs.Statements.{HasBegunLines, IsStatementTold, statement_fault}
 
 none_is_some : (front : List StatementRow) (row : StatementRow) (rest : List StatementRow) → front ++ row ∷ rest ≡ [] → ⊥
 none_is_some [] row rest is = cc
@@ -42,7 +42,7 @@ module _ {W : Type 0} (written : W → Option (List ℕ)) (law : BeginAStatement
   short :
       (rows : List StatementRow) (left : StatementWriter W)
       → RefusesNext (TakesRow written) (RefusesRow written) rows Memory new left
-      → HasBegun written rows (drain_of new) (drain_of left)
+      → HasBegunLines written rows (drain_of new) (drain_of left)
   short rows left next = record {
     count = length next.front;
     lines = subst (λ (w : W). Appends (written (drain_of new)) (written w) (begun_text (take (length next.front) rows)))

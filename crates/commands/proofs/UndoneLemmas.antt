@@ -18,7 +18,7 @@ use Rattle.command_line.specs.declared.commands.StatementWords.{StatementWords}
 use Rattle.command_texts.specs.Words.{IsDigestOfKey}
 use Rattle.command_texts.specs.declared.fault.Fault.{Fault}
 use Rattle.command_texts.specs.declared.fault.Fault.TheVariants.{NoTenant, Output}
-use Rattle.commands.specs.Asking.{IsAccountId, IsAsked, IsVersion, is_whole}
+use Rattle.commands.specs.Asking.{IsAccountId, IsAskedInWords, IsVersion, is_whole}
 use Rattle.commands.specs.Extracts.{IsAskedTold, ToldBy}
 use Rattle.commands.specs.GivenKeys.{IsGivenKey, OfDigest, key_text}
 use Rattle.commands.specs.Holding.{IsFrom, IsNotBrought}
@@ -167,7 +167,7 @@ module _ {O D : Type 0} (g : disk.Ghosts D) (written : O → Option (List ℕ)) 
       (name named account : List ℕ) (words : StatementWords) (out : O)
       (result : Result (Ended O D g) Fault) (fault : Fault) (id : ℕ) (asked : Asked) →
       IsErrAnd result (λ f. f ≡ fault) → IsTenantName name → named ≡ name → IsAccountId account →
-      account ≡ decimal_of id → IsAsked words asked →
+      account ≡ decimal_of id → IsAskedInWords words asked →
       IsUndone g image (IsNotWritten g image written named id asked out) fault →
       WritesStatement written image name account words out result
   not_written name named account words out (Ok ended) fault id asked same good is there at means why =
@@ -183,7 +183,7 @@ module _ {O D : Type 0} (g : disk.Ghosts D) (written : O → Option (List ℕ)) 
         fault =
             subst (IsUndoneAsked g image written name account words out) (sym same)
             (inr (inr (inr (undone_so g image (IsNotWritten g image written named id asked out) fault
-            (λ (f : Fault). (id : ℕ) × (account ≡ decimal_of id) × (asked : Asked) × IsAsked words asked
+            (λ (f : Fault). (id : ℕ) × (account ≡ decimal_of id) × (asked : Asked) × IsAskedInWords words asked
             × IsNotWritten g image written name id asked out f)
             (λ kept. (
               id,

@@ -35,7 +35,7 @@ pub record MeansPeriod (words : StatementWords) (period : Period) : Type 0 where
   pub to : ReadsTo (text_in words.to) (Ok period.to)
 
 -- what the words ask for
-pub record IsAsked (words : StatementWords) (asked : Asked) : Type 0 where
+pub record IsAskedInWords (words : StatementWords) (asked : Asked) : Type 0 where
   pub period : MeansPeriod words asked.period
   pub order : asked.order ≡ (if words.reversed then Newest else Oldest)
   pub form : read_form (text_in words.format) ≡ Ok asked.layout.form

@@ -9,7 +9,7 @@ use Rattle.ledger_http.specs.Question.{IsAsked}
 use Rattle.ledger_http.specs.declared.request.Asked.{Asked}
 use Rattle.stored_ledgers.specs.declared.overdue.Overdue.{Overdue}
 use Rattle.stored_ledgers.specs.declared.due_search.Search.{Search}
-use Rattle.stored_ledgers.specs.Overdue.{Begins, least_number}
+use Rattle.stored_ledgers.specs.Overdue.{BeginsSearch, least_number}
 use Rattle.commands.specs.declared.behind.Behind.{Behind}
 use Rattle.commands.specs.declared.behind.Tenant.{Tenant}
 
@@ -24,13 +24,13 @@ is_waiting digest behind =
     || list_any (has_digest digest) behind.since.items
 
 -- the bytes ask for one that was found
-abbrev pub IsPutOff : List ℕ → Behind → Type 0
-IsPutOff bytes behind =
+abbrev pub AsksForOneBehind : List ℕ → Behind → Type 0
+AsksForOneBehind bytes behind =
     (asked : Asked) × IsAsked bytes (Ok asked) × IsTrue (is_waiting (sha256 asked.key) behind)
 
 -- they ask for one that is among some that were found
 abbrev pub MayWait : List ℕ → Type 0
-MayWait bytes = (behind : Behind) × IsPutOff bytes behind
+MayWait bytes = (behind : Behind) × AsksForOneBehind bytes behind
 
 -- a tenant with another number
 abbrev pub is_other : ℤ → Tenant → Bool
@@ -68,8 +68,8 @@ pub record NotesPiece (told : Result (Option Overdue) BatchFault) (search : Sear
     : Type 0 where
   pub noted : Behind
   pub notes : NotesTold told old noted
-  pub ends : Begins search → EndsSearch noted new
-  pub goes_on : (Begins search → ⊥) → new ≡ noted
+  pub ends : BeginsSearch search → EndsSearch noted new
+  pub goes_on : (BeginsSearch search → ⊥) → new ≡ noted
 
 -- a search as it goes on: behind a fault it is not known that whoever was found last was settled
 abbrev pub search_behind : Result (Option Overdue) BatchFault → Search → Search

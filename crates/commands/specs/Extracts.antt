@@ -35,7 +35,7 @@ abbrev pub rows_asked : Asked → List StatementRow → List StatementRow
 rows_asked asked rows = in_order asked.order (within asked.period rows)
 
 -- what of a statement lies in the period
-pub record Finds (asked : Asked) (rows : List StatementRow) (e : Extract) : Type 0 where
+pub record FindsExtract (asked : Asked) (rows : List StatementRow) (e : Extract) : Type 0 where
   pub opening : opening_of e ≡ opening asked.period rows
   pub closing : closing_of e ≡ closing asked.period rows
   pub kept : kept_of e ≡ rows_asked asked rows
@@ -44,7 +44,7 @@ pub record Finds (asked : Asked) (rows : List StatementRow) (e : Extract) : Type
 abbrev pub IsExtractFound : Option Machine → ℕ → Asked → Result Extract Fault → Type 0
 IsExtractFound tenant account asked (Ok e) =
     (answer : Seen (List StatementRow)) × (answer_in tenant account Oldest ≡ Ok answer)
-    × Finds asked answer.shown e
+    × FindsExtract asked answer.shown e
 IsExtractFound tenant account asked (Err fault) =
     IsAbsenceTold (answer_in tenant account Oldest) fault
 

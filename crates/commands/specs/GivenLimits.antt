@@ -13,7 +13,7 @@ abbrev pub in_bytes : ℕ → ℕ
 in_bytes megabytes = min (megabytes * 1_048_576) (2 ^ 64 - 1)
 
 -- each limit is as it was given, or as usual
-pub record AreGiven (words : LimitWords) (limits : Limits) : Type 0 where
+pub record AreLimitsGiven (words : LimitWords) (limits : Limits) : Type 0 where
   pub clients : limits.clients ≡ unwrap_or words.clients 1_000
   pub room : limits.room ≡ unwrap_or (option_map in_bytes words.room) 268_435_456
   pub idle : as_nanos limits.idle ≡ unwrap_or (option_map in_nanos words.idle) 75_000_000_000

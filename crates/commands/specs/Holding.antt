@@ -8,7 +8,7 @@ use Rattle.sqlite.specs.Effect.{Database}
 use Rattle.audit.specs.declared.damage.Damage.{Damage}
 use Rattle.control.specs.declared.answer.Answer.{Answer}
 use Rattle.ledger_sql.specs.Creating.{IsEmptyLedger}
-use Rattle.openings.specs.Found.{FindsNone, FindsOne, IsThere, Yields}
+use Rattle.openings.specs.Found.{FindsNoSchema, FindsOne, AreOnlyThere, Yields}
 use Rattle.openings.specs.Told.{IsDamagedLedger}
 use Rattle.migrate.specs.Ledgers.{IsOpenedToMigrate}
 use Rattle.migrate.specs.Migrating.{MigratesLedger, RaisesLedger, RefusesNewer}
@@ -27,7 +27,7 @@ use Rattle.commands.specs.declared.opening.Audited.TheVariants.{Sound, Damaged}
 pub record IsDamagedAt {D : Type 0} (g : disk.Ghosts D) (image : Image) (damage : Damage)
     (files : Files D) : Type 0 where
   pub first : AreClean g files.log files.db → FindsOne (IsDamagedLedger damage) image
-  pub stays : Yields g files (IsThere image)
+  pub stays : Yields g files (AreOnlyThere image)
 
 module _ {D : Type 0} {g : disk.Ghosts D} where
   -- it has the ledger, open, and this is so of it
@@ -64,7 +64,7 @@ module _ {D : Type 0} {g : disk.Ghosts D} where
   pub record IsNew (image : Image) (store : Store D g) : Type 0 where
     pub live : IsLive store
     pub empty : OfDatabase (λ db. IsEmptyLedger db.trees) store
-    pub blank : ∥ FindsNone image ∥₁
+    pub blank : ∥ FindsNoSchema image ∥₁
 
   pub record IsMade (image : Image) (store : Store D g) : Type 0 where
     pub usable : IsUsable store

@@ -7,7 +7,7 @@ use Rattle.chain.specs.Ledgers.{LedgersMeaning, Tenants, AreValid}
 use Rattle.service.specs.Courses as course
 use Rattle.service.specs.Deeds.{Deed}
 use Rattle.service.specs.Openings.{RunMeaning, run_meaning, IsSettled, IsOpened, Moves}
-use Rattle.service.specs.Seen.{Seen, Whole, Within, seen}
+use Rattle.service.specs.Seen.{SeenAt, Whole, Within, seen}
 use Rattle.polling.specs.Courses.{IsAtRest, Renewed, Stayed, Opened, Tried, Rested, renewed_seen}
 use Rattle.polling.specs.Courses as renewed
 use Rattle.polling.specs.Serving.{renews_seen}
@@ -187,7 +187,7 @@ module _ {D : Type 0} {g : disk.Ghosts D} where
 
   -- and as it is seen between messages: nothing is opened inside of a round
   abbrev pub renewal_seen :
-      (opens : Option (Files D) → Tenants → Type 0) (old new : Seen (Kept (Store D g)))
+      (opens : Option (Files D) → Tenants → Type 0) (old new : SeenAt (Kept (Store D g)))
       → renews_seen (Renews opens) old new
       → Renewed (run_meaning (seen (kept_meaning store_meaning))) old new
   renewal_seen opens (Whole old) (Whole new) renews =

@@ -5,8 +5,8 @@ use Rattle.sqlite_wal.specs.Reads.{AreClean}
 use Rattle.sqlite_wal.specs.Recovery.{Image}
 use Rattle.sqlite.specs.Effect.{Database}
 use Rattle.audit.specs.declared.damage.Damage.{Damage}
-use Rattle.openings.specs.Found.{FindsOne, IsThere, Yields}
-use Rattle.openings.specs.Told.{Tells}
+use Rattle.openings.specs.Found.{FindsOne, AreOnlyThere, Yields}
+use Rattle.openings.specs.Told.{Warrants}
 use Rattle.openings.specs.declared.opening.OpenFault.{OpenFault}
 use Rattle.openings.specs.declared.opening.OpenFault.TheVariants as opening
 use Rattle.migrate.specs.Told.{TellsAny}
@@ -66,11 +66,11 @@ module _ {D : Type 0} (g : disk.Ghosts D) where
       : Type 0 where
     pub left : Files D
     pub is : AreClean g left.log left.db → FindsOne (Tells fault) image
-    pub stays : Yields g left (IsThere image)
+    pub stays : Yields g left (AreOnlyThere image)
 
   -- the fault of an opening of a ledger in files that held this
   abbrev pub RefusesImage : Image → Fault → Type 0
-  RefusesImage image = IsFoundSo (HasFound Tells image)
+  RefusesImage image = IsFoundSo (HasFound Warrants image)
 
   -- the same of an opening to migrate it
   abbrev pub RefusesOlder : Image → Fault → Type 0
@@ -78,7 +78,7 @@ module _ {D : Type 0} (g : disk.Ghosts D) where
 
   -- an opening found this case in some files
   abbrev pub HasFoundSome : OpenFault → Type 0
-  HasFoundSome fault = (image : Image) × HasFound Tells image fault
+  HasFoundSome fault = (image : Image) × HasFound Warrants image fault
 
   -- the fault of an opening of a ledger in some files
   abbrev pub RefusesSome : Fault → Type 0

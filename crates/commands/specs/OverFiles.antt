@@ -13,7 +13,7 @@ use Rattle.stored_ledgers.specs.declared.directory.ListedTenant.{ListedTenant}
 use Rattle.store.specs.declared.store.Store.{Store}
 use Rattle.command_texts.specs.Lines.{tenants_line}
 use Rattle.control.specs.Answers.{TellsCounts, TellsTenants}
-use Rattle.control.specs.Listing.{IsListed, rows_data}
+use Rattle.control.specs.Listing.{HasLines, rows_data}
 use Rattle.control.specs.declared.answer.Answer.{Answer}
 use Rattle.control.specs.declared.counting.CountForm.{CountForm}
 use Rattle.control.specs.declared.counting.CountForm.TheVariants.{Metric, Plain}
@@ -25,10 +25,10 @@ use Rattle.commands.specs.declared.asked.Asked.{Asked}
 
 -- a body lists these tenants
 abbrev pub ListsRows : List ListedTenant → List ℕ → Type 0
-ListsRows tenants lines = IsListed (compact_text (rows_data (map row_of tenants))) lines
+ListsRows tenants lines = HasLines (compact_text (rows_data (map row_of tenants))) lines
 
 -- the tenants of a database are listed, as CSV
-pub record AreTold (trees : Trees) (old new : Option (List ℕ)) : Type 0 where
+pub record AreListedTold (trees : Trees) (old new : Option (List ℕ)) : Type 0 where
   pub tenants : List ListedTenant
   pub theirs : AreListed trees tenants
   pub lines : List ℕ
@@ -70,7 +70,8 @@ module _ {D : Type 0} {g : disk.Ghosts D} (image : Image) where
 
   -- the tenants of the ledger that was opened are listed
   abbrev pub HasListed : Option (List ℕ) → Option (List ℕ) → Store D g → Type 0
-  HasListed before behind = Becomes (IsFrom image) (λ old new. AreTold old.trees before behind)
+  HasListed before behind =
+      Becomes (IsFrom image) (λ old new. AreListedTold old.trees before behind)
 
   -- a statement of the ledger that was opened is written
   abbrev pub HasWritten : (Trees → Type 0) → Store D g → Type 0

@@ -15,22 +15,22 @@ use Rattle.commands.specs.Served.{ComeBehind, entries_of, first_asked, served_te
 use Rattle.commands.specs.declared.asked.Asked.{Asked}
 
 -- a piece is what a tenant's machine has of it, as the service reads it
-abbrev pub IsPieceOf : Machine → PieceAsked → Entries → Type 0
-IsPieceOf m asked piece =
+abbrev pub IsPieceRead : Machine → PieceAsked → Entries → Type 0
+IsPieceRead m asked piece =
     IsPiece asked.account (span_of asked) m
     (record { clock = piece.clock; entries = piece.entries })
 
 -- it is what a machine has of it that continues this one
 abbrev pub IsPieceOfLater : Machine → PieceAsked → Entries → Type 0
 IsPieceOfLater m asked piece =
-    (later : Machine) × ContinuesAfter m later × IsPieceOf later asked piece
+    (later : Machine) × ContinuesAfter m later × IsPieceRead later asked piece
 
 -- the first piece is what a tenant's machine has of it, and each that comes behind, up to its
 -- clock, is what a machine has of it that continues this one
 pub record AreReadFrom (m : Machine) (asked : PieceAsked) (first : Entries) (pieces : List Entries)
     : Type 0 where
   pub valid : IsValid m
-  pub begin : IsPieceOf m asked first
+  pub begin : IsPieceRead m asked first
   pub behind : ComeBehind (IsPieceOfLater m) (up_to first.clock asked) first pieces
 
 -- such pieces have the account's entries in the span that is asked for, as they are in the first

@@ -23,7 +23,7 @@ use Rattle.command_texts.specs.Faults.{status_of}
 use Rattle.command_texts.specs.Lines.{IsWritten, added_line, changed_line, damage_line}
 use Rattle.command_texts.specs.Lines.{copied_line, fault_line, new_ledger_line, schema_line, stopped_line}
 use Rattle.command_line.specs.declared.commands.StatementWords.{StatementWords}
-use Rattle.commands.specs.Asking.{IsAccountId, IsAsked, IsVersion, MeansPeriod, read_form}
+use Rattle.commands.specs.Asking.{IsAccountId, IsAskedInWords, IsVersion, MeansPeriod, read_form}
 use Rattle.control.specs.Answers.{TellsAdded, TellsChanged, TellsCopied, TellsStopped}
 use Rattle.commands.specs.Copying.{IsPathOf}
 use Rattle.commands.specs.Holding.{HasDamaged, HasMigrated, HasOpened, HasTold, HasToldOr}
@@ -33,7 +33,7 @@ use Rattle.commands.specs.OverFiles.{AreCountsTold, AreTenantsTold, count_form}
 use Rattle.commands.specs.OverFiles.{HasAdded, HasChanged, HasListed, HasWritten, IsWrittenFrom}
 use Rattle.commands.specs.Undone.{IsNotAdded, IsNotChanged, IsNotCopied, IsNotMigrated}
 use Rattle.commands.specs.Undone.{IsUnanswered, IsUndone, IsUndoneAsked, IsUndoneWith}
-use Rattle.commands.specs.Served.{IsServed}
+use Rattle.commands.specs.Served.{IsStatementServed}
 use Rattle.commands.specs.declared.asked.Asked.{Asked}
 use Rattle.statement.specs.declared.period.Period.{Period}
 use Rattle.commands.specs.GivenKeys.{IsGivenKey, AreLinesTold, OfDigest, key_text}
@@ -107,8 +107,8 @@ module _ {O D : Type 0} {g : disk.Ghosts D} where
     pub id : ℕ
     pub is : account ≡ decimal_of id
     pub asked : Asked
-    pub means : IsAsked words asked
-    pub told : HasToldOr (IsServed name id asked (written out) (written ended.out))
+    pub means : IsAskedInWords words asked
+    pub told : HasToldOr (IsStatementServed name id asked (written out) (written ended.out))
         (HasOpened (HasWritten image (IsWrittenFrom written name id asked out ended.out)))
         ended.held
 
@@ -273,11 +273,11 @@ IsMadeTold (Some path) err =
 
 -- what a command has come to is told: 0, or 4 where damage was, with nothing on standard error but a
 -- new ledger; or its fault
-abbrev pub Tells :
+abbrev pub TellsEnded :
     {O D : Type 0} {g : disk.Ghosts D} → Result (Ended O D g) Fault → Told → ℕ → Type 0
-Tells (Ok ended) err status =
+TellsEnded (Ok ended) err status =
     (status ≡ (if ended.is_damaged then 4 else 0)) × IsMadeTold (text_in ended.made) err
-Tells (Err fault) err status = TellsFileFault fault err status
+TellsEnded (Err fault) err status = TellsFileFault fault err status
 
 -- a refusal of the words is told, or that memory runs out for its text
 abbrev pub IsRefusalTold : Told → ℕ → Type 0
@@ -289,13 +289,13 @@ module _ {O D : Type 0} (g : disk.Ghosts D) (written : O → Option (List ℕ)) 
   HasRunFor words out err status (Ok asked) =
       IsCommandOf words asked
       × ((ended : Result (Ended O D g) Fault) × Does written image asked out ended
-      × Tells ended err status)
+      × TellsEnded ended err status)
   HasRunFor words out err status (Err (Refused error)) =
       IsAmong (kind_of error) (fault_of ledgerd_app words) × IsRefusalTold err status
   HasRunFor words out err status (Err Version) =
       IsAmong DisplayVersion (fault_of ledgerd_app words)
       × ((ended : Result (Ended O D g) Fault) × TellsVersion written out ended
-      × Tells ended err status)
+      × TellsEnded ended err status)
   HasRunFor words out err status (Err Memory) = TellsFault Unavailable err status
 
   -- what the program does for its words

@@ -23,7 +23,7 @@ use Rattle.control.specs.declared.answer.Answer.{Answer}
 use Rattle.control.specs.declared.entries.Entries.{Entries}
 use Rattle.control.specs.declared.piece_asked.PieceAsked.{PieceAsked}
 use Rattle.commands.specs.Asking.{is_whole}
-use Rattle.commands.specs.Extracts.{Finds, rows_asked}
+use Rattle.commands.specs.Extracts.{FindsExtract, rows_asked}
 use Rattle.commands.specs.Statements.{statement_fault}
 use Rattle.commands.specs.declared.asked.Asked.{Asked}
 use Rattle.commands.specs.declared.served_statements.First.{First}
@@ -75,18 +75,18 @@ abbrev pub entries_of : List Entries → List AccountEntry
 entries_of pieces = flat_map (λ piece. piece.entries.items) pieces
 
 -- an answer tells a piece
-abbrev pub IsAnswered : PieceAsked → Entries → Type 0
-IsAnswered asked piece = (answer : Answer) × TellsEntries asked piece answer
+abbrev pub IsPieceAnswered : PieceAsked → Entries → Type 0
+IsPieceAnswered asked piece = (answer : Answer) × TellsEntries asked piece answer
 
 -- something is so of the entries of a first piece and of all behind it, up to its clock, as
 -- answers tell them
 abbrev pub OfAllPieces : PieceAsked → Entries → (List AccountEntry → Type 0) → Type 0
 OfAllPieces asked first P =
-    (pieces : List Entries) × ComeBehind IsAnswered (up_to first.clock asked) first pieces
+    (pieces : List Entries) × ComeBehind IsPieceAnswered (up_to first.clock asked) first pieces
     × P (entries_of (first ∷ pieces))
 
 -- an answer tells the entries of the first piece
-pub record IsFirst (tenant : List ℕ) (account : ℕ) (asked : Asked) (first : First)
+pub record IsFirstPiece (tenant : List ℕ) (account : ℕ) (asked : Asked) (first : First)
     (answer : Answer) : Type 0 where
   pub piece : first.asked ≡ first_asked tenant account asked
   pub told : TellsEntries (first_asked tenant account asked) first.entries answer
@@ -101,7 +101,7 @@ abbrev pub sink_fault : SinkFault → Fault
 sink_fault why = statement_fault (read.Sink why)
 
 -- a whole statement takes an entry: the line of it goes out
-pub record TakesEntry {O : Type 0} (written : O → Option (List ℕ)) (old : Whole O)
+pub record WritesEntry {O : Type 0} (written : O → Option (List ℕ)) (old : Whole O)
     (entry : AccountEntry) (new : Whole O) : Type 0 where
   pub account : new.account ≡ old.account
   pub line : TakesRow written old.writer (row_of old.account entry) new.writer
@@ -128,7 +128,7 @@ transfers_asked account asked entries =
 -- what of these entries is asked for is gathered, in the order asked
 pub record IsGathered (account : ℕ) (asked : Asked) (entries : List AccountEntry) (g : Gathered)
     : Type 0 where
-  pub found : Finds asked (map (row_of account) entries) g.extract
+  pub found : FindsExtract asked (map (row_of account) entries) g.extract
   pub transfers : g.transfers.items ≡ in_order asked.order (transfers_asked account asked entries)
 
 -- the text of a statement whose account has these entries: the whole of it, or that of a period
@@ -144,9 +144,9 @@ abbrev pub served_text : ℕ → Asked → List AccountEntry → List ℕ
 served_text account asked entries = text_by (is_whole asked) account asked entries
 
 -- a statement is written of all entries that answers tell, piece behind piece, from the first on
-abbrev pub IsServed :
+abbrev pub IsStatementServed :
     List ℕ → ℕ → Asked → Option (List ℕ) → Option (List ℕ) → Answer → Type 0
-IsServed tenant account asked old new answer =
+IsStatementServed tenant account asked old new answer =
     (first : Entries) × TellsEntries (first_asked tenant account asked) first answer
     × OfAllPieces (first_asked tenant account asked) first
     (λ entries. Appends old new (served_text account asked entries))

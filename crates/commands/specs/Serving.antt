@@ -6,15 +6,15 @@ use Rattle.chain.specs.Ledgers.{Tenants}
 use Rattle.service.specs.Courses.{Event}
 use Rattle.service.specs.Openings.{run_meaning, CourseSince, HasLed}
 use Rattle.service.specs.OwnDeeds.{SeesItself}
-use Rattle.service.specs.Seen.{Seen, Whole}
+use Rattle.service.specs.Seen.{SeenAt, Whole}
 use Rattle.clients.specs.Answering.{MayCome}
-use Rattle.clients.specs.Deeds.{Deed, IsServed, come_from, written_to}
+use Rattle.clients.specs.Deeds.{Act, IsClientServed, come_from, written_to}
 use Rattle.polling.specs.Courses.{AreRenewals, IsSince}
 use Rattle.polling.specs.Ending.{most_turns}
 use Rattle.polling.specs.Laws.{ReadsThrough, empty_hall, machines_in}
 use Rattle.polling.specs.Peers.{Doing}
 use Rattle.polling.specs.Seating.{replies_in}
-use Rattle.polling.specs.Serving.{Hall, Rules, Serves, rules, tellings}
+use Rattle.polling.specs.Serving.{Hall, Terms, Passes, rules, tellings}
 use Rattle.store.specs.StoreLaws.{store_meaning}
 use Rattle.store.specs.declared.store.Store.{Store}
 use Rattle.commands.specs.Behind.{MayWait}
@@ -30,12 +30,12 @@ use Rattle.command_texts.specs.declared.fault.Fault.{Fault}
 -- was written a beginning of the replies to its own messages, in order, one a message, as long as
 -- its replies went on as they were begun; and over live
 -- ledgers all that was done is a course, in which each tenant sees its own deeds alone
-pub record ServesClients {S C P : Type 0} (r : Rules S C P) (ledgers : S) (moments : C) (peers : P)
+pub record ServesClients {S C P : Type 0} (r : Terms S C P) (ledgers : S) (moments : C) (peers : P)
     (most : ℕ) (ledgers_now : S) (moments_now : C) (peers_now : P) (result : Result Served Fault) :
     Type 0 where
-  pub deeds : List Deed
+  pub deeds : List Act
   pub last : Hall S C P
-  pub served : Serves S C P r (empty_hall ledgers moments peers) deeds last
+  pub served : Passes S C P r (empty_hall ledgers moments peers) deeds last
   pub ledgers_left : last.room.ledgers ≡ ledgers_now
   pub moments_left : last.room.moments ≡ moments_now
   pub peers_left : last.peers ≡ peers_now
@@ -44,7 +44,7 @@ pub record ServesClients {S C P : Type 0} (r : Rules S C P) (ledgers : S) (momen
       → ReadsThrough before client served
       → (later : List ℕ)
       → MayCome (last.room.talks client).unread later
-      → IsServed r.means r.gives (come_from client deeds) later (written_to client deeds)
+      → IsClientServed r.means r.gives (come_from client deeds) later (written_to client deeds)
       (machines_in before served client) (last.room.talks client)
   pub course :
       (renewals : AreRenewals r)
@@ -65,7 +65,7 @@ module _ {D : Type 0} {g : disk.Ghosts D} {C P : Type 0}
     (does : P → Doing → P → Type 0) where
   -- messages are answered by a store, or by ledgers that are not there; a store that answers calls
   -- stays as it is; and only a batch waits of which a tenant is behind
-  abbrev pub store_rules : Rules (Seen (Kept (Store D g))) C P
+  abbrev pub store_rules : Terms (SeenAt (Kept (Store D g))) C P
   store_rules = rules (kept_meaning store_meaning) gives (Renews opens) MayWait does
 
   -- clients were served by a store, whenever it was opened again, or by what stood in its place; and

@@ -30,7 +30,7 @@ statement_fault (read.Sink Write) = Output
 statement_fault (read.Sink Memory) = Unavailable
 
 -- a beginning of a statement is written, up to the end of a line
-pub record HasBegun {O : Type 0} (written : O → Option (List ℕ)) (rows : List StatementRow)
+pub record HasBegunLines {O : Type 0} (written : O → Option (List ℕ)) (rows : List StatementRow)
     (old new : O) : Type 0 where
   pub count : ℕ
   pub lines : Appends (written old) (written new) (begun_text (take count rows))
@@ -46,7 +46,8 @@ IsStatementTold written seen old new (Ok done) =
     × Appends (written old) (written new) (statement_text answer.shown)
 IsStatementTold written seen old new (Err NoTenant) = (seen ≡ Err read.UnknownKey) × (new ≡ old)
 IsStatementTold written seen old new (Err NoAccount) = (seen ≡ Err read.NoAccount) × (new ≡ old)
-IsStatementTold written seen old new (Err Unavailable) = HasBegun written (rows_of seen) old new
+IsStatementTold written seen old new (Err Unavailable) =
+    HasBegunLines written (rows_of seen) old new
 IsStatementTold written seen old new (Err Output) =
     (answer : Seen (List StatementRow)) × (seen ≡ Ok answer)
     × AppendsFront (written old) (written new) (statement_text answer.shown)

@@ -13,7 +13,7 @@ use Rattle.command_texts.specs.declared.fault.Fault.TheVariants.{Output, Unavail
 use Rattle.control.specs.Told.{IsCallFault}
 use Rattle.store.specs.declared.store.Store.{Store}
 use Rattle.commands.specs.Adding.{IsAdded}
-use Rattle.commands.specs.Asking.{IsAccountId, IsAsked, IsUnasked, IsVersion}
+use Rattle.commands.specs.Asking.{IsAccountId, IsAskedInWords, IsUnasked, IsVersion}
 use Rattle.commands.specs.Extracts.{IsAskedTold}
 use Rattle.commands.specs.GivenKeys.{IsGivenKey, OfDigest, key_text}
 use Rattle.commands.specs.Holding.{ComesOf, IsBegun, IsFrom, IsNotBrought}
@@ -90,7 +90,7 @@ module _ {D : Type 0} (g : disk.Ghosts D) (image : Image) where
       ((fault ≡ BadName) × (¬ IsTenantName name)) ⊎ ((fault ≡ BadAccount) × (¬ IsAccountId account))
       ⊎ IsUnasked words fault
       ⊎ IsUndone
-      (λ told. (id : ℕ) × (account ≡ decimal_of id) × (asked : Asked) × IsAsked words asked
+      (λ told. (id : ℕ) × (account ≡ decimal_of id) × (asked : Asked) × IsAskedInWords words asked
       × IsNotWritten written name id asked out told)
       fault
 

@@ -1,6 +1,6 @@
 ghost use Rattle.std.specs.Prelude.{◌≡◌, IfErr, IfOk};
 ghost use Rattle.command_line.specs.Values.{text_in};
-ghost use Rattle.commands.specs.Asking.{IsAsked, IsUnasked, ReadsFrom, ReadsTo};
+ghost use Rattle.commands.specs.Asking.{IsAskedInWords, IsUnasked, ReadsFrom, ReadsTo};
 ghost use Rattle.commands.specs.Asking.{is_whole, read_form};
 
 use command_line::StatementWords;
@@ -19,7 +19,7 @@ pub(crate) struct Asked {
 impl Asked {
     /// Reads the words: first the bounds, then the form.
     pub(crate) fn read(words: &StatementWords<'_>) -> Result<Asked, Fault>
-        ensures ok { IfOk result (IsAsked words.now) }
+        ensures ok { IfOk result (IsAskedInWords words.now) }
         ensures err { IfErr result (IsUnasked words.now) }
     {
         let from = from_moment(words.from)?;

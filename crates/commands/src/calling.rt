@@ -1,6 +1,6 @@
 //! Calls to the service that has a file.
 ghost use Rattle.std.specs.Prelude.{◌≡◌, ◌⊎◌, IfErr, IfOk, IfSome};
-ghost use Rattle.control.specs.Answers.{IsAnswerTo};
+ghost use Rattle.control.specs.Answers.{IsAnswerToCall};
 ghost use Rattle.control.specs.Told.{IsCallFault};
 
 use command_texts::Fault;
@@ -36,7 +36,7 @@ pub(crate) fn desk_path(rt: &HostRuntime, db: &str) -> Result<Option<String>, Fa
 /// What the service that has a file answers, if one has it and listens for its operator. It is
 /// `Unreadable` where a folder on the way to the file is another user's.
 pub(crate) fn ask(rt: &HostRuntime, db: &str, what: &Call<'_>) -> Result<Option<Answer>, Fault>
-    ensures answer { IfOk result (λ found. IfSome found (IsAnswerTo what.now)) }
+    ensures answer { IfOk result (λ found. IfSome found (IsAnswerToCall what.now)) }
     ensures fault { IfErr result IsCallFault }
 {
     match desk_path(rt, db)? {
@@ -47,7 +47,7 @@ pub(crate) fn ask(rt: &HostRuntime, db: &str, what: &Call<'_>) -> Result<Option<
 
 /// The same of a file that is served: else it is `NotServed`.
 pub(crate) fn ask_served(rt: &HostRuntime, db: &str, what: &Call<'_>) -> Result<Answer, Fault>
-    ensures answer { IfOk result (IsAnswerTo what.now) }
+    ensures answer { IfOk result (IsAnswerToCall what.now) }
     ensures fault { IfErr result (λ fault. IsCallFault fault ⊎ (fault ≡ Fault.NotServed)) }
 {
     match ask(rt, db, what)? {

@@ -1,6 +1,6 @@
 //! The statement of a period, written to standard output.
 ghost use Rattle.std.specs.Prelude.{◌≡◌, false, IfErr, IfOk};
-ghost use Rattle.chain.specs.LedgerReads.{Reads};
+ghost use Rattle.chain.specs.LedgerReads.{ReadsOnly};
 ghost use Rattle.records.specs.Reads.{in_order};
 ghost use Rattle.records.specs.declared.filter.Order.TheVariants.{Oldest};
 ghost use Rattle.statement.specs.Extract.{closing_of, kept_of, opening_of};
@@ -27,7 +27,7 @@ fn extract_of<L: Ledgers>(
     requires { L.means.is_usable ledgers.old }
     ensures found { L.means.is_live ledgers.new → IsExtractFound
         (L.means.tenants ledgers.old digest.now) account asked.now result }
-    ensures reads { Reads L.means ledgers.old ledgers.new }
+    ensures reads { ReadsOnly L.means ledgers.old ledgers.new }
 {
     rows_make_an_extract();
     let mut extract = Extract::new(alloc, asked.period);
@@ -65,7 +65,7 @@ fn transfers_of<L: Ledgers>(
     ensures told { L.means.is_live ledgers.new → IfOk result (λ found. AreTransfersOf
         (L.means.tenants ledgers.old digest.now) is_wide (kept_of extract.now) found.items) }
     ensures fault { IfErr result (λ fault. fault ≡ Fault.Unavailable) }
-    ensures reads { Reads L.means ledgers.old ledgers.new }
+    ensures reads { ReadsOnly L.means ledgers.old ledgers.new }
 {
     if !is_wide {
         return Ok(Vec::new(alloc));
@@ -90,7 +90,7 @@ fn text_asked<L: Ledgers>(
         (L.means.tenants ledgers.old digest.now) account asked.now text.items) }
     ensures fault { L.means.is_live ledgers.new → IfErr result (IsAbsenceTold
         (answer_in (L.means.tenants ledgers.old digest.now) account Oldest)) }
-    ensures reads { Reads L.means ledgers.old ledgers.new }
+    ensures reads { ReadsOnly L.means ledgers.old ledgers.new }
 {
     let extract = extract_of(alloc, ledgers, digest, account, asked)?;
     let is_wide = asked.layout.is_wide;
@@ -113,7 +113,7 @@ pub(crate) fn write_extract<L: Ledgers, O: Drain + Drop>(
     requires open { O.failed out ≡ false }
     ensures told { L.means.is_live ledgers.new → IsExtractTold O.written
         (L.means.tenants ledgers.old digest.now) account asked.now out result.0 result.1 }
-    ensures reads { Reads L.means ledgers.old ledgers.new }
+    ensures reads { ReadsOnly L.means ledgers.old ledgers.new }
 {
     let text = match text_asked(alloc, ledgers, digest, account, asked) {
         Ok(text) => text,

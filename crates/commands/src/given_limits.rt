@@ -1,7 +1,7 @@
 //! The limits of a service, as the command line gives them.
 ghost use Rattle.std.specs.Prelude.{◌≡◌, option_map, unwrap_or};
 ghost use Rattle.std.specs.Duration.{as_nanos};
-ghost use Rattle.commands.specs.GivenLimits.{AreGiven, in_nanos};
+ghost use Rattle.commands.specs.GivenLimits.{AreLimitsGiven, in_nanos};
 
 use command_line::{LEAST_ROOM, LimitWords};
 use ledger_http::LONGEST_MESSAGE;
@@ -26,7 +26,7 @@ fn seconds_or(given: Option<u64>, usual: Duration) -> Duration
 
 /// The limits that were given, and the usual ones where none was.
 pub(crate) fn limits_of(words: &LimitWords) -> Limits
-    ensures { AreGiven words.now result }
+    ensures { AreLimitsGiven words.now result }
 {
     let usual = Limits::usual();
     Limits {

@@ -3,7 +3,7 @@ ghost use Rattle.std.specs.Prelude.{◌≡◌, IfErr, IfOk};
 ghost use Rattle.sqlite_wal.specs.Files.{image_at};
 ghost use Rattle.sqlite_wal.specs.Recovery.{Image};
 ghost use Rattle.migrate.specs.Ledgers.{IsMigratable, IsOpenedToMigrate};
-ghost use Rattle.openings.specs.Found.{IsThere, Yields};
+ghost use Rattle.openings.specs.Found.{AreOnlyThere, Yields};
 ghost use Rattle.store.specs.Stores.{IsReady, IsUsable};
 ghost use Rattle.commands.specs.Holding.{IsBegun, IsFoundAs, IsFrom, IsMade};
 ghost use Rattle.commands.specs.Openings.{HasFoundSome, IsFound, IsOpeningFault, IsUnopened, open_fault};
@@ -283,9 +283,9 @@ fn make_in<D: Disk + Drop>(
     files: Files<D>,
     options: Options,
 ) -> Result<Store<D>, Fault>
-    ensures made { IfOk result (λ store. (image : Image) → Yields D.Disk files (IsThere image)
+    ensures made { IfOk result (λ store. (image : Image) → Yields D.Disk files (AreOnlyThere image)
         → IsMade image store) }
-    ensures fault { IfErr result (λ fault. (image : Image) → Yields D.Disk files (IsThere image)
+    ensures fault { IfErr result (λ fault. (image : Image) → Yields D.Disk files (AreOnlyThere image)
         → RefusesImage D.Disk image fault) }
 {
     if !files.may_be_used() {

@@ -7,7 +7,7 @@ ghost use Rattle.commands.specs.Holding.{HasOpened, HasToldOr, IsBroughtTo, IsFr
 ghost use Rattle.commands.specs.Migrating.{migrate_fault};
 ghost use Rattle.commands.specs.Openings.{IsOpeningFault, RefusesImage, RefusesOlder};
 ghost use Rattle.commands.specs.OverFiles.{HasWritten, IsWrittenFrom, count_form};
-ghost use Rattle.commands.specs.Served.{IsServed};
+ghost use Rattle.commands.specs.Served.{IsStatementServed};
 ghost use Rattle.commands.specs.Program.{AsksStatus, Checks, Copies, Migrates, Stops};
 ghost use Rattle.commands.specs.Program.{WritesStatement};
 ghost use Rattle.commands.specs.Undone.{IsNotCopied, IsNotWritten, IsUndone};
@@ -165,7 +165,7 @@ fn write<St: Start, O: Drain + Drop>(
 ) -> Result<(O, Held<FileFrom<St>>), Fault>
     requires { O.failed out ≡ false }
     ensures written { IfOk result (λ done. HasToldOr
-        (IsServed tenant.now account asked.now (O.written out) (O.written done.0))
+        (IsStatementServed tenant.now account asked.now (O.written out) (O.written done.0))
         (HasOpened (HasWritten (image_at St.Start)
         (IsWrittenFrom O.written tenant.now account asked.now out done.0))) done.1) }
     ensures fault { IfErr result (IsUndone ⟦<FileFrom<St> as Disk>⟧ (image_at St.Start)

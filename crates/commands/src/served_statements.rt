@@ -16,7 +16,7 @@ ghost use Rattle.statement.specs.Writer.{drain_of, has_refused};
 ghost use Rattle.commands.specs.Served.{first_asked, last_time, piece_behind, served_text};
 ghost use Rattle.commands.specs.Served.{sink_fault, text_by, why_refused};
 ghost use Rattle.commands.specs.Undone.{IsUnserved, IsUnwritten};
-ghost use Rattle.commands.specs.Served.{Gathers, IsFirst, IsGathered, OfAllPieces, TakesEntry};
+ghost use Rattle.commands.specs.Served.{Gathers, IsFirstPiece, IsGathered, OfAllPieces, WritesEntry};
 
 use crate::asked::Asked;
 use crate::calling::ask;
@@ -66,7 +66,7 @@ struct Whole<O: Drain> {
 }
 
 impl<O: Drain> EntrySink for Whole<O> {
-    ghost takes = { TakesEntry O.written };
+    ghost takes = { WritesEntry O.written };
 
     ghost refused = { λ whole.
         has_refused whole.writer || O.failed (drain_of whole.writer) };
@@ -176,7 +176,7 @@ pub(crate) fn ask_first(
     asked: &Asked,
 ) -> Result<Option<(First, Answer)>, Fault>
     ensures first { IfOk result (λ found. IfSome found (λ told.
-        IsFirst tenant.now account asked.now told.0 told.1)) }
+        IsFirstPiece tenant.now account asked.now told.0 told.1)) }
     ensures fault { IfErr result IsCallFault }
 {
     let asked = first_asked(tenant, account, asked);

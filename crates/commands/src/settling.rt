@@ -2,10 +2,10 @@
 ghost use Rattle.std.specs.Prelude.{◌≡◌, ℕ, IsTrue};
 ghost use Rattle.service.specs.Courses.{Tried};
 ghost use Rattle.service.specs.Openings.{run_meaning, Moves};
-ghost use Rattle.stored_ledgers.specs.Overdue.{Begins};
+ghost use Rattle.stored_ledgers.specs.Overdue.{BeginsSearch};
 ghost use Rattle.store.specs.StoreLaws.{store_meaning};
 ghost use Rattle.store.specs.Stores.{IsUsable};
-ghost use Rattle.commands.specs.Behind.{IsEmpty, IsPutOff, NotesPiece, NotesTold, search_behind};
+ghost use Rattle.commands.specs.Behind.{IsEmpty, AsksForOneBehind, NotesPiece, NotesTold, search_behind};
 ghost use Rattle.commands.specs.Settling.{GivesSettled, HasSettled, Settles, SettlesBy, batch_ending, settling};
 
 use crate::behind::Behind;
@@ -101,7 +101,7 @@ pub(crate) struct Settler {
 
 impl Settler {
     pub(crate) fn new(alloc: Global) -> Settler
-        ensures search { Begins result.search }
+        ensures search { BeginsSearch result.search }
         ensures behind { IsEmpty result.behind }
     {
         Settler {
@@ -129,7 +129,7 @@ impl Settler {
 
     /// Whether a batch waits, since its tenant has more due than is released at once.
     pub(crate) fn puts_off(&self, message: &[u8]) -> bool
-        ensures { IsTrue result → IsPutOff message.now self.now.behind }
+        ensures { IsTrue result → AsksForOneBehind message.now self.now.behind }
     {
         if self.behind.is_empty() {
             return false;
@@ -142,7 +142,7 @@ impl Settler {
 
     /// Begins anew, over another store.
     pub(crate) fn begin(&mut self)
-        ensures search { Begins self.new.search }
+        ensures search { BeginsSearch self.new.search }
         ensures behind { IsEmpty self.new.behind }
     {
         self.search = Search::new();

@@ -1,6 +1,6 @@
 //! Statements written to standard output.
 ghost use Rattle.std.specs.Prelude.{◌≡◌, false};
-ghost use Rattle.chain.specs.LedgerReads.{Reads};
+ghost use Rattle.chain.specs.LedgerReads.{ReadsOnly};
 ghost use Rattle.commands.specs.Extracts.{IsAskedTold};
 ghost use Rattle.commands.specs.Statements.{IsGivenBack, IsStatementTold, answer_in};
 ghost use Rattle.commands.specs.Statements.{statement_fault};
@@ -27,7 +27,7 @@ pub(crate) fn write_statement<L: Ledgers, O: Drain + Drop>(
     requires open { O.failed out ≡ false }
     ensures told { L.means.is_live ledgers.new → IsStatementTold O.written
         (answer_in (L.means.tenants ledgers.old digest.now) account order) out result.0 result.1 }
-    ensures reads { Reads L.means ledgers.old ledgers.new }
+    ensures reads { ReadsOnly L.means ledgers.old ledgers.new }
 {
     rows_make_a_statement::<O>();
     rows_begin_a_statement::<O>();
@@ -56,7 +56,7 @@ pub(crate) fn write_asked<L: Ledgers, O: Drain + Drop>(
     requires open { O.failed out ≡ false }
     ensures told { L.means.is_live ledgers.new → IsGivenBack (IsAskedTold O.written
         (L.means.tenants ledgers.old digest.now) account asked.now out) result }
-    ensures reads { Reads L.means ledgers.old ledgers.new }
+    ensures reads { ReadsOnly L.means ledgers.old ledgers.new }
 {
     let (out, written) = put_asked(alloc, ledgers, digest, account, asked, out);
     match written {
@@ -78,7 +78,7 @@ fn put_asked<L: Ledgers, O: Drain + Drop>(
     requires open { O.failed out ≡ false }
     ensures told { L.means.is_live ledgers.new → IsAskedTold O.written
         (L.means.tenants ledgers.old digest.now) account asked.now out result.0 result.1 }
-    ensures reads { Reads L.means ledgers.old ledgers.new }
+    ensures reads { ReadsOnly L.means ledgers.old ledgers.new }
 {
     if asked.is_whole() {
         return write_statement(alloc, ledgers, digest, account, asked.order, out);

@@ -2,7 +2,7 @@
 ghost use Rattle.std.specs.Prelude.{◌≡◌, false, map};
 ghost use Rattle.sqlite_wal.specs.Files.{image_at};
 ghost use Rattle.command_line.specs.Values.{text_in};
-ghost use Rattle.commands.specs.Program.{Does, HasRun, IsMadeTold, IsRefusalTold, Tells};
+ghost use Rattle.commands.specs.Program.{Does, HasRun, IsMadeTold, IsRefusalTold, TellsEnded};
 ghost use Rattle.commands.specs.Program.{TellsVersion, told};
 
 use crate::ended::{Ended, Held};
@@ -78,7 +78,7 @@ fn tell<O: Drop, D: Disk + Drop, E: Drain>(
     place: Option<Place<'_>>,
 ) -> u8
     requires { E.failed err.old ≡ false }
-    ensures { Tells ended.entry (told (E.written err.old)
+    ensures { TellsEnded ended.entry (told (E.written err.old)
         (E.written err.new) (E.failed err.new)) result }
 {
     match ended {

@@ -7,11 +7,11 @@ use Rattle.control.specs.declared.refusal.Refusal.{Refusal}
 use Rattle.control.specs.declared.refusal.Refusal.TheVariants.{NoRoute, BadMethod}
 
 -- a method and a path, and what they ask
-abbrev pub Row : Type 0
-Row = List ℕ × List ℕ × Asked
+abbrev pub CallRow : Type 0
+CallRow = List ℕ × List ℕ × Asked
 
 -- all of them
-abbrev pub calls : List Row
+abbrev pub calls : List CallRow
 calls =
     (codes "GET", codes "/control/tenants", Tenants)
     ∷ (codes "POST", codes "/control/tenants", AddTenant)
@@ -26,9 +26,9 @@ calls =
 -- wrong
 abbrev pub asked_at : List ℕ → List ℕ → Result Asked Refusal
 asked_at method path =
-    if list_any (λ (row : Row). bytes_eq path row.1) calls
-    then ok_or (option_map (λ (row : Row). row.2)
-    (find (λ (row : Row). bytes_eq path row.1 && bytes_eq method row.0) calls)) BadMethod
+    if list_any (λ (row : CallRow). bytes_eq path row.1) calls
+    then ok_or (option_map (λ (row : CallRow). row.2)
+    (find (λ (row : CallRow). bytes_eq path row.1 && bytes_eq method row.0) calls)) BadMethod
     else Err NoRoute
 
 -- the same of a path with one method

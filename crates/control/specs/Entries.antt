@@ -109,7 +109,7 @@ abbrev pub listed_in : Data → Option (List AccountEntry)
 listed_in d = option_and_then entries_of (option_and_then as_array (get (codes "entries") d))
 
 -- a body tells these entries, and this clock
-abbrev pub IsTold : List ℕ → Entries → Type 0
-IsTold body told =
+abbrev pub AreEntriesTold : List ℕ → Entries → Type 0
+AreEntriesTold body told =
     (d : Data) × (json_of body ≡ Some d) × (number_at (2 ^ 64) (codes "clock") d ≡ Some told.clock)
     × (listed_in d ≡ Some told.entries.items)

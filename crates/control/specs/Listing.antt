@@ -37,7 +37,7 @@ row_lines (item d ds) =
     option_and_then (λ line. option_map (λ lines. line ++ lines) (row_lines ds)) (row_line d)
 
 -- a body has these lines
-abbrev pub IsListed : List ℕ → List ℕ → Type 0
-IsListed body lines =
+abbrev pub HasLines : List ℕ → List ℕ → Type 0
+HasLines body lines =
     option_and_then row_lines (option_and_then as_array
     (option_and_then (get (codes "tenants")) (json_of body))) ≡ Some lines

@@ -37,8 +37,8 @@ abbrev pub wanted_of : List ℕ → Option Wanted
 wanted_of body = option_and_then wanted_in (json_of body)
 
 -- a piece is what is wanted, of a tenant with a name
-abbrev pub IsPiece : Wanted → PieceAsked → Type 0
-IsPiece (tenant, account, from, to, is_reversed) piece =
+abbrev pub IsWantedPiece : Wanted → PieceAsked → Type 0
+IsWantedPiece (tenant, account, from, to, is_reversed) piece =
     IsTenantName tenant
     × (piece ≡ record {
       tenant = tenant;
@@ -50,7 +50,8 @@ IsPiece (tenant, account, from, to, is_reversed) piece =
 
 -- the piece that a body asks for
 abbrev pub IsPieceIn : List ℕ → PieceAsked → Type 0
-IsPieceIn body piece = (wanted : Wanted) × (wanted_of body ≡ Some wanted) × IsPiece wanted piece
+IsPieceIn body piece =
+    (wanted : Wanted) × (wanted_of body ≡ Some wanted) × IsWantedPiece wanted piece
 
 -- it asks for none, or memory ran out
 abbrev pub IsNoPieceIn : List ℕ → Refusal → Type 0

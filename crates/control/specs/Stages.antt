@@ -12,13 +12,13 @@ abbrev pub due : Duration → ℕ
 due now = min (as_nanos now + 10_000_000_000) max_nanos
 
 -- its message is waited for so long
-abbrev pub IsReading : Duration → Stage → Type 0
-IsReading now (Reads until) = as_nanos until ≡ due now
-IsReading now Waits = ⊥
-IsReading now Copies = ⊥
-IsReading now Stops = ⊥
-IsReading now (Writes until) = ⊥
-IsReading now Over = ⊥
+abbrev pub IsReadingUntil : Duration → Stage → Type 0
+IsReadingUntil now (Reads until) = as_nanos until ≡ due now
+IsReadingUntil now Waits = ⊥
+IsReadingUntil now Copies = ⊥
+IsReadingUntil now Stops = ⊥
+IsReadingUntil now (Writes until) = ⊥
+IsReadingUntil now Over = ⊥
 
 -- it is to take its reply in so long
 abbrev pub IsWriting : Duration → Stage → Type 0

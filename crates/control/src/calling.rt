@@ -1,6 +1,6 @@
 //! How a command calls a service.
 ghost use Rattle.std.specs.Prelude.{◌≡◌, ◌⊎◌, IfErr, IfOk, IfSome};
-ghost use Rattle.control.specs.Answers.{IsAnswerTo};
+ghost use Rattle.control.specs.Answers.{IsAnswerToCall};
 ghost use Rattle.control.specs.Told.{IsCallFault};
 
 use crate::answer::Answer;
@@ -71,7 +71,7 @@ pub fn call<R: Net>(
     path: &str,
     call: &Call<'_>,
 ) -> Result<Option<Answer>, Fault>
-    ensures answer { IfOk result (λ found. IfSome found (IsAnswerTo call.now)) }
+    ensures answer { IfOk result (λ found. IfSome found (IsAnswerToCall call.now)) }
     ensures fault { IfErr result IsCallFault }
 {
     let message = message(alloc, call)?;

@@ -6,7 +6,7 @@ ghost use Rattle.serde_json.specs.Written.{compact_text, outline};
 ghost use Rattle.wire.specs.Reply.{list_data};
 ghost use Rattle.control.specs.Counting.{count_member};
 ghost use Rattle.control.specs.Entries.{balances_in, entry_in, transfer_in};
-ghost use Rattle.control.specs.Entries.{IsTold, entries_data, entries_of, entry_data, entry_members};
+ghost use Rattle.control.specs.Entries.{AreEntriesTold, entries_data, entries_of, entry_data, entry_members};
 
 use crate::counting::{Count, write_counts};
 use crate::numbers::{number_16_at, number_32_at, number_64_at, number_at};
@@ -159,7 +159,7 @@ fn entries_of(alloc: Global, rows: &[Value]) -> Result<Vec<AccountEntry>, Fault>
 
 /// The entries that a body tells, and the clock. Where it tells none it is `Unavailable`.
 pub fn entries_in(alloc: Global, body: &[u8]) -> Result<Entries, Fault>
-    ensures told { IfOk result (IsTold body.now) }
+    ensures told { IfOk result (AreEntriesTold body.now) }
     ensures fault { IfErr result (λ fault. fault ≡ Fault.Unavailable) }
 {
     let value = value_in(alloc, body)?.ok_or(Fault::Unavailable)?;

@@ -7,7 +7,7 @@ ghost use Rattle.serde_json.specs.View.{items_view, view};
 ghost use Rattle.serde_json.specs.Written.{compact_text, outline};
 ghost use Rattle.wire.specs.Reply.{list_data};
 ghost use Rattle.command_texts.specs.Lines.{tenants_line};
-ghost use Rattle.control.specs.Listing.{IsListed, row_data, row_line, row_lines, rows_data};
+ghost use Rattle.control.specs.Listing.{HasLines, row_data, row_line, row_lines, rows_data};
 
 use crate::members::text;
 use crate::reading::value_in;
@@ -93,7 +93,7 @@ fn row_lines(alloc: Global, rows: &[Value]) -> Result<String, Fault>
 
 // The same of a body.
 fn lines_in(alloc: Global, body: &[u8]) -> Result<String, Fault>
-    ensures ok { IfOk result (λ lines. IsListed body.now (string_bytes lines)) }
+    ensures ok { IfOk result (λ lines. HasLines body.now (string_bytes lines)) }
     ensures fault { IfErr result (λ fault. fault ≡ Fault.Unavailable) }
 {
     let value = value_in(alloc, body)?.ok_or(Fault::Unavailable)?;
@@ -107,7 +107,7 @@ fn lines_in(alloc: Global, body: &[u8]) -> Result<String, Fault>
 /// Where the body has none it is `Unavailable`, and nothing is written.
 pub fn put_listed<O: Drain>(alloc: Global, out: &mut O, body: &[u8]) -> Result<(), Fault>
     requires { O.failed out.old ≡ false }
-    ensures listed { OnOk result ((lines : List ℕ) × IsListed body.now lines
+    ensures listed { OnOk result ((lines : List ℕ) × HasLines body.now lines
         × Appends (O.written out.old) (O.written out.new) (tenants_line ++ lines)) }
     ensures kept { result ≡ Err Fault.Unavailable → out.new ≡ out.old }
     ensures fault { IfErr result (λ fault. (fault ≡ Fault.Unavailable) ⊎ (fault ≡ Fault.Output)) }

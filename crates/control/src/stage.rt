@@ -1,6 +1,6 @@
 //! What each caller is waited for.
 ghost use Rattle.std.specs.Prelude.{◌≡◌};
-ghost use Rattle.control.specs.Stages.{IsBehindOrder, IsReading, IsWriting, has_had_time, is_busy};
+ghost use Rattle.control.specs.Stages.{IsBehindOrder, IsReadingUntil, IsWriting, has_had_time, is_busy};
 
 use crate::Order;
 use std::time::Duration;
@@ -28,7 +28,7 @@ pub(crate) enum Stage {
 impl Stage {
     /// Of one that has come.
     pub(crate) fn reading(now: Duration) -> Stage
-        ensures { IsReading now result }
+        ensures { IsReadingUntil now result }
     {
         Stage::Reads(now.saturating_add(Duration::from_secs(PATIENCE)))
     }

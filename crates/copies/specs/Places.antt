@@ -11,8 +11,8 @@ unfoldable pub overwritten : ℕ → List ℕ → List ℕ → List ℕ
 overwritten at part all = take at all ++ part ++ drop (at + length part) all
 
 -- a part is written at a place, within what there is or at its end
-abbrev pub Writes : ℕ → List ℕ → Option (List ℕ) → Option (List ℕ) → Type 0
-Writes at part old new =
+abbrev pub WritesPart : ℕ → List ℕ → Option (List ℕ) → Option (List ℕ) → Type 0
+WritesPart at part old new =
     (all : List ℕ) → old ≡ Some all → at ≤ length all → new ≡ Some (overwritten at part all)
 
 -- what is behind so many bytes is gone

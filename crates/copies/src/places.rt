@@ -1,6 +1,6 @@
 //! A file as a copy sees it.
 ghost use Rattle.std.specs.Prelude.{◌≡◌, ◌≤◌, ℕ, List, Option, None, length, IfOk, OnOk};
-ghost use Rattle.copies.specs.Places.{HasRead, Writes, Cuts};
+ghost use Rattle.copies.specs.Places.{HasRead, WritesPart, Cuts};
 
 use crate::fault::CopyFault;
 use std::fs::File;
@@ -18,7 +18,7 @@ pub(crate) trait Places {
 
     /// Writes bytes at a place.
     fn write_to(&mut self, part: &[u8], at: u64) -> Result<(), CopyFault>
-        ensures { OnOk result (Writes at part.now (bytes self.old) (bytes self.new)) };
+        ensures { OnOk result (WritesPart at part.now (bytes self.old) (bytes self.new)) };
 
     /// Lets go of what is behind so many bytes.
     fn cut(&mut self, size: u64) -> Result<(), CopyFault>

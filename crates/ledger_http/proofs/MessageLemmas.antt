@@ -11,7 +11,7 @@ use Rattle.ledger_http.specs.Limits.{max_head, max_body}
 use Rattle.ledger_http.specs.Results.{and_then}
 use Rattle.ledger_http.specs.Head.{IsGoodHead, stated_length}
 use Rattle.ledger_http.specs.Message.{end_of_head, length_of_head, length_for, at_most_max, length_of_body, HasHead, First, message_of, cut_at, first_message}
-use Rattle.ledger_http.specs.Question.{as_early, question_in, asked_of, Tells, IsAsked}
+use Rattle.ledger_http.specs.Question.{as_early, question_in, asked_of, TellsQuestion, IsAsked}
 
 -- with no end of a head there is no message
 pub first_message-no_end : (bytes : List ℕ) (refusal : Refusal) → length_of_head bytes ≡ Err refusal
@@ -131,7 +131,7 @@ IsAsked-refused bytes head refusal has refused =
 -- a whole message asks what stands in it
 pub IsAsked-whole : (bytes : List ℕ) (h : RequestHead) (first : First) (result : Result Asked Early)
     → HasHead bytes (Some h) → first_message bytes (Some h) ≡ Ok first
-    → Tells (Refused Unavailable) (question_in first) result
+    → TellsQuestion (Refused Unavailable) (question_in first) result
     → (question_in first ≡ Err Page → result ≡ Err Page)
     → (question_in first ≡ Err Health → result ≡ Err Health)
     → IsAsked bytes result
@@ -142,7 +142,7 @@ IsAsked-whole bytes h first result has whole told page health =
     record {
       head = Some h;
       has = has;
-      told = subst (λ question. Tells (Refused Unavailable) question result) (sym is) told;
+      told = subst (λ question. TellsQuestion (Refused Unavailable) question result) (sym is) told;
       unavailable = λ _. subst IsOk (sym whole) refl;
       page = λ asks. page (sym is ∙ asks);
       health = λ asks. health (sym is ∙ asks);

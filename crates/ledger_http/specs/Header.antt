@@ -20,7 +20,7 @@ IsFound (Once value) values = values ≡ value.now ∷ []
 IsFound More values = 2 ≤ length values
 
 -- what is kept of a head
-pub record Shows (head : Head) (h : RequestHead) : Type 0 where
+pub record ShowsHead (head : Head) (h : RequestHead) : Type 0 where
   pub method : head.method.now ≡ h.method
   pub target : head.target.now ≡ h.target
   pub size : head.length ≡ option_map (min (max_body + 1)) (stated_length h)

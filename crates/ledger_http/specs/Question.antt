@@ -75,8 +75,8 @@ question_of asked = record {
 }
 
 -- an answer tells what is asked; want of memory says nothing of it
-abbrev pub Tells : {E : Type 0} → E → Result Question E → Result Asked E → Type 0
-Tells wanting expected result =
+abbrev pub TellsQuestion : {E : Type 0} → E → Result Question E → Result Asked E → Type 0
+TellsQuestion wanting expected result =
     MatchResult result
     (λ asked. expected ≡ Ok (question_of asked))
     (λ told. told ≢ wanting → expected ≡ Err told)
@@ -86,7 +86,7 @@ Tells wanting expected result =
 pub record IsAsked (bytes : List ℕ) (result : Result Asked Early) : Type 0 where
   pub head : Option RequestHead
   pub has : HasHead bytes head
-  pub told : Tells (Refused Unavailable) (asked_of bytes head) result
+  pub told : TellsQuestion (Refused Unavailable) (asked_of bytes head) result
   pub unavailable : result ≡ Err (Refused Unavailable) → IsOk (first_message bytes head)
   pub page : asked_of bytes head ≡ Err Page → result ≡ Err Page
   pub health : asked_of bytes head ≡ Err Health → result ≡ Err Health

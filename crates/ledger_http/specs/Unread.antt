@@ -39,9 +39,9 @@ pub record IsWhole (bytes : List ℕ) (size : ℕ) : Type 0 where
 
 -- what stands first: a whole message, or one that is refused whatever else comes; more is wanted
 -- only of a message that is not refused, as long as the input has not ended
-abbrev pub IsNext : Unread → Next → Type 0
-IsNext unread (Whole size) = IsWhole unread.bytes size
-IsNext unread (Refused refusal) =
+abbrev pub IsNextUnread : Unread → Next → Type 0
+IsNextUnread unread (Whole size) = IsWhole unread.bytes size
+IsNextUnread unread (Refused refusal) =
     IsRefused unread.bytes refusal × (refusal ≡ Truncated → unread.ended ≡ true)
-IsNext unread Wanting = (unread.ended ≡ false) × IsShort unread.bytes
-IsNext unread End = (unread.ended ≡ true) × (unread.bytes ≡ [])
+IsNextUnread unread Wanting = (unread.ended ≡ false) × IsShort unread.bytes
+IsNextUnread unread End = (unread.ended ≡ true) × (unread.bytes ≡ [])

@@ -3,8 +3,8 @@ ghost use Rattle.std.specs.Prelude.{◌≡◌, ◌≤◌, Err, IfOk};
 ghost use Rattle.httparse.specs.Grammar.{RequestHead};
 ghost use Rattle.ledger_http.specs.Limits.{max_body};
 ghost use Rattle.ledger_http.specs.Message.{First, length_of_body};
-ghost use Rattle.ledger_http.specs.Header.{Shows};
-ghost use Rattle.ledger_http.specs.Question.{question_by_route, told_by, question_in, Tells};
+ghost use Rattle.ledger_http.specs.Header.{ShowsHead};
+ghost use Rattle.ledger_http.specs.Question.{question_by_route, told_by, question_in, TellsQuestion};
 ghost use Rattle.ledger_http.specs.Question.{IsAsked};
 
 use crate::ends::head_length;
@@ -17,7 +17,7 @@ use tenants::Key;
 
 /// How long the body behind a head is.
 pub(crate) fn body_length(head: &Head<'_>) -> Result<usize, Refusal>
-    ensures size { (h : RequestHead) → Shows head.now h → result ≡ length_of_body h }
+    ensures size { (h : RequestHead) → ShowsHead head.now h → result ≡ length_of_body h }
     ensures few { IfOk result (λ size. size ≤ max_body) }
 {
     match head.length {
@@ -34,8 +34,8 @@ fn question_by_route<'a>(
     head: Head<'a>,
     body: &'a [u8],
 ) -> Result<Asked<'a>, Refusal>
-    ensures { (first : First) → Shows head.entry first.head → first.body ≡ body.now
-        → Tells Refusal.Unavailable (question_by_route first) result }
+    ensures { (first : First) → ShowsHead head.entry first.head → first.body ≡ body.now
+        → TellsQuestion Refusal.Unavailable (question_by_route first) result }
 {
     let route = find_route(alloc, head.target)?;
     if head.method != route.method() {
@@ -65,11 +65,11 @@ fn told_by(told: Early, method: &[u8]) -> Early
 
 // What a whole message asks.
 fn question<'a>(alloc: Global, head: Head<'a>, body: &'a [u8]) -> Result<Asked<'a>, Early>
-    ensures told { (first : First) → Shows head.entry first.head → first.body ≡ body.now
-        → Tells (Early.Refused Refusal.Unavailable) (question_in first) result }
-    ensures page { (first : First) → Shows head.entry first.head
+    ensures told { (first : First) → ShowsHead head.entry first.head → first.body ≡ body.now
+        → TellsQuestion (Early.Refused Refusal.Unavailable) (question_in first) result }
+    ensures page { (first : First) → ShowsHead head.entry first.head
         → question_in first ≡ Err Early.Page → result ≡ Err Early.Page }
-    ensures health { (first : First) → Shows head.entry first.head
+    ensures health { (first : First) → ShowsHead head.entry first.head
         → question_in first ≡ Err Early.Health → result ≡ Err Early.Health }
 {
     if head.target == "/" {

@@ -4,7 +4,7 @@ ghost use Rattle.httparse.specs.Grammar.{RequestHead, ReadsRequest};
 ghost use Rattle.httparse.specs.Spans.{IsHeaderWithin, IsRequestWithin, IsRequestAt, header_bytes};
 ghost use Rattle.ledger_http.specs.Limits.{max_body};
 ghost use Rattle.ledger_http.specs.Head.{IsGoodHead, IsLength, sole, number_in};
-ghost use Rattle.ledger_http.specs.Header.{values_in, Shows};
+ghost use Rattle.ledger_http.specs.Header.{values_in, ShowsHead};
 
 use crate::Refusal;
 use crate::header::{Found, find_header, read_length};
@@ -78,7 +78,8 @@ fn key_in<'a>(bytes: &'a [u8], headers: &[HeaderSpan]) -> Option<&'a [u8]>
 
 /// What a head says that takes up all bytes.
 pub(crate) fn head_of(bytes: &[u8]) -> Result<Head<'_>, Refusal>
-    ensures good { IfOk result (λ head. (h : RequestHead) × IsGoodHead bytes.now h × Shows head h) }
+    ensures good { IfOk result
+        (λ head. (h : RequestHead) × IsGoodHead bytes.now h × ShowsHead head h) }
     ensures bad { IfErr result (λ refusal. (refusal ≡ Refusal.BadHead)
         × ((h : RequestHead) → IsGoodHead bytes.now h → ⊥)) }
 {

@@ -4,7 +4,7 @@ ghost use Rattle.ledger_http.specs.Limits.{longest_message};
 ghost use Rattle.ledger_http.specs.Message.{IsAnnounced};
 ghost use Rattle.ledger_http.specs.Progress.{HasLength, IsLooked};
 ghost use Rattle.ledger_http.specs.Unread.{nothing_yet, with_more, ended_now, without, IsShort, IsWhole};
-ghost use Rattle.ledger_http.specs.Unread.{IsNext};
+ghost use Rattle.ledger_http.specs.Unread.{IsNextUnread};
 
 use crate::Refusal;
 use crate::progress::{Progress, look_on};
@@ -101,7 +101,7 @@ fn whole_size(bytes: &[u8], progress: Progress) -> Option<usize>
 // What stands first in bytes that have all been looked at.
 fn first_in(bytes: &[u8], progress: Progress, ended: bool) -> Next
     requires { IsLooked bytes.now progress }
-    ensures { IsNext (record { bytes = bytes.now; ended = ended }) result }
+    ensures { IsNextUnread (record { bytes = bytes.now; ended = ended }) result }
 {
     match whole_size(bytes, progress) {
         Some(size) => Next::Whole(size),
@@ -149,7 +149,7 @@ impl Inbox {
 
     /// What stands first. Asked again before more has come, it is the same.
     pub fn next(&mut self) -> Next
-        ensures next { IsNext self.old result }
+        ensures next { IsNextUnread self.old result }
         ensures same { self.new ≡ self.old }
     {
         let unread = &self.bytes[self.taken..];

@@ -11,7 +11,7 @@ use Rattle.openings.specs.CaseLaws.{level, no_case_7, unless_available}
 use Rattle.openings.specs.Damage.{NamesVersion}
 use Rattle.openings.specs.Found.{IsUnavailable}
 use Rattle.openings.specs.Opened.{IsSoundIn}
-use Rattle.openings.specs.Told.{AreApart, HasNamesIn, HasVersion, IsNoneTold, IsSoundLedger, SoundHasNoDamage, Tells, case_of}
+use Rattle.openings.specs.Told.{AreToldApart, HasNamesIn, NamesVersionOf, IsNoneTold, IsSoundLedger, SoundHasNoDamage, Warrants, case_of}
 use Rattle.openings.specs.declared.opening.OpenFault.{OpenFault}
 use Rattle.openings.specs.declared.opening.OpenFault.TheVariants as fault
 use Rattle.migrate.specs.Naming.{names_other}
@@ -99,7 +99,7 @@ module _ (version : ℕ) (db : Database) where
     answered_sound is = named 7 is.schema (inr (is.names, inr (is.sound, refl)))
 
   -- of such a database each opening tells that it is an old one
-  told_old : 0 < version → version < 3 → HasVersion (λ number. number ≡ pos version) db → Tells fault.OldSchema db
+  told_old : 0 < version → version < 3 → NamesVersionOf (λ number. number ≡ pos version) db → Warrants fault.OldSchema db
   told_old positive older names = record {
     starts = names.starts;
     version = names.version;
@@ -113,24 +113,24 @@ module _ (version : ℕ) (db : Database) where
     below a is = omega (arith, ints, is, older)
 
 -- one version is named
-same_version : (db : Database) (a b : ℕ) → HasVersion (λ number. number ≡ pos a) db
-    → HasVersion (λ number. number ≡ pos b) db → a ≡ b
+same_version : (db : Database) (a b : ℕ) → NamesVersionOf (λ number. number ≡ pos a) db
+    → NamesVersionOf (λ number. number ≡ pos b) db → a ≡ b
 same_version db a b one two =
     let first = subst (λ number. NamesVersion number db.trees) one.is one.named in
     let second = subst (λ number. NamesVersion number db.trees) two.is two.named in
     let same = sym first ∙ second in cc
 
-module _ (no_damage : SoundHasNoDamage) (apart : (db : Database) → AreApart (λ told. Tells told db))
-    (sound : (db : Database) → IsSoundLedger db → IsNoneTold (λ told. Tells told db)) (db : Database) where
-  old_of : (told : OpenFault) → TellsOfOlder told db → Tells fault.OldSchema db
+module _ (no_damage : SoundHasNoDamage) (apart : (db : Database) → AreToldApart (λ told. Warrants told db))
+    (sound : (db : Database) → IsSoundLedger db → IsNoneTold (λ told. Warrants told db)) (db : Database) where
+  old_of : (told : OpenFault) → TellsOfOlder told db → Warrants fault.OldSchema db
   old_of told of = told_old of.version db of.positive of.older of.named
 
   -- nothing else that an opening tells is told of an older ledger
-  clash : (told : OpenFault) → ¬ IsUnavailable told → told ≢ fault.OldSchema → Tells told db → Tells fault.OldSchema db → ⊥
+  clash : (told : OpenFault) → ¬ IsUnavailable told → told ≢ fault.OldSchema → Warrants told db → Warrants fault.OldSchema db → ⊥
   clash told not other tells old =
       other (is_old told (apart db told fault.OldSchema not (λ is. let e = is.1 in cc) tells old))
 
-  pub migration_apart : AreApart (λ told. TellsAny told db)
+  pub migration_apart : AreToldApart (λ told. TellsAny told db)
   migration_apart a b one other (inl x) (inl y) = apart db a b one other x.1 y.1
   migration_apart a b one other (inl x) (inr y) = absurd (clash a one x.0 x.1 (old_of b y))
   migration_apart a b one other (inr x) (inl y) = absurd (clash b other y.0 y.1 (old_of a x))
@@ -147,7 +147,7 @@ module _ (no_damage : SoundHasNoDamage) (apart : (db : Database) → AreApart (�
 
     none_of_older : version < 3 → IsOlderLedger version db → (told : OpenFault) → ¬ IsUnavailable told → TellsAny told db → ⊥
     none_of_older less is told not tells =
-        let names : HasVersion (λ number. number ≡ pos version) db = record {
+        let names : NamesVersionOf (λ number. number ≡ pos version) db = record {
           starts = older_starts version db.schema is.schema;
           version = pos version;
           is = refl;

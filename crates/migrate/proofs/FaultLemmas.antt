@@ -10,7 +10,7 @@ use Rattle.audit.specs.declared.damage.Damage.{Damage}
 use Rattle.openings.specs.Whole.{AreAllRows}
 use Rattle.openings.specs.declared.opening.OpenFault.{OpenFault}
 use Rattle.openings.specs.declared.opening.OpenFault.TheVariants as opening
-use Rattle.migrate.specs.Faults.{audit_fault, upgrade_fault, IfDamaged}
+use Rattle.migrate.specs.Faults.{audit_fault, upgrade_fault, IfMigrationDamaged}
 use Rattle.openings.specs.Damage.{HasFirstDamage}
 use Rattle.openings.specs.DamageLaws.{first_of_read}
 use Rattle.migrate.specs.declared.fault.MigrateFault.{MigrateFault}
@@ -23,7 +23,7 @@ no_newer_by_cause r why is newer = let e = is in cc
 
 -- and of no damage
 pub undamaged_by_cause : {T : Type 0} (r : Result T MigrateFault) (why : Unavailable) (P : Damage → Type 0)
-    → r ≡ Err (fault.Unavailable why) → IfErr r (λ told. IfDamaged told P)
+    → r ≡ Err (fault.Unavailable why) → IfErr r (λ told. IfMigrationDamaged told P)
 undamaged_by_cause r why P is = rw is tt
 
 -- an audit does not tell of versions
@@ -49,7 +49,7 @@ pub no_newer_by_upgrade : {T : Type 0} (r : Result T MigrateFault) (cause : Open
     → r ≢ Err fault.NewerSchema
 no_newer_by_upgrade r cause is newer = upgrade_is_other cause (let e = is in cc)
 
-upgrade_undamaged : (cause : OpenFault) (P : Damage → Type 0) → IfDamaged (upgrade_fault cause) P
+upgrade_undamaged : (cause : OpenFault) (P : Damage → Type 0) → IfMigrationDamaged (upgrade_fault cause) P
 upgrade_undamaged (opening.Unavailable why) P = tt
 upgrade_undamaged (opening.Damaged damage) P = tt
 upgrade_undamaged opening.InUse P = tt
@@ -60,17 +60,17 @@ upgrade_undamaged opening.NewerSchema P = tt
 
 -- an upgrade tells of no damage
 pub undamaged_by_upgrade : {T : Type 0} (r : Result T MigrateFault) (cause : OpenFault) (P : Damage → Type 0)
-    → r ≡ Err (upgrade_fault cause) → IfErr r (λ told. IfDamaged told P)
+    → r ≡ Err (upgrade_fault cause) → IfErr r (λ told. IfMigrationDamaged told P)
 undamaged_by_upgrade r cause P is = rw is (upgrade_undamaged cause P)
 
 damage_at : (version v : ℕ) (cause : AuditFault) (all : AllRows) (trees : Trees) → v ≡ version
     → IfAuditDamaged cause (IsFirstDamage v all.tenants.items) → AreAllRows version trees all
-    → IfDamaged (audit_fault cause) (λ damage. HasFirstDamage version damage trees)
+    → IfMigrationDamaged (audit_fault cause) (λ damage. HasFirstDamage version damage trees)
 damage_at version v (audit.Damaged damage) all trees is first read = first_of_read version v trees all damage read is first
 damage_at version v audit.Memory all trees is first read = tt
 
 -- an audit tells of the first damage of what was read
 pub damage_by_audit : {T : Type 0} (r : Result T MigrateFault) (version v : ℕ) (cause : AuditFault) (all : AllRows)
     (trees : Trees) → r ≡ Err (audit_fault cause) → v ≡ version → IfAuditDamaged cause (IsFirstDamage v all.tenants.items)
-    → AreAllRows version trees all → IfErr r (λ told. IfDamaged told (λ damage. HasFirstDamage version damage trees))
+    → AreAllRows version trees all → IfErr r (λ told. IfMigrationDamaged told (λ damage. HasFirstDamage version damage trees))
 damage_by_audit r version v cause all trees told is first read = rw told (damage_at version v cause all trees is first read)

@@ -12,7 +12,7 @@ use Rattle.ledger_sql.specs.Rowids.{IsNumbered}
 use Rattle.ledger_sql.specs.Schema.{list_schema, balance_schema, ledger_schema, failed_table, current_version}
 use Rattle.ledger_sql.specs.TableRows.{cells_from}
 use Rattle.migrate.specs.FillingLaws.{entries_then}
-use Rattle.migrate.specs.Filling.{IsAltering, CanSetVersion, KeepsEntries, Fills, MakesDerived, MakesBalanced, MakesCurrent}
+use Rattle.migrate.specs.Filling.{IsAltering, CanSetVersion, KeepsEntries, FillsDerived, MakesDerived, MakesBalanced, MakesCurrent}
 
 inside_then : (a b c : State) → WritesInside a b → WritesInside b c → WritesInside a c
 inside_then a b c f g = record {
@@ -28,7 +28,7 @@ inside_then a b c f g = record {
 }
 
 -- no row at all
-pub fills_none : (a : State) → IsAltering balance_schema a → Fills a a
+pub fills_none : (a : State) → IsAltering balance_schema a → FillsDerived a a
 fills_none a altering = record {
   numbered = λ n. n;
   version = refl;
@@ -47,7 +47,7 @@ fills_none a altering = record {
 }
 
 -- some rows, and then more
-pub fills_then : (a b c : State) → Fills a b → Fills b c → Fills a c
+pub fills_then : (a b c : State) → FillsDerived a b → FillsDerived b c → FillsDerived a c
 fills_then a b c f g = record {
   numbered = λ n. g.numbered (f.numbered n);
   version = g.version ∙ f.version;
@@ -56,7 +56,7 @@ fills_then a b c f g = record {
 }
 
 -- and it goes on
-pub still_altering : (a b : State) → IsAltering balance_schema a → Fills a b → IsAltering balance_schema b
+pub still_altering : (a b : State) → IsAltering balance_schema a → FillsDerived a b → IsAltering balance_schema b
 still_altering a b altering f = record {
   making = record { schema_is = f.inside.schema ∙ altering.making.schema_is; mode = f.inside.shown.mode };
   is_open = f.inside.shown.is_open;
@@ -82,7 +82,7 @@ same_numbered : (old new : List Row) → new ≡ old → IsNumbered old → IsNu
 same_numbered old new same n = subst IsNumbered (sym same) n
 
 module _ (tenant : ℤ) (added : List Row) (a b : State) (altering : IsAltering balance_schema a) where
-  pub fills_balances : (rows : ℤ → Trees → List Row) → AddsRows rows 11 tenant added a b → Fills a b
+  pub fills_balances : (rows : ℤ → Trees → List Row) → AddsRows rows 11 tenant added a b → FillsDerived a b
   fills_balances rows adds =
       let stay = stays rows 11 tenant added a b altering adds in record {
         numbered = λ n. record {
@@ -95,7 +95,7 @@ module _ (tenant : ℤ) (added : List Row) (a b : State) (altering : IsAltering 
         inside = adds.inside;
       }
 
-  pub fills_statuses : (rows : ℤ → Trees → List Row) → AddsRows rows 13 tenant added a b → Fills a b
+  pub fills_statuses : (rows : ℤ → Trees → List Row) → AddsRows rows 13 tenant added a b → FillsDerived a b
   fills_statuses rows adds =
       let stay = stays rows 13 tenant added a b altering adds in record {
         numbered = λ n. record {
@@ -108,7 +108,7 @@ module _ (tenant : ℤ) (added : List Row) (a b : State) (altering : IsAltering 
         inside = adds.inside;
       }
 
-  pub fills_histories : (rows : ℤ → Trees → List Row) → AddsRows rows 15 tenant added a b → Fills a b
+  pub fills_histories : (rows : ℤ → Trees → List Row) → AddsRows rows 15 tenant added a b → FillsDerived a b
   fills_histories rows adds =
       let stay = stays rows 15 tenant added a b altering adds in record {
         numbered = λ n. record {
@@ -125,7 +125,7 @@ no_rows : (rows : List Row) → rows ≡ [] → IsNumbered rows
 no_rows rows none = subst IsNumbered (sym none) (record { rise = tt; whole = tt })
 
 -- the tables are made, and then filled
-pub derived_made : (a b c : State) → MakesTables list_schema balance_schema (drop 5 balance_schema.tables) a b → Fills b c → MakesDerived a c
+pub derived_made : (a b c : State) → MakesTables list_schema balance_schema (drop 5 balance_schema.tables) a b → FillsDerived b c → MakesDerived a c
 derived_made a b c made fills = record {
   numbered = fills.numbered (record {
     balances = no_rows (b.now.trees 11) made.empty.0;

@@ -4,9 +4,9 @@ use Rattle.std.proofs.lemmas.Int.{ints}
 use Rattle.rows.specs.declared.all_rows.AllRows.{AllRows}
 use Rattle.sqlite.specs.Effect.{Database}
 use Rattle.records.specs.declared.unavailable.Unavailable.{Unavailable}
-use Rattle.openings.specs.Damage.{HasFirstDamage, IfDamaged, NamesVersion}
+use Rattle.openings.specs.Damage.{HasFirstDamage, IfOpeningDamaged, NamesVersion}
 use Rattle.openings.specs.NameLaws.{good_names}
-use Rattle.openings.specs.Told.{HasVersion, Tells}
+use Rattle.openings.specs.Told.{NamesVersionOf, Warrants}
 use Rattle.openings.specs.Whole.{AreAllRows}
 use Rattle.openings.specs.declared.opening.OpenFault.{OpenFault}
 use Rattle.openings.specs.declared.opening.OpenFault.TheVariants as fault
@@ -40,7 +40,7 @@ told_by_want version r why db is = rw is tt
 -- by the rows that were read
 pub told_rows : (version : ℕ) (told : OpenFault) (db : Database) (rows : AllRows)
     → db.schema ≡ older_schema version → AreAllRows version db.trees rows → TellsOfRows told rows
-    → IfDamaged told (λ damage. HasFirstDamage version damage db.trees) → TellsOlder version told db
+    → IfOpeningDamaged told (λ damage. HasFirstDamage version damage db.trees) → TellsOlder version told db
 told_rows version fault.InUse db rows schema read of first = absurd of
 told_rows version fault.Unreadable db rows schema read of first = absurd of
 told_rows version fault.NotALedger db rows schema read of first =
@@ -63,11 +63,11 @@ below : (a : ℤ) (version : ℕ) → a <ℤ pos 3 → a ≡ pos version → 3 �
 below a version less is three = omega (arith, ints, less, is, three)
 
 not_below : (db : Database) (version : ℕ) → 3 ≤ version → NamesVersion (pos version) db.trees
-    → HasVersion (λ number. (pos 0 <ℤ number) × (number <ℤ pos 3)) db → ⊥
+    → NamesVersionOf (λ number. (pos 0 <ℤ number) × (number <ℤ pos 3)) db → ⊥
 not_below db version three names old =
     below old.version version old.is.1 (version_is db version old.version names old.named) three
 
 pub told_current : (db : Database) (version : ℕ) (told : OpenFault) → 3 ≤ version
-    → NamesVersion (pos version) db.trees → Tells told db → TellsAny told db
+    → NamesVersion (pos version) db.trees → Warrants told db → TellsAny told db
 told_current db version told three names tells =
-    inl (λ is. not_below db version three names (subst (λ (t : OpenFault). Tells t db) is tells), tells)
+    inl (λ is. not_below db version three names (subst (λ (t : OpenFault). Warrants t db) is tells), tells)

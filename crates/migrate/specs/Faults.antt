@@ -24,7 +24,7 @@ upgrade_fault opening.OldSchema = Unavailable Size
 upgrade_fault opening.NewerSchema = Unavailable Size
 
 -- a fact of the damage that is told, if it is
-abbrev pub IfDamaged : MigrateFault → (Damage → Type 0) → Type 0
-IfDamaged NewerSchema P = Unit {0}
-IfDamaged (Damaged damage) P = P damage
-IfDamaged (Unavailable why) P = Unit {0}
+abbrev pub IfMigrationDamaged : MigrateFault → (Damage → Type 0) → Type 0
+IfMigrationDamaged NewerSchema P = Unit {0}
+IfMigrationDamaged (Damaged damage) P = P damage
+IfMigrationDamaged (Unavailable why) P = Unit {0}

@@ -49,7 +49,7 @@ pub record KeepsEntries (old new : Trees) : Type 0 where
   pub transfers : new transfer_tree ≡ old transfer_tree
 
 -- rows were put into the tables of balances, states and history, and into no other
-pub record Fills (old new : State) : Type 0 where
+pub record FillsDerived (old new : State) : Type 0 where
   pub numbered : AreDerivedNumbered old.now.trees → AreDerivedNumbered new.now.trees
   pub version : new.now.trees schema_tree ≡ old.now.trees schema_tree
   pub entries : KeepsEntries old.now.trees new.now.trees

@@ -9,7 +9,7 @@ use Rattle.sqlite.specs.State.{State, HasCleanDisk}
 use Rattle.ledger_sql.specs.Frames.{Live}
 use Rattle.stored_ledgers.specs.Resting.{IsResting}
 use Rattle.openings.specs.Found.{FilesStay, IsOfLedger}
-use Rattle.openings.specs.Opened.{IsOpened, LeavesRefused}
+use Rattle.openings.specs.Opened.{WasOpenedOn, LeavesRefused}
 use Rattle.openings.specs.Told.{IsToldBy}
 use Rattle.openings.specs.declared.opening.OpenFault.{OpenFault}
 use Rattle.migrate.specs.Told.{TellsAny}
@@ -38,7 +38,7 @@ module _ {D : Type 0} {g : disk.Ghosts D} where
     pub ready : IsTrue ledger.ready
     pub known : IsKnown ledger.version
     pub sound : HasCleanDisk (state_of ledger) → IsLedgerOf ledger.version (state_of ledger).now
-    pub opened : HasCleanDisk (state_of ledger) → IsOpened image (state_of ledger)
+    pub opened : HasCleanDisk (state_of ledger) → WasOpenedOn image (state_of ledger)
 
 -- an opening refuses the files: the case that it tells is there, and it leaves them as each opening
 -- does that is refused

@@ -5,7 +5,7 @@ use Rattle.sqlite_disk.specs.declared.Disk as disk
 use Rattle.sqlite.specs.State.{State, HasCleanDisk, Survives}
 use Rattle.ledger_sql.specs.Frames.{Live}
 use Rattle.openings.specs.Damage.{HasFirstDamage}
-use Rattle.migrate.specs.Faults.{IfDamaged}
+use Rattle.migrate.specs.Faults.{IfMigrationDamaged}
 use Rattle.migrate.specs.Ledgers.{IsMigratable, state_of}
 use Rattle.openings.specs.Opened.{IsSoundIn}
 use Rattle.migrate.specs.Upgrading.{HasRisen, KeepsMachines, Raised}
@@ -19,7 +19,7 @@ pub record LeavesAudited {A : Type 0} (version : ℕ) (old new : State)
     (result : Result A MigrateFault) : Type 0 where
   pub no_newer : result ≢ Err NewerSchema
   pub damaged :
-      HasCleanDisk new → IfErr result (λ fault. IfDamaged fault
+      HasCleanDisk new → IfErr result (λ fault. IfMigrationDamaged fault
       (λ damage. HasFirstDamage version damage old.now.trees))
   pub sound : HasCleanDisk new → OnOk result (IsSoundIn version old.now.trees)
 
@@ -76,7 +76,7 @@ module _ {D : Type 0} {g : disk.Ghosts D} {A : Type 0} where
         HasCleanDisk (state_of new) → OnOk result
         (KeepsMachines (state_of old).now.trees (state_of new).now.trees)
     pub damaged :
-        HasCleanDisk (state_of new) → IfErr result (λ fault. IfDamaged fault
+        HasCleanDisk (state_of new) → IfErr result (λ fault. IfMigrationDamaged fault
         (λ damage. HasFirstDamage old.version damage (state_of old).now.trees))
     pub same : Live (state_of new) → OnErr result ((state_of new).now ≡ (state_of old).now)
     pub stays : OnErr result (new.version ≡ old.version)

@@ -9,7 +9,7 @@ use Rattle.sqlite_trees.specs.declared.store.Store.{Ghosts}
 use Rattle.sqlite.specs.Effect.{Database}
 use Rattle.sqlite.specs.Held.{Held}
 use Rattle.ledger_sql.specs.Calls.{IfClean}
-use Rattle.openings.specs.Damage.{IfDamaged}
+use Rattle.openings.specs.Damage.{IfOpeningDamaged}
 use Rattle.openings.specs.Opened.{HasNames, IsSoundIn}
 use Rattle.openings.specs.Told.{HasNamesIn}
 use Rattle.openings.specs.declared.opening.OpenFault.{OpenFault}
@@ -37,7 +37,7 @@ pub record AuditsOlder {A : Type 0} (all : AllRows) (result : Result A OpenFault
       OnOk result (All (λ tenant. AreSound all.version (lists_of tenant.rows)) all.tenants.items)
   pub names : OnOk result (HasNames all.directory.items)
   pub damaged :
-      IfErr result (λ fault. IfDamaged fault (IsFirstDamage all.version all.tenants.items))
+      IfErr result (λ fault. IfOpeningDamaged fault (IsFirstDamage all.version all.tenants.items))
   pub told : IfErr result (λ fault. TellsOfRows fault all)
 
 -- these are sound rows of tenants in an older version

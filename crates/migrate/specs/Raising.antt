@@ -6,7 +6,7 @@ use Rattle.ledger_sql.specs.Frames.{Live, IsUnmarked, Follows}
 use Rattle.ledger_sql.specs.Schema.{ledger_schema}
 use Rattle.stored_ledgers.specs.DueSets.{DueSets}
 use Rattle.stored_ledgers.specs.Resting.{IsQuiet, IsSame}
-use Rattle.openings.specs.Opened.{CanServe, IsSoundIn}
+use Rattle.openings.specs.Opened.{CanServeOrdered, IsSoundIn}
 use Rattle.openings.specs.Told.{HasNamesIn}
 use Rattle.migrate.specs.Filling.{CanSetVersion, KeepsEntries}
 use Rattle.migrate.specs.Upgrading.{IsRaised, Raised}
@@ -18,7 +18,7 @@ pub record HasBalanceTables (old new : State) : Type 0 where
 
 -- what was written can be served, or has tenants with names and sound rows of the balance schema
 pub record IsSeen (to : ℕ) (sets : DueSets) (db : Database) : Type 0 where
-  pub current : 3 ≤ to → CanServe sets db
+  pub current : 3 ≤ to → CanServeOrdered sets db
   pub older : to < 3 → HasNamesIn 2 db.trees × IsSoundIn 2 db.trees
 
 -- a ledger of the newer version stands in the transaction, to be committed

@@ -5,7 +5,7 @@ use Rattle.audit.specs.declared.damage.Damage.{Damage}
 use Rattle.sqlite.specs.Effect.{Database}
 use Rattle.openings.specs.Damage.{HasFirstDamage}
 use Rattle.openings.specs.Opened.{HasNames}
-use Rattle.openings.specs.Told.{AreApart, HasNamesIn, HasVersion, IsNoneTold, Tells}
+use Rattle.openings.specs.Told.{AreToldApart, HasNamesIn, NamesVersionOf, IsNoneTold, Warrants}
 use Rattle.openings.specs.declared.opening.OpenFault.{OpenFault}
 use Rattle.openings.specs.declared.opening.OpenFault.TheVariants as fault
 use Rattle.migrate.specs.Naming.{names_other}
@@ -54,19 +54,19 @@ pub record TellsOfOlder (told : OpenFault) (db : Database) : Type 0 where
   pub version : ℕ
   pub positive : 0 < version
   pub older : version < 3
-  pub named : HasVersion (λ number. number ≡ pos version) db
+  pub named : NamesVersionOf (λ number. number ≡ pos version) db
   pub tells : TellsOlder version told db
 
 -- the case in which an opening for a migration tells a fault: of an older ledger as above; else as
 -- each opening does, which never tells here that a ledger is an old one
 abbrev pub TellsAny : OpenFault → Database → Type 0
-TellsAny told db = ((told ≢ fault.OldSchema) × Tells told db) ⊎ TellsOfOlder told db
+TellsAny told db = ((told ≢ fault.OldSchema) × Warrants told db) ⊎ TellsOfOlder told db
 
 -- of a database at most one fault is told so, and of a sound ledger of any version none
-abbrev pub CasesAreApart : Type 0
-CasesAreApart = (db : Database) → AreApart (λ told. TellsAny told db)
+abbrev pub OlderCasesAreApart : Type 0
+OlderCasesAreApart = (db : Database) → AreToldApart (λ told. TellsAny told db)
 
-abbrev pub SoundIsNotRefused : Type 0
-SoundIsNotRefused =
+abbrev pub SoundOlderIsNotRefused : Type 0
+SoundOlderIsNotRefused =
     (db : Database) (version : ℕ) → IsKnown version → IsLedgerOf version db
     → IsNoneTold (λ told. TellsAny told db)

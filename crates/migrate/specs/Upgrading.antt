@@ -14,7 +14,7 @@ use Rattle.stored_ledgers.specs.DueSets.{DueSets, AreCovered}
 use Rattle.openings.specs.Found.{HasOrderedTables}
 use Rattle.stored_ledgers.specs.Ledger.{HoldsLedgers}
 use Rattle.stored_ledgers.specs.Resting.{Rests}
-use Rattle.openings.specs.Opened.{CanServe, IsSoundIn}
+use Rattle.openings.specs.Opened.{CanServeOrdered, IsSoundIn}
 use Rattle.openings.specs.Told.{HasNamesIn, IsSoundLedger}
 use Rattle.migrate.specs.declared.any_version.Examined.{Examined}
 use Rattle.openings.specs.Damage.{NamesVersion}
@@ -56,7 +56,7 @@ pub record IsLedgerOf (version : ℕ) (db : Database) : Type 0 where
 -- a ledger of the version that was found, which can be served where that is the current one
 pub record IsFoundIn (found : Examined) (db : Database) : Type 0 where
   pub ledger : IsLedgerOf found.version db
-  pub serves : 3 ≤ found.version → CanServe found.due db
+  pub serves : 3 ≤ found.version → CanServeOrdered found.due db
 
 -- a ledger of the balance schema has come of one of the list schema
 pub record IsLifted (old new : Database) : Type 0 where

@@ -2,7 +2,7 @@
 
 ghost use Rattle.ledger_sql.specs.Calls.{Changes, IfClean};
 ghost use Rattle.ledger_sql.specs.Schema.{list_schema, balance_schema};
-ghost use Rattle.migrate.specs.Filling.{IsAltering, CanSetVersion, Fills, MakesDerived, MakesBalanced, MakesCurrent, MakesVersion};
+ghost use Rattle.migrate.specs.Filling.{IsAltering, CanSetVersion, FillsDerived, MakesDerived, MakesBalanced, MakesCurrent, MakesVersion};
 
 use ledger_sql::creating::{make_balance_tables, make_failed};
 use ledger_sql::setting::set_version;
@@ -31,7 +31,7 @@ fn fill_all<S: Alter>(
     tenants: &[TenantOfDigest],
 ) -> Result<(), Unavailable>
     requires { IfClean (IsAltering balance_schema) S.Store conn.old }
-    ensures { Changes Fills S.Store conn.old conn.new result }
+    ensures { Changes FillsDerived S.Store conn.old conn.new result }
 {
     for (place, row) in directory.iter().enumerate() {
         fill_tenant(conn, row.number, tenants.get(place))?;
@@ -45,7 +45,7 @@ fn fill_tenant<S: Alter>(
     tenant: Option<&TenantOfDigest>,
 ) -> Result<(), Unavailable>
     requires { IfClean (IsAltering balance_schema) S.Store conn.old }
-    ensures { Changes Fills S.Store conn.old conn.new result }
+    ensures { Changes FillsDerived S.Store conn.old conn.new result }
 {
     let Some(tenant) = tenant else {
         return Ok(());
@@ -61,7 +61,7 @@ fn fill_balances<S: Alter>(
     rows: &[BalanceCells],
 ) -> Result<(), Unavailable>
     requires { IfClean (IsAltering balance_schema) S.Store conn.old }
-    ensures { Changes Fills S.Store conn.old conn.new result }
+    ensures { Changes FillsDerived S.Store conn.old conn.new result }
 {
     for cells in rows {
         fill_balance(conn, number, cells)?;
@@ -75,7 +75,7 @@ fn fill_statuses<S: Alter>(
     rows: &[StatusCells],
 ) -> Result<(), Unavailable>
     requires { IfClean (IsAltering balance_schema) S.Store conn.old }
-    ensures { Changes Fills S.Store conn.old conn.new result }
+    ensures { Changes FillsDerived S.Store conn.old conn.new result }
 {
     for cells in rows {
         fill_status(conn, number, cells)?;
@@ -89,7 +89,7 @@ fn fill_histories<S: Alter>(
     rows: &[HistoryCells],
 ) -> Result<(), Unavailable>
     requires { IfClean (IsAltering balance_schema) S.Store conn.old }
-    ensures { Changes Fills S.Store conn.old conn.new result }
+    ensures { Changes FillsDerived S.Store conn.old conn.new result }
 {
     for cells in rows {
         fill_history(conn, number, cells)?;

@@ -1,6 +1,6 @@
 //! Laws of migration: empty functions, each of which proves a fact of the definitions.
 
-ghost use Rattle.migrate.specs.Told.{CasesAreApart, SoundIsNotRefused};
+ghost use Rattle.migrate.specs.Told.{OlderCasesAreApart, SoundOlderIsNotRefused};
 
 use openings::laws::{cases_are_apart, sound_has_no_damage};
 
@@ -8,8 +8,8 @@ use openings::laws::{cases_are_apart, sound_has_no_damage};
 /// unavailable, and of a sound ledger of a version that it knows none. So each fault is told exactly
 /// in its case.
 pub fn cases_of_a_migration_are_apart()
-    ensures apart { CasesAreApart }
-    ensures sound { SoundIsNotRefused }
+    ensures apart { OlderCasesAreApart }
+    ensures sound { SoundOlderIsNotRefused }
 {
     cases_are_apart();
     sound_has_no_damage();

@@ -7,8 +7,8 @@ ghost use Rattle.sqlite_wal.specs.Files.{image_at};
 ghost use Rattle.sqlite_wal.specs.Reads.{AreClean};
 ghost use Rattle.openings.specs.AtPath.{LeavesPath};
 ghost use Rattle.openings.specs.Calls.{AreUsable};
-ghost use Rattle.openings.specs.Found.{IsSettled, Yields};
-ghost use Rattle.stored_ledgers.specs.Resting.{Serves};
+ghost use Rattle.openings.specs.Found.{LeavesCommitted, Yields};
+ghost use Rattle.stored_ledgers.specs.Resting.{IsServing};
 ghost use Rattle.migrate.specs.Ledgers.{IsMigratable, IsOpenedToMigrate, RefusesFiles, state_of};
 
 use crate::any_version::AnyVersion;
@@ -80,7 +80,7 @@ impl<D: Disk + Drop> LedgerOfVersion<D> {
 
     /// A law: while the database is open, a crash leaves what is there, and nothing else.
     pub fn is_settled(&self)
-        ensures { IsSettled (state_of self.now) }
+        ensures { LeavesCommitted (state_of self.now) }
     {
         is_settled(&self.conn);
     }
@@ -103,7 +103,7 @@ impl<D: Disk + Drop> LedgerOfVersion<D> {
     /// version is the current one and calls are answered; else the ledger itself.
     pub fn into_served(self) -> Result<(Connection<FileStore<D>>, DueSets), LedgerOfVersion<D>>
         requires { IsMigratable self }
-        ensures serves { IfOk result (λ parts. Serves parts.1 (file_state parts.0)) }
+        ensures serves { IfOk result (λ parts. IsServing parts.1 (file_state parts.0)) }
         ensures over { IfOk result (λ parts. parts.0 ≡ self.conn) }
         ensures served { IsOk result ↔ ((CURRENT_VERSION ≤ self.version) × IsTrue self.ready) }
         ensures back { IfErr result (λ ledger. ledger ≡ self) }

@@ -11,9 +11,9 @@ use Rattle.openings.specs.Damage.{NamesVersion}
 use Rattle.openings.specs.Found.{IsUnavailable}
 use Rattle.openings.specs.Opened.{IsSoundIn}
 use Rattle.openings.specs.Shape.{has_ours}
-use Rattle.openings.specs.Told.{AreApart, HasGoodNames, HasVersion, HindersMaking, IsCurrent, IsMadeOtherwise, IsNoLedger}
+use Rattle.openings.specs.Told.{AreToldApart, HasGoodNames, NamesVersionOf, HindersMaking, IsCurrent, IsMadeOtherwise, IsNoLedger}
 use Rattle.openings.specs.Told.{IsNoneTold, IsSoundLedger, SoundHasNoDamage}
-use Rattle.openings.specs.Told.{Tells, case_of, has_all, has_table}
+use Rattle.openings.specs.Told.{Warrants, case_of, has_all, has_table}
 use Rattle.openings.specs.Told.{No_name, No_table, No_version, No_versions, Of_ledger, Of_version}
 use Rattle.openings.specs.CaseLaws.{level, no_case_7, unless_available}
 use Rattle.openings.specs.declared.opening.OpenFault.{OpenFault}
@@ -33,16 +33,16 @@ abbrev X6 : Database → ℕ → Type 0
 X6 db n = ((has_all db.schema.tables ≡ false) × (n ≡ 2)) ⊎ ((has_all db.schema.tables ≡ true) × X7 db n)
 
 abbrev X5 : Database → ℕ → Type 0
-X5 db n = (HasVersion (λ v. pos 3 <ℤ v) db × (n ≡ 4)) ⊎ (IsCurrent db × X6 db n)
+X5 db n = (NamesVersionOf (λ v. pos 3 <ℤ v) db × (n ≡ 4)) ⊎ (IsCurrent db × X6 db n)
 
 abbrev X4 : Database → ℕ → Type 0
-X4 db n = (HasVersion (λ v. v <ℤ pos 3) db × (n ≡ 3)) ⊎ (HasVersion (λ v. pos 3 ≤ℤ v) db × X5 db n)
+X4 db n = (NamesVersionOf (λ v. v <ℤ pos 3) db × (n ≡ 3)) ⊎ (NamesVersionOf (λ v. pos 3 ≤ℤ v) db × X5 db n)
 
 abbrev IsUnversioned : Database → Type 0
 IsUnversioned db = (version : ℤ) → pos 0 <ℤ version → ¬ NamesVersion version db.trees
 
 abbrev X3 : Database → ℕ → Type 0
-X3 db n = (IsUnversioned db × (n ≡ 2)) ⊎ (HasVersion (λ v. pos 0 <ℤ v) db × X4 db n)
+X3 db n = (IsUnversioned db × (n ≡ 2)) ⊎ (NamesVersionOf (λ v. pos 0 <ℤ v) db × X4 db n)
 
 abbrev X2 : Database → ℕ → Type 0
 X2 db n = ((¬ StartsAs after_schema.tables db.schema) × (n ≡ 1)) ⊎ (StartsAs after_schema.tables db.schema × X3 db n)
@@ -56,11 +56,11 @@ X1 db n =
 one_version : (db : Database) (a b : ℤ) → NamesVersion a db.trees → NamesVersion b db.trees → a ≡ b
 one_version db a b one two = let same = sym one ∙ two in cc
 
-versions_apart : (db : Database) (P Q : ℤ → Type 0) → ((v : ℤ) → P v → Q v → ⊥) → HasVersion P db → HasVersion Q db → ⊥
+versions_apart : (db : Database) (P Q : ℤ → Type 0) → ((v : ℤ) → P v → Q v → ⊥) → NamesVersionOf P db → NamesVersionOf Q db → ⊥
 versions_apart db P Q apart x y =
     apart y.version (subst P (one_version db x.version y.version x.named y.named) x.is) y.is
 
-more_version : (db : Database) (P Q : ℤ → Type 0) → ((v : ℤ) → P v → Q v) → HasVersion P db → HasVersion Q db
+more_version : (db : Database) (P Q : ℤ → Type 0) → ((v : ℤ) → P v → Q v) → NamesVersionOf P db → NamesVersionOf Q db
 more_version db P Q more x =
     record { starts = x.starts; version = x.version; is = more x.version x.is; named = x.named }
 
@@ -145,7 +145,7 @@ of_none db (No_name current ledger bad) =
     current_x db 2 current (inr (there_all db.schema ledger, inr (ledger, inl (bad, refl))))
 
 module _ (no_damage : SoundHasNoDamage) (db : Database) where
-  answered : (told : OpenFault) → ¬ IsUnavailable told → Tells told db → X1 db (case_of told)
+  answered : (told : OpenFault) → ¬ IsUnavailable told → Warrants told db → X1 db (case_of told)
   answered fault.InUse not told = absurd told
   answered fault.Unreadable not told = of_otherwise db told
   answered fault.NotALedger not told = of_none db told
@@ -174,12 +174,12 @@ module _ (no_damage : SoundHasNoDamage) (db : Database) where
       current_x db 7 is.current
       (inr (there_all db.schema is.ledger, inr (is.ledger, inr (is.names, inr (is.sound, refl)))))
 
-  pub cases_apart : AreApart (λ fault. Tells fault db)
+  pub cases_apart : AreToldApart (λ fault. Warrants fault db)
   cases_apart a b one other first second =
       same_x1 db (case_of a) (case_of b) (answered a one first) (answered b other second)
 
-  pub sound_not_refused : IsSoundLedger db → IsNoneTold (λ fault. Tells fault db)
-  sound_not_refused is = unless_available (λ fault. Tells fault db) (λ told not tells.
+  pub sound_not_refused : IsSoundLedger db → IsNoneTold (λ fault. Warrants fault db)
+  sound_not_refused is = unless_available (λ fault. Warrants fault db) (λ told not tells.
       no_case_7 told (same_x1 db (case_of told) 7 (answered told not tells) (answered_sound is)))
 
 -- of what is there to a making
@@ -194,7 +194,7 @@ module _ (schema : Schema) where
   hindered (fault.Damaged damage) not told = absurd told
   hindered (fault.Unavailable why) not told = absurd (not (why, refl))
 
-  pub making_apart : AreApart (λ fault. HindersMaking fault schema)
+  pub making_apart : AreToldApart (λ fault. HindersMaking fault schema)
   making_apart a b one other first second =
       level (λ n. n ≡ 1) (case_of a) (case_of b) 2 (λ ours none. both_ways _ none ours) (λ x y. x ∙ sym y)
       (hindered a one first) (hindered b other second)

@@ -6,7 +6,7 @@ use Rattle.std.specs.Prelude.{slice_get}
 use Rattle.rows.specs.declared.all_rows.DirectoryRow.{DirectoryRow}
 use Rattle.rows.specs.declared.all_rows.TenantOfDigest.{TenantOfDigest}
 use Rattle.stored_ledgers.specs.DueSets.{DueSet, DueSets}
-use Rattle.openings.specs.Opened.{CoversCells, IsKept}
+use Rattle.openings.specs.Opened.{CoversCells, IsKeptIn}
 use Rattle.stored_ledgers.specs.DueSetLaws.{same_number, other_key}
 
 -- the first rows of the directory have sets that cover their tenants' rows
@@ -14,7 +14,7 @@ abbrev pub AreKeptTo : ℕ → DueSets → List DirectoryRow → List TenantOfDi
 AreKeptTo many sets directory tenants =
     (place : ℕ) (row : DirectoryRow) (tenant : TenantOfDigest) → place < many
     → slice_get directory place ≡ Some row → slice_get tenants place ≡ Some tenant
-    → IsKept sets directory tenants row.number
+    → IsKeptIn sets directory tenants row.number
 
 -- an element that is there is the one at its place
 pub at_place : {X : Type 0} (xs : List X) (k : ℕ) (x : X) → k < length xs → x ≡ get_or xs k x → slice_get xs k ≡ Some x

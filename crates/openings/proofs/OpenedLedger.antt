@@ -22,7 +22,7 @@ use Rattle.stored_ledgers.specs.Directory.{number_of}
 use Rattle.stored_ledgers.specs.DueSets.{DueSets, CoversMachine, AreCovered}
 use Rattle.openings.specs.Found.{HasOrderedTables}
 use Rattle.stored_ledgers.specs.Ledger.{HoldsLedgers}
-use Rattle.openings.specs.Opened.{IsKept, IsExamined}
+use Rattle.openings.specs.Opened.{IsKeptIn, IsExamined}
 use Rattle.openings.specs.Whole.{IsReadFor}
 use Rattle.openings.specs.Tables.{AreTenantRows}
 use Rattle.openings.proofs.HeldMachines.{machine_held, machine_covered, of_tenant}
@@ -63,7 +63,7 @@ RowsTell =
 module _ (sets : DueSets) (db : Database) (sound : IsSound db.schema db.trees) (ordered : HasOrderedTables db)
     (examined : IsExamined sets db) (fit : RowsFit) (tell : RowsTell) where
   abbrev Kept : ℤ → Type 0
-  Kept = IsKept sets examined.all.directory.items examined.all.tenants.items
+  Kept = IsKeptIn sets examined.all.directory.items examined.all.tenants.items
 
   kept_at : (digest : List ℕ) (number : ℤ) → number_of digest db.trees ≡ Some number → Kept number
   kept_at =

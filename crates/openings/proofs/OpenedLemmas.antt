@@ -21,10 +21,10 @@ use Rattle.sqlite.specs.Files.{AreFoundIn, file_state, image_of}
 use Rattle.sqlite.specs.Held.{Held}
 use Rattle.sqlite.specs.State.{State, HasCleanDisk, IsUnchanged}
 use Rattle.ledger_sql.specs.Frames.{Follows}
-use Rattle.openings.specs.Found.{FilesStay, HasOrderedTables, IsOpenAt, IsThere, Yields}
+use Rattle.openings.specs.Found.{FilesStay, HasOrderedTables, IsOpenAt, AreOnlyThere, Yields}
 use Rattle.stored_ledgers.specs.DueSets.{DueSets}
-use Rattle.openings.specs.Opened.{CanServe, CoversCells, IsOpened}
-use Rattle.stored_ledgers.specs.Resting.{IsResting, Serves}
+use Rattle.openings.specs.Opened.{CanServeOrdered, CoversCells, WasOpenedOn}
+use Rattle.stored_ledgers.specs.Resting.{IsResting, IsServing}
 use Rattle.openings.proofs.FileLemmas.{yields_more}
 use Rattle.openings.proofs.ThereLemmas.{there_left}
 
@@ -54,7 +54,7 @@ starts_with_version schema ledger = (drop 1 ledger_schema.tables ++ ledger.more,
 
 module _ (image : Image) (old new : State) where
   -- a database that was opened and only read since
-  pub opened_on : IsOpenAt image old → IsUnchanged old new → IsOpened image new
+  pub opened_on : IsOpenAt image old → IsUnchanged old new → WasOpenedOn image new
   opened_on at kept =
       let same : new.now ≡ old.now = kept.0.now_is in
       let last : new.committed ≡ old.committed = kept.0.committed_is in record {
@@ -81,7 +81,7 @@ refused_stay g files left old new opened honest follows shut yields =
     let before : AreClean g left.log left.db → HasCleanDisk old =
     λ clean. let last = shut clean in omega (arith, follows.survives.clean, last) in record {
       honest = λ clean. honest (before clean);
-      holds = yields_more g left new.may_leave (IsThere (image_of g files)) (λ clean db may.
+      holds = yields_more g left new.may_leave (AreOnlyThere (image_of g files)) (λ clean db may.
           elim (follows.survives.crash (shut clean) db may) [
             | inl left_before ↦
                 there_left (image_of g files) old (opened (before clean)) db left_before
@@ -91,14 +91,14 @@ refused_stay g files left old new opened honest follows shut yields =
 
 -- what was opened and looked at serves
 module _ {D : Type 0} (g : disk.Ghosts D) (image : Image) where
-  serves_of : (sets : DueSets) (s : State) → IsOpened image s → CanServe sets s.now → IsTrue s.is_open × IsResting sets s
+  serves_of : (sets : DueSets) (s : State) → WasOpenedOn image s → CanServeOrdered sets s.now → IsTrue s.is_open × IsResting sets s
   serves_of sets s opened can =
       let holds = can opened.sound opened.ordered in
       (opened.is_open, record { quiet = opened.quiet; ledgers = holds.0; covered = holds.1 })
 
   pub served : {E : Type 0} (r : Result (Held (FileStore D g) × DueSets) E)
-      → IfOk r (λ it. HasCleanDisk (file_state it.0) → IsOpened image (file_state it.0))
-      → IfOk r (λ it. HasCleanDisk (file_state it.0) → CanServe it.1 (file_state it.0).now)
-      → IfOk r (λ it. Serves it.1 (file_state it.0))
+      → IfOk r (λ it. HasCleanDisk (file_state it.0) → WasOpenedOn image (file_state it.0))
+      → IfOk r (λ it. HasCleanDisk (file_state it.0) → CanServeOrdered it.1 (file_state it.0).now)
+      → IfOk r (λ it. IsServing it.1 (file_state it.0))
   served (Ok it) opened can = λ clean. serves_of it.1 (file_state it.0) (opened clean) (can clean)
   served (Err e) opened can = tt

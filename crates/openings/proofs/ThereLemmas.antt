@@ -5,19 +5,19 @@ use Rattle.sqlite_wal.specs.Recovery.{Image}
 use Rattle.sqlite.specs.Effect.{Database}
 use Rattle.sqlite.specs.Files.{AreFoundIn}
 use Rattle.sqlite.specs.State.{State}
-use Rattle.openings.specs.Found.{FindsOne, IsOpenAt, IsThere}
+use Rattle.openings.specs.Found.{FindsOne, IsOpenAt, AreOnlyThere}
 
 module _ (image : Image) (s : State) (at : IsOpenAt image s) where
   -- whatever a crash leaves is what was there
-  pub there_left : (db : Trees) → s.may_leave db → IsThere image db
+  pub there_left : (db : Trees) → s.may_leave db → AreOnlyThere image db
   there_left db may =
-      subst (IsThere image) (sym (at.settled.only at.opens.is_open db may)) (record {
+      subst (AreOnlyThere image) (sym (at.settled.only at.opens.is_open db may)) (record {
         reads = at.found.reads;
         holds = at.found.holds;
       })
 
   -- so is the database as it shows
-  pub there_now : IsThere image s.now.trees
+  pub there_now : AreOnlyThere image s.now.trees
   there_now = record {
     reads = subst (λ (db : Database). AreFoundIn image db.trees) (sym at.opens.clean) at.found.reads;
     holds = λ other held. ap (λ (db : Database). db.trees) at.opens.clean ∙ at.found.holds other held;

@@ -18,14 +18,14 @@ use Rattle.ledger_sql.specs.declared.table_fault.TableFault.TheVariants as table
 use Rattle.openings.specs.Calls.{IsOfVersion}
 use Rattle.openings.specs.Damage.{IsNoDamage, NamesVersion}
 use Rattle.openings.specs.Faults.{damage_fault, open_fault_of}
-use Rattle.openings.specs.Told.{IsCurrent, LacksTables, LacksVersion, LacksVersions, Tells}
+use Rattle.openings.specs.Told.{IsCurrent, LacksTables, LacksVersion, LacksVersions, Warrants}
 use Rattle.openings.specs.Told.{No_versions, No_version, No_table, Of_version, Of_ledger}
 use Rattle.openings.specs.declared.opening.OpenFault.{OpenFault}
 use Rattle.openings.specs.declared.opening.OpenFault.TheVariants as fault
 use Rattle.openings.proofs.HeldMachines.{only_one}
 
 -- by the table of the version
-pub told_versions : (told : OpenFault) (db : Database) → LacksVersions told db.schema → Tells told db
+pub told_versions : (told : OpenFault) (db : Database) → LacksVersions told db.schema → Warrants told db
 told_versions fault.InUse db lacks = absurd lacks
 told_versions fault.Unreadable db lacks = Of_version lacks
 told_versions fault.NotALedger db lacks = No_versions lacks
@@ -35,7 +35,7 @@ told_versions (fault.Damaged damage) db lacks = absurd lacks
 told_versions (fault.Unavailable why) db lacks = tt
 
 -- by the tables of a ledger
-pub told_tables : (told : OpenFault) (db : Database) → IsCurrent db → LacksTables told db.schema → Tells told db
+pub told_tables : (told : OpenFault) (db : Database) → IsCurrent db → LacksTables told db.schema → Warrants told db
 told_tables fault.InUse db current lacks = absurd lacks
 told_tables fault.Unreadable db current lacks = Of_ledger current lacks
 told_tables fault.NotALedger db current lacks = No_table current lacks
@@ -53,7 +53,7 @@ read_named (first ∷ next ∷ rest) version is = absurd (cc)
 
 -- by the versions that were read
 pub told_version : (told : OpenFault) (db : Database) (versions : List ℤ) → StartsAs after_schema.tables db.schema
-    → IsPermutation (version_rows db.trees) (map version_values versions) → LacksVersion told versions → Tells told db
+    → IsPermutation (version_rows db.trees) (map version_values versions) → LacksVersion told versions → Warrants told db
 told_version fault.InUse db versions starts all lacks = absurd lacks
 told_version fault.Unreadable db versions starts all lacks = absurd lacks
 told_version fault.NotALedger db versions starts all lacks = No_version starts (λ version above named.
@@ -82,16 +82,16 @@ none_damaged (fault.Damaged damage) none = none damage refl
 none_damaged (fault.Unavailable why) none = tt
 
 -- a call that was in want of something is told as that, whatever the database is
-told_want : (cause : TableFault) (db : Database) → Tells (open_fault_of cause) db
+told_want : (cause : TableFault) (db : Database) → Warrants (open_fault_of cause) db
 told_want table.Missing db = tt
 told_want (table.Unavailable why) db = tt
 
 pub told_by_call : {T : Type 0} (r : Result T OpenFault) (cause : TableFault) (db : Database)
-    → r ≡ Err (open_fault_of cause) → IfErr r (λ told. Tells told db)
+    → r ≡ Err (open_fault_of cause) → IfErr r (λ told. Warrants told db)
 told_by_call r cause db is = rw is (told_want cause db)
 
 pub told_by_want : {T : Type 0} (r : Result T OpenFault) (why : Unavailable) (db : Database)
-    → r ≡ Err (fault.Unavailable why) → IfErr r (λ told. Tells told db)
+    → r ≡ Err (fault.Unavailable why) → IfErr r (λ told. Warrants told db)
 told_by_want r why db is = rw is tt
 
 -- either tells a fault of the version alone, and so does such a call
@@ -118,14 +118,14 @@ of_version_by_call r cause is = rw is (of_version_want cause)
 
 -- so is an audit, unless it found damage
 told_audit : (cause : AuditFault) (db : Database) (P : Damage → Type 0)
-    → ((damage : Damage) → P damage → Tells (fault.Damaged damage) db) → IfAuditDamaged cause P
-    → Tells (damage_fault cause) db
+    → ((damage : Damage) → P damage → Warrants (fault.Damaged damage) db) → IfAuditDamaged cause P
+    → Warrants (damage_fault cause) db
 told_audit (audit.Damaged damage) db P more found = more damage found
 told_audit audit.Memory db P more found = tt
 
 pub told_by_audit : {T : Type 0} (r : Result T OpenFault) (cause : AuditFault) (db : Database) (P : Damage → Type 0)
-    → r ≡ Err (damage_fault cause) → ((damage : Damage) → P damage → Tells (fault.Damaged damage) db)
-    → IfAuditDamaged cause P → IfErr r (λ told. Tells told db)
+    → r ≡ Err (damage_fault cause) → ((damage : Damage) → P damage → Warrants (fault.Damaged damage) db)
+    → IfAuditDamaged cause P → IfErr r (λ told. Warrants told db)
 told_by_audit r cause db P is more found = rw is (told_audit cause db P more found)
 
 -- the current version is named

@@ -14,9 +14,9 @@ use Rattle.sqlite.specs.State.{State, HasCleanDisk, Survives}
 use Rattle.ledger_sql.specs.Creating.{IsEmptyLedger}
 use Rattle.stored_ledgers.specs.DueSets.{DueSets}
 use Rattle.stored_ledgers.specs.Looks.{Looks}
-use Rattle.stored_ledgers.specs.Resting.{IsNewLedger, Serves}
+use Rattle.stored_ledgers.specs.Resting.{IsNewLedger, IsServing}
 use Rattle.openings.specs.Damage.{IsNoDamage}
-use Rattle.openings.specs.Found.{FindsNone, IsOfLedger, LeavesFilled, LeavesUnopened}
+use Rattle.openings.specs.Found.{FindsNoSchema, IsOfLedger, LeavesFilled, LeavesUnopened}
 use Rattle.openings.specs.Refused.{LeavesAsTold}
 use Rattle.openings.specs.Told.{HindersMaking, IsToldBy, IsUnopenedFor}
 use Rattle.openings.specs.declared.opening.OpenFault.{OpenFault}
@@ -77,8 +77,8 @@ module _ {D : Type 0} (g : disk.Ghosts D) where
   -- a new ledger was made in files that held no table, and can be served with any sets
   pub record IsMadeIn (files : Files D) (s : State) : Type 0 where
     pub made : HasCleanDisk s → IsNewLedger s
-    pub serves : (sets : DueSets) → Serves sets s
-    pub blank : HasCleanDisk s → FindsNone (image_of g files)
+    pub serves : (sets : DueSets) → IsServing sets s
+    pub blank : HasCleanDisk s → FindsNoSchema (image_of g files)
     pub honest : HasCleanDisk s → AreClean g files.log files.db
 
   -- the database's own opening refuses the files, and tells no fault of a ledger

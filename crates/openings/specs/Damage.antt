@@ -16,18 +16,18 @@ use Rattle.openings.specs.declared.opening.OpenFault.TheVariants.{InUse, Unreada
 use Rattle.openings.specs.declared.opening.OpenFault.TheVariants.{NewerSchema, Damaged, Unavailable}
 
 -- a fact of the damage that is told, if it is
-abbrev pub IfDamaged : OpenFault → (Damage → Type 0) → Type 0
-IfDamaged InUse P = Unit {0}
-IfDamaged Unreadable P = Unit {0}
-IfDamaged NotALedger P = Unit {0}
-IfDamaged OldSchema P = Unit {0}
-IfDamaged NewerSchema P = Unit {0}
-IfDamaged (Damaged damage) P = P damage
-IfDamaged (Unavailable why) P = Unit {0}
+abbrev pub IfOpeningDamaged : OpenFault → (Damage → Type 0) → Type 0
+IfOpeningDamaged InUse P = Unit {0}
+IfOpeningDamaged Unreadable P = Unit {0}
+IfOpeningDamaged NotALedger P = Unit {0}
+IfOpeningDamaged OldSchema P = Unit {0}
+IfOpeningDamaged NewerSchema P = Unit {0}
+IfOpeningDamaged (Damaged damage) P = P damage
+IfOpeningDamaged (Unavailable why) P = Unit {0}
 
 -- no damage is told
 abbrev pub IsNoDamage : OpenFault → Type 0
-IsNoDamage fault = IfDamaged fault (λ damage. ⊥)
+IsNoDamage fault = IfOpeningDamaged fault (λ damage. ⊥)
 
 -- of all rows of the database, in this version, this is the first damage
 pub record HasFirstDamage (version : ℕ) (damage : Damage) (trees : Trees) : Type 0 where

@@ -7,16 +7,16 @@ use Rattle.sqlite_disk.specs.declared.Disk as disk
 use Rattle.sqlite_disk.specs.declared.Files.{Files}
 use Rattle.sqlite_trees.specs.Tree.{Trees}
 use Rattle.sqlite_wal.specs.Reads.{AreClean}
-use Rattle.openings.specs.Damage.{HasFirstDamage, Hold, IfDamaged, IsDamagedIn}
+use Rattle.openings.specs.Damage.{HasFirstDamage, Hold, IfOpeningDamaged, IsDamagedIn}
 use Rattle.openings.specs.Found.{FilesStay, IsOfLedger}
-use Rattle.openings.specs.Told.{IsTold}
+use Rattle.openings.specs.Told.{IsFaultTold}
 use Rattle.openings.specs.Whole.{AreAllRows}
 use Rattle.openings.specs.declared.opening.OpenFault.{OpenFault}
 use Rattle.openings.specs.declared.opening.OpenFault.TheVariants as fault
 
 -- a fact that follows of each damage
 pub if_damaged_more : (told : OpenFault) (P Q : Damage → Type 0)
-    → ((damage : Damage) → P damage → Q damage) → IfDamaged told P → IfDamaged told Q
+    → ((damage : Damage) → P damage → Q damage) → IfOpeningDamaged told P → IfOpeningDamaged told Q
 if_damaged_more fault.InUse P Q more is = tt
 if_damaged_more fault.Unreadable P Q more is = tt
 if_damaged_more fault.NotALedger P Q more is = tt
@@ -37,8 +37,9 @@ first_of_read version v trees all damage read is first = record {
 
 -- damage that is told of a ledger is the first in what the files held
 pub held_damage : {D : Type 0} (g : disk.Ghosts D) (files left : Files D) (told : OpenFault)
-    → AreClean g left.log left.db → IsTold g files told left → (IsOfLedger told → FilesStay g files left)
-    → IfDamaged told (λ damage. Hold g files (IsDamagedIn 3 damage))
+    → AreClean g left.log left.db → IsFaultTold g files told left
+    → (IsOfLedger told → FilesStay g files left)
+    → IfOpeningDamaged told (λ damage. Hold g files (IsDamagedIn 3 damage))
 held_damage g files left fault.InUse clean is stay = tt
 held_damage g files left fault.Unreadable clean is stay = tt
 held_damage g files left fault.NotALedger clean is stay = tt

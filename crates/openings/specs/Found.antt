@@ -21,7 +21,7 @@ use Rattle.openings.specs.declared.opening.OpenFault.{OpenFault}
 use Rattle.openings.specs.declared.opening.OpenFault.TheVariants as fault
 
 -- while the database is open, a crash leaves what was committed last, and nothing else
-pub record IsSettled (s : State) : Type 0 where
+pub record LeavesCommitted (s : State) : Type 0 where
   pub only : IsTrue s.is_open → (db : Trees) → s.may_leave db → db ≡ s.committed.trees
   pub stays : IsTrue s.is_open → s.may_leave s.committed.trees
 
@@ -36,7 +36,7 @@ pub record IsOpenAt (image : Image) (s : State) : Type 0 where
   pub ordered : HasOrderedTables s.now
   pub found : FindsIn image s
   pub unlimited : s.step_limit ≡ None
-  pub settled : IsSettled s
+  pub settled : LeavesCommitted s
 
 -- whatever a crash leaves of the files holds one of these databases, unless the disk has lied
 abbrev pub Yields : {D : Type 0} → disk.Ghosts D → Files D → (Trees → Type 0) → Type 0
@@ -45,7 +45,7 @@ Yields g files X =
     → ∥ ((db : Trees) × X db × HoldsDatabase image db) ∥₁
 
 -- an opening finds these trees in what the files hold, and no other database is there
-pub record IsThere (image : Image) (trees : Trees) : Type 0 where
+pub record AreOnlyThere (image : Image) (trees : Trees) : Type 0 where
   pub reads : AreFoundIn image trees
   pub holds : (other : Trees) → HoldsDatabase image other → trees ≡ other
 
@@ -53,12 +53,12 @@ pub record IsThere (image : Image) (trees : Trees) : Type 0 where
 pub record FindsOne (P : Database → Type 0) (image : Image) : Type 0 where
   pub db : Database
   pub sound : IsDatabase db
-  pub there : IsThere image db.trees
+  pub there : AreOnlyThere image db.trees
   pub is : P db
 
 -- what the files hold has no table, index or view
-abbrev pub FindsNone : Image → Type 0
-FindsNone = FindsOne (λ db. db.schema ≡ no_schema)
+abbrev pub FindsNoSchema : Image → Type 0
+FindsNoSchema = FindsOne (λ db. db.schema ≡ no_schema)
 
 -- what an opening that failed left in the files
 abbrev pub LeavesUnopened : {D : Type 0} → (g : disk.Ghosts D) → Files D → Files D → Type 0
@@ -69,7 +69,7 @@ LeavesUnopened {D} g files left =
 -- the files that are left hold what these held, and were honest only if these were
 pub record FilesStay {D : Type 0} (g : disk.Ghosts D) (files left : Files D) : Type 0 where
   pub honest : AreClean g left.log left.db → AreClean g files.log files.db
-  pub holds : Yields g left (IsThere (image_of g files))
+  pub holds : Yields g left (AreOnlyThere (image_of g files))
 
 -- what an opening that was refused leaves: what the database's own left, or what the files held
 abbrev pub LeavesRefused : {D : Type 0} → (g : disk.Ghosts D) → Files D → Files D → Type 0
@@ -95,8 +95,8 @@ IsUnavailable told = (why : Unavailable) × (told ≡ fault.Unavailable why)
 abbrev pub LeavesNew : {D : Type 0} → (g : disk.Ghosts D) → Files D → OpenFault → Files D → Type 0
 LeavesNew g files told left =
     LeavesRefused g files left
-    ⊎ (IsUnavailable told × Yields g left (λ db. IsThere (image_of g files) db
-    ⊎ (FindsNone (image_of g files) × IsEmptyLedger db)))
+    ⊎ (IsUnavailable told × Yields g left (λ db. AreOnlyThere (image_of g files) db
+    ⊎ (FindsNoSchema (image_of g files) × IsEmptyLedger db)))
 
 -- an open database without a table, on a disk that was honest so far
 abbrev pub IsBlankHere : State → Type 0

@@ -44,7 +44,7 @@ abbrev pub HasNames : List DirectoryRow → Type 0
 HasNames directory = All (λ row. IsTenantName (string_bytes row.name)) directory
 
 -- the set of this number covers the rows of a tenant that has it
-pub record IsKept (sets : DueSets) (directory : List DirectoryRow) (tenants : List TenantOfDigest)
+pub record IsKeptIn (sets : DueSets) (directory : List DirectoryRow) (tenants : List TenantOfDigest)
     (number : ℤ) : Type 0 where
   pub set : DueSet
   pub found : get int_cmp sets number ≡ Some set
@@ -61,7 +61,7 @@ abbrev pub AreKept : DueSets → List DirectoryRow → List TenantOfDigest → T
 AreKept sets directory tenants =
     (place : ℕ) (row : DirectoryRow) (tenant : TenantOfDigest)
     → slice_get directory place ≡ Some row → slice_get tenants place ≡ Some tenant
-    → IsKept sets directory tenants row.number
+    → IsKeptIn sets directory tenants row.number
 
 -- the tables are a ledger's, all rows were read, each tenant has a name and the rows of a valid
 -- machine, and the sets keep what is due
@@ -81,12 +81,12 @@ pub record IsSoundIn (version : ℕ) (trees : Trees) : Type 0 where
   pub sound : All (λ tenant. AreSound version (lists_of tenant.rows)) all.tenants.items
 
 -- sound tables in which the rowids rise hold ledgers, and the sets cover them
-abbrev pub CanServe : DueSets → Database → Type 0
-CanServe sets db =
+abbrev pub CanServeOrdered : DueSets → Database → Type 0
+CanServeOrdered sets db =
     IsDatabase db → HasOrderedTables db → HoldsLedgers db × AreCovered sets db.trees
 
 -- a database was opened on what the files held
-pub record IsOpened (image : Image) (s : State) : Type 0 where
+pub record WasOpenedOn (image : Image) (s : State) : Type 0 where
   pub is_open : IsTrue s.is_open
   pub quiet : IsQuiet s
   pub sound : IsDatabase s.now

@@ -57,7 +57,7 @@ LacksVersion fault.NewerSchema versions =
 LacksVersion other versions = ⊥
 
 -- the table of the version comes first, and names one version, of which this is so
-pub record HasVersion (P : ℤ → Type 0) (db : Database) : Type 0 where
+pub record NamesVersionOf (P : ℤ → Type 0) (db : Database) : Type 0 where
   pub starts : StartsAs after_schema.tables db.schema
   pub version : ℤ
   pub is : P version
@@ -65,7 +65,7 @@ pub record HasVersion (P : ℤ → Type 0) (db : Database) : Type 0 where
 
 -- the version is the current one
 abbrev pub IsCurrent : Database → Type 0
-IsCurrent = HasVersion (λ version. version ≡ pos 3)
+IsCurrent = NamesVersionOf (λ version. version ≡ pos 3)
 
 -- a table of a ledger's name is not made or not placed as a ledger's
 pub data IsMadeOtherwise (db : Database) : Type 0 where
@@ -99,14 +99,14 @@ pub record IsDamagedLedger (damage : Damage) (db : Database) : Type 0 where
   pub damaged : IsDamagedIn 3 damage db.trees
 
 -- the case in which a fault is told of a database that is there
-abbrev pub Tells : OpenFault → Database → Type 0
-Tells fault.InUse db = ⊥
-Tells fault.Unreadable db = IsMadeOtherwise db
-Tells fault.NotALedger db = IsNoLedger db
-Tells fault.OldSchema db = HasVersion (λ version. (pos 0 <ℤ version) × (version <ℤ pos 3)) db
-Tells fault.NewerSchema db = HasVersion (λ version. pos 3 <ℤ version) db
-Tells (fault.Damaged damage) db = IsDamagedLedger damage db
-Tells (fault.Unavailable why) db = Unit {0}
+abbrev pub Warrants : OpenFault → Database → Type 0
+Warrants fault.InUse db = ⊥
+Warrants fault.Unreadable db = IsMadeOtherwise db
+Warrants fault.NotALedger db = IsNoLedger db
+Warrants fault.OldSchema db = NamesVersionOf (λ version. (pos 0 <ℤ version) × (version <ℤ pos 3)) db
+Warrants fault.NewerSchema db = NamesVersionOf (λ version. pos 3 <ℤ version) db
+Warrants (fault.Damaged damage) db = IsDamagedLedger damage db
+Warrants (fault.Unavailable why) db = Unit {0}
 
 -- the number of a fault's case
 abbrev pub case_of : OpenFault → ℕ
@@ -119,14 +119,14 @@ case_of (fault.Damaged damage) = 5
 case_of (fault.Unavailable why) = 6
 
 -- of these faults one is told, unless something is unavailable
-abbrev pub AreApart : (OpenFault → Type 0) → Type 0
-AreApart Tells =
-    (a b : OpenFault) → ¬ IsUnavailable a → ¬ IsUnavailable b → Tells a → Tells b
+abbrev pub AreToldApart : (OpenFault → Type 0) → Type 0
+AreToldApart Warrants =
+    (a b : OpenFault) → ¬ IsUnavailable a → ¬ IsUnavailable b → Warrants a → Warrants b
     → case_of a ≡ case_of b
 
 -- none of them is told, unless something is unavailable
 abbrev pub IsNoneTold : (OpenFault → Type 0) → Type 0
-IsNoneTold Tells = (told : OpenFault) → Tells told → IsUnavailable told
+IsNoneTold Warrants = (told : OpenFault) → Warrants told → IsUnavailable told
 
 -- rows that are sound, however they are read, have no damage, however they are read
 abbrev pub SoundHasNoDamage : Type 0
@@ -143,10 +143,10 @@ pub record IsSoundLedger (db : Database) : Type 0 where
 
 -- of a database at most one fault is told, and of such a ledger none
 abbrev pub CasesAreApart : Type 0
-CasesAreApart = (db : Database) → AreApart (λ fault. Tells fault db)
+CasesAreApart = (db : Database) → AreToldApart (λ fault. Warrants fault db)
 
 abbrev pub SoundIsNotRefused : Type 0
-SoundIsNotRefused = (db : Database) → IsSoundLedger db → IsNoneTold (λ fault. Tells fault db)
+SoundIsNotRefused = (db : Database) → IsSoundLedger db → IsNoneTold (λ fault. Warrants fault db)
 
 -- what the files hold is no database, and they are not empty
 abbrev pub HoldsNone : Image → Type 0
@@ -157,15 +157,15 @@ abbrev pub tally_in : {D : Type 0} → disk.Ghosts D → Files D → Tally
 tally_in g files = tally_of_files g (files.log, files.db)
 
 -- the database refuses the files: they hold none, or a read has failed its test, as the disk counts
-pub data IsRefused {D : Type 0} (g : disk.Ghosts D) (files left : Files D) : Type 0 where
-  Holds_none : HoldsNone (image_of g files) → IsRefused g files left
-  Failed_test : named (tally_in g files) (tally_in g left) ≡ Corrupt → IsRefused g files left
+pub data AreRefused {D : Type 0} (g : disk.Ghosts D) (files left : Files D) : Type 0 where
+  Holds_none : HoldsNone (image_of g files) → AreRefused g files left
+  Failed_test : named (tally_in g files) (tally_in g left) ≡ Corrupt → AreRefused g files left
 
 -- why the database's own opening refuses two files
 abbrev pub IsUnopenedFor :
     {D : Type 0} → disk.Ghosts D → Files D → OpenFault → Files D → Type 0
 IsUnopenedFor g files told left =
-    IsUnavailable told ⊎ ((told ≡ fault.Unreadable) × IsRefused g files left)
+    IsUnavailable told ⊎ ((told ≡ fault.Unreadable) × AreRefused g files left)
 
 -- why an opening is refused: as the database's own is; or in a case of the database that is there
 abbrev pub IsToldBy :
@@ -174,8 +174,8 @@ abbrev pub IsToldBy :
 IsToldBy Refuses g files told left =
     IsUnopenedFor g files told left ⊎ FindsOne (Refuses told) (image_of g files)
 
-abbrev pub IsTold : {D : Type 0} → disk.Ghosts D → Files D → OpenFault → Files D → Type 0
-IsTold g files told left = IsToldBy Tells g files told left
+abbrev pub IsFaultTold : {D : Type 0} → disk.Ghosts D → Files D → OpenFault → Files D → Type 0
+IsFaultTold g files told left = IsToldBy Warrants g files told left
 
 -- why no ledger is made behind these tables: one of a ledger's is there; or none such, but others,
 -- or indexes or views
@@ -187,7 +187,7 @@ HindersMaking other schema = ⊥
 
 -- of what is there at most one fault is told to a making, and where nothing is, none
 abbrev pub MakingCasesAreApart : Type 0
-MakingCasesAreApart = (schema : Schema) → AreApart (λ fault. HindersMaking fault schema)
+MakingCasesAreApart = (schema : Schema) → AreToldApart (λ fault. HindersMaking fault schema)
 
 abbrev pub NothingHindersMaking : Type 0
 NothingHindersMaking = IsNoneTold (λ fault. HindersMaking fault no_schema)

@@ -31,9 +31,9 @@ pub record AreAllRows (version : ℕ) (trees : Trees) (all : AllRows) : Type 0 w
   pub tenants : AllZip (IsReadFor version trees) all.directory.items all.tenants.items
 
 -- the rows of the tenant with this digest, if there is one
-abbrev pub AreRowsOf : ℕ → List ℕ → Trees → Option TenantRows → Type 0
-AreRowsOf version digest trees None = number_of digest trees ≡ None
-AreRowsOf version digest trees (Some rows) =
+abbrev pub AreRowsOfDigest : ℕ → List ℕ → Trees → Option TenantRows → Type 0
+AreRowsOfDigest version digest trees None = number_of digest trees ≡ None
+AreRowsOfDigest version digest trees (Some rows) =
     (number : ℤ) × (number_of digest trees ≡ Some number)
     × AreTenantRows version number trees (lists_of rows)
 

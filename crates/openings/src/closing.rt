@@ -5,14 +5,14 @@ ghost use Rattle.sqlite.specs.State.{HasCleanDisk};
 ghost use Rattle.sqlite.specs.Held.{state};
 ghost use Rattle.sqlite.specs.Files.{file_state};
 ghost use Rattle.sqlite_wal.specs.Reads.{AreClean};
-ghost use Rattle.openings.specs.Found.{IsSettled, Yields};
+ghost use Rattle.openings.specs.Found.{LeavesCommitted, Yields};
 
 use sqlite::{Alter, Connection, FileStore, Files};
 use sqlite_disk::Disk;
 
 /// A law: while the database is open, a crash leaves what was committed last, and nothing else.
 pub fn is_settled<S: Alter>(_conn: &Connection<S>)
-    ensures { IsSettled (state S.Store _conn.now) }
+    ensures { LeavesCommitted (state S.Store _conn.now) }
 {}
 
 /// Gives the files back, with no reading or writing.

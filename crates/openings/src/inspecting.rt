@@ -4,7 +4,7 @@ ghost use Rattle.std.specs.Prelude.{IfOk, IfErr};
 ghost use Rattle.sqlite.specs.State.{HasCleanDisk};
 ghost use Rattle.sqlite.specs.Files.{file_state};
 ghost use Rattle.openings.specs.Calls.{AreUsable, RefusesBy, StandsOn};
-ghost use Rattle.openings.specs.Opened.{IsOpened};
+ghost use Rattle.openings.specs.Opened.{WasOpenedOn};
 
 use crate::closing::shut;
 use crate::opening::{OpenFault, open_on};
@@ -53,7 +53,7 @@ pub fn open_telling<D: Disk + Drop, I: Inspection>(
     ensures known { IfOk result (λ it. I.known it.1) }
     ensures finds { IfOk result (λ it. HasCleanDisk (file_state it.0)
         → I.finds it.1 (file_state it.0).now) }
-    ensures opened { IfOk result (λ it. StandsOn D.Disk files IsOpened (file_state it.0)) }
+    ensures opened { IfOk result (λ it. StandsOn D.Disk files WasOpenedOn (file_state it.0)) }
     ensures refused { IfErr result (RefusesBy D.Disk I.refuses files) }
 {
     let mut conn = match open_on(alloc, files, options) {

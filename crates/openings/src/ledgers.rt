@@ -2,10 +2,10 @@
 
 ghost use Rattle.std.specs.Prelude.{IfOk, IfErr};
 ghost use Rattle.sqlite.specs.Files.{file_state};
-ghost use Rattle.stored_ledgers.specs.Resting.{Serves};
+ghost use Rattle.stored_ledgers.specs.Resting.{IsServing};
 ghost use Rattle.openings.specs.Calls.{AreUsable, RefusesBy, StandsOn};
-ghost use Rattle.openings.specs.Opened.{IsOpened};
-ghost use Rattle.openings.specs.Told.{IsSoundLedger, Tells};
+ghost use Rattle.openings.specs.Opened.{WasOpenedOn};
+ghost use Rattle.openings.specs.Told.{IsSoundLedger, Warrants};
 
 use crate::auditing::Audit;
 use crate::inspecting::{Inspection, open_telling};
@@ -26,14 +26,14 @@ struct ServedInspection<'a, A: Audit> {
 impl<A: Audit> Inspection for ServedInspection<'_, A> {
     type Found = DueSets;
 
-    ghost use Rattle.openings.specs.Opened.{CanServe};
-    ghost use Rattle.openings.specs.Told.{IsSoundLedger, Tells};
+    ghost use Rattle.openings.specs.Opened.{CanServeOrdered};
+    ghost use Rattle.openings.specs.Told.{IsSoundLedger, Warrants};
 
     ghost known = { λ _. Unit {0} };
 
-    ghost finds = { λ sets db. CanServe sets db × IsSoundLedger db };
+    ghost finds = { λ sets db. CanServeOrdered sets db × IsSoundLedger db };
 
-    ghost refuses = { λ fault db. Tells fault db };
+    ghost refuses = { λ fault db. Warrants fault db };
 
     fn inspect<S: Alter>(
         &self,
@@ -53,10 +53,10 @@ pub fn open_ledger<D: Disk + Drop, A: Audit>(
     audit: &A,
 ) -> Result<(Connection<FileStore<D>>, DueSets), (Refused, Files<D>)>
     requires { AreUsable D.Disk files }
-    ensures serves { IfOk result (λ it. Serves it.1 (file_state it.0)) }
+    ensures serves { IfOk result (λ it. IsServing it.1 (file_state it.0)) }
     ensures opened { IfOk result (λ it. StandsOn D.Disk files
-        (λ image s. IsOpened image s × IsSoundLedger s.now) (file_state it.0)) }
-    ensures refused { IfErr result (RefusesBy D.Disk Tells files) }
+        (λ image s. WasOpenedOn image s × IsSoundLedger s.now) (file_state it.0)) }
+    ensures refused { IfErr result (RefusesBy D.Disk Warrants files) }
 {
     open_telling(alloc, files, options, &ServedInspection { audit })
 }

@@ -3,8 +3,8 @@
 ghost use Rattle.std.specs.Prelude.{◌↔◌, IfOk, IsTrue};
 ghost use Rattle.ledger_sql.specs.Effects.{IsLedger};
 ghost use Rattle.openings.specs.Calls.{Examines};
-ghost use Rattle.openings.specs.Opened.{CanServe, HasNames};
-ghost use Rattle.openings.specs.Told.{IsCurrent, IsSoundLedger, Tells};
+ghost use Rattle.openings.specs.Opened.{CanServeOrdered, HasNames};
+ghost use Rattle.openings.specs.Told.{IsCurrent, IsSoundLedger, Warrants};
 ghost use Rattle.openings.specs.Whole.{AreAllRows};
 
 use crate::auditing::Audit;
@@ -27,7 +27,7 @@ pub fn examine<S: Alter, A: Audit>(
     conn: &mut Connection<S>,
     audit: &A,
 ) -> Result<DueSets, OpenFault>
-    ensures { Examines (λ sets db. CanServe sets db × IsSoundLedger db) Tells
+    ensures { Examines (λ sets db. CanServeOrdered sets db × IsSoundLedger db) Warrants
         S.Store conn.old conn.new result }
 {
     rows_fit();
@@ -40,7 +40,7 @@ pub fn examine<S: Alter, A: Audit>(
 
 /// Refuses each version of the schema but the current one.
 fn find_current<S: Alter>(alloc: Global, conn: &mut Connection<S>) -> Result<(), OpenFault>
-    ensures { Examines (λ done. IsCurrent) Tells S.Store conn.old conn.new result }
+    ensures { Examines (λ done. IsCurrent) Warrants S.Store conn.old conn.new result }
 {
     let version = find_version(alloc, conn)?;
     if version < CURRENT_VERSION {
@@ -54,7 +54,7 @@ fn read_ledger<S: Alter>(alloc: Global, conn: &mut Connection<S>) -> Result<AllR
     ensures names { IfOk result (λ rows. HasNames rows.directory.items) }
     ensures examines { Examines
         (λ rows db. IsLedger db.schema × AreAllRows CURRENT_VERSION db.trees rows)
-        (λ fault db. IsCurrent db → Tells fault db) S.Store conn.old conn.new result }
+        (λ fault db. IsCurrent db → Warrants fault db) S.Store conn.old conn.new result }
 {
     if let Some(fault) = standing_refusal(conn.schema()) {
         return Err(fault);

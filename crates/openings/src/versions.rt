@@ -2,7 +2,7 @@
 
 ghost use Rattle.std.specs.Prelude.{◌≡◌, ◌≤◌, pos, [], ◌∷◌, IfOk, IfErr};
 ghost use Rattle.openings.specs.Calls.{Examines, IsNamedBy, IsOfVersion};
-ghost use Rattle.openings.specs.Told.{HasVersion, LacksVersion, Tells};
+ghost use Rattle.openings.specs.Told.{NamesVersionOf, LacksVersion, Warrants};
 
 use crate::opening::OpenFault;
 use crate::standing::version_refusal;
@@ -15,8 +15,8 @@ pub const CURRENT_VERSION: u32 = 3;
 
 /// The version that a file names. It only reads.
 pub fn find_version<S: Alter>(alloc: Global, conn: &mut Connection<S>) -> Result<u32, OpenFault>
-    ensures examines { Examines (λ version. HasVersion (λ number. number ≡ pos version)) Tells
-        S.Store conn.old conn.new result }
+    ensures examines { Examines (λ version. NamesVersionOf (λ number. number ≡ pos version))
+        Warrants S.Store conn.old conn.new result }
     ensures known { IfOk result (λ version. (1 ≤ version) × (version ≤ CURRENT_VERSION)) }
     ensures only { IfErr result IsOfVersion }
 {

@@ -10,7 +10,7 @@ ghost use Rattle.stored_ledgers.specs.Resting.{HoldsHere};
 ghost use Rattle.records.specs.declared.unavailable.Unavailable.TheVariants.{Disk};
 ghost use Rattle.stored_ledgers.specs.Looks.{Looks};
 ghost use Rattle.openings.specs.Calls.{ReadsTables};
-ghost use Rattle.openings.specs.Whole.{CanBeRead, AreRowsOf, AreAllRows, IsReadFor};
+ghost use Rattle.openings.specs.Whole.{CanBeRead, AreRowsOfDigest, AreAllRows, IsReadFor};
 ghost use Rattle.openings.specs.Tables.{HasTables};
 
 use crate::tables::read_tenant;
@@ -58,7 +58,7 @@ pub fn rows_of<S: Alter>(
     digest: &[u8; 32],
 ) -> Result<Option<TenantRows>, Unavailable>
     requires { HoldsHere (state S.Store conn.old) }
-    ensures { TellsAtRest Disk (λ db rows. AreRowsOf version digest.now db.trees rows)
+    ensures { TellsAtRest Disk (λ db rows. AreRowsOfDigest version digest.now db.trees rows)
         S.Store conn.old conn.new result }
 {
     let rows = try_rows_of(alloc, conn, version, digest);
@@ -73,7 +73,7 @@ fn try_rows_of<S: Alter>(
     digest: &[u8; 32],
 ) -> Result<Option<TenantRows>, Unavailable>
     requires { HoldsHere (state S.Store conn.old) }
-    ensures { Sees (λ db rows. AreRowsOf version digest.now db.trees rows)
+    ensures { Sees (λ db rows. AreRowsOfDigest version digest.now db.trees rows)
         S.Store conn.old conn.new result }
 {
     let Some(number) = find_tenant(conn, digest)? else {

@@ -99,8 +99,8 @@ pub record IsPart (before : List ℕ) (tenant : Option Machine) (rest : Rest) (p
   pub behind : IsLeftBehind machine rest part.rest
 
 -- the tenant is there, and what is left of its statement ends by its clock
-abbrev pub IsHeld : Tenants → Rest → Type 0
-IsHeld tenants rest = (m : Machine) × (tenants rest.digest ≡ Some m) × (rest.last ≤ m.clock)
+abbrev pub IsRestHeld : Tenants → Rest → Type 0
+IsRestHeld tenants rest = (m : Machine) × (tenants rest.digest ≡ Some m) × (rest.last ≤ m.clock)
 
 -- so is what is told of it; that there is no such tenant, or no such account, is told where it is so
 abbrev pub IsPartTold :

@@ -3,7 +3,7 @@ ghost use Rattle.std.specs.Prelude.{◌≡◌, true, Err};
 ghost use Rattle.records.specs.declared.unavailable.Unavailable.TheVariants.{Disk};
 ghost use Rattle.chain.specs.declared.reads.ReadFault.TheVariants as fault;
 ghost use Rattle.chain.specs.Ledgers.{Finds, KeepsAll};
-ghost use Rattle.chain.specs.LedgerReads.{Reads, IsTold};
+ghost use Rattle.chain.specs.LedgerReads.{ReadsOnly, IsTold};
 ghost use Rattle.parts.specs.Pieces.{GivesPiece, IsPieceOf, piece_told};
 
 use chain::{AccountEntry, BatchFault, Ledgers, Listed, ReadFault, Tables, Work};
@@ -61,7 +61,7 @@ pub fn read_piece<L: Ledgers>(
         → IsPieceOf account span.now (L.means.tenants ledgers.old digest.now) result }
     ensures failed { L.means.has_failed ledgers.old ≡ true → result ≡ Err (fault.Unavailable Disk) }
     ensures finds { Finds L.means (IsTold result) KeepsAll ledgers.old ledgers.new }
-    ensures reads { Reads L.means ledgers.old ledgers.new }
+    ensures reads { ReadsOnly L.means ledgers.old ledgers.new }
 {
     let span = *span;
     piece_told(ledgers.in_batch(

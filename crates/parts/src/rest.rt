@@ -5,7 +5,7 @@ ghost use Rattle.records.specs.declared.unavailable.Unavailable.TheVariants.{Dis
 ghost use Rattle.chain.specs.AccountEntries.{entry_time};
 ghost use Rattle.chain.specs.declared.reads.ReadFault.TheVariants as fault;
 ghost use Rattle.chain.specs.Ledgers.{Finds, KeepsAll};
-ghost use Rattle.chain.specs.LedgerReads.{Reads, IsTold};
+ghost use Rattle.chain.specs.LedgerReads.{ReadsOnly, IsTold};
 ghost use Rattle.parts.specs.Parts.{IsPartOf, IsPartTold, rest_behind, span_of, whole_rest};
 
 use crate::piece::read_piece;
@@ -109,7 +109,7 @@ impl Rest {
             (L.means.tenants ledgers.old self.now.digest) self.now result }
         ensures failed { L.means.has_failed ledgers.old ≡ true → result ≡ Err (fault.Unavailable Disk) }
         ensures finds { Finds L.means (IsTold result) KeepsAll ledgers.old ledgers.new }
-        ensures reads { Reads L.means ledgers.old ledgers.new }
+        ensures reads { ReadsOnly L.means ledgers.old ledgers.new }
     {
         let listed = read_piece(alloc, ledgers, &self.digest, self.account, &self.span())?;
         match self.part_of(alloc, before, &listed) {

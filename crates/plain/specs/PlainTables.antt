@@ -56,7 +56,7 @@ state_in t = record {
 }
 
 -- lists that have the first entries with which the batch began
-pub record HasBegun (b : Beginning) (accounts : List Account) (transfers : List Transfer) :
+pub record HasBeginning (b : Beginning) (accounts : List Account) (transfers : List Transfer) :
     Type 0 where
   pub has_accounts : b.accounts ≤ length accounts
   pub has_transfers : b.transfers ≤ length transfers
@@ -64,14 +64,14 @@ pub record HasBegun (b : Beginning) (accounts : List Account) (transfers : List 
 -- a copy that was taken in the batch
 pub record IsMark (b : Beginning) (begun : Machine) (failed : List ℕ) (c : Copied) : Type 0 where
   pub valid : IsValid (machine_copied c (ascending failed))
-  pub lists : HasBegun b c.accounts.items c.transfers.items
+  pub lists : HasBeginning b c.accounts.items c.transfers.items
   pub same : machine_begun b c.accounts.items c.transfers.items failed ≡ begun
 
 -- the lists, those with which the batch began and those of the mark are each a valid machine's
 pub record IsKept (t : Inside) : Type 0 where
   pub now : IsValid (machine_now t)
   pub begun : IsValid (state_in t).begun
-  pub lists : HasBegun t.begun t.accounts.items t.transfers.items
+  pub lists : HasBeginning t.begun t.accounts.items t.transfers.items
   pub failed : t.begun.failed ≤ length t.failed.items
   pub mark : IfSome t.mark (IsMark t.begun (state_in t).begun t.failed.items)
 

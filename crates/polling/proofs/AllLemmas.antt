@@ -4,11 +4,11 @@ use Rattle.std.proofs.lemmas.Bool.{ne_eqb}
 use Rattle.std.proofs.Math.Path.{fun_ext}
 use Rattle.clients.specs.Talk.{Talk}
 use Rattle.polling.specs.Peers.{Asked, Closed, Said}
-use Rattle.polling.specs.Standing.{Standing, Away, Kept, Debt, A_seat, A_turn, Owing, owing, rested, with_standing, stands_behind, StandsIn, told_of, AreAmong, OwesOnly, KeepsOnly}
+use Rattle.polling.specs.Standing.{Standing, Away, Kept, Debt, A_seat, A_turn, Owing, owing, rested, with_standing, stands_behind, StandsIn, told_of, AreSomeOf, OwesOnly, KeepsOnly}
 use Rattle.polling.specs.Kinds.{IsPutOff}
 use Rattle.polling.specs.declared.peers.Told.{Told}
-use Rattle.polling.specs.Serving.{Hall, hall, Rules, gone_with, IsFree, Happens, Tells, Stirs, Puts_off, Again, Begin}
-use Rattle.polling.specs.Seating.{with_talk, AreSame, HadNone, held, Held, Keeps, ServesAll, ServesOwed, ServesEach}
+use Rattle.polling.specs.Serving.{Hall, hall, Terms, gone_with, IsNumberFree, Occurs, Tells, Stirs, Puts_off, Again, Begin}
+use Rattle.polling.specs.Seating.{with_talk, AreSame, HadNone, held, Held, HoldsHall, ServesAll, ServesOwed, ServesEach}
 use Rattle.polling.proofs.OneLemmas.{once, serves_on, replies_both, with_talk-own, with_talk-other}
 use Rattle.polling.proofs.GoingLemmas.{unseated_closes}
 use Rattle.polling.proofs.StandLemmas.{by_client, AllStand, rested_seat, rested_unowed, rested_owed, rested_kept, one_stands, one_stands_on, told_stand}
@@ -61,7 +61,7 @@ module _ {S C P : Type 0} where
 
   -- one after the other
   pub then_all :
-      (r : Rules S C P) (old mid new : Held S C P) (before behind all : ℕ) → before + behind ≡ all →
+      (r : Terms S C P) (old mid new : Held S C P) (before behind all : ℕ) → before + behind ≡ all →
       ServesAll r old mid before → ServesAll r mid new behind → ServesAll r old new all
   then_all r old mid new before behind all sum first_part second_part first keeps =
       let did = first_part first keeps in
@@ -75,13 +75,13 @@ module _ {S C P : Type 0} where
 
   -- so too, whatever is owed
   pub serves_all :
-      (r : Rules S C P) (why : Type 0) (from to : List Owing) (old new : Held S C P) (replies : ℕ) →
+      (r : Terms S C P) (why : Type 0) (from to : List Owing) (old new : Held S C P) (replies : ℕ) →
       ServesOwed r why from to old new replies → ServesAll r old new replies
   serves_all r why from to old new replies serves first keeps =
       let did = serves first keeps in (did.0, did.1, did.2, did.3, did.4)
 
   pub then_owed :
-      (r : Rules S C P) (why : Type 0) (from mid_owed to : List Owing) (old mid new : Held S C P)
+      (r : Terms S C P) (why : Type 0) (from mid_owed to : List Owing) (old mid new : Held S C P)
       (before behind all : ℕ) → before + behind ≡ all →
       ServesOwed r why from mid_owed old mid before → ServesOwed r why mid_owed to mid new behind →
       ServesOwed r why from to old new all
@@ -98,13 +98,13 @@ module _ {S C P : Type 0} where
       )
 
   pub then_each :
-      (r : Rules S C P) (old mid new : Held S C P) (before behind all : ℕ) → before + behind ≡ all →
+      (r : Terms S C P) (old mid new : Held S C P) (before behind all : ℕ) → before + behind ≡ all →
       ServesEach r old mid before → ServesEach r mid new behind → ServesEach r old new all
   then_each r = then_owed r ⊥ [] [] []
 
   -- for another reason
   pub owed_for :
-      (r : Rules S C P) (why all : Type 0) (from to : List Owing) (old new : Held S C P)
+      (r : Terms S C P) (why all : Type 0) (from to : List Owing) (old new : Held S C P)
       (replies : ℕ) → (why → all) → ServesOwed r why from to old new replies →
       ServesOwed r all from to old new replies
   owed_for r why all from to old new replies for serves first keeps =
@@ -120,7 +120,7 @@ module _ {S C P : Type 0} where
 
   -- whatever else is owed
   pub beside :
-      (r : Rules S C P) (why : Type 0) (from to others : List Owing) (old new : Held S C P)
+      (r : Terms S C P) (why : Type 0) (from to others : List Owing) (old new : Held S C P)
       (replies : ℕ) → ServesOwed r why from to old new replies →
       ServesOwed r why (from ++ others) (to ++ others) old new replies
   beside r why from to others old new replies serves first keeps =
@@ -136,7 +136,7 @@ module _ {S C P : Type 0} where
 
   -- where less is asked
   pub each_of :
-      (r : Rules S C P) (from : List Owing) (old new : Held S C P) (replies : ℕ) →
+      (r : Terms S C P) (from : List Owing) (old new : Held S C P) (replies : ℕ) →
       ServesOwed r ⊥ from [] old new replies → ServesEach r old new replies
   each_of r from old new replies serves first keeps =
       let did = serves first keeps in (
@@ -151,8 +151,8 @@ module _ {S C P : Type 0} where
 
   -- nothing is done
   pub none_owed :
-      (r : Rules S C P) (why : Type 0) (from to : List Owing) (old : Held S C P) →
-      AreAmong from to → ServesOwed r why from to old old 0
+      (r : Terms S C P) (why : Type 0) (from to : List Owing) (old : Held S C P) →
+      AreSomeOf from to → ServesOwed r why from to old old 0
   none_owed r why from to old among first keeps = (
     [],
     first,
@@ -163,16 +163,16 @@ module _ {S C P : Type 0} where
     keeps_still why first.stands,
   )
 
-  pub none_served : (r : Rules S C P) (old : Held S C P) → ServesEach r old old 0
+  pub none_served : (r : Terms S C P) (old : Held S C P) → ServesEach r old old 0
   none_served r old = none_owed r ⊥ [] [] old (λ one found. found)
 
-  pub nothing_done : (r : Rules S C P) (old : Held S C P) → ServesAll r old old 0
+  pub nothing_done : (r : Terms S C P) (old : Held S C P) → ServesAll r old old 0
   nothing_done r old = serves_all r ⊥ [] [] old old 0 (none_served r old)
 
   -- every seat is as it was
   pub unchanged :
-      (r : Rules S C P) (why : Type 0) (from to : List Owing) (ledgers : S) (moments : C) (peers : P)
-      (seats seats_now : ℕ → Option Talk) (next : ℕ) → AreSame seats seats_now → AreAmong from to →
+      (r : Terms S C P) (why : Type 0) (from to : List Owing) (ledgers : S) (moments : C) (peers : P)
+      (seats seats_now : ℕ → Option Talk) (next : ℕ) → AreSame seats seats_now → AreSomeOf from to →
       ServesOwed r why from to (held ledgers moments peers seats next)
       (held ledgers moments peers seats_now next) 0
   unchanged r why from to ledgers moments peers seats seats_now next same among =
@@ -184,7 +184,7 @@ module _ {S C P : Type 0} where
 
   -- nobody is in a seat
   pub had_none :
-      (r : Rules S C P) (debt : Debt) (client : ℕ) (ledgers ledgers_now : S) (moments moments_now : C)
+      (r : Terms S C P) (debt : Debt) (client : ℕ) (ledgers ledgers_now : S) (moments moments_now : C)
       (peers peers_now : P) (seats seats_now : ℕ → Option Talk) (next : ℕ) → debt ≢ A_seat →
       HadNone client ledgers moments peers seats ledgers_now moments_now peers_now seats_now →
       ServesOwed r ⊥ (owing debt client ∷ []) [] (held ledgers moments peers seats next)
@@ -216,8 +216,8 @@ module _ {S C P : Type 0} where
   -- whoever is connected, and however they stand
   pub keeps_peers :
       (old : Held S C P) (all : Hall S C P) (peers : P) (stands : ℕ → Standing) →
-      AllStand old.seats stands → Keeps old all →
-      Keeps (record old { peers = peers }) (record all { peers = peers; stands = stands })
+      AllStand old.seats stands → HoldsHall old all →
+      HoldsHall (record old { peers = peers }) (record all { peers = peers; stands = stands })
   keeps_peers old all peers stands are keeps = record {
     ledgers = keeps.ledgers;
     moments = keeps.moments;
@@ -232,10 +232,10 @@ module _ {S C P : Type 0} where
 
   -- something happens among peers alone
   among_peers :
-      (r : Rules S C P) (why : Type 0) (from to : List Owing) (behind : (ℕ → Standing) → ℕ → Standing)
+      (r : Terms S C P) (why : Type 0) (from to : List Owing) (behind : (ℕ → Standing) → ℕ → Standing)
       (ledgers : S) (moments : C) (peers peers_now : P) (seats : ℕ → Option Talk) (next : ℕ) →
-      ((all : Hall S C P) → Keeps (held ledgers moments peers seats next) all →
-      Happens S C P r all [] (record all { peers = peers_now; stands = behind all.stands })) →
+      ((all : Hall S C P) → HoldsHall (held ledgers moments peers seats next) all →
+      Occurs S C P r all [] (record all { peers = peers_now; stands = behind all.stands })) →
       ((stands : ℕ → Standing) → AllStand seats stands → AllStand seats (behind stands)) →
       ((stands : ℕ → Standing) → OwesOnly from to stands (behind stands)) →
       ((stands : ℕ → Standing) → KeepsOnly why stands (behind stands)) →
@@ -257,7 +257,7 @@ module _ {S C P : Type 0} where
 
   -- a client is put off, and is to be told as ready again
   pub puts_off_all :
-      (r : Rules S C P) (client : ℕ) (talk : Talk) (ledgers : S) (moments : C) (peers peers_now : P)
+      (r : Terms S C P) (client : ℕ) (talk : Talk) (ledgers : S) (moments : C) (peers peers_now : P)
       (seats : ℕ → Option Talk) (next : ℕ) → seats client ≡ Some talk → IsPutOff r.waits talk →
       r.does peers (Asked client) peers_now →
       ServesOwed r ⊥ (owing A_turn client ∷ []) [] (held ledgers moments peers seats next)
@@ -280,7 +280,7 @@ module _ {S C P : Type 0} where
 
   -- a client that has no seat is closed
   pub closes_all :
-      (r : Rules S C P) (debt : Debt) (client : ℕ) (ledgers : S) (moments : C) (peers peers_now : P)
+      (r : Terms S C P) (debt : Debt) (client : ℕ) (ledgers : S) (moments : C) (peers peers_now : P)
       (seats : ℕ → Option Talk) (next : ℕ) → seats client ≡ None →
       r.does peers (Closed client) peers_now →
       ServesOwed r ⊥ (owing debt client ∷ []) [] (held ledgers moments peers seats next)
@@ -302,7 +302,7 @@ module _ {S C P : Type 0} where
 
   -- the next number is nobody's
   pub next_free :
-      (old : Held S C P) (all : Hall S C P) → Keeps old all → IsFree all old.next
+      (old : Held S C P) (all : Hall S C P) → HoldsHall old all → IsNumberFree all old.next
   next_free old all keeps = record {
     nobody =
         sym (keeps.stands old.next)
@@ -314,7 +314,7 @@ module _ {S C P : Type 0} where
 
   -- peers tell something
   pub tells_owed :
-      (r : Rules S C P) (why : Type 0) (debts : List Owing) (ledgers : S) (moments : C)
+      (r : Terms S C P) (why : Type 0) (debts : List Owing) (ledgers : S) (moments : C)
       (peers peers_now : P) (seats : ℕ → Option Talk) (next : ℕ) (told : Told) →
       r.does peers (Said next told) peers_now →
       ServesOwed r why debts (told_of next told ++ debts) (held ledgers moments peers seats next)
@@ -328,7 +328,7 @@ module _ {S C P : Type 0} where
       (told_stand next told seats) (owes_told next told debts) (keeps_told why next told)
 
   pub tells_all :
-      (r : Rules S C P) (ledgers : S) (moments : C) (peers peers_now : P)
+      (r : Terms S C P) (ledgers : S) (moments : C) (peers peers_now : P)
       (seats : ℕ → Option Talk) (next : ℕ) (told : Told) → r.does peers (Said next told) peers_now →
       ServesAll r (held ledgers moments peers seats next) (held ledgers moments peers_now seats next) 0
   tells_all r ledgers moments peers peers_now seats next told does =
@@ -338,7 +338,7 @@ module _ {S C P : Type 0} where
 
   -- a steward has attended to the ledgers
   pub again_all :
-      (r : Rules S C P) (ledgers ledgers_now : S) (moments : C) (peers : P)
+      (r : Terms S C P) (ledgers ledgers_now : S) (moments : C) (peers : P)
       (seats : ℕ → Option Talk) (next : ℕ) → r.renews ledgers ledgers_now →
       ServesEach r (held ledgers moments peers seats next) (held ledgers_now moments peers seats next) 0
   again_all r ledgers ledgers_now moments peers seats next renews first keeps = (
@@ -364,7 +364,7 @@ module _ {S C P : Type 0} where
 
   -- a number is passed over
   pub passed_over :
-      (r : Rules S C P) (ledgers : S) (moments : C) (peers : P) (seats seats_now : ℕ → Option Talk)
+      (r : Terms S C P) (ledgers : S) (moments : C) (peers : P) (seats seats_now : ℕ → Option Talk)
       (next : ℕ) → ((client : ℕ) → seats_now client ≡ seats client) →
       ServesEach r (held ledgers moments peers seats next)
       (held ledgers moments peers seats_now (next + 1)) 0

@@ -1,13 +1,13 @@
 -- Clients who go from their seats, and are closed.
 use Rattle.std.proofs.Common.{◌≡◌, ◌≢◌, ◌<◌, refl, ap, sym, ◌∙◌, subst, ℕ, Bool, true, false, List, [], ◌∷◌, ◌++◌, Option, Some, None, is_some, arith}
 use Rattle.std.proofs.lemmas.Bool.{false≢true}
-use Rattle.clients.specs.Deeds.{Deed}
+use Rattle.clients.specs.Deeds.{Act}
 use Rattle.clients.specs.Talk.{Talk}
 use Rattle.polling.specs.Peers.{Closed}
 use Rattle.polling.specs.Standing.{Standing, Away, Kept, leaving, with_standing, stands_after, has_seat, StandsIn}
 use Rattle.polling.specs.Standing.{Debt, A_turn, An_end, owing, MayClose, Told_late}
-use Rattle.polling.specs.Serving.{Hall, hall, Rules, gone_with, Happens, Stirs, Goes, Serves, Then}
-use Rattle.polling.specs.Seating.{with_talk, stands_by, replies_in, ServesOne, SeatsNow, held, Keeps, LeadsOwed, ServesOwed, ServesTold}
+use Rattle.polling.specs.Serving.{Hall, hall, Terms, gone_with, Occurs, Stirs, Goes, Passes, Then}
+use Rattle.polling.specs.Seating.{with_talk, stands_by, replies_in, ServesOne, SeatsNow, held, HoldsHall, LeadsOwed, ServesOwed, ServesTold}
 use Rattle.polling.specs.declared.peers.Told.TheVariants.{Late}
 use Rattle.polling.specs.declared.step.Step.TheVariants as step
 use Rattle.polling.proofs.OneLemmas.{once, replies_both, with_talk-other}
@@ -18,18 +18,18 @@ use Rattle.polling.proofs.AllLemmas.{gone_with-other, used, same_hall}
 module _ {S C P : Type 0} where
   -- the client in one seat goes, and is closed
   went_from :
-      (r : Rules S C P) (debt : Debt) (client : ℕ) (ledgers ledgers_now : S)
+      (r : Terms S C P) (debt : Debt) (client : ℕ) (ledgers ledgers_now : S)
       (moments moments_now : C) (peers peers_then peers_now : P)
       (seats seats_then seats_now : ℕ → Option Talk) (next : ℕ) (talk talk_now : Talk)
-      (replies : ℕ) (first : Hall S C P) (deeds : List Deed) → seats client ≡ Some talk →
+      (replies : ℕ) (first : Hall S C P) (deeds : List Act) → seats client ≡ Some talk →
       SeatsNow client (Some talk_now) seats seats_then → SeatsNow client None seats_then seats_now →
-      Serves S C P r
+      Passes S C P r
       (hall ledgers moments peers (with_talk client talk first.room.talks) first.gone first.stands)
       deeds
       (hall ledgers_now moments_now peers_then (with_talk client talk_now first.room.talks)
       (gone_with client first.gone) (stands_by step.Goes client deeds first.stands)) →
       replies_in deeds ≡ replies → r.does peers_then (Closed client) peers_now →
-      Keeps (held ledgers moments peers seats next) first →
+      HoldsHall (held ledgers moments peers seats next) first →
       LeadsOwed r ⊥ (owing debt client ∷ []) [] first
       (held ledgers_now moments_now peers_now seats_now next) replies
   went_from r debt client ledgers ledgers_now moments moments_now peers peers_then peers_now seats
@@ -54,13 +54,13 @@ module _ {S C P : Type 0} where
         deeds ++ [],
         after,
         Then deeds then_hall [] after
-            (subst (λ (from : Hall S C P). Serves S C P r from deeds then_hall)
+            (subst (λ (from : Hall S C P). Passes S C P r from deeds then_hall)
             (same_hall ledgers moments peers client talk first keeps.ledgers keeps.moments
             keeps.peers (keeps.seated client talk was))
             served)
             (subst
             (λ (all : ℕ → Standing).
-            Happens S C P r then_hall []
+            Occurs S C P r then_hall []
             (hall ledgers_now moments_now peers_now (with_talk client talk_now talks) gone all))
             (standing-twice client going Away stood)
             (Stirs (Closed client) peers_now
@@ -116,7 +116,7 @@ module _ {S C P : Type 0} where
 
   -- the client in one seat was served, has gone and is closed
   pub went_at :
-      (r : Rules S C P) (client : ℕ) (ledgers ledgers_now : S) (moments moments_now : C)
+      (r : Terms S C P) (client : ℕ) (ledgers ledgers_now : S) (moments moments_now : C)
       (peers peers_then peers_now : P) (seats seats_then seats_now : ℕ → Option Talk) (next : ℕ)
       (talk talk_now : Talk) (idle : Bool) (replies : ℕ) → seats client ≡ Some talk →
       SeatsNow client (Some talk_now) seats seats_then → SeatsNow client None seats_then seats_now →
@@ -134,7 +134,7 @@ module _ {S C P : Type 0} where
 
   -- a client that was told as late goes from its seat, and is closed
   pub late_at :
-      (r : Rules S C P) (client : ℕ) (ledgers : S) (moments : C) (peers peers_now : P)
+      (r : Terms S C P) (client : ℕ) (ledgers : S) (moments : C) (peers peers_now : P)
       (seats seats_now : ℕ → Option Talk) (next : ℕ) (talk : Talk) → seats client ≡ Some talk →
       SeatsNow client None seats seats_now → r.does peers (Closed client) peers_now →
       ServesTold r (Late client) (owing An_end client ∷ []) []

@@ -13,8 +13,8 @@ use Rattle.service.specs.Turns.{TakeTurns}
 use Rattle.polling.specs.Peers.{Doing}
 use Rattle.polling.specs.Serving.{rules, AreGiven, IsFoundAgain}
 use Rattle.polling.specs.Seating.{held, AreSame, ServesEach}
-use Rattle.polling.specs.Round.{IsCopyOf, IsCopied, IsNoneOf, AreCopied, moments_of, AreGathered}
-use Rattle.polling.specs.Round.{ArePut, IsLost, AreTold}
+use Rattle.polling.specs.Round.{IsCopyOf, IsNextMessage, IsNoneOf, AreCopied, moments_of, AreGathered}
+use Rattle.polling.specs.Round.{ArePut, IsLost, AreToldLost}
 use Rattle.polling.proofs.AllLemmas.{then_each, unchanged}
 use Rattle.polling.proofs.RestLemmas.{passes_all, rests_all}
 use Rattle.polling.specs.declared.round.Member.{Member}
@@ -35,7 +35,7 @@ not_lost {O} result given why is known differs same =
 
 copied_more :
     (seats : ℕ → Option Talk) (members : List Member) (messages : List Message) (member : Member)
-    (message : Message) → AreCopied seats members messages → IsCopied seats member message →
+    (message : Message) → AreCopied seats members messages → IsNextMessage seats member message →
     IsNoneOf member.number members →
     AreCopied seats (members ++ member ∷ []) (messages ++ message ∷ [])
 copied_more seats [] [] member message copied one none = (one, tt, tt)
@@ -184,7 +184,7 @@ module _ {S C P : Type 0} (t : LedgersMeaning S) (gives : C → ℕ → C → Ty
       (count : ℕ) → AreSame seats seats_now →
       AreGiven gives moments (moments_of messages) moments_now → t.follows ledgers ledgers →
       IsLost t ledgers messages ledgers_now →
-      AreTold t gives renews waits does messages seats_now seats_then count →
+      AreToldLost t gives renews waits does messages seats_now seats_then count →
       ServesEach (rules t gives renews waits does) (held (Whole ledgers) moments peers seats next)
       (held (Whole ledgers_now) moments_now peers seats_then next) count
   lost_and_told ledgers ledgers_now moments moments_now peers seats seats_now seats_then next messages

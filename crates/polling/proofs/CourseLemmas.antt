@@ -7,7 +7,7 @@ use Rattle.ledger_http.specs.declared.reply.Reply.{Reply}
 use Rattle.ledger_http.specs.Question.{asked_of}
 use Rattle.chain.specs.Ledgers.{LedgersMeaning, Tenants, KeepsAll}
 use Rattle.service.specs.Deeds as service
-use Rattle.service.specs.Connections.{Connection, IsAnswered, IsTurnedAway, LacksMemory}
+use Rattle.service.specs.Connections.{Connection, IsFirstAnswered, IsTurnedAway, LacksMemory}
 use Rattle.service.specs.ConnectionEvents.{event_in}
 use Rattle.service.specs.Courses.{Event, Reopened, IsStill, HappenInTurn, untold_in}
 use Rattle.service.specs.Courses as course
@@ -17,13 +17,13 @@ use Rattle.service.specs.OpeningLaws.{event_more, events_more, same_more, opened
 use Rattle.service.specs.EventLaws.{all_append, unavailable_tells_nothing, still_happen}
 use Rattle.service.specs.Replies.{unavailable}
 use Rattle.service.specs.OwnDeeds.{EachSeesItself}
-use Rattle.clients.specs.Deeds.{Room, Deed, Came, Ended, Replied, Continued, Wrote, IsDone, Lives}
+use Rattle.clients.specs.Deeds.{Room, Act, Came, Ended, Replied, Continued, Wrote, IsActed, Lives}
 use Rattle.clients.specs.Deeds as life
-use Rattle.polling.specs.Serving.{Hall, Rules, Happens, Did, Tells, Stirs, Puts_off, Joins, Goes, Again, Rests, Passes, Fails, Serves, Begin, Then}
+use Rattle.polling.specs.Serving.{Hall, Terms, Occurs, Did, Tells, Stirs, Puts_off, Joins, Goes, Again, Rests, Passes, Fails, Passes, Begin, Then}
 use Rattle.polling.specs.Serving.{AreAsBefore, HasFailed, IsToldUnavailable, AreToldUnavailable}
 use Rattle.polling.specs.Serving.{events_by, events_of}
 use Rattle.polling.specs.Courses.{Renewed, Stayed, Opened, Anew, Refused, Tried, Rested, IsAtRest, AreOfOpening, IsAnew}
-use Rattle.polling.specs.Courses.{AreRenewals, AreOf, BeginsWith, IsSince, Start, Onward, From, IsCourse, ServesEachAlone}
+use Rattle.polling.specs.Courses.{AreRenewals, AreOf, BeginsWith, IsSince, Start, Onward, From, IsCourse, CoursesServeEachAlone}
 
 -- what an opening finds of ledgers at rest
 found_at_rest :
@@ -38,7 +38,7 @@ exchange_more :
     {S C : Type 0} (t : LedgersMeaning S) (gives : C → ℕ → C → Type 0) → ResponsesMove t →
     (Since Now : List Event → Tenants → Type 0) (old new : Connection S C) (reply : Reply)
     (by :
-    IsAnswered t gives old reply new ⊎ (IsTurnedAway old reply new ⊎ LacksMemory old reply new)) →
+    IsFirstAnswered t gives old reply new ⊎ (IsTurnedAway old reply new ⊎ LacksMemory old reply new)) →
     GoesOn Since (event_in reply by) Now → IsSettled (run_meaning t) new.ledgers →
     HasLed (run_meaning t) Since old.ledgers → HasLed (run_meaning t) Now new.ledgers
 exchange_more t gives move Since Now old new reply (inl answered) on settled led =
@@ -107,7 +107,7 @@ still_by :
     {S C : Type 0} (t : LedgersMeaning S) (gives : C → ℕ → C → Type 0) (old new : Connection S C)
     (reply : Reply)
     (by :
-    IsAnswered t gives old reply new ⊎ (IsTurnedAway old reply new ⊎ LacksMemory old reply new)) →
+    IsFirstAnswered t gives old reply new ⊎ (IsTurnedAway old reply new ⊎ LacksMemory old reply new)) →
     reply ≡ unavailable →
     AllByRecursion IsStill (event_in reply by) × AllByRecursion IsFree (event_in reply by)
 still_by t gives old new reply (inl answered) told = (
@@ -122,7 +122,7 @@ still_by t gives old new reply (inr refused) told = (tt, tt)
 
 still_deed :
     {S C : Type 0} (t : LedgersMeaning S) (gives : C → ℕ → C → Type 0) (gone : ℕ → Bool)
-    (old new : Room S C) (deed : Deed) (done : IsDone t gives old deed new) →
+    (old new : Room S C) (deed : Act) (done : IsActed t gives old deed new) →
     IsToldUnavailable gone deed →
     AllByRecursion IsStill (events_by deed done) × AllByRecursion IsFree (events_by deed done)
 still_deed t gives gone old new (Replied client reply) done told =
@@ -134,7 +134,7 @@ still_deed t gives gone old new (Wrote client bytes) done told = absurd told
 
 still_deeds :
     {S C : Type 0} (t : LedgersMeaning S) (gives : C → ℕ → C → Type 0) (gone : ℕ → Bool)
-    (first last : Room S C) (deeds : List Deed) (lives : Lives S C t gives first deeds last) →
+    (first last : Room S C) (deeds : List Act) (lives : Lives S C t gives first deeds last) →
     AreToldUnavailable gone lives →
     AllByRecursion IsStill (events_of lives) × AllByRecursion IsFree (events_of lives)
 still_deeds t gives gone first last deeds life.Begin told = (tt, tt)
@@ -173,7 +173,7 @@ failed_more t Since Now old new events still free failed on led =
     })
     led
 
-module _ {S C P : Type 0} (r : Rules S C P) (move : ResponsesMove r.means) (renewals : AreRenewals r) where
+module _ {S C P : Type 0} (r : Terms S C P) (move : ResponsesMove r.means) (renewals : AreRenewals r) where
   -- where nothing happens to the ledgers, nothing is told
   unmoved_more :
       (Since Now : List Event → Tenants → Type 0) (old new : S) → new ≡ old →
@@ -184,8 +184,8 @@ module _ {S C P : Type 0} (r : Rules S C P) (move : ResponsesMove r.means) (rene
       (same_more Since Now (run_meaning r.means) old on led)
 
   one_more :
-      (Since Now : List Event → Tenants → Type 0) (last next : Hall S C P) (more : List Deed)
-      (happens : Happens S C P r last more next) →
+      (Since Now : List Event → Tenants → Type 0) (last next : Hall S C P) (more : List Act)
+      (happens : Occurs S C P r last more next) →
       ((events : List Event) → AreOf renewals happens events → GoesOn Since events Now) →
       ((began : Tenants) → BeginsWith renewals happens began → Now [] began) →
       HasLed (run_meaning r.means) Since last.room.ledgers →
@@ -231,7 +231,7 @@ module _ {S C P : Type 0} (r : Rules S C P) (move : ResponsesMove r.means) (rene
       (on (events_of lives) refl) led
 
   all_led :
-      (first last : Hall S C P) (deeds : List Deed) (serves : Serves S C P r first deeds last) →
+      (first last : Hall S C P) (deeds : List Act) (serves : Passes S C P r first deeds last) →
       r.means.is_live first.room.ledgers →
       IsSettled (run_meaning r.means) first.room.ledgers →
       HasLed (run_meaning r.means) (IsSince renewals first deeds last serves) last.room.ledgers
@@ -248,10 +248,10 @@ module _ {S C P : Type 0} (r : Rules S C P) (move : ResponsesMove r.means) (rene
       (all_led first mid before serves live settled)
 
 pub is_course :
-    {S C P : Type 0} (r : Rules S C P) → ResponsesMove r.means → IsCourse r
+    {S C P : Type 0} (r : Terms S C P) → ResponsesMove r.means → IsCourse r
 is_course r move renewals first last deeds serves live settled =
     all_led r move renewals first last deeds serves live settled
 
-pub serves_each_alone : {S C P : Type 0} (r : Rules S C P) → EachSeesItself → ServesEachAlone r
+pub serves_each_alone : {S C P : Type 0} (r : Terms S C P) → EachSeesItself → CoursesServeEachAlone r
 serves_each_alone r sees renewals first last deeds serves events began now course digest =
     sees began now events course.course digest

@@ -1,7 +1,7 @@
 -- Behind a round its clients are finished.
 use Rattle.std.proofs.Common.{◌≡◌, sym, subst, ℕ, Bool, true, false, not, nat_lt, [], ◌∷◌, arith}
 use Rattle.std.proofs.lemmas.Bool.Decides.{nat_tests}
-use Rattle.polling.specs.Serving.{Rules}
+use Rattle.polling.specs.Serving.{Terms}
 use Rattle.polling.specs.Seating.{Held, ServesOwed, count_of}
 use Rattle.polling.specs.Standing.{A_turn, owing}
 use Rattle.polling.proofs.AllLemmas.{owed_for}
@@ -15,7 +15,7 @@ not_answered most none = grind (arith, nat_tests)
 
 -- a client keeps its place alone only where as many were replied to as there were to be
 pub finished :
-    {S C P : Type 0} (r : Rules S C P) (client : ℕ) (replied is : Bool) (most : ℕ)
+    {S C P : Type 0} (r : Terms S C P) (client : ℕ) (replied is : Bool) (most : ℕ)
     (old new : Held S C P) → replied ≡ is → (nat_lt 0 most ≡ false → replied ≡ false) →
     ServesOwed r (not (nat_lt 0 most) ≡ true) (owing A_turn client ∷ []) [] old new
     (count_of replied) →

@@ -3,8 +3,8 @@ use Rattle.std.proofs.Common.{◌≡◌, ◌&&◌, inl, inr, refl, ap, sym, ◌�
 use Rattle.std.proofs.lemmas.Bool.{and_parts, false≢true, true≢false}
 use Rattle.parts.specs.declared.rest.Rest.{Rest}
 use Rattle.std.proofs.Math.Path.{fun_ext}
-use Rattle.clients.specs.Answering.{IsOver}
-use Rattle.clients.specs.Talk.{IsWritten, Talk, is_empty, is_written, may_answer}
+use Rattle.clients.specs.Answering.{IsAllAnswered}
+use Rattle.clients.specs.Talk.{HasNothingUnsent, Talk, is_empty, is_written, may_answer}
 use Rattle.polling.specs.Standing.{Standing, Away, New, Awaited, Owed, Begun, Kept, Overdue, Leaving}
 use Rattle.polling.specs.Standing.{has_seat, expired, leaving, with_standing, stands_behind, StandTold, MayClose, IsFinished}
 use Rattle.polling.specs.Peers.{Said}
@@ -103,13 +103,13 @@ no_rest : (rest : Option Rest) → is_none rest ≡ true → rest ≡ None
 no_rest None none = refl
 no_rest (Some rest) none = absurd (false≢true none)
 
-pub written_so : (talk : Talk) → is_written talk ≡ true → IsWritten talk
+pub written_so : (talk : Talk) → is_written talk ≡ true → HasNothingUnsent talk
 written_so talk written =
     let both = and_parts (is_empty talk.unsent) (is_none talk.rest) written in
     (none_of talk.unsent both.0, no_rest talk.rest both.1)
 
 -- where no more comes, nothing is left for it
-pub over_finished : (talk : Talk) → may_answer talk ≡ true → IsOver talk.unread → IsFinished talk
+pub over_finished : (talk : Talk) → may_answer talk ≡ true → IsAllAnswered talk.unread → IsFinished talk
 over_finished talk may over = (written_so talk (and_last talk.goes_on (is_written talk) may), inr over)
 
 -- nor is where the last reply of all is written

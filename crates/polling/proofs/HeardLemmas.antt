@@ -9,10 +9,10 @@ use Rattle.ledger_http.specs.ReplyText.{reply_text}
 use Rattle.service.specs.Connections.{texts_of}
 use Rattle.clients.specs.Talk.{Talk, owed}
 use Rattle.clients.specs.Answering.{MayCome}
-use Rattle.clients.specs.Turns.{Sent, Told, if_told, told_to, Hears, Nothing_yet, One_more, HearTheirOwn}
-use Rattle.clients.specs.Deeds.{Room, Deed, IsDone, Lives, if_own, come_from, written_in, written_to, told_in, all_told, came_in, sent_with, clients_of, MightCome, AreExchanges, AreWritten}
+use Rattle.clients.specs.Turns.{Sent, ToldReply, if_told, told_to, Hears, Nothing_yet, One_more, HearTheirOwn}
+use Rattle.clients.specs.Deeds.{Room, Act, IsActed, Lives, if_own, come_from, written_in, written_to, told_in, all_told, came_in, sent_with, clients_of, MightCome, AreExchanges, AreWritten}
 use Rattle.clients.specs.Deeds as life
-use Rattle.polling.specs.Serving.{Hall, Rules, Happens, Did, Tells, Stirs, Puts_off, Joins, Goes, Again, Rests, Passes, Fails, Serves, Begin, Then}
+use Rattle.polling.specs.Serving.{Hall, Terms, Occurs, Did, Tells, Stirs, Puts_off, Joins, Goes, Again, Rests, Passes, Fails, Passes, Begin, Then}
 use Rattle.polling.specs.Laws.{EachIsServed, ReadsBy, ReadsThrough, machines_by, machines_in}
 
 -- what is heard behind what was heard
@@ -35,11 +35,11 @@ texts-append (reply ∷ front) back =
     ∙ sym (append_assoc (reply_text reply) (texts_of front) (texts_of back))
 
 told_to-append :
-    (client : ℕ) (before more : List Deed) →
+    (client : ℕ) (before more : List Act) →
     told_to client (all_told (before ++ more))
     ≡ told_to client (all_told before) ++ told_to client (all_told more)
 told_to-append client before more =
-    ap (λ (told : List Told). told_to client told) (flat_map-append told_in before more)
+    ap (λ (told : List ToldReply). told_to client told) (flat_map-append told_in before more)
     ∙ flat_map-append (if_told client) (all_told before) (all_told more)
 
 own : (client : ℕ) (items : List ℕ) → if_own client client items ≡ items
@@ -62,21 +62,21 @@ only talks client later may each =
     (λ (differ : each ≢ client). λ ended. of_other client each later differ)
     (cases_eq each client)
 
-module _ {S C P : Type 0} (r : Rules S C P) where
+module _ {S C P : Type 0} (r : Terms S C P) where
   one_deed :
-      (old new : Room S C) (deed : Deed) → IsDone r.means r.gives old deed new →
+      (old new : Room S C) (deed : Act) → IsActed r.means r.gives old deed new →
       Lives S C r.means r.gives old (deed ∷ []) new
   one_deed old new deed done = life.Then [] old deed new life.Begin done
 
   -- what one client hears by what happens
-  abbrev pub HearsBy : Room S C → List Deed → Room S C → ℕ → List ℕ → Type 0
+  abbrev pub HearsBy : Room S C → List Act → Room S C → ℕ → List ℕ → Type 0
   HearsBy first deeds last client later =
       Hears S C r.means r.gives (sent_with (come_from client deeds ++ later) (first.talks client))
       (told_to client (all_told deeds)) (sent_with later (last.talks client))
 
   deeds_heard :
       HearTheirOwn r.means r.gives → AreExchanges r.means r.gives → (old new : Room S C)
-      (deeds : List Deed) → Lives S C r.means r.gives old deeds new → (client : ℕ)
+      (deeds : List Act) → Lives S C r.means r.gives old deeds new → (client : ℕ)
       (later : List ℕ) →
       MayCome (new.talks client).unread later → HearsBy old deeds new client later
   deeds_heard hear exchanges old new deeds lives client later may =
@@ -95,7 +95,7 @@ module _ {S C P : Type 0} (r : Rules S C P) where
 
   step_heard :
       HearTheirOwn r.means r.gives → AreExchanges r.means r.gives → (last next : Hall S C P)
-      (more : List Deed) → Happens S C P r last more next → (client : ℕ) (later : List ℕ) →
+      (more : List Act) → Occurs S C P r last more next → (client : ℕ) (later : List ℕ) →
       MayCome (next.room.talks client).unread later → HearsBy last.room more next.room client later
   step_heard hear exchanges last next more (Did deed room peers live done settled hands) client later may =
       deeds_heard hear exchanges last.room room (deed ∷ []) (one_deed last.room room deed done) client
@@ -113,8 +113,8 @@ module _ {S C P : Type 0} (r : Rules S C P) where
       deeds_heard hear exchanges last.room room deeds lives client later may
 
   deed_may :
-      MightCome r.means r.gives → (old new : Room S C) (deed : Deed) →
-      IsDone r.means r.gives old deed new → (client : ℕ) (later : List ℕ) →
+      MightCome r.means r.gives → (old new : Room S C) (deed : Act) →
+      IsActed r.means r.gives old deed new → (client : ℕ) (later : List ℕ) →
       MayCome (new.talks client).unread later →
       MayCome (old.talks client).unread (came_in client deed ++ later)
   deed_may might old new deed done client later may =
@@ -125,7 +125,7 @@ module _ {S C P : Type 0} (r : Rules S C P) where
       (only new.talks client later may) client)
 
   deeds_may :
-      MightCome r.means r.gives → (first last : Room S C) (deeds : List Deed) →
+      MightCome r.means r.gives → (first last : Room S C) (deeds : List Act) →
       Lives S C r.means r.gives first deeds last → (client : ℕ) (later : List ℕ) →
       MayCome (last.talks client).unread later →
       MayCome (first.talks client).unread (come_from client deeds ++ later)
@@ -142,8 +142,8 @@ module _ {S C P : Type 0} (r : Rules S C P) where
       (deed_may might mid next deed done client later may))
 
   step_may :
-      MightCome r.means r.gives → (last next : Hall S C P) (more : List Deed) →
-      Happens S C P r last more next → (client : ℕ) (later : List ℕ) →
+      MightCome r.means r.gives → (last next : Hall S C P) (more : List Act) →
+      Occurs S C P r last more next → (client : ℕ) (later : List ℕ) →
       MayCome (next.room.talks client).unread later →
       MayCome (last.room.talks client).unread (come_from client more ++ later)
   step_may might last next more (Did deed room peers live done settled hands) client later may =
@@ -161,7 +161,7 @@ module _ {S C P : Type 0} (r : Rules S C P) where
 
   all_heard :
       MightCome r.means r.gives → HearTheirOwn r.means r.gives → AreExchanges r.means r.gives →
-      (first last : Hall S C P) (deeds : List Deed) → Serves S C P r first deeds last →
+      (first last : Hall S C P) (deeds : List Act) → Passes S C P r first deeds last →
       (client : ℕ) (later : List ℕ) → MayCome (last.room.talks client).unread later →
       HearsBy first.room deeds last.room client later
   all_heard might hear exchanges first last deeds Begin client later may = Nothing_yet
@@ -190,14 +190,14 @@ module _ {S C P : Type 0} (r : Rules S C P) where
       (step_heard hear exchanges mid next more happens client later may)))
 
   -- what was written, and what is owed, is what was owed and the replies
-  abbrev pub WritesBy : Tenants → Room S C → List Deed → Tenants → Room S C → ℕ → Type 0
+  abbrev pub WritesBy : Tenants → Room S C → List Act → Tenants → Room S C → ℕ → Type 0
   WritesBy before first deeds now last client =
       written_to client deeds ++ owed now (last.talks client)
       ≡ owed before (first.talks client) ++ texts_of (told_to client (all_told deeds))
 
   step_written :
-      AreWritten r.means r.gives → (last next : Hall S C P) (more : List Deed)
-      (happens : Happens S C P r last more next) (before : Tenants) (client : ℕ) →
+      AreWritten r.means r.gives → (last next : Hall S C P) (more : List Act)
+      (happens : Occurs S C P r last more next) (before : Tenants) (client : ℕ) →
       ReadsBy before client happens →
       WritesBy before last.room more (machines_by before happens client) next.room client
   unfolding one_deed
@@ -224,8 +224,8 @@ module _ {S C P : Type 0} (r : Rules S C P) where
       written last.room room deeds lives before client yet
 
   all_written :
-      AreWritten r.means r.gives → (first last : Hall S C P) (deeds : List Deed)
-      (serves : Serves S C P r first deeds last) (before : Tenants) (client : ℕ) →
+      AreWritten r.means r.gives → (first last : Hall S C P) (deeds : List Act)
+      (serves : Passes S C P r first deeds last) (before : Tenants) (client : ℕ) →
       ReadsThrough before client serves →
       WritesBy before first.room deeds (machines_in before serves client) last.room client
   all_written written first last deeds Begin before client goes =

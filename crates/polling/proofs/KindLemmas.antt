@@ -1,7 +1,7 @@
 -- Why a client is put off, and what becomes of one who is ready.
 use Rattle.std.proofs.Common.{◌≡◌, ◌≤◌, ◌+◌, refl, ℕ, List, Option, Some, inl, inr}
 use Rattle.clients.specs.Talk.{Talk}
-use Rattle.polling.specs.Kinds.{NextIs, IsQuestion, IsPutOff, IsHeldBack, IsPlaced, most_questions}
+use Rattle.polling.specs.Kinds.{NextIs, IsLongQuestion, IsPutOff, IsHeldBack, IsPlaced, most_questions}
 use Rattle.polling.specs.declared.gathering.Place.{Place}
 use Rattle.polling.specs.declared.gathering.Place.TheVariants.{Gathered, Now, Later}
 
@@ -15,7 +15,7 @@ put_off_by waits count talk (inr question) = inr question.0
 -- a question has its turn, or so many had theirs
 pub placed_question :
     (waits : List ℕ → Type 0) (seat : Option Talk) (talk : Talk) (count count_now : ℕ)
-    (place : Place) → seat ≡ Some talk → NextIs IsQuestion talk → (place ≡ Gathered → ⊥) →
+    (place : Place) → seat ≡ Some talk → NextIs IsLongQuestion talk → (place ≡ Gathered → ⊥) →
     (place ≡ Now → count_now ≡ count + 1) →
     (place ≡ Later → (count_now ≡ count) × (most_questions ≤ count)) →
     IsPlaced waits seat count count_now place

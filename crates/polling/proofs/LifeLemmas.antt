@@ -2,10 +2,10 @@
 use Rattle.std.proofs.Common.{◌≡◌, refl, sym, ap, ◌∙◌, subst, ℕ, List, [], ◌++◌, Option, Some, is_some, arith}
 use Rattle.std.proofs.lemmas.Bool.{false≢true}
 use Rattle.std.proofs.lemmas.List.{append-nil}
-use Rattle.clients.specs.Deeds.{Room, Deed, Lives}
+use Rattle.clients.specs.Deeds.{Room, Act, Lives}
 use Rattle.clients.specs.Deeds as life
 use Rattle.clients.specs.Talk.{Talk}
-use Rattle.polling.specs.Serving.{Hall, Rules, Happens, Did, Tells, Stirs, Puts_off, Joins, Goes, Again, Rests, Passes, Fails, Begin, Then}
+use Rattle.polling.specs.Serving.{Hall, Terms, Occurs, Did, Tells, Stirs, Puts_off, Joins, Goes, Again, Rests, Passes, Fails, Begin, Then}
 use Rattle.polling.specs.Serving.{rounds_of, rounds_in}
 use Rattle.polling.specs.Standing.{Away, StandsIn}
 use Rattle.polling.specs.Laws.{AreLives, BeginsEmpty}
@@ -13,16 +13,16 @@ use Rattle.polling.specs.Seating.{seats_in}
 
 -- the same room, and no deed more
 stays :
-    {S C P : Type 0} (r : Rules S C P) (first last : Room S C) (deeds : List Deed) →
+    {S C P : Type 0} (r : Terms S C P) (first last : Room S C) (deeds : List Act) →
     Lives S C r.means r.gives first deeds last →
     Lives S C r.means r.gives first (deeds ++ []) last
 stays {S} {C} r first last deeds lives =
-    subst (λ (all : List Deed). Lives S C r.means r.gives first all last) (sym (append-nil deeds)) lives
+    subst (λ (all : List Act). Lives S C r.means r.gives first all last) (sym (append-nil deeds)) lives
 
 one_more :
-    {S C P : Type 0} (r : Rules S C P) → ((old new : S) → r.renews old new → new ≡ old) →
-    (first : Room S C) (last next : Hall S C P) (deeds more : List Deed) →
-    Lives S C r.means r.gives first deeds last.room → (happens : Happens S C P r last more next) →
+    {S C P : Type 0} (r : Terms S C P) → ((old new : S) → r.renews old new → new ≡ old) →
+    (first : Room S C) (last next : Hall S C P) (deeds more : List Act) →
+    Lives S C r.means r.gives first deeds last.room → (happens : Occurs S C P r last more next) →
     rounds_of happens ≡ 0 →
     Lives S C r.means r.gives first (deeds ++ more) next.room
 one_more r same first last next deeds more lives (Did deed room peers live done settled hands) none =
@@ -49,7 +49,7 @@ one_more r same first last next deeds more lives (Passes moments given passed) n
 one_more r same first last next deeds more lives (Fails also room ledgers stands lived told failed begun) none =
     absurd (omega (arith, none))
 
-pub are_lives : {S C P : Type 0} (r : Rules S C P) → AreLives r
+pub are_lives : {S C P : Type 0} (r : Terms S C P) → AreLives r
 are_lives r same first last deeds Begin none = life.Begin
 are_lives r same first last deeds (Then before mid more next serves happens) none =
     let earlier : rounds_in serves ≡ 0 = omega (arith, none) in

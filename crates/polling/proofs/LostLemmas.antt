@@ -15,19 +15,19 @@ use Rattle.service.specs.Courses.{Event, untold_in}
 use Rattle.service.specs.Courses as course
 use Rattle.service.specs.Deeds as service
 use Rattle.service.specs.Replies.{unavailable}
-use Rattle.service.specs.Responds.{Answers}
-use Rattle.service.specs.Seen.{Seen, Whole, seen}
+use Rattle.service.specs.Responds.{AnswersAsked}
+use Rattle.service.specs.Seen.{SeenAt, Whole, seen}
 use Rattle.service.specs.Turns.{RespondsTo, RespondInTurn, TakeTurns}
 use Rattle.clients.specs.Talk.{Talk, may_answer}
-use Rattle.clients.specs.Answering.{HasReplied}
-use Rattle.clients.specs.Deeds.{Room, Deed, Replied, IsDone, Lives}
+use Rattle.clients.specs.Answering.{IsReplyReady}
+use Rattle.clients.specs.Deeds.{Room, Act, Replied, IsActed, Lives}
 use Rattle.clients.specs.Deeds as life
 use Rattle.clients.specs.Within.{replied_to, Asks, TellsUnavailable, HeadsAreUnique}
 use Rattle.polling.specs.Peers.{Doing}
 use Rattle.polling.specs.Serving.{Hall, rules, AreGiven, HasFailed, Fails}
 use Rattle.polling.specs.Serving.{events_by, events_of, AreToldUnavailable}
-use Rattle.polling.specs.Seating.{with_talk, SeatsNow, held, Keeps, replies_in}
-use Rattle.polling.specs.Round.{AreCopied, moments_of, AreTold}
+use Rattle.polling.specs.Seating.{with_talk, SeatsNow, held, HoldsHall, replies_in}
+use Rattle.polling.specs.Round.{AreCopied, moments_of, AreToldLost}
 use Rattle.polling.specs.declared.round.Member.{Member}
 use Rattle.polling.proofs.OneLemmas.{once, replies_both, with_talk-own, with_talk-other}
 use Rattle.polling.specs.Standing.{stands_after}
@@ -44,7 +44,7 @@ deed_done unique message reply question old new asks responds available =
     let answers =
     subst
     (λ (asked : Result Question Early).
-    Answers old new asked message.moment (reply_text reply))
+    AnswersAsked old new asked message.moment (reply_text reply))
     (ap (asked_of message.bytes.items)
     (unique message.bytes.items responds.head asks.0 responds.has asks.1)
     ∙ asks.2)
@@ -74,27 +74,27 @@ abbrev pub IsTold :
     {S C : Type 0} → LedgersMeaning S → (C → ℕ → C → Type 0) → S → C → Talk → S → C → Talk
     → List Event → Type 0
 IsTold t gives ledgers moments old ledgers_now moments_now new events =
-    (has : HasReplied t gives ledgers moments old unavailable ledgers_now moments_now new)
+    (has : IsReplyReady t gives ledgers moments old unavailable ledgers_now moments_now new)
     × (event_in unavailable (has.exchange [] (λ ended. refl)).by ≡ events)
 
 -- a client in a hall is told so
 pub record IsToldIn {S C P : Type 0} (t : LedgersMeaning S) (gives : C → ℕ → C → Type 0)
     (ledgers : S) (moments_now : C) (peers : P) (seats_now : ℕ → Option Talk) (next client : ℕ)
-    (events : List Event) (first : Hall (Seen S) C P) : Type 0 where
-  pub room : Room (Seen S) C
-  pub done : IsDone (seen t) gives first.room (Replied client unavailable) room
+    (events : List Event) (first : Hall (SeenAt S) C P) : Type 0 where
+  pub room : Room (SeenAt S) C
+  pub done : IsActed (seen t) gives first.room (Replied client unavailable) room
   pub are : events_by (Replied client unavailable) done ≡ events
   pub keeps :
-      Keeps (held (Whole ledgers) moments_now peers seats_now next) (record first { room = room })
+      HoldsHall (held (Whole ledgers) moments_now peers seats_now next) (record first { room = room })
 
 told_in :
     {S C P : Type 0} (t : LedgersMeaning S) (gives : C → ℕ → C → Type 0) (ledgers : S)
     (moments moments_now : C) (peers : P) (seats seats_now : ℕ → Option Talk) (next client : ℕ)
-    (talk talk_now : Talk) (events : List Event) (first : Hall (Seen S) C P) →
+    (talk talk_now : Talk) (events : List Event) (first : Hall (SeenAt S) C P) →
     seats client ≡ Some talk → SeatsNow client (Some talk_now) seats seats_now →
     may_answer talk ≡ true →
     IsTold (seen t) gives (Whole ledgers) moments talk (Whole ledgers) moments_now talk_now events →
-    Keeps (held (Whole ledgers) moments peers seats next) first →
+    HoldsHall (held (Whole ledgers) moments peers seats next) first →
     IsToldIn t gives ledgers moments_now peers seats_now next client events first
 told_in {S} {C} {P} t gives ledgers moments moments_now peers seats seats_now next client talk
     talk_now events first was now may told keeps =
@@ -102,7 +102,7 @@ told_in {S} {C} {P} t gives ledgers moments moments_now peers seats seats_now ne
     let here = sym (keeps.seated client talk was) in
     let all =
     subst
-    (λ (l : Seen S).
+    (λ (l : SeenAt S).
     IsTold (seen t) gives l first.room.moments (talks client) (Whole ledgers) moments_now
     (with_talk client talk_now talks client) events)
     (sym keeps.ledgers)
@@ -139,14 +139,14 @@ told_in {S} {C} {P} t gives ledgers moments moments_now peers seats seats_now ne
 -- some clients of a hall were told so; and what these messages lead to leads on from what was untold
 pub record HasTold {S C P : Type 0} (t : LedgersMeaning S) (gives : C → ℕ → C → Type 0)
     (messages left : List Message) (ledgers : S) (last : C) (peers : P)
-    (seats_now : ℕ → Option Talk) (next count : ℕ) (first : Hall (Seen S) C P) : Type 0 where
-  pub deeds : List Deed
-  pub room : Room (Seen S) C
+    (seats_now : ℕ → Option Talk) (next count : ℕ) (first : Hall (SeenAt S) C P) : Type 0 where
+  pub deeds : List Act
+  pub room : Room (SeenAt S) C
   pub moments : C
-  pub lives : Lives (Seen S) C (seen t) gives first.room deeds room
+  pub lives : Lives (SeenAt S) C (seen t) gives first.room deeds room
   pub told : AreToldUnavailable first.gone lives
   pub keeps :
-      Keeps (held (Whole ledgers) moments peers seats_now next) (record first { room = room })
+      HoldsHall (held (Whole ledgers) moments peers seats_now next) (record first { room = room })
   pub replies : replies_in deeds ≡ count
   pub given : AreGiven gives moments (moments_of left) last
   pub done :
@@ -164,10 +164,10 @@ pub record AreToldSoFar {S C P : Type 0} (t : LedgersMeaning S) (gives : C → �
   pub left : List Message
   pub copied : AreCopied seats_now members left
   pub told :
-      (ledgers : S) (moments last : C) (peers : P) (next : ℕ) (first : Hall (Seen S) C P)
+      (ledgers : S) (moments last : C) (peers : P) (next : ℕ) (first : Hall (SeenAt S) C P)
       → t.follows ledgers ledgers
       → AreGiven gives moments (moments_of messages) last
-      → Keeps (held (Whole ledgers) moments peers seats next) first
+      → HoldsHall (held (Whole ledgers) moments peers seats next) first
       → HasTold t gives messages left ledgers last peers seats_now next count first
 
 module _ {S C P : Type 0} (t : LedgersMeaning S) (gives : C → ℕ → C → Type 0)
@@ -344,7 +344,7 @@ module _ {S C P : Type 0} (t : LedgersMeaning S) (gives : C → ℕ → C → Ty
       (messages : List Message) (seats : ℕ → Option Talk) (members : List Member)
       (seats_now : ℕ → Option Talk) (count : ℕ)
       (so_far : AreToldSoFar t gives does messages seats members seats_now count) →
-      so_far.left ≡ [] → AreTold t gives renews waits does messages seats seats_now count
+      so_far.left ≡ [] → AreToldLost t gives renews waits does messages seats seats_now count
   told_over messages seats members seats_now count so_far over ledgers ledgers_now moments last peers
       next follows given lost first keeps =
       let so = so_far.told ledgers moments last peers next first follows given keeps in
@@ -358,7 +358,7 @@ module _ {S C P : Type 0} (t : LedgersMeaning S) (gives : C → ℕ → C → Ty
         once (rules t gives renews waits does) first after so.deeds
             (Fails so.deeds so.room (Whole ledgers_now) stands so.lives so.told
             (subst
-            (λ (l : Seen S). HasFailed (seen t) l (events_of so.lives) (Whole ledgers_now))
+            (λ (l : SeenAt S). HasFailed (seen t) l (events_of so.lives) (Whole ledgers_now))
             (sym keeps.ledgers)
             (record {
               lived = lost.lived;

@@ -6,33 +6,33 @@ use Rattle.std.proofs.lemmas.Grind.{flat_map-append}
 use Rattle.ledger_http.specs.declared.reply.Reply.{Reply}
 use Rattle.parts.specs.declared.rest.Part.{Part}
 use Rattle.clients.specs.Talk.{Talk, continued, received, input_ended, written, may_answer}
-use Rattle.clients.specs.Answering.{IsUnmoved, IsWanting, HasReplied}
-use Rattle.clients.specs.Deeds.{Deed, Came, Replied, Continued, Wrote, client_of, Does, IsNextPart, told_in, all_told}
+use Rattle.clients.specs.Answering.{IsUnmoved, IsWanting, IsReplyReady}
+use Rattle.clients.specs.Deeds.{Act, Came, Replied, Continued, Wrote, client_of, Does, IsNextPart, told_in, all_told}
 use Rattle.clients.specs.Deeds as deed
 use Rattle.service.specs.Seen.{Whole}
 use Rattle.polling.specs.Peers.{Gave, Gave_none, Ended, Took, Took_none, Stirred, Hands}
 use Rattle.polling.specs.Standing.{Standing, Owed, begun, rested, leaving, with_standing, stands_after, MayGo, Lost_piece}
 use Rattle.service.specs.Openings.{run_meaning, IsSettled}
-use Rattle.polling.specs.Serving.{Hall, hall, Rules, Settles, IsDueOf, gone_with, Happens, Did, Stirs, Goes, Again, Serves, Begin, Then}
+use Rattle.polling.specs.Serving.{Hall, hall, Terms, Settles, IsDueOf, gone_with, Occurs, Did, Stirs, Goes, Again, Passes, Begin, Then}
 use Rattle.polling.specs.Seating.{with_talk, ServesOne, replies_in}
 use Rattle.polling.specs.declared.step.Step.TheVariants as step
 use Rattle.polling.proofs.StandLemmas.{standing-own, begun_unowed}
 
 -- what follows is done behind what was done
 pub serves_on :
-    {S C P : Type 0} (r : Rules S C P) (first mid last : Hall S C P) (before more : List Deed) →
-    Serves S C P r first before mid → Serves S C P r mid more last →
-    Serves S C P r first (before ++ more) last
+    {S C P : Type 0} (r : Terms S C P) (first mid last : Hall S C P) (before more : List Act) →
+    Passes S C P r first before mid → Passes S C P r mid more last →
+    Passes S C P r first (before ++ more) last
 serves_on {S} {C} {P} r first mid last before more did Begin =
-    subst (λ (all : List Deed). Serves S C P r first all mid) (sym (append-nil before)) did
+    subst (λ (all : List Act). Passes S C P r first all mid) (sym (append-nil before)) did
 serves_on {S} {C} {P} r first mid last before more did (Then deeds then_hall next_deeds next rest happens) =
-    subst (λ (all : List Deed). Serves S C P r first all next) (append_assoc before deeds next_deeds)
+    subst (λ (all : List Act). Passes S C P r first all next) (append_assoc before deeds next_deeds)
     (Then (before ++ deeds) then_hall next_deeds next
     (serves_on r first mid then_hall before deeds did rest) happens)
 
 -- the replies of both
 pub replies_both :
-    (before more : List Deed) (first second all : ℕ) → replies_in before ≡ first →
+    (before more : List Act) (first second all : ℕ) → replies_in before ≡ first →
     replies_in more ≡ second → first + second ≡ all → replies_in (before ++ more) ≡ all
 replies_both before more first second all of_first of_second sum =
     ap (λ told. length told) (flat_map-append told_in before more)
@@ -42,8 +42,8 @@ replies_both before more first second all of_first of_second sum =
     ∙ sum
 
 pub once :
-    {S C P : Type 0} (r : Rules S C P) (first last : Hall S C P) (deeds : List Deed) →
-    Happens S C P r first deeds last → Serves S C P r first deeds last
+    {S C P : Type 0} (r : Terms S C P) (first last : Hall S C P) (deeds : List Act) →
+    Occurs S C P r first deeds last → Passes S C P r first deeds last
 once r first last deeds happens = Then [] first deeds last Begin happens
 
 pub with_talk-own : (client : ℕ) (talk : Talk) (talks : ℕ → Talk) → with_talk client talk talks client ≡ talk
@@ -58,12 +58,12 @@ with_talk-other client other talk talks differ =
 
 -- a deed of one client
 pub did_one :
-    {S C P : Type 0} (r : Rules S C P) (deed : Deed) (ledgers ledgers_now : S) (moments moments_now : C)
+    {S C P : Type 0} (r : Terms S C P) (deed : Act) (ledgers ledgers_now : S) (moments moments_now : C)
     (peers peers_now : P) (talk talk_now : Talk) (talks : ℕ → Talk) (gone : ℕ → Bool)
     (stands : ℕ → Standing) → gone (client_of deed) ≡ false → IsDueOf deed talk →
     Does r.means r.gives deed ledgers moments talk ledgers_now moments_now talk_now →
     Settles r.means deed ledgers_now → Hands r.does deed peers peers_now →
-    Serves S C P r (hall ledgers moments peers (with_talk (client_of deed) talk talks) gone stands) (deed ∷ [])
+    Passes S C P r (hall ledgers moments peers (with_talk (client_of deed) talk talks) gone stands) (deed ∷ [])
     (hall ledgers_now moments_now peers_now (with_talk (client_of deed) talk_now talks) gone
     (stands_after (deed ∷ []) stands))
 did_one {S} {C} {P} r deed ledgers ledgers_now moments moments_now peers peers_now talk talk_now talks
@@ -114,20 +114,20 @@ whole_unmoved unmoved = record {
 
 -- one client was served, and stays
 abbrev pub Stays :
-    {S C P : Type 0} → Rules S C P → ℕ → S → C → P → Talk → S → C → P → Talk → Bool → ℕ → Type 0
+    {S C P : Type 0} → Terms S C P → ℕ → S → C → P → Talk → S → C → P → Talk → Bool → ℕ → Type 0
 Stays r client ledgers moments peers talk ledgers_now moments_now peers_now talk_now idle replies =
     ServesOne r client ledgers moments peers talk ledgers_now moments_now peers_now talk_now step.More
     idle replies
 
 -- behind a deed of a client its turn is begun
 did_begin :
-    (deed : Deed) (stands : ℕ → Standing) → false ≡ false →
+    (deed : Act) (stands : ℕ → Standing) → false ≡ false →
     stands_after (deed ∷ []) stands (client_of deed) ≢ Owed
 did_begin deed stands moved owed =
     begun_unowed (stands (client_of deed))
     (sym (standing-own (client_of deed) (begun (stands (client_of deed))) stands) ∙ owed)
 
-module _ {S C P : Type 0} (r : Rules S C P) (client : ℕ) where
+module _ {S C P : Type 0} (r : Terms S C P) (client : ℕ) where
   -- nothing is done
   pub nothing :
       (ledgers : S) (moments : C) (peers : P) (talk : Talk) →
@@ -186,7 +186,7 @@ module _ {S C P : Type 0} (r : Rules S C P) (client : ℕ) where
   waits :
       (ledgers : S) (moments : C) (peers peers_now : P) (talk : Talk) →
       ((talks : ℕ → Talk) (gone : ℕ → Bool) (stands : ℕ → Standing) →
-      Happens S C P r (hall ledgers moments peers (with_talk client talk talks) gone stands) []
+      Occurs S C P r (hall ledgers moments peers (with_talk client talk talks) gone stands) []
       (hall ledgers moments peers_now (with_talk client talk talks) gone
       (with_standing client (rested (stands client)) stands))) →
       ServesOne r client ledgers moments peers talk ledgers moments peers_now talk step.Waits false 0
@@ -318,7 +318,7 @@ module _ {S C P : Type 0} (r : Rules S C P) (client : ℕ) where
   pub replied :
       (ledgers ledgers_now : S) (moments moments_now : C) (peers : P) (talk talk_now : Talk)
       (reply : Reply) → may_answer talk ≡ true →
-      HasReplied r.means r.gives ledgers moments talk reply ledgers_now moments_now talk_now →
+      IsReplyReady r.means r.gives ledgers moments talk reply ledgers_now moments_now talk_now →
       IsSettled (run_meaning r.means) ledgers_now →
       Stays r client ledgers moments peers talk ledgers_now moments_now peers talk_now false 1
   replied ledgers ledgers_now moments moments_now peers talk talk_now reply may has settled talks gone stands stays = (

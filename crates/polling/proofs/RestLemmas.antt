@@ -1,7 +1,7 @@
 -- What happens of a round beside the replies.
 use Rattle.std.proofs.Common.{refl, sym, subst, ℕ, List, [], Option}
 use Rattle.clients.specs.Talk.{Talk}
-use Rattle.polling.specs.Serving.{Rules, Rests, Passes, AreAsBefore, AreGiven}
+use Rattle.polling.specs.Serving.{Terms, Rests, Passes, AreAsBefore, AreGiven}
 use Rattle.polling.specs.Seating.{held, ServesEach}
 use Rattle.polling.proofs.OneLemmas.{once}
 use Rattle.polling.proofs.StandLemmas.{owes_still, keeps_still}
@@ -10,7 +10,7 @@ use Rattle.polling.proofs.AllLemmas.{then_each}
 module _ {S C P : Type 0} where
   -- moments were given that nobody got
   pub passes_all :
-      (r : Rules S C P) (ledgers : S) (moments moments_now : C) (given : List ℕ) (peers : P)
+      (r : Terms S C P) (ledgers : S) (moments moments_now : C) (given : List ℕ) (peers : P)
       (seats : ℕ → Option Talk) (next : ℕ) → AreGiven r.gives moments given moments_now →
       ServesEach r (held ledgers moments peers seats next) (held ledgers moments_now peers seats next) 0
   passes_all r ledgers moments moments_now given peers seats next passed first keeps =
@@ -38,7 +38,7 @@ module _ {S C P : Type 0} where
 
   -- a round begins, ends or is taken back
   rests_alone :
-      (r : Rules S C P) (ledgers ledgers_now : S) (moments : C) (peers : P)
+      (r : Terms S C P) (ledgers ledgers_now : S) (moments : C) (peers : P)
       (seats : ℕ → Option Talk) (next : ℕ) → AreAsBefore r.means ledgers ledgers_now →
       ServesEach r (held ledgers moments peers seats next) (held ledgers_now moments peers seats next) 0
   rests_alone r ledgers ledgers_now moments peers seats next same first keeps =
@@ -65,7 +65,7 @@ module _ {S C P : Type 0} where
       )
 
   pub rests_all :
-      (r : Rules S C P) (ledgers ledgers_now : S) (moments moments_now : C) (given : List ℕ)
+      (r : Terms S C P) (ledgers ledgers_now : S) (moments moments_now : C) (given : List ℕ)
       (peers : P) (seats : ℕ → Option Talk) (next : ℕ) → AreAsBefore r.means ledgers ledgers_now →
       AreGiven r.gives moments given moments_now →
       ServesEach r (held ledgers moments peers seats next)

@@ -5,8 +5,8 @@ use Rattle.clients.specs.Talk.{Talk, new_talk}
 use Rattle.polling.specs.Peers.{Asked, Closed}
 use Rattle.polling.specs.Standing.{Standing, Awaited, Owed, Kept, rested, asked, with_standing, stands_after, has_seat, StandsIn}
 use Rattle.polling.specs.Standing.{A_seat, A_turn, owing}
-use Rattle.polling.specs.Serving.{Hall, hall, Rules, Stirs, Joins, Serves, Then}
-use Rattle.polling.specs.Seating.{with_talk, ServesOne, SeatsNow, HadTurn, IsFollowed, held, Keeps, ServesAll, ServesOwed, ServesEach}
+use Rattle.polling.specs.Serving.{Hall, hall, Terms, Stirs, Joins, Passes, Then}
+use Rattle.polling.specs.Seating.{with_talk, ServesOne, SeatsNow, HadTurn, IsFollowed, held, HoldsHall, ServesAll, ServesOwed, ServesEach}
 use Rattle.polling.specs.Ending.{IsToldAs}
 use Rattle.polling.specs.declared.step.Step.{Step}
 use Rattle.polling.specs.declared.step.Step.TheVariants as step
@@ -40,7 +40,7 @@ module _ {S C P : Type 0} where
   -- the next number has no seat
   no_seat :
       (ledgers : S) (moments : C) (peers : P) (seats : ℕ → Option Talk) (next : ℕ)
-      (first : Hall S C P) → Keeps (held ledgers moments peers seats next) first →
+      (first : Hall S C P) → HoldsHall (held ledgers moments peers seats next) first →
       seats next ≡ None
   no_seat ledgers moments peers seats next first keeps =
       free_seat (seats next)
@@ -48,7 +48,7 @@ module _ {S C P : Type 0} where
 
   -- a client with the next number is closed
   pub closes_next :
-      (r : Rules S C P) (ledgers : S) (moments : C) (peers peers_now : P)
+      (r : Terms S C P) (ledgers : S) (moments : C) (peers peers_now : P)
       (seats : ℕ → Option Talk) (next : ℕ) → r.does peers (Closed next) peers_now →
       ServesOwed r ⊥ (owing A_seat next ∷ []) [] (held ledgers moments peers seats next)
       (held ledgers moments peers_now seats next) 0
@@ -58,7 +58,7 @@ module _ {S C P : Type 0} where
 
   -- a client takes the seat of the next number
   pub joined :
-      (r : Rules S C P) (ledgers : S) (moments : C) (peers : P) (seats seats_now : ℕ → Option Talk)
+      (r : Terms S C P) (ledgers : S) (moments : C) (peers : P) (seats seats_now : ℕ → Option Talk)
       (next : ℕ) → SeatsNow next (Some new_talk) seats seats_now →
       ServesOwed r ⊥ (owing A_seat next ∷ []) [] (held ledgers moments peers seats next)
       (held ledgers moments peers seats_now (next + 1)) 0
@@ -113,8 +113,8 @@ module _ {S C P : Type 0} where
       (client : ℕ) (ledgers ledgers_now : S) (moments moments_now : C) (peers peers_now each : P)
       (seats seats_now : ℕ → Option Talk) (next : ℕ) (talk talk_now : Talk) (first : Hall S C P) →
       seats client ≡ Some talk → SeatsNow client (Some talk_now) seats seats_now →
-      each ≡ peers_now → Keeps (held ledgers moments peers seats next) first →
-      Keeps (held ledgers_now moments_now peers_now seats_now next)
+      each ≡ peers_now → HoldsHall (held ledgers moments peers seats next) first →
+      HoldsHall (held ledgers_now moments_now peers_now seats_now next)
       (hall ledgers_now moments_now each (with_talk client talk_now first.room.talks) first.gone
       first.stands)
   keeps_at client ledgers ledgers_now moments moments_now peers peers_now each seats seats_now next
@@ -155,7 +155,7 @@ module _ {S C P : Type 0} where
 
   -- the client in one seat was served, and stays
   pub served_at :
-      (r : Rules S C P) (client : ℕ) (ledgers ledgers_now : S) (moments moments_now : C)
+      (r : Terms S C P) (client : ℕ) (ledgers ledgers_now : S) (moments moments_now : C)
       (peers peers_now : P) (seats seats_now : ℕ → Option Talk) (next : ℕ) (talk talk_now : Talk)
       (idle : Bool) (replies : ℕ) →
       seats client ≡ Some talk → SeatsNow client (Some talk_now) seats seats_now →
@@ -175,7 +175,7 @@ module _ {S C P : Type 0} where
       hall ledgers_now moments_now peers_now (with_talk client talk_now talks) first.gone stands in (
         did.0,
         after,
-        subst (λ (from : Hall S C P). Serves S C P r from did.0 after)
+        subst (λ (from : Hall S C P). Passes S C P r from did.0 after)
             (same_hall ledgers moments peers client talk first keeps.ledgers keeps.moments
             keeps.peers (keeps.seated client talk was))
             did.1,
@@ -190,7 +190,7 @@ module _ {S C P : Type 0} where
 
   -- the client in one seat was served, and is to be told as ready again
   pub asked_at :
-      (r : Rules S C P) (client : ℕ) (ledgers ledgers_now : S) (moments moments_now : C)
+      (r : Terms S C P) (client : ℕ) (ledgers ledgers_now : S) (moments moments_now : C)
       (peers peers_then peers_now : P) (seats seats_now : ℕ → Option Talk) (next : ℕ)
       (talk talk_now : Talk) (idle : Bool) (replies : ℕ) →
       seats client ≡ Some talk → SeatsNow client (Some talk_now) seats seats_now →
@@ -219,7 +219,7 @@ module _ {S C P : Type 0} where
         did.0 ++ [],
         after,
         Then did.0 then_hall [] after
-            (subst (λ (from : Hall S C P). Serves S C P r from did.0 then_hall)
+            (subst (λ (from : Hall S C P). Passes S C P r from did.0 then_hall)
             (same_hall ledgers moments peers client talk first keeps.ledgers keeps.moments
             keeps.peers (keeps.seated client talk was))
             did.1)
@@ -247,7 +247,7 @@ module _ {S C P : Type 0} where
 
   -- the client in one seat was served, and waits
   pub rested_at :
-      (r : Rules S C P) (client : ℕ) (ledgers ledgers_now : S) (moments moments_now : C)
+      (r : Terms S C P) (client : ℕ) (ledgers ledgers_now : S) (moments moments_now : C)
       (peers peers_now : P) (seats seats_now : ℕ → Option Talk) (next : ℕ) (talk talk_now : Talk)
       (idle : Bool) (replies : ℕ) →
       seats client ≡ Some talk → SeatsNow client (Some talk_now) seats seats_now →
@@ -270,7 +270,7 @@ module _ {S C P : Type 0} where
       hall ledgers_now moments_now peers_now (with_talk client talk_now talks) first.gone stands in (
         did.0,
         after,
-        subst (λ (from : Hall S C P). Serves S C P r from did.0 after)
+        subst (λ (from : Hall S C P). Passes S C P r from did.0 after)
             (same_hall ledgers moments peers client talk first keeps.ledgers keeps.moments
             keeps.peers (keeps.seated client talk was))
             did.1,
@@ -292,7 +292,7 @@ module _ {S C P : Type 0} where
 
   -- a client was written to, and may be let wait
   pub left_all :
-      (r : Rules S C P) (client : ℕ) (done : Step) (idle : Bool) (told : Step) (ledgers ledgers_now : S)
+      (r : Terms S C P) (client : ℕ) (done : Step) (idle : Bool) (told : Step) (ledgers ledgers_now : S)
       (moments : C) (peers peers_then peers_now : P) (seats seats_then seats_now : ℕ → Option Talk)
       (next : ℕ) → IsToldAs done idle told →
       HadTurn r client ledgers moments peers seats ledgers_now moments peers_then seats_then done idle 0 →

@@ -3,14 +3,14 @@ use Rattle.std.proofs.Common.{◌≡◌, ◌≢◌, ◌⊎◌, inl, inr, ⊎_eli
 use Rattle.std.specs.List.{Contains}
 use Rattle.std.proofs.lemmas.Bool.{cases_eq, eq-eqb, ne_eqb, true≢false}
 use Rattle.std.proofs.lemmas.List.Elements.{Contains-append_cases, Contains-append_left, Contains-append_right, Contains-push, Contains-push_cases}
-use Rattle.clients.specs.Deeds.{Deed, client_of}
+use Rattle.clients.specs.Deeds.{Act, client_of}
 use Rattle.clients.specs.Talk.{Talk}
 use Rattle.polling.specs.Peers.{Said}
 use Rattle.polling.specs.Standing.{Standing, Away, New, Awaited, Owed, Begun, Kept, Overdue, Leaving}
 use Rattle.polling.specs.Standing.{has_seat, greeted, woken, expired, begun, rested, asked}
 use Rattle.polling.specs.Standing.{with_standing, stands_behind, stands_after, StandsIn}
 use Rattle.polling.specs.Standing.{Debt, A_seat, A_turn, An_end, Owing, owing, turns_of, IsOwed, told_of}
-use Rattle.polling.specs.Standing.{AreAmong, OwesOnly, KeepsOnly}
+use Rattle.polling.specs.Standing.{AreSomeOf, OwesOnly, KeepsOnly}
 use Rattle.polling.specs.declared.peers.Told.{Told}
 use Rattle.polling.specs.declared.peers.Told.TheVariants.{Joined, Ready, Late, Nothing}
 
@@ -37,7 +37,7 @@ standing-other client other standing stands differ =
 
 -- deeds behind deeds
 pub after-append :
-    (before more : List Deed) (stands : ℕ → Standing) →
+    (before more : List Act) (stands : ℕ → Standing) →
     stands_after (before ++ more) stands ≡ stands_after more (stands_after before stands)
 after-append [] more stands = refl
 after-append (deed ∷ before) more stands =
@@ -145,7 +145,7 @@ told_stand fresh Nothing seats stands all = all
 
 -- behind deeds
 pub after_stand :
-    (deeds : List Deed) (seats : ℕ → Option Talk) (stands : ℕ → Standing) →
+    (deeds : List Act) (seats : ℕ → Option Talk) (stands : ℕ → Standing) →
     AllStand seats stands → AllStand seats (stands_after deeds stands)
 after_stand [] seats stands all = all
 after_stand (deed ∷ deeds) seats stands all =
@@ -410,7 +410,7 @@ of_turns (first ∷ clients) one found =
     ]
 
 pub among_turns :
-    (clients others : List ℕ) → AreAmong clients others → AreAmong (turns_of clients) (turns_of others)
+    (clients others : List ℕ) → AreSomeOf clients others → AreSomeOf (turns_of clients) (turns_of others)
 among_turns clients others among one found =
     let so = of_turns clients one found in
     subst (λ (each : Owing). Contains (turns_of others) each) so.0
@@ -418,8 +418,8 @@ among_turns clients others among one found =
 
 -- these, and the first
 pub among_first :
-    (client : ℕ) (clients others : List ℕ) → Contains others client → AreAmong clients others →
-    AreAmong (owing A_turn client ∷ turns_of clients) (turns_of others)
+    (client : ℕ) (clients others : List ℕ) → Contains others client → AreSomeOf clients others →
+    AreSomeOf (owing A_turn client ∷ turns_of clients) (turns_of others)
 among_first client clients others found among one all =
     elim (in_cases (owing A_turn client) (turns_of clients) one all) [
       | inl same ↦
@@ -429,8 +429,8 @@ among_first client clients others found among one all =
     ]
 
 pub among_beside :
-    (first : Owing) (some others : List Owing) → AreAmong some others →
-    AreAmong (first ∷ some) (first ∷ others)
+    (first : Owing) (some others : List Owing) → AreSomeOf some others →
+    AreSomeOf (first ∷ some) (first ∷ others)
 among_beside first some others among one all =
     elim (in_cases first some one all) [
       | inl same ↦ subst (λ (each : Owing). Contains (first ∷ others) each) same (first_in first others)
@@ -439,7 +439,7 @@ among_beside first some others among one all =
 
 -- nobody stands otherwise
 pub owes_still :
-    (from to : List Owing) (stands : ℕ → Standing) → AreAmong from to → OwesOnly from to stands stands
+    (from to : List Owing) (stands : ℕ → Standing) → AreSomeOf from to → OwesOnly from to stands stands
 owes_still from to stands among client debt owed = (among (owing debt client), inl owed)
 
 pub keeps_still : (why : Type 0) (stands : ℕ → Standing) → KeepsOnly why stands stands
@@ -586,7 +586,7 @@ owes_nobody debt stands client other nobody each every owed = (
 
 -- behind deeds nothing more is owed
 pub owes_after :
-    (deeds : List Deed) (stands : ℕ → Standing) → OwesOnly [] [] stands (stands_after deeds stands)
+    (deeds : List Act) (stands : ℕ → Standing) → OwesOnly [] [] stands (stands_after deeds stands)
 owes_after [] stands = λ client debt owed. (λ none. none, inl owed)
 owes_after (deed ∷ deeds) stands =
     let own = client_of deed in
@@ -598,7 +598,7 @@ owes_after (deed ∷ deeds) stands =
     (owes_after deeds next)
 
 pub keeps_after :
-    (why : Type 0) (deeds : List Deed) (stands : ℕ → Standing) →
+    (why : Type 0) (deeds : List Act) (stands : ℕ → Standing) →
     KeepsOnly why stands (stands_after deeds stands)
 keeps_after why [] stands = λ client kept. inl kept
 keeps_after why (deed ∷ deeds) stands =

@@ -2,9 +2,9 @@
 use Rattle.std.proofs.Common.{◌≡◌, ◌≢◌, ◌⊎◌, inl, inr, refl, ap, sym, ◌∙◌, subst, ℕ, Bool, true, false, List, [], ◌∷◌, ◌++◌, ◌+◌}
 use Rattle.std.proofs.lemmas.Bool.{true≢false}
 use Rattle.clients.specs.Talk.{Talk}
-use Rattle.clients.specs.Deeds.{Deed, client_of}
+use Rattle.clients.specs.Deeds.{Act, client_of}
 use Rattle.polling.specs.Standing.{Standing, Owed, begun, rested, leaving, with_standing, stands_after}
-use Rattle.polling.specs.Serving.{hall, Rules, Serves}
+use Rattle.polling.specs.Serving.{hall, Terms, Passes}
 use Rattle.polling.specs.Seating.{with_talk, ServesOne, HasMoved, gone_by, stands_by}
 use Rattle.polling.specs.declared.step.Step.{Step}
 use Rattle.polling.specs.declared.step.Step.TheVariants as step
@@ -13,7 +13,7 @@ use Rattle.polling.proofs.OneLemmas.{serves_on, replies_both, Stays}
 
 -- it stays so
 unowed_still :
-    (deeds : List Deed) (stands : ℕ → Standing) (client : ℕ) → stands client ≢ Owed →
+    (deeds : List Act) (stands : ℕ → Standing) (client : ℕ) → stands client ≢ Owed →
     stands_after deeds stands client ≢ Owed
 unowed_still [] stands client unowed = unowed
 unowed_still (deed ∷ deeds) stands client unowed =
@@ -27,7 +27,7 @@ unowed_still (deed ∷ deeds) stands client unowed =
 
 -- what may have been idle in both parts, where the second ends so
 moved_both :
-    (step : Step) (first last idle : Bool) (deeds : List Deed) (stands : ℕ → Standing) (client : ℕ) →
+    (step : Step) (first last idle : Bool) (deeds : List Act) (stands : ℕ → Standing) (client : ℕ) →
     (idle ≡ false → (first ≡ false) ⊎ (last ≡ false)) → (first ≡ false → stands client ≢ Owed) →
     HasMoved step last (stands_after deeds stands client) →
     HasMoved step idle (stands_after deeds stands client)
@@ -42,7 +42,7 @@ moved_both step.Goes first last idle deeds stands client either before behind = 
 
 -- deeds behind deeds, in the last step
 stands_by-append :
-    (last : Step) (client : ℕ) (before more : List Deed) (stands : ℕ → Standing) →
+    (last : Step) (client : ℕ) (before more : List Act) (stands : ℕ → Standing) →
     stands_by last client more (stands_after before stands)
     ≡ stands_by last client (before ++ more) stands
 stands_by-append step.More client before more stands = sym (after-append before more stands)
@@ -53,7 +53,7 @@ stands_by-append step.Goes client before more stands =
     ap (λ (all : ℕ → Standing). with_standing client (leaving (all client)) all)
     (sym (after-append before more stands))
 
-module _ {S C P : Type 0} (r : Rules S C P) (client : ℕ) where
+module _ {S C P : Type 0} (r : Terms S C P) (client : ℕ) where
   -- one step behind another
   pub then_one :
       (ledgers ledgers_then ledgers_now : S) (moments moments_then moments_now : C)
@@ -75,7 +75,7 @@ module _ {S C P : Type 0} (r : Rules S C P) (client : ℕ) where
         did.0 ++ does.0,
         subst
             (λ (now : ℕ → Standing).
-            Serves S C P r (hall ledgers moments peers (with_talk client talk talks) gone stands)
+            Passes S C P r (hall ledgers moments peers (with_talk client talk talks) gone stands)
             (did.0 ++ does.0)
             (hall ledgers_now moments_now peers_now (with_talk client talk_now talks)
             (gone_by last client gone) now))

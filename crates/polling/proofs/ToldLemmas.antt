@@ -2,31 +2,31 @@
 use Rattle.std.proofs.Common.{◌≡◌, ◌+◌, sym, subst, ℕ, List, [], ◌++◌}
 use Rattle.polling.specs.Peers.{Said}
 use Rattle.polling.specs.Standing.{stands_behind, Owing, told_of, StandTold}
-use Rattle.polling.specs.Serving.{Hall, Rules, Happens, Tells}
-use Rattle.polling.specs.Seating.{Held, Keeps, LeadsAll, ServesAll, ServesOwed, ServesTold}
+use Rattle.polling.specs.Serving.{Hall, Terms, Occurs, Tells}
+use Rattle.polling.specs.Seating.{Held, HoldsHall, LeadsAll, ServesAll, ServesOwed, ServesTold}
 use Rattle.polling.specs.declared.peers.Told.{Told}
 use Rattle.polling.proofs.OneLemmas.{once, serves_on, replies_both}
 use Rattle.polling.proofs.StandLemmas.{told_stand, owes_then, owes_beside, owes_told, keeps_then, keeps_told}
 use Rattle.polling.proofs.GoingLemmas.{stand_told}
 use Rattle.polling.proofs.AllLemmas.{keeps_peers, next_free}
 
-module _ {S C P : Type 0} (r : Rules S C P) where
+module _ {S C P : Type 0} (r : Terms S C P) where
   -- a hall behind a telling
   abbrev pub hall_told : ℕ → Told → P → Hall S C P → Hall S C P
   hall_told fresh told peers all =
       record all { peers = peers; stands = stands_behind (Said fresh told) all.stands }
 
   pub keeps_hall :
-      (old : Held S C P) (told : Told) (peers : P) (all : Hall S C P) → Keeps old all →
-      Keeps (record old { peers = peers }) (hall_told old.next told peers all)
+      (old : Held S C P) (told : Told) (peers : P) (all : Hall S C P) → HoldsHall old all →
+      HoldsHall (record old { peers = peers }) (hall_told old.next told peers all)
   keeps_hall old told peers all keeps =
       keeps_peers old all peers (stands_behind (Said old.next told) all.stands)
       (told_stand old.next told old.seats all.stands keeps.stands) keeps
 
   pub telling :
-      (old : Held S C P) (told : Told) (peers : P) (all : Hall S C P) → Keeps old all →
+      (old : Held S C P) (told : Told) (peers : P) (all : Hall S C P) → HoldsHall old all →
       r.does old.peers (Said old.next told) peers →
-      Happens S C P r all [] (hall_told old.next told peers all)
+      Occurs S C P r all [] (hall_told old.next told peers all)
   telling old told peers all keeps said =
       Tells old.next told peers (next_free old all keeps)
       (subst (λ (p : P). r.does p (Said old.next told) peers) (sym keeps.peers) said)
@@ -35,7 +35,7 @@ module _ {S C P : Type 0} (r : Rules S C P) where
   pub told_all :
       (old new : Held S C P) (told : Told) (peers : P) (replies : ℕ) →
       r.does old.peers (Said old.next told) peers →
-      ((first : Hall S C P) → Keeps (record old { peers = peers }) first →
+      ((first : Hall S C P) → HoldsHall (record old { peers = peers }) first →
       StandTold told first.stands → LeadsAll r first new replies) →
       ServesAll r old new replies
   told_all old new told peers replies said serves first keeps =
@@ -94,7 +94,7 @@ module _ {S C P : Type 0} (r : Rules S C P) where
   pub told_then :
       (told : Told) (from to : List Owing) (old mid new : Held S C P) (before behind all : ℕ) →
       before + behind ≡ all → ServesTold r told from to old mid before →
-      ServesAll r mid new behind → (first : Hall S C P) → Keeps old first →
+      ServesAll r mid new behind → (first : Hall S C P) → HoldsHall old first →
       StandTold told first.stands → LeadsAll r first new all
   told_then told from to old mid new before behind all sum serves more first keeps stand =
       let did = serves first keeps stand in

@@ -1,13 +1,13 @@
 -- Turns, one after the other, as serving.
 use Rattle.std.proofs.Common.{◌≡◌, ◌≤◌, refl, sym, subst, ℕ, ◌+◌, arith}
-use Rattle.polling.specs.Serving.{Rules}
+use Rattle.polling.specs.Serving.{Terms}
 use Rattle.polling.specs.Seating.{Held, ServesAll}
-use Rattle.polling.specs.Ending.{HasTurn, IsQuiet, Turns, Start, Turn, most_turns, Ends, Long}
+use Rattle.polling.specs.Ending.{HasTurn, IsIdleNow, Turns, Start, Turn, most_turns, Ends, Long}
 use Rattle.polling.specs.declared.peers.Told.TheVariants as told
 use Rattle.polling.proofs.AllLemmas.{nothing_done, then_all, tells_all}
 use Rattle.polling.proofs.ToldLemmas.{told_all}
 
-module _ {S C P : Type 0} (r : Rules S C P) where
+module _ {S C P : Type 0} (r : Terms S C P) where
   pub turn_serves :
       (old new : Held S C P) (replies : ℕ) → HasTurn r old new replies → ServesAll r old new replies
   turn_serves old new replies turn =
@@ -46,7 +46,7 @@ module _ {S C P : Type 0} (r : Rules S C P) where
       Long (all_turns old new turns replies within beyond all)
 
   pub quiet_serves :
-      (old new : Held S C P) (replies : ℕ) → IsQuiet r old new replies → ServesAll r old new replies
+      (old new : Held S C P) (replies : ℕ) → IsIdleNow r old new replies → ServesAll r old new replies
   quiet_serves old new replies quiet =
       let before = quiet.before in
       subst (λ (now : Held S C P). ServesAll r old now replies) (sym quiet.same)
@@ -58,7 +58,7 @@ module _ {S C P : Type 0} (r : Rules S C P) where
   -- quiet behind what was done
   pub quiet_then :
       (first old new : Held S C P) (replies : ℕ) → ServesAll r first old replies →
-      IsQuiet r old new 0 → IsQuiet r first new replies
+      IsIdleNow r old new 0 → IsIdleNow r first new replies
   quiet_then first old new replies served quiet = record {
     before = quiet.before;
     served = then_all r first old quiet.before replies 0 replies (omega arith) served quiet.served;

@@ -10,8 +10,8 @@ use Rattle.service.specs.Openings.{FoundAfter, As_now, As_before, As_done}
 use Rattle.service.specs.Openings.{CourseSince, HasLed}
 use Rattle.service.specs.OwnDeeds.{SeesItself}
 use Rattle.service.specs.Seen.{Whole, seen}
-use Rattle.clients.specs.Deeds.{Deed}
-use Rattle.polling.specs.Serving.{Hall, Rules, Happens, Did, Again, Fails, Serves, Begin, Then}
+use Rattle.clients.specs.Deeds.{Act}
+use Rattle.polling.specs.Serving.{Hall, Terms, Occurs, Did, Again, Fails, Passes, Begin, Then}
 use Rattle.polling.specs.Serving.{events_by, events_of}
 
 -- ledgers of the same machines, of which an opening finds what it might have found before, or what
@@ -87,14 +87,14 @@ IsAnew (Tried deed ending moves) = ⊥
 IsAnew (Rested rest) = ⊥
 
 -- whatever a steward does is one of these
-abbrev pub AreRenewals : {S C P : Type 0} → Rules S C P → Type 0
+abbrev pub AreRenewals : {S C P : Type 0} → Terms S C P → Type 0
 AreRenewals {S} r = (old new : S) → r.renews old new → Renewed (run_meaning r.means) old new
 
-module _ {S C P : Type 0} {r : Rules S C P} (renewals : AreRenewals r) where
+module _ {S C P : Type 0} {r : Terms S C P} (renewals : AreRenewals r) where
   -- the events of what happens: those of messages that were replied to, if they were read whole;
   -- those of what a steward does; and no others
   abbrev pub AreOf :
-      {old new : Hall S C P} {deeds : List Deed} → Happens S C P r old deeds new → List Event
+      {old new : Hall S C P} {deeds : List Act} → Occurs S C P r old deeds new → List Event
       → Type 0
   AreOf (Did deed room peers stays done settled hands) events = events ≡ events_by deed done
   AreOf {old} (Again ledgers renewed) events =
@@ -105,7 +105,7 @@ module _ {S C P : Type 0} {r : Rules S C P} (renewals : AreRenewals r) where
   -- ledgers are opened anew, or that is refused; and then the machines are those that are there, or
   -- that the next opening finds
   abbrev pub BeginsWith :
-      {old new : Hall S C P} {deeds : List Deed} → Happens S C P r old deeds new → Tenants → Type 0
+      {old new : Hall S C P} {deeds : List Act} → Occurs S C P r old deeds new → Tenants → Type 0
   BeginsWith {old} (Again ledgers renewed) began =
       IsAnew (renewals old.room.ledgers ledgers renewed)
       × MayBegin (run_meaning r.means) ledgers began
@@ -113,36 +113,36 @@ module _ {S C P : Type 0} {r : Rules S C P} (renewals : AreRenewals r) where
 
   -- the events since ledgers were last opened anew, or since the beginning, and the machines then
   pub data IsSince (first : Hall S C P) :
-      (deeds : List Deed) (last : Hall S C P) → Serves S C P r first deeds last → List Event
+      (deeds : List Act) (last : Hall S C P) → Passes S C P r first deeds last → List Event
       → Tenants → Type 0 where
     Start : IsSince first [] first Begin [] (r.means.tenants first.room.ledgers)
     Onward :
-        (deeds : List Deed) (last : Hall S C P) (more : List Deed) (next : Hall S C P)
-        (serves : Serves S C P r first deeds last) (happens : Happens S C P r last more next)
+        (deeds : List Act) (last : Hall S C P) (more : List Act) (next : Hall S C P)
+        (serves : Passes S C P r first deeds last) (happens : Occurs S C P r last more next)
         (events behind : List Event) (began : Tenants) →
         IsSince first deeds last serves events began → AreOf happens behind →
         IsSince first (deeds ++ more) next (Then deeds last more next serves happens)
         (events ++ behind) began
     From :
-        (deeds : List Deed) (last : Hall S C P) (more : List Deed) (next : Hall S C P)
-        (serves : Serves S C P r first deeds last) (happens : Happens S C P r last more next)
+        (deeds : List Act) (last : Hall S C P) (more : List Act) (next : Hall S C P)
+        (serves : Passes S C P r first deeds last) (happens : Occurs S C P r last more next)
         (began : Tenants) → BeginsWith happens began →
         IsSince first (deeds ++ more) next (Then deeds last more next serves happens) [] began
 
 -- serving over ledgers that are live and settled is a course, from then on or from the last time on
 -- that they were opened anew
-abbrev pub IsCourse : {S C P : Type 0} → Rules S C P → Type 0
+abbrev pub IsCourse : {S C P : Type 0} → Terms S C P → Type 0
 IsCourse {S} {C} {P} r =
-    (renewals : AreRenewals r) (first last : Hall S C P) (deeds : List Deed)
-    (serves : Serves S C P r first deeds last)
+    (renewals : AreRenewals r) (first last : Hall S C P) (deeds : List Act)
+    (serves : Passes S C P r first deeds last)
     → r.means.is_live first.room.ledgers
     → IsSettled (run_meaning r.means) first.room.ledgers
     → HasLed (run_meaning r.means) (IsSince renewals first deeds last serves) last.room.ledgers
 
 -- in it each tenant sees its own deeds alone
-abbrev pub ServesEachAlone : {S C P : Type 0} → Rules S C P → Type 0
-ServesEachAlone {S} {C} {P} r =
-    (renewals : AreRenewals r) (first last : Hall S C P) (deeds : List Deed)
-    (serves : Serves S C P r first deeds last) (events : List Event) (began now : Tenants)
+abbrev pub CoursesServeEachAlone : {S C P : Type 0} → Terms S C P → Type 0
+CoursesServeEachAlone {S} {C} {P} r =
+    (renewals : AreRenewals r) (first last : Hall S C P) (deeds : List Act)
+    (serves : Passes S C P r first deeds last) (events : List Event) (began now : Tenants)
     → CourseSince (IsSince renewals first deeds last serves) events began now
     → (digest : List ℕ) → SeesItself began events now digest

@@ -3,20 +3,20 @@ use Rattle.std.specs.Prelude.{◌≡◌, ◌⊎◌, ◌≤◌, ◌+◌, ℕ, fal
 use Rattle.clients.specs.Talk.{new_talk}
 use Rattle.clients.specs.Answering.{MayCome}
 use Rattle.chain.specs.Ledgers.{Tenants}
-use Rattle.clients.specs.Deeds.{Deed, Lives, come_from, written_to, IsServed}
+use Rattle.clients.specs.Deeds.{Act, Lives, come_from, written_to, IsClientServed}
 use Rattle.clients.specs.Deeds.{HasYet, ReadsOn, machines_after, machines_then}
 use Rattle.polling.specs.Ending.{Ends, GivesTurns, Turns, most_turns}
 use Rattle.service.specs.Seen.{Whole}
 use Rattle.polling.specs.Standing.{Away, Debt, IsOwed, KeepsOnly}
-use Rattle.polling.specs.Serving.{Hall, hall, Rules, Happens, Did, Fails, Serves, Begin, Then, tellings, rounds_in}
-use Rattle.polling.specs.Seating.{AreEmpty, Held, held_by, Keeps, ServesAll, replies_in}
+use Rattle.polling.specs.Serving.{Hall, hall, Terms, Occurs, Did, Fails, Passes, Begin, Then, tellings, rounds_in}
+use Rattle.polling.specs.Seating.{AreEmpty, Held, held_by, HoldsHall, ServesAll, replies_in}
 use Rattle.polling.specs.declared.seats.Seats.{Seats}
 
-module _ {S C P : Type 0} {r : Rules S C P} where
+module _ {S C P : Type 0} {r : Terms S C P} where
   -- the machines that were there when something was read for a client last: behind what happens, and
   -- behind all that happened
   abbrev pub machines_by :
-      {old new : Hall S C P} {deeds : List Deed} → Tenants → Happens S C P r old deeds new → ℕ
+      {old new : Hall S C P} {deeds : List Act} → Tenants → Occurs S C P r old deeds new → ℕ
       → Tenants
   machines_by before (Did deed room peers turn done settled hands) client =
       machines_after client deed (r.means.tenants room.ledgers) before
@@ -25,7 +25,7 @@ module _ {S C P : Type 0} {r : Rules S C P} where
   machines_by before happens client = before
 
   abbrev pub machines_in :
-      {first last : Hall S C P} {deeds : List Deed} → Tenants → Serves S C P r first deeds last → ℕ
+      {first last : Hall S C P} {deeds : List Act} → Tenants → Passes S C P r first deeds last → ℕ
       → Tenants
   machines_in before Begin client = before
   machines_in before (Then deeds last more next serves happens) client =
@@ -34,7 +34,7 @@ module _ {S C P : Type 0} {r : Rules S C P} where
   -- the parts of its replies that a client was told were read while the ledgers had yet what was left
   -- when the reply was begun
   abbrev pub ReadsBy :
-      {old new : Hall S C P} {deeds : List Deed} → Tenants → ℕ → Happens S C P r old deeds new
+      {old new : Hall S C P} {deeds : List Act} → Tenants → ℕ → Occurs S C P r old deeds new
       → Type 0
   ReadsBy {old} before client (Did deed room peers turn done settled hands) =
       HasYet r.means before client deed old.room
@@ -43,7 +43,7 @@ module _ {S C P : Type 0} {r : Rules S C P} where
   ReadsBy before client happens = Unit {0}
 
   abbrev pub ReadsThrough :
-      {first last : Hall S C P} {deeds : List Deed} → Tenants → ℕ → Serves S C P r first deeds last
+      {first last : Hall S C P} {deeds : List Act} → Tenants → ℕ → Passes S C P r first deeds last
       → Type 0
   ReadsThrough before client Begin = Unit {0}
   ReadsThrough before client (Then deeds last more next serves happens) =
@@ -52,24 +52,24 @@ module _ {S C P : Type 0} {r : Rules S C P} where
 -- what is written to a new client is a beginning of the replies to its own messages, in order, one
 -- a message, over ledgers to which a steward attends between them, as long as its replies go on as
 -- they were begun
-abbrev pub EachIsServed : {S C P : Type 0} → Rules S C P → Type 0
+abbrev pub EachIsServed : {S C P : Type 0} → Terms S C P → Type 0
 EachIsServed {S} {C} {P} r =
-    (first last : Hall S C P) (deeds : List Deed) (serves : Serves S C P r first deeds last)
+    (first last : Hall S C P) (deeds : List Act) (serves : Passes S C P r first deeds last)
     (before : Tenants) (client : ℕ)
     → ReadsThrough before client serves
     → first.room.talks client ≡ new_talk
     → (later : List ℕ)
     → MayCome (last.room.talks client).unread later
-    → IsServed r.means r.gives (come_from client deeds) later (written_to client deeds)
+    → IsClientServed r.means r.gives (come_from client deeds) later (written_to client deeds)
     (machines_in before serves client) (last.room.talks client)
 
 -- where the steward changes nothing and no messages share a round, the deeds are a run of the same
 -- ledgers
-abbrev pub AreLives : {S C P : Type 0} → Rules S C P → Type 0
+abbrev pub AreLives : {S C P : Type 0} → Terms S C P → Type 0
 AreLives {S} {C} {P} r =
     ((old new : S) → r.renews old new → new ≡ old)
-    → (first last : Hall S C P) (deeds : List Deed)
-    → (serves : Serves S C P r first deeds last)
+    → (first last : Hall S C P) (deeds : List Act)
+    → (serves : Passes S C P r first deeds last)
     → rounds_in serves ≡ 0
     → Lives S C r.means r.gives first.room deeds last.room
 
@@ -83,25 +83,25 @@ abbrev pub BeginsEmpty : (S C P : Type 0) → Type 0
 BeginsEmpty S C P =
     (ledgers : S) (moments : C) (peers : P) (seats : Seats)
     → AreEmpty seats
-    → Keeps (held_by ledgers moments peers seats) (empty_hall (Whole ledgers) moments peers)
+    → HoldsHall (held_by ledgers moments peers seats) (empty_hall (Whole ledgers) moments peers)
 
 -- behind what was done clients were served, and in that peers told something so often at least
-pub record ServedOn {S C P : Type 0} {r : Rules S C P} {first mid : Hall S C P}
-    {before : List Deed} (served : Serves S C P r first before mid) (new : Held S C P)
+pub record ServedOn {S C P : Type 0} {r : Terms S C P} {first mid : Hall S C P}
+    {before : List Act} (served : Passes S C P r first before mid) (new : Held S C P)
     (replies times : ℕ) : Type 0 where
-  pub deeds : List Deed
+  pub deeds : List Act
   pub last : Hall S C P
-  pub all : Serves S C P r first deeds last
-  pub keeps : Keeps new last
+  pub all : Passes S C P r first deeds last
+  pub keeps : HoldsHall new last
   pub count : replies_in deeds ≡ replies_in before + replies
   pub told : tellings served + times ≤ tellings all
 
 -- what is done behind what was done leads on from the same hall
-abbrev pub GoesOn : {S C P : Type 0} → Rules S C P → Type 0
-GoesOn {S} {C} {P} r =
-    (first mid : Hall S C P) (before : List Deed) (served : Serves S C P r first before mid)
+abbrev pub ServingGoesOn : {S C P : Type 0} → Terms S C P → Type 0
+ServingGoesOn {S} {C} {P} r =
+    (first mid : Hall S C P) (before : List Act) (served : Passes S C P r first before mid)
     (old new : Held S C P) (replies : ℕ)
-    → Keeps old mid
+    → HoldsHall old mid
     → ServesAll r old new replies
     → ServedOn served new replies 0
 
@@ -111,11 +111,11 @@ OwesNobody all = (client : ℕ) (debt : Debt) → IsOwed (all.stands client) deb
 
 -- where nobody was owed anything and turns are given, nobody is, and nobody more keeps its place alone
 -- unless so many replies were wanted; or no more turns are made
-abbrev pub GivesOn : {S C P : Type 0} → Rules S C P → Type 0
+abbrev pub GivesOn : {S C P : Type 0} → Terms S C P → Type 0
 GivesOn {S} {C} {P} r =
-    (first mid : Hall S C P) (before : List Deed) (served : Serves S C P r first before mid)
+    (first mid : Hall S C P) (before : List Act) (served : Passes S C P r first before mid)
     (old new : Held S C P) (replies most : ℕ)
-    → Keeps old mid
+    → HoldsHall old mid
     → OwesNobody mid
     → GivesTurns S C P r most old new replies
     → ((on : ServedOn served new replies 0)
@@ -124,10 +124,10 @@ GivesOn {S} {C} {P} r =
     ⊎ Turns S C P r old most_turns replies new
 
 -- where it ended though not enough was done, peers told something in it
-abbrev pub EndsTold : {S C P : Type 0} → Rules S C P → Type 0
+abbrev pub EndsTold : {S C P : Type 0} → Terms S C P → Type 0
 EndsTold {S} {C} {P} r =
-    (first mid : Hall S C P) (before : List Deed) (served : Serves S C P r first before mid)
+    (first mid : Hall S C P) (before : List Act) (served : Passes S C P r first before mid)
     (old new : Held S C P) (replies : ℕ)
-    → Keeps old mid
+    → HoldsHall old mid
     → Ends S C P r ⊥ old new replies
     → ServedOn served new replies 1

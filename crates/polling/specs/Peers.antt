@@ -1,6 +1,6 @@
 -- What those who are connected do.
 use Rattle.std.specs.Prelude.{◌≡◌, ◌≤◌, ℕ, List, length, take}
-use Rattle.clients.specs.Deeds.{Deed, Came, Replied, Continued, Wrote}
+use Rattle.clients.specs.Deeds.{Act, Came, Replied, Continued, Wrote}
 use Rattle.clients.specs.Deeds as deed
 use Rattle.polling.specs.declared.peers.Told.{Told}
 use Rattle.polling.specs.declared.peers.Read.{Read}
@@ -24,7 +24,7 @@ pub data Doing : Type 0 where
   Stirred : Doing
 
 -- what peers did of a deed
-abbrev pub Hands : {P : Type 0} → (P → Doing → P → Type 0) → Deed → P → P → Type 0
+abbrev pub Hands : {P : Type 0} → (P → Doing → P → Type 0) → Act → P → P → Type 0
 Hands does (Came client piece) old new = does old (Gave client piece) new
 Hands does (deed.Ended client) old new = does old (Ended client) new
 Hands does (Replied client reply) old new = new ≡ old
@@ -32,13 +32,13 @@ Hands does (Continued client part) old new = new ≡ old
 Hands does (Wrote client bytes) old new = does old (Took client bytes) new
 
 -- what reading from a client gave
-abbrev pub HasRead :
+abbrev pub HasReadFrom :
     {P : Type 0} → (P → Doing → P → Type 0) → ℕ → P → List ℕ → P → Read → Type 0
-HasRead does client old piece new (read.Gave count) =
+HasReadFrom does client old piece new (read.Gave count) =
     (count ≤ length piece) × does old (Gave client (take count piece)) new
-HasRead does client old piece new read.Ended = does old (Ended client) new
-HasRead does client old piece new read.Waits = does old (Gave_none client) new
-HasRead does client old piece new read.Broken = does old (Broke client) new
+HasReadFrom does client old piece new read.Ended = does old (Ended client) new
+HasReadFrom does client old piece new read.Waits = does old (Gave_none client) new
+HasReadFrom does client old piece new read.Broken = does old (Broke client) new
 
 -- what writing to a client gave
 abbrev pub HasWritten :

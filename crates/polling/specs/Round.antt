@@ -8,7 +8,7 @@ use Rattle.service.specs.declared.turns.Message.{Message}
 use Rattle.service.specs.Seen.{Whole, Within}
 use Rattle.service.specs.Turns.{TakeTurns}
 use Rattle.clients.specs.Talk.{Talk}
-use Rattle.clients.specs.Within.{IsReady}
+use Rattle.clients.specs.Within.{IsNextReady}
 use Rattle.polling.specs.Peers.{Doing}
 use Rattle.polling.specs.Serving.{rules, AreGiven, IsFoundAgain}
 use Rattle.polling.specs.Seating.{held, ServesEach}
@@ -17,12 +17,12 @@ use Rattle.polling.specs.declared.round.Member.{Member}
 -- these bytes are a client's next message
 pub record IsCopyOf (talk : Talk) (size : ℕ) (bytes : List ℕ) : Type 0 where
   pub question : Question
-  pub ready : IsReady talk size question
+  pub ready : IsNextReady talk size question
   pub copied : bytes ≡ take size talk.unread.bytes
 
 -- a client is seated, and this is its next message
-abbrev pub IsCopied : (ℕ → Option Talk) → Member → Message → Type 0
-IsCopied seats member message =
+abbrev pub IsNextMessage : (ℕ → Option Talk) → Member → Message → Type 0
+IsNextMessage seats member message =
     (talk : Talk) × (seats member.number ≡ Some talk)
     × IsCopyOf talk member.size message.bytes.items
 
@@ -33,7 +33,7 @@ IsNoneOf number members = AllByRecursion (λ (member : Member). member.number �
 abbrev pub AreCopied : (ℕ → Option Talk) → List Member → List Message → Type 0
 AreCopied seats [] [] = Unit {0}
 AreCopied seats (member ∷ members) (message ∷ messages) =
-    IsCopied seats member message
+    IsNextMessage seats member message
     × IsNoneOf member.number members
     × AreCopied seats members messages
 AreCopied seats members messages = ⊥
@@ -82,11 +82,11 @@ pub record IsLost {S : Type 0} (t : LedgersMeaning S) (old : S) (messages : List
       × ((replies : List Reply) × TakeTurns messages (t.tenants old) replies found))
 
 -- all clients of a round that was lost are told that the ledgers are unavailable
-abbrev pub AreTold :
+abbrev pub AreToldLost :
     {S C P : Type 0} → LedgersMeaning S → (C → ℕ → C → Type 0) → (S → S → Type 0)
     → (List ℕ → Type 0) → (P → Doing → P → Type 0) → List Message → (ℕ → Option Talk)
     → (ℕ → Option Talk) → ℕ → Type 0
-AreTold {S} {C} {P} t gives renews waits does messages seats seats_now count =
+AreToldLost {S} {C} {P} t gives renews waits does messages seats seats_now count =
     (ledgers ledgers_now : S) (moments last : C) (peers : P) (next : ℕ)
     → t.follows ledgers ledgers
     → AreGiven gives moments (moments_of messages) last

@@ -3,11 +3,11 @@ use Rattle.std.specs.Prelude.{◌≡◌, ◌≢◌, ◌≤◌, ◌<◌, ℕ, Boo
 use Rattle.std.specs.BTreeMap.{BTreeMap, get}
 use Rattle.std.specs.Ordering.{nat_cmp}
 use Rattle.clients.specs.Talk.{Talk, is_empty, is_written, new_talk}
-use Rattle.service.specs.Seen.{Seen, Whole}
-use Rattle.clients.specs.Deeds.{Deed, all_told}
+use Rattle.service.specs.Seen.{SeenAt, Whole}
+use Rattle.clients.specs.Deeds.{Act, all_told}
 use Rattle.polling.specs.Standing.{Standing, Owed, rested, leaving, with_standing, stands_after, StandsIn, StandTold}
 use Rattle.polling.specs.Standing.{Owing, owing, A_turn, OwesOnly, KeepsOnly}
-use Rattle.polling.specs.Serving.{Hall, hall, Rules, Serves, gone_with}
+use Rattle.polling.specs.Serving.{Hall, hall, Terms, Passes, gone_with}
 use Rattle.polling.specs.declared.peers.Told.{Told}
 use Rattle.polling.specs.declared.seats.Seats.{Seats}
 use Rattle.polling.specs.declared.step.Step.{Step}
@@ -25,7 +25,7 @@ gone_by Goes client gone = gone_with client gone
 
 -- how all stand behind a step of one client, and behind these deeds in it: it rests only where it
 -- has to wait, and is owed its end where it goes
-abbrev pub stands_by : Step → ℕ → List Deed → (ℕ → Standing) → ℕ → Standing
+abbrev pub stands_by : Step → ℕ → List Act → (ℕ → Standing) → ℕ → Standing
 stands_by More client deeds stands = stands_after deeds stands
 stands_by Waits client deeds stands =
     with_standing client (rested (stands_after deeds stands client)) (stands_after deeds stands)
@@ -39,7 +39,7 @@ HasMoved Waits idle standing = Unit {0}
 HasMoved Goes idle standing = Unit {0}
 
 -- how many messages were replied to
-abbrev pub replies_in : List Deed → ℕ
+abbrev pub replies_in : List Act → ℕ
 replies_in deeds = length (all_told deeds)
 
 -- one, or none
@@ -57,14 +57,14 @@ has_no_more talk talk_now = is_written talk && is_written talk_now
 -- one client was served, whichever others there are, and nothing else was done; and where more may be
 -- done, something was, or it is told that nothing may have been
 abbrev pub ServesOne :
-    {S C P : Type 0} → Rules S C P → ℕ → S → C → P → Talk → S → C → P → Talk → Step → Bool → ℕ
+    {S C P : Type 0} → Terms S C P → ℕ → S → C → P → Talk → S → C → P → Talk → Step → Bool → ℕ
     → Type 0
 ServesOne {S} {C} {P} r client ledgers moments peers talk ledgers_now moments_now peers_now talk_now
     step idle replies =
     (talks : ℕ → Talk) (gone : ℕ → Bool) (stands : ℕ → Standing)
     → gone client ≡ false
-    → (deeds : List Deed)
-    × Serves S C P r (hall ledgers moments peers (with_talk client talk talks) gone stands) deeds
+    → (deeds : List Act)
+    × Passes S C P r (hall ledgers moments peers (with_talk client talk talks) gone stands) deeds
     (hall ledgers_now moments_now peers_now (with_talk client talk_now talks)
     (gone_by step client gone) (stands_by step client deeds stands))
     × (replies_in deeds ≡ replies)
@@ -93,7 +93,7 @@ AreEmpty seats =
     ((client : ℕ) → seats_in seats.clients client ≡ None) × (seats.next ≡ 0)
 
 -- the client in one seat was served
-pub record HadTurn {S C P : Type 0} (r : Rules S C P) (client : ℕ) (ledgers : S) (moments : C)
+pub record HadTurn {S C P : Type 0} (r : Terms S C P) (client : ℕ) (ledgers : S) (moments : C)
     (peers : P) (seats : ℕ → Option Talk) (ledgers_now : S) (moments_now : C) (peers_now : P)
     (seats_now : ℕ → Option Talk) (step : Step) (idle : Bool) (replies : ℕ) : Type 0 where
   pub talk : Talk
@@ -133,13 +133,13 @@ held ledgers moments peers seats next = record {
 }
 
 -- the same between transactions
-abbrev pub held_by : {S C P : Type 0} → S → C → P → Seats → Held (Seen S) C P
+abbrev pub held_by : {S C P : Type 0} → S → C → P → Seats → Held (SeenAt S) C P
 held_by ledgers moments peers seats =
     held (Whole ledgers) moments peers (seats_in seats.clients) seats.next
 
 -- what is held is of this hall: whoever is seated has its talk there, has not gone and has a seat
 -- there too, and of numbers that were not used nothing has come
-pub record Keeps {S C P : Type 0} (held : Held S C P) (all : Hall S C P) : Type 0 where
+pub record HoldsHall {S C P : Type 0} (held : Held S C P) (all : Hall S C P) : Type 0 where
   pub ledgers : all.room.ledgers ≡ held.ledgers
   pub moments : all.room.moments ≡ held.moments
   pub peers : all.peers ≡ held.peers
@@ -153,55 +153,55 @@ pub record Keeps {S C P : Type 0} (held : Held S C P) (all : Hall S C P) : Type 
   pub stands : (client : ℕ) → StandsIn (held.seats client) (all.stands client)
 
 -- clients were served from this hall on: deeds lead to one of what is held
-abbrev pub LeadsAll : {S C P : Type 0} → Rules S C P → Hall S C P → Held S C P → ℕ → Type 0
+abbrev pub LeadsAll : {S C P : Type 0} → Terms S C P → Hall S C P → Held S C P → ℕ → Type 0
 LeadsAll {S} {C} {P} r first new replies =
-    (deeds : List Deed)
+    (deeds : List Act)
     × (last : Hall S C P)
-    × Serves S C P r first deeds last
-    × Keeps new last
+    × Passes S C P r first deeds last
+    × HoldsHall new last
     × (replies_in deeds ≡ replies)
 
 -- so too; what is owed behind it is one of `to`, or was owed before and is none of `from`; and a
 -- client keeps its place alone, with nothing done for it, only for this reason
 abbrev pub LeadsOwed :
-    {S C P : Type 0} → Rules S C P → Type 0 → List Owing → List Owing → Hall S C P → Held S C P → ℕ
+    {S C P : Type 0} → Terms S C P → Type 0 → List Owing → List Owing → Hall S C P → Held S C P → ℕ
     → Type 0
 LeadsOwed {S} {C} {P} r why from to first new replies =
-    (deeds : List Deed)
+    (deeds : List Act)
     × (last : Hall S C P)
-    × Serves S C P r first deeds last
-    × Keeps new last
+    × Passes S C P r first deeds last
+    × HoldsHall new last
     × (replies_in deeds ≡ replies)
     × OwesOnly from to first.stands last.stands
     × KeepsOnly why first.stands last.stands
 
 -- clients were served, from any hall of what was held
-abbrev pub ServesAll : {S C P : Type 0} → Rules S C P → Held S C P → Held S C P → ℕ → Type 0
+abbrev pub ServesAll : {S C P : Type 0} → Terms S C P → Held S C P → Held S C P → ℕ → Type 0
 ServesAll {S} {C} {P} r old new replies =
-    (first : Hall S C P) → Keeps old first → LeadsAll r first new replies
+    (first : Hall S C P) → HoldsHall old first → LeadsAll r first new replies
 
 abbrev pub ServesOwed :
-    {S C P : Type 0} → Rules S C P → Type 0 → List Owing → List Owing → Held S C P → Held S C P → ℕ
+    {S C P : Type 0} → Terms S C P → Type 0 → List Owing → List Owing → Held S C P → Held S C P → ℕ
     → Type 0
 ServesOwed {S} {C} {P} r why from to old new replies =
-    (first : Hall S C P) → Keeps old first → LeadsOwed r why from to first new replies
+    (first : Hall S C P) → HoldsHall old first → LeadsOwed r why from to first new replies
 
 -- so too, where peers have just told this
 abbrev pub ServesTold :
-    {S C P : Type 0} → Rules S C P → Told → List Owing → List Owing → Held S C P → Held S C P → ℕ
+    {S C P : Type 0} → Terms S C P → Told → List Owing → List Owing → Held S C P → Held S C P → ℕ
     → Type 0
 ServesTold {S} {C} {P} r told from to old new replies =
-    (first : Hall S C P) → Keeps old first → StandTold told first.stands
+    (first : Hall S C P) → HoldsHall old first → StandTold told first.stands
     → LeadsOwed r ⊥ from to first new replies
 
 -- so too, and what is owed behind it was owed before
-abbrev pub ServesEach : {S C P : Type 0} → Rules S C P → Held S C P → Held S C P → ℕ → Type 0
+abbrev pub ServesEach : {S C P : Type 0} → Terms S C P → Held S C P → Held S C P → ℕ → Type 0
 ServesEach r old new replies = ServesOwed r ⊥ [] [] old new replies
 
 -- behind a turn of one client, what its step asks for was done, and it is owed no other; it keeps its
 -- place alone only where nothing may have been done for it
 abbrev pub IsFollowed :
-    {S C P : Type 0} → Rules S C P → ℕ → Step → P → (ℕ → Option Talk) → P → (ℕ → Option Talk)
+    {S C P : Type 0} → Terms S C P → ℕ → Step → P → (ℕ → Option Talk) → P → (ℕ → Option Talk)
     → Type 0
 IsFollowed {S} {C} {P} r client step peers_then seats_then peers_now seats_now =
     (ledgers ledgers_now : S) (moments moments_now : C) (peers : P) (seats : ℕ → Option Talk)

@@ -7,10 +7,10 @@ use Rattle.service.specs.Courses.{Event, untold_in}
 use Rattle.service.specs.Deeds as service
 use Rattle.service.specs.Openings.{run_meaning, IsSettled}
 use Rattle.service.specs.Replies.{unavailable}
-use Rattle.service.specs.Seen.{Seen, Whole, seen}
+use Rattle.service.specs.Seen.{SeenAt, Whole, seen}
 use Rattle.clients.specs.Answering.{IsWanting}
 use Rattle.clients.specs.Talk.{Talk, new_talk}
-use Rattle.clients.specs.Deeds.{Room, Deed, Came, Ended, Replied, Continued, Wrote, client_of, IsDone, Lives}
+use Rattle.clients.specs.Deeds.{Room, Act, Came, Ended, Replied, Continued, Wrote, client_of, IsActed, Lives}
 use Rattle.clients.specs.Deeds as life
 use Rattle.polling.specs.Peers.{Doing, Asked, Said, Hands}
 use Rattle.polling.specs.Standing.{Standing, Awaited, has_seat, rested, leaving, with_standing, stands_behind, stands_after, MayGo, MayStir}
@@ -35,7 +35,7 @@ hall ledgers moments peers talks gone stands = record {
 
 -- what ledgers mean, which moments are given, what a steward makes of ledgers, which messages it
 -- puts off, and what each doing makes of peers
-pub record Rules (S C P : Type 0) : Type 1 where
+pub record Terms (S C P : Type 0) : Type 1 where
   pub means : LedgersMeaning S
   pub gives : C → ℕ → C → Type 0
   pub renews : S → S → Type 0
@@ -43,14 +43,14 @@ pub record Rules (S C P : Type 0) : Type 1 where
   pub does : P → Doing → P → Type 0
 
 -- a steward attends to ledgers between transactions alone
-abbrev pub renews_seen : {S : Type 0} → (S → S → Type 0) → Seen S → Seen S → Type 0
+abbrev pub renews_seen : {S : Type 0} → (S → S → Type 0) → SeenAt S → SeenAt S → Type 0
 renews_seen renews (Whole old) (Whole new) = renews old new
 renews_seen renews old new = ⊥
 
 -- the rules for ledgers as they are seen between messages
 abbrev pub rules :
     {S C P : Type 0} → LedgersMeaning S → (C → ℕ → C → Type 0) → (S → S → Type 0)
-    → (List ℕ → Type 0) → (P → Doing → P → Type 0) → Rules (Seen S) C P
+    → (List ℕ → Type 0) → (P → Doing → P → Type 0) → Terms (SeenAt S) C P
 rules means gives renews waits does = record {
   means = seen means;
   gives = gives;
@@ -64,7 +64,7 @@ abbrev pub gone_with : ℕ → (ℕ → Bool) → ℕ → Bool
 gone_with client gone other = if nat_eq client other then true else gone other
 
 -- what is known of ledgers behind a deed: those that answered a message are settled
-abbrev pub Settles : {S : Type 0} → LedgersMeaning S → Deed → S → Type 0
+abbrev pub Settles : {S : Type 0} → LedgersMeaning S → Act → S → Type 0
 Settles t (Replied client reply) ledgers = IsSettled (run_meaning t) ledgers
 Settles t (Came client piece) ledgers = Unit {0}
 Settles t (Ended client) ledgers = Unit {0}
@@ -73,7 +73,7 @@ Settles t (Wrote client bytes) ledgers = Unit {0}
 
 -- a client is read only where its next message is not whole, and written to only where something is
 -- to be written
-abbrev pub IsDueOf : Deed → Talk → Type 0
+abbrev pub IsDueOf : Act → Talk → Type 0
 IsDueOf (Came client piece) talk = IsWanting talk.unread
 IsDueOf (Ended client) talk = IsWanting talk.unread
 IsDueOf (Replied client reply) talk = Unit {0}
@@ -81,12 +81,12 @@ IsDueOf (Continued client part) talk = Unit {0}
 IsDueOf (Wrote client bytes) talk = talk.unsent ≢ []
 
 -- a deed of a client that has not gone, in its turn
-pub record IsInTurn {S C P : Type 0} (old : Hall S C P) (deed : Deed) : Type 0 where
+pub record IsInTurn {S C P : Type 0} (old : Hall S C P) (deed : Act) : Type 0 where
   pub there : old.gone (client_of deed) ≡ false
   pub due : IsDueOf deed (old.room.talks (client_of deed))
 
 -- nobody has a number: it has no seat, and never was used
-pub record IsFree {S C P : Type 0} (all : Hall S C P) (number : ℕ) : Type 0 where
+pub record IsNumberFree {S C P : Type 0} (all : Hall S C P) (number : ℕ) : Type 0 where
   pub nobody : has_seat (all.stands number) ≡ false
   pub there : all.gone number ≡ false
   pub silent : all.room.talks number ≡ new_talk
@@ -121,7 +121,7 @@ pub record HasFailed {S : Type 0} (t : LedgersMeaning S) (old : S) (events : Lis
       ⊎ (t.is_live old × service.AreDone (flat_map untold_in events) (t.tenants old) found)
 
 -- a client that has not gone is told that the ledgers are unavailable
-abbrev pub IsToldUnavailable : (ℕ → Bool) → Deed → Type 0
+abbrev pub IsToldUnavailable : (ℕ → Bool) → Act → Type 0
 IsToldUnavailable gone (Replied client reply) = (gone client ≡ false) × (reply ≡ unavailable)
 IsToldUnavailable gone (Came client piece) = ⊥
 IsToldUnavailable gone (Ended client) = ⊥
@@ -130,7 +130,8 @@ IsToldUnavailable gone (Wrote client bytes) = ⊥
 
 module _ {S C : Type 0} {t : LedgersMeaning S} {gives : C → ℕ → C → Type 0} where
   -- the event of a deed: that of a message that was replied to, if it was read whole
-  abbrev pub events_by : {old new : Room S C} (deed : Deed) → IsDone t gives old deed new → List Event
+  abbrev pub events_by :
+      {old new : Room S C} (deed : Act) → IsActed t gives old deed new → List Event
   events_by (Replied client reply) done =
       event_in reply (done.does.0.exchange [] (λ ended. refl)).by
   events_by (Came client piece) done = []
@@ -139,13 +140,13 @@ module _ {S C : Type 0} {t : LedgersMeaning S} {gives : C → ℕ → C → Type
   events_by (Wrote client bytes) done = []
 
   abbrev pub events_of :
-      {first last : Room S C} {deeds : List Deed} → Lives S C t gives first deeds last → List Event
+      {first last : Room S C} {deeds : List Act} → Lives S C t gives first deeds last → List Event
   events_of life.Begin = []
   events_of (life.Then deeds last deed next lives done) = events_of lives ++ events_by deed done
 
   -- nothing is done but that clients are told so
   abbrev pub AreToldUnavailable :
-      {first last : Room S C} {deeds : List Deed} → (ℕ → Bool) → Lives S C t gives first deeds last
+      {first last : Room S C} {deeds : List Act} → (ℕ → Bool) → Lives S C t gives first deeds last
       → Type 0
   AreToldUnavailable gone life.Begin = Unit {0}
   AreToldUnavailable gone (life.Then deeds last deed next lives done) =
@@ -157,39 +158,39 @@ module _ {S C : Type 0} {t : LedgersMeaning S} {gives : C → ℕ → C → Type
 -- attends to the ledgers; a round begins, ends or is taken back; moments were given for a round
 -- that was not kept; or the disk fails with a round, and all its clients are told that the ledgers
 -- are unavailable
-pub data Happens (S C P : Type 0) (r : Rules S C P) (old : Hall S C P) :
-    List Deed → Hall S C P → Type 0 where
+pub data Occurs (S C P : Type 0) (r : Terms S C P) (old : Hall S C P) :
+    List Act → Hall S C P → Type 0 where
   Did :
-      (deed : Deed) (room : Room S C) (peers : P) →
-      IsInTurn old deed → IsDone r.means r.gives old.room deed room →
+      (deed : Act) (room : Room S C) (peers : P) →
+      IsInTurn old deed → IsActed r.means r.gives old.room deed room →
       Settles r.means deed room.ledgers → Hands r.does deed old.peers peers →
-      Happens S C P r old (deed ∷ [])
+      Occurs S C P r old (deed ∷ [])
       (record old { room = room; peers = peers; stands = stands_after (deed ∷ []) old.stands })
   Tells :
-      (fresh : ℕ) (told : Told) (peers : P) → IsFree old fresh →
+      (fresh : ℕ) (told : Told) (peers : P) → IsNumberFree old fresh →
       r.does old.peers (Said fresh told) peers →
-      Happens S C P r old []
+      Occurs S C P r old []
       (record old { peers = peers; stands = stands_behind (Said fresh told) old.stands })
   Stirs :
       (doing : Doing) (peers : P) → MayStir doing old.room.talks old.stands →
       r.does old.peers doing peers →
-      Happens S C P r old []
+      Occurs S C P r old []
       (record old { peers = peers; stands = stands_behind doing old.stands })
   Puts_off :
       (client : ℕ) (peers : P) → IsPutOff r.waits (old.room.talks client) →
       r.does old.peers (Asked client) peers →
-      Happens S C P r old []
+      Occurs S C P r old []
       (record old {
         peers = peers;
         stands = with_standing client (rested (old.stands client)) old.stands;
       })
   Joins :
       (client : ℕ) → has_seat (old.stands client) ≡ false →
-      Happens S C P r old [] (record old { stands = with_standing client Awaited old.stands })
+      Occurs S C P r old [] (record old { stands = with_standing client Awaited old.stands })
   Goes :
       (client : ℕ) (peers : P) →
       MayGo r.does client (old.stands client) (old.room.talks client) old.peers peers →
-      Happens S C P r old []
+      Occurs S C P r old []
       (record old {
         peers = peers;
         gone = gone_with client old.gone;
@@ -197,51 +198,51 @@ pub data Happens (S C P : Type 0) (r : Rules S C P) (old : Hall S C P) :
       })
   Again :
       (ledgers : S) → r.renews old.room.ledgers ledgers →
-      Happens S C P r old [] (record old { room = record old.room { ledgers = ledgers } })
+      Occurs S C P r old [] (record old { room = record old.room { ledgers = ledgers } })
   Rests :
       (ledgers : S) → AreAsBefore r.means old.room.ledgers ledgers →
-      Happens S C P r old [] (record old { room = record old.room { ledgers = ledgers } })
+      Occurs S C P r old [] (record old { room = record old.room { ledgers = ledgers } })
   Passes :
       (moments : C) (given : List ℕ) → AreGiven r.gives old.room.moments given moments →
-      Happens S C P r old [] (record old { room = record old.room { moments = moments } })
+      Occurs S C P r old [] (record old { room = record old.room { moments = moments } })
   Fails :
-      (deeds : List Deed) (room : Room S C) (ledgers : S) (stands : ℕ → Standing)
+      (deeds : List Act) (room : Room S C) (ledgers : S) (stands : ℕ → Standing)
       (lives : Lives S C r.means r.gives old.room deeds room) → AreToldUnavailable old.gone lives →
       HasFailed r.means old.room.ledgers (events_of lives) ledgers →
       stands ≡ stands_after deeds old.stands →
-      Happens S C P r old deeds
+      Occurs S C P r old deeds
       (record old { room = record room { ledgers = ledgers }; stands = stands })
 
 -- all that happens, one after the other, and the deeds among it
-pub data Serves (S C P : Type 0) (r : Rules S C P) (first : Hall S C P) :
-    List Deed → Hall S C P → Type 0 where
-  Begin : Serves S C P r first [] first
+pub data Passes (S C P : Type 0) (r : Terms S C P) (first : Hall S C P) :
+    List Act → Hall S C P → Type 0 where
+  Begin : Passes S C P r first [] first
   Then :
-      (deeds : List Deed) (last : Hall S C P) (more : List Deed) (next : Hall S C P) →
-      Serves S C P r first deeds last → Happens S C P r last more next →
-      Serves S C P r first (deeds ++ more) next
+      (deeds : List Act) (last : Hall S C P) (more : List Act) (next : Hall S C P) →
+      Passes S C P r first deeds last → Occurs S C P r last more next →
+      Passes S C P r first (deeds ++ more) next
 
-module _ {S C P : Type 0} {r : Rules S C P} where
+module _ {S C P : Type 0} {r : Terms S C P} where
   -- how often peers told something: in what happens, and in all that happened
   abbrev pub tellings_of :
-      {old new : Hall S C P} {deeds : List Deed} → Happens S C P r old deeds new → ℕ
+      {old new : Hall S C P} {deeds : List Act} → Occurs S C P r old deeds new → ℕ
   tellings_of (Tells fresh told peers free said) = 1
   tellings_of happens = 0
 
   abbrev pub tellings :
-      {first last : Hall S C P} {deeds : List Deed} → Serves S C P r first deeds last → ℕ
+      {first last : Hall S C P} {deeds : List Act} → Passes S C P r first deeds last → ℕ
   tellings Begin = 0
   tellings (Then deeds last more next serves happens) = tellings serves + tellings_of happens
 
   -- how often something of a round happened
   abbrev pub rounds_of :
-      {old new : Hall S C P} {deeds : List Deed} → Happens S C P r old deeds new → ℕ
+      {old new : Hall S C P} {deeds : List Act} → Occurs S C P r old deeds new → ℕ
   rounds_of (Rests ledgers same) = 1
   rounds_of (Passes moments given passed) = 1
   rounds_of (Fails deeds room ledgers stands lives told failed begun) = 1
   rounds_of happens = 0
 
   abbrev pub rounds_in :
-      {first last : Hall S C P} {deeds : List Deed} → Serves S C P r first deeds last → ℕ
+      {first last : Hall S C P} {deeds : List Act} → Passes S C P r first deeds last → ℕ
   rounds_in Begin = 0
   rounds_in (Then deeds last more next serves happens) = rounds_in serves + rounds_of happens

@@ -1,9 +1,9 @@
 -- How clients stand between their turns, and what is owed to them.
 use Rattle.std.specs.Prelude.{◌≡◌, ◌≢◌, ◌⊎◌, ℕ, Bool, true, false, List, [], ◌∷◌, Option, None, is_some, nat_eq, if◌then◌else◌}
 use Rattle.std.specs.List.{Contains}
-use Rattle.clients.specs.Answering.{IsWanting, IsOver}
-use Rattle.clients.specs.Deeds.{Deed, client_of}
-use Rattle.clients.specs.Talk.{IsWritten, Talk}
+use Rattle.clients.specs.Answering.{IsWanting, IsAllAnswered}
+use Rattle.clients.specs.Deeds.{Act, client_of}
+use Rattle.clients.specs.Talk.{HasNothingUnsent, Talk}
 use Rattle.polling.specs.Peers.{Doing, Gave, Gave_none, Took_none, Broke, Asked, Closed, Said, Stirred}
 use Rattle.polling.specs.declared.peers.Told.{Told}
 use Rattle.polling.specs.declared.peers.Told.TheVariants.{Joined, Ready, Late, Nothing}
@@ -92,7 +92,7 @@ stands_behind (Closed client) stands = with_standing client Away stands
 stands_behind doing stands = stands
 
 -- behind deeds, one after the other
-abbrev pub stands_after : List Deed → (ℕ → Standing) → ℕ → Standing
+abbrev pub stands_after : List Act → (ℕ → Standing) → ℕ → Standing
 stands_after [] stands = stands
 stands_after (deed ∷ deeds) stands =
     stands_after deeds
@@ -100,7 +100,7 @@ stands_after (deed ∷ deeds) stands =
 
 -- nothing is left for a client: its replies are written, and no message of it is answered any more
 abbrev pub IsFinished : Talk → Type 0
-IsFinished talk = IsWritten talk × ((talk.goes_on ≡ false) ⊎ IsOver talk.unread)
+IsFinished talk = HasNothingUnsent talk × ((talk.goes_on ≡ false) ⊎ IsAllAnswered talk.unread)
 
 -- a client goes only for a reason: it was told as late; its connection was told as broken; a piece
 -- of its next message is lost, since memory was wanting for it, which no contract can tell; the next
@@ -177,8 +177,8 @@ told_of fresh (Late client) = owing An_end client ∷ []
 told_of fresh Nothing = []
 
 -- each of these is one of those
-abbrev pub AreAmong : {A : Type 0} → List A → List A → Type 0
-AreAmong {A} some others = (one : A) → Contains some one → Contains others one
+abbrev pub AreSomeOf : {A : Type 0} → List A → List A → Type 0
+AreSomeOf {A} some others = (one : A) → Contains some one → Contains others one
 
 -- what is owed behind something is one of `to`, or was owed before; and if it was one of `from`, it
 -- is one of `to`

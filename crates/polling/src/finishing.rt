@@ -1,10 +1,10 @@
 //! Writing what is left of replies, where no further message is answered.
 ghost use Rattle.std.specs.Prelude.{◌≡◌, Bool, false, [], ◌∷◌, IsTrue, IfSome, IfNone};
-ghost use Rattle.service.specs.Seen.{Seen, Whole};
+ghost use Rattle.service.specs.Seen.{SeenAt, Whole};
 ghost use Rattle.polling.specs.Serving.{rules};
 ghost use Rattle.polling.specs.Standing.{A_seat, owing};
 ghost use Rattle.polling.specs.Seating.{HadTurn, HadNone, ServesOne, ServesAll, ServesOwed, seats_in, held_by};
-ghost use Rattle.polling.specs.Ending.{IsToldAs, HasTurn, IsQuiet, AreWritten, Ends};
+ghost use Rattle.polling.specs.Ending.{IsToldAs, HasTurn, IsIdleNow, NothingIsLeft, Ends};
 
 use crate::seats::Seats;
 use crate::serving::{follow, let_go};
@@ -19,7 +19,7 @@ use std::collections::BTreeMap;
 
 /// Whether nothing is left of any reply.
 fn are_written(clients: &BTreeMap<u64, Client>) -> bool
-    ensures { IsTrue result → AreWritten clients.now }
+    ensures { IsTrue result → NothingIsLeft clients.now }
 {
     clients.values().all(|client| client.is_written())
 }
@@ -127,7 +127,7 @@ fn write_next<L: Ledgers, H: Steward<L>, C: Moments, P: Peers>(
         (held_by ledgers.old moments peers.old seats.old)
         (held_by ledgers.new moments peers.new seats.new) 0 }
     ensures quiet { result ≡ false → (moments : C) →
-        IsQuiet (rules L.means C.gives H.renews H.waits P.does)
+        IsIdleNow (rules L.means C.gives H.renews H.waits P.does)
         (held_by ledgers.old moments peers.old seats.old)
         (held_by ledgers.new moments peers.new seats.new) 0 }
     ensures usable { L.means.is_usable ledgers.new }
@@ -163,8 +163,8 @@ pub fn write_rest<L: Ledgers, H: Steward<L>, C: Moments, P: Peers>(
         (held_by ledgers.old moments peers.old seats.old)
         (held_by ledgers.new moments peers.new seats.new) 0 }
     ensures ends { (moments : C) →
-        Ends (Seen L) C P (rules L.means C.gives H.renews H.waits P.does)
-        (AreWritten seats.new.clients)
+        Ends (SeenAt L) C P (rules L.means C.gives H.renews H.waits P.does)
+        (NothingIsLeft seats.new.clients)
         (held_by ledgers.old moments peers.old seats.old)
         (held_by ledgers.new moments peers.new seats.new) 0 }
     ensures usable { L.means.is_usable ledgers.new }

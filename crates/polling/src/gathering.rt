@@ -2,7 +2,7 @@
 ghost use Rattle.std.specs.Prelude.{◌≡◌, ◌⊎◌, ◌<◌, ◌≤◌, ◌+◌, [], false, Contains, IsTrue, length};
 ghost use Rattle.polling.specs.Kinds.{IsKind, IsNextKind, IsPlaced, most_questions};
 ghost use Rattle.polling.specs.Seating.{AreSame, seats_in};
-ghost use Rattle.polling.specs.Standing.{AreAmong};
+ghost use Rattle.polling.specs.Standing.{AreSomeOf};
 
 use crate::{Batch, Steward};
 use chain::Ledgers;
@@ -133,7 +133,7 @@ impl Gathered {
         steward: &H,
     ) -> Place
         ensures same { AreSame (seats_in clients.old) (seats_in clients.new) }
-        ensures kept { AreAmong self.old.numbers.items self.new.numbers.items }
+        ensures kept { AreSomeOf self.old.numbers.items self.new.numbers.items }
         ensures gathered { result ≡ Place.Gathered → Contains self.new.numbers.items number }
         ensures placed { IsPlaced H.waits (seats_in clients.old number)
             self.old.queries self.new.queries result }
@@ -171,7 +171,7 @@ impl Gathered {
     }
 
     fn place_of_batch(&mut self, number: u64, size: usize) -> Place
-        ensures kept { AreAmong self.old.numbers.items self.new.numbers.items }
+        ensures kept { AreSomeOf self.old.numbers.items self.new.numbers.items }
         ensures gathered { result ≡ Place.Gathered → Contains self.new.numbers.items number }
         ensures count { self.new.queries ≡ self.old.queries }
         ensures place { result ≡ Place.Later → ⊥ }

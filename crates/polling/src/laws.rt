@@ -1,6 +1,6 @@
 //! Laws of serving many clients. The functions do nothing; their contracts are the laws.
-ghost use Rattle.polling.specs.Courses.{IsCourse, ServesEachAlone};
-ghost use Rattle.polling.specs.Laws.{EachIsServed, AreLives, BeginsEmpty, GivesOn, GoesOn, EndsTold};
+ghost use Rattle.polling.specs.Courses.{IsCourse, CoursesServeEachAlone};
+ghost use Rattle.polling.specs.Laws.{EachIsServed, AreLives, BeginsEmpty, GivesOn, ServingGoesOn, EndsTold};
 ghost use Rattle.polling.specs.Serving.{rules};
 
 use crate::{Peers, Steward};
@@ -29,7 +29,7 @@ pub fn serving_is_a_run<L: Ledgers, H: Steward<L>, C: Moments, P: Peers>()
 /// of its own deeds alone.
 pub fn serving_is_a_course<L: Ledgers, H: Steward<L>, C: Moments, P: Peers>()
     ensures course { IsCourse (rules L.means C.gives H.renews H.waits P.does) }
-    ensures alone { ServesEachAlone (rules L.means C.gives H.renews H.waits P.does) }
+    ensures alone { CoursesServeEachAlone (rules L.means C.gives H.renews H.waits P.does) }
 {
     responses_move_within::<L>();
     each_tenant_sees_itself();
@@ -44,7 +44,7 @@ pub fn serving_begins_empty<L: Ledgers, C: Moments, P: Peers>()
 /// a turn, nobody is behind turns that are given. Where it ended though not enough was done, those who
 /// are connected told something in it.
 pub fn serving_goes_on<L: Ledgers, H: Steward<L>, C: Moments, P: Peers>()
-    ensures served { GoesOn (rules L.means C.gives H.renews H.waits P.does) }
+    ensures served { ServingGoesOn (rules L.means C.gives H.renews H.waits P.does) }
     ensures turns { GivesOn (rules L.means C.gives H.renews H.waits P.does) }
     ensures told { EndsTold (rules L.means C.gives H.renews H.waits P.does) }
 {}

@@ -1,7 +1,7 @@
 //! Those who are connected, and what they do.
 ghost use Rattle.std.specs.Prelude.{◌≡◌, ◌≤◌, length};
 ghost use Rattle.ledger_http.specs.Limits.{longest_message};
-ghost use Rattle.polling.specs.Peers.{Doing, Asked, Closed, Said, Stirred, HasRead, HasWritten};
+ghost use Rattle.polling.specs.Peers.{Doing, Asked, Closed, Said, Stirred, HasReadFrom, HasWritten};
 
 use crate::Batch;
 
@@ -68,7 +68,7 @@ pub trait Peers {
 
     /// Reads from a client.
     fn read(&mut self, client: u64, piece: &mut [u8]) -> Read
-        ensures read { HasRead does client self.old piece.new self.new result }
+        ensures read { HasReadFrom does client self.old piece.new self.new result }
         ensures size { length piece.new ≡ length piece.old };
 
     /// Writes to a client.

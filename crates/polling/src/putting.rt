@@ -2,7 +2,7 @@
 ghost use Rattle.std.specs.Prelude.{◌≡◌, ◌≤◌, Some, length, IfSome};
 ghost use Rattle.clients.specs.Talk.{Talk};
 ghost use Rattle.clients.specs.Within.{replied_to};
-ghost use Rattle.polling.specs.Round.{AreCopied, ArePut, AreTold};
+ghost use Rattle.polling.specs.Round.{AreCopied, ArePut, AreToldLost};
 ghost use Rattle.polling.specs.Seating.{SeatsNow, seats_in};
 
 use crate::round::{Member, Round};
@@ -57,7 +57,7 @@ pub(crate) fn tell_all<L: Ledgers, H: Steward<L>, C: Moments, P: Peers>(
     round: &Round,
 ) -> u64
     requires { AreCopied (seats_in clients.old) round.now.members.items round.now.messages.items }
-    ensures told { AreTold L.means C.gives H.renews H.waits P.does round.now.messages.items
+    ensures told { AreToldLost L.means C.gives H.renews H.waits P.does round.now.messages.items
         (seats_in clients.old) (seats_in clients.new) result }
     ensures few { result ≤ length round.now.members.items }
 {

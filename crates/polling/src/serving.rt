@@ -1,6 +1,6 @@
 //! Serving all who are ready.
 ghost use Rattle.std.specs.Prelude.{◌≡◌, false, ◌⊎◌, ◌≤◌, ◌<◌, [], ◌∷◌, ◌++◌, IfSome, IfNone, IsTrue};
-ghost use Rattle.service.specs.Seen.{Seen, Whole};
+ghost use Rattle.service.specs.Seen.{SeenAt, Whole};
 ghost use Rattle.polling.specs.Serving.{rules};
 ghost use Rattle.polling.specs.Standing.{A_seat, A_turn, An_end, owing, told_of, turns_of};
 ghost use Rattle.polling.specs.Seating.{HadTurn, HadNone, IsFollowed, ServesAll, ServesOwed, ServesTold, count_of, seats_in, held_by};
@@ -299,10 +299,10 @@ pub fn serve_ready<L: Rounds, H: Steward<L>, C: Moments, P: Peers>(
     ensures serves { ServesAll (rules L.means C.gives H.renews H.waits P.does)
         (held_by ledgers.old moments.old peers.old seats.old)
         (held_by ledgers.new moments.new peers.new seats.new) result }
-    ensures ends { Ends (Seen L) C P (rules L.means C.gives H.renews H.waits P.does) (result ≡ most)
-        (held_by ledgers.old moments.old peers.old seats.old)
+    ensures ends { Ends (SeenAt L) C P (rules L.means C.gives H.renews H.waits P.does)
+        (result ≡ most) (held_by ledgers.old moments.old peers.old seats.old)
         (held_by ledgers.new moments.new peers.new seats.new) result }
-    ensures turns { GivesTurns (Seen L) C P (rules L.means C.gives H.renews H.waits P.does) most
+    ensures turns { GivesTurns (SeenAt L) C P (rules L.means C.gives H.renews H.waits P.does) most
         (held_by ledgers.old moments.old peers.old seats.old)
         (held_by ledgers.new moments.new peers.new seats.new) result }
     ensures few { result ≤ most }

@@ -2,7 +2,7 @@
 ghost use Rattle.std.specs.Prelude.{◌≡◌, ◌≢◌, ◌≤◌, [], false};
 ghost use Rattle.clients.specs.Answering.{IsWanting};
 ghost use Rattle.ledger_http.specs.Limits.{longest_message};
-ghost use Rattle.service.specs.Seen.{Seen};
+ghost use Rattle.service.specs.Seen.{SeenAt};
 ghost use Rattle.polling.specs.Serving.{rules};
 ghost use Rattle.polling.specs.Seating.{ServesOne};
 
@@ -40,7 +40,7 @@ fn read_piece<L: Ledgers, H: Steward<L>, C: Moments, P: Peers>(
     piece: &mut [u8],
 ) -> Step
     requires { IsWanting client.old.unread }
-    ensures { (ledgers : Seen L) → (moments : C) →
+    ensures { (ledgers : SeenAt L) → (moments : C) →
         ServesOne (rules L.means C.gives H.renews H.waits P.does) number
         ledgers moments peers.old client.old ledgers moments peers.new client.new result false 0 }
 {
@@ -67,7 +67,7 @@ pub(crate) fn read_some<L: Ledgers, H: Steward<L>, C: Moments, P: Peers>(
     piece: &mut [u8],
 ) -> Step
     requires { IsWanting client.old.unread }
-    ensures { (ledgers : Seen L) → (moments : C) →
+    ensures { (ledgers : SeenAt L) → (moments : C) →
         ServesOne (rules L.means C.gives H.renews H.waits P.does) number
         ledgers moments peers.old client.old ledgers moments peers.new client.new result false 0 }
 {
@@ -82,7 +82,7 @@ pub(crate) fn write_some<L: Ledgers, H: Steward<L>, C: Moments, P: Peers>(
     client: &mut Client,
 ) -> Step
     requires { client.old.unsent ≢ [] }
-    ensures serves { (ledgers : Seen L) → (moments : C) →
+    ensures serves { (ledgers : SeenAt L) → (moments : C) →
         ServesOne (rules L.means C.gives H.renews H.waits P.does) number
         ledgers moments peers.old client.old ledgers moments peers.new client.new result false 0 }
     ensures rest { client.new.rest ≡ client.old.rest }

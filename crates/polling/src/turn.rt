@@ -2,7 +2,7 @@
 ghost use Rattle.std.specs.Prelude.{◌≡◌, [], true, false, not, Some};
 ghost use Rattle.clients.specs.Answering.{IsWanting};
 ghost use Rattle.clients.specs.Talk.{may_answer};
-ghost use Rattle.service.specs.Seen.{Seen, Whole};
+ghost use Rattle.service.specs.Seen.{SeenAt, Whole};
 ghost use Rattle.polling.specs.Serving.{rules};
 ghost use Rattle.polling.specs.Seating.{ServesOne, count_of, has_no_more, has_nothing};
 
@@ -31,7 +31,7 @@ pub(crate) fn write_all<L: Ledgers, H: Steward<L>, C: Moments, P: Peers>(
     number: u64,
     client: &mut Client,
 ) -> Step
-    ensures serves { (ledgers : Seen L) → (moments : C) →
+    ensures serves { (ledgers : SeenAt L) → (moments : C) →
         ServesOne (rules L.means C.gives H.renews H.waits P.does) number
         ledgers moments peers.old client.old ledgers moments peers.new client.new result
         (has_nothing client.old client.new) 0 }

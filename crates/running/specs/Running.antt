@@ -14,15 +14,15 @@ pub record Agrees (rows : TypedRows) (r : Running) : Type 0 where
   pub statuses : HoldsStatuses rows.statuses r.statuses
 
 -- a timestamp behind those of all entries
-pub record IsAfter (m : Machine) (timestamp : ℕ) : Type 0 where
+pub record IsAfterEntries (m : Machine) (timestamp : ℕ) : Type 0 where
   pub positive : 0 < timestamp
   pub accounts : All (λ a. a.timestamp < timestamp) m.accounts
   pub transfers : All (λ t. t.timestamp < timestamp) m.transfers
 
 -- the greatest timestamp of an entry, or 0 without one
 pub record IsLast (m : Machine) (last : ℕ) : Type 0 where
-  pub after : (timestamp : ℕ) → last < timestamp → IsAfter m timestamp
-  pub only_after : (timestamp : ℕ) → IsAfter m timestamp → last < timestamp
+  pub after : (timestamp : ℕ) → last < timestamp → IsAfterEntries m timestamp
+  pub only_after : (timestamp : ℕ) → IsAfterEntries m timestamp → last < timestamp
 
 -- it holds the rows of a valid machine in which no id has failed
 pub record IsRunning (m : Machine) (r : Running) : Type 0 where

@@ -14,7 +14,7 @@ use Rattle.wire.specs.declared.request.Request.{Request}
 use Rattle.service.specs.Begun.{reply_of, reply_with, whole}
 use Rattle.service.specs.Deeds.{Asked, IsDeedDone}
 use Rattle.service.specs.Replies.{Serves, unavailable}
-use Rattle.service.specs.Responds.{Answers, IsAnswered, IsLeftBy, IsLeftByAsked, IsQuestion, Responds}
+use Rattle.service.specs.Responds.{AnswersAsked, IsQuestionAnswered, IsLeftBy, IsLeftByAsked, IsQuestion, Responds}
 use Rattle.service.proofs.Responses.{early_of}
 use Rattle.service.specs.declared.begun.Begun.{Begun}
 
@@ -76,8 +76,8 @@ left_on (Err early) moment old mid new left keeps = left
 
 answers_on :
     (asked : Result Question Early) (moment : ℕ) (old mid new : Tenants) (text more : List ℕ) →
-    Answers old mid asked moment text → KeepsAll mid new → more ≡ text →
-    Answers old new asked moment more
+    AnswersAsked old mid asked moment text → KeepsAll mid new → more ≡ text →
+    AnswersAsked old new asked moment more
 answers_on (Ok question) moment old mid new text more told keeps is = record {
   told = is ∙ told.told;
   own = keeps _ ∙ told.own;
@@ -110,10 +110,10 @@ module _ (old mid new : Tenants) (bytes : List ℕ) (moment : ℕ) (begun reply 
 pub finds_on_behind :
     {S : Type 0} (t : LedgersMeaning S) (old mid new : S) (bytes : List ℕ) (moment : ℕ)
     (begun reply : Reply) →
-    Finds t (IsAnswered bytes begun) (IsLeftBy bytes moment) old mid →
+    Finds t (IsQuestionAnswered bytes begun) (IsLeftBy bytes moment) old mid →
     (t.is_live mid → t.is_live old) → (t.is_live mid → IsLeftBy bytes moment (t.tenants old) (t.tenants mid)) →
     Finds t (reply ≢ unavailable) KeepsAll mid new →
-    Finds t (IsAnswered bytes reply) (IsLeftBy bytes moment) old new
+    Finds t (IsQuestionAnswered bytes reply) (IsLeftBy bytes moment) old new
 finds_on_behind t old mid new bytes moment begun reply first lived left behind = record {
   found = λ found may. elim (behind.found found may) [
     | inl before ↦ first.found found before

@@ -6,8 +6,8 @@ use Rattle.chain.specs.Ledgers.{LedgersMeaning, Tenants}
 use Rattle.ledger_http.specs.declared.reply.Reply.{Reply}
 use Rattle.ledger_http.specs.ReplyText.{reply_text}
 use Rattle.ledger_http.specs.Question.{asked_of}
-use Rattle.service.specs.Responds.{Answers}
-use Rattle.service.specs.Connections.{Connection, IsAnswered, IsTurnedAway, LacksMemory}
+use Rattle.service.specs.Responds.{AnswersAsked}
+use Rattle.service.specs.Connections.{Connection, IsFirstAnswered, IsTurnedAway, LacksMemory}
 use Rattle.service.specs.Connections.{IsCutOff, Nothing, More}
 use Rattle.service.specs.Courses.{Event, Replied, Happens, Course, Begin, Then}
 use Rattle.service.specs.Courses.{ResponsesHappen}
@@ -22,7 +22,7 @@ responses_happen unique old new bytes moment reply event to r =
       answered = λ available.
           subst
           (λ (head : Option RequestHead).
-          Answers old new (asked_of bytes head) moment (reply_text reply))
+          AnswersAsked old new (asked_of bytes head) moment (reply_text reply))
           (unique bytes r.head to.head r.has to.has) (r.answered available);
       same = r.same;
     })
@@ -30,7 +30,7 @@ responses_happen unique old new bytes moment reply event to r =
 live_before :
     {S C : Type 0} (t : LedgersMeaning S) (gives : C → ℕ → C → Type 0) (old new : Connection S C)
     (reply : Reply) → ((a b : S) → t.follows a b → t.is_live b → t.is_live a) →
-    IsAnswered t gives old reply new ⊎ (IsTurnedAway old reply new ⊎ LacksMemory old reply new) →
+    IsFirstAnswered t gives old reply new ⊎ (IsTurnedAway old reply new ⊎ LacksMemory old reply new) →
     t.is_live new.ledgers → t.is_live old.ledgers
 live_before t gives old new reply lived (inl answered) live =
     lived old.ledgers new.ledgers answered.follows live
@@ -52,7 +52,7 @@ one_more :
     {S C : Type 0} (t : LedgersMeaning S) (gives : C → ℕ → C → Type 0) → HeadsAreUnique →
     (first : Tenants) (events : List Event) (old new : Connection S C) (reply : Reply)
     (by :
-    IsAnswered t gives old reply new ⊎ (IsTurnedAway old reply new ⊎ LacksMemory old reply new)) →
+    IsFirstAnswered t gives old reply new ⊎ (IsTurnedAway old reply new ⊎ LacksMemory old reply new)) →
     t.is_live new.ledgers → Course first events (t.tenants old.ledgers) →
     Course first (events ++ event_in reply by) (t.tenants new.ledgers)
 one_more t gives unique first events old new reply (inl answered) live course =

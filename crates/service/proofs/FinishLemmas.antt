@@ -1,7 +1,7 @@
 -- A statement that is read to its end, part by part.
 use Rattle.std.proofs.Common.{◌≡◌, ◌⊎◌, ◌∙◌, refl, ℕ, inl, inr, List, [], Some, ◌++◌, Option, ap, subst, append_assoc}
 use Rattle.records.specs.Machine.{Machine}
-use Rattle.chain.specs.LedgerReads.{Reads}
+use Rattle.chain.specs.LedgerReads.{ReadsOnly}
 use Rattle.chain.specs.Ledgers.{Tenants, LedgersMeaning, Finds, KeepsAll}
 use Rattle.parts.specs.Parts.{IsPart, chunks_left}
 use Rattle.parts.proofs.LeftLemmas.{part_left}
@@ -15,7 +15,7 @@ pub record HasRead {S : Type 0} (t : LedgersMeaning S) (old new : S) : Type 0 wh
   pub follows : t.follows old new
   pub found : (found : Tenants) → t.may_find new found → t.may_find old found ⊎ (t.is_live old × KeepsAll (t.tenants old) found)
 
-pub as_reads : {S : Type 0} (t : LedgersMeaning S) (old new : S) → HasRead t old new → Reads t old new
+pub as_reads : {S : Type 0} (t : LedgersMeaning S) (old new : S) → HasRead t old new → ReadsOnly t old new
 as_reads t old new read = record { same = read.same; usable = read.usable; follows = read.follows }
 
 pub as_finds :
@@ -37,7 +37,7 @@ pub read_more :
     {S : Type 0} (t : LedgersMeaning S) (old mid new : S) (A : Type 0) →
     (t.follows old mid → t.follows mid new → t.follows old new) →
     (t.is_live mid → t.is_live old) → (t.is_live new → t.is_live mid) →
-    HasRead t old mid → Reads t mid new → Finds t A KeepsAll mid new → HasRead t old new
+    HasRead t old mid → ReadsOnly t mid new → Finds t A KeepsAll mid new → HasRead t old new
 read_more t old mid new A then lived lived' before reads finds = record {
   same = λ live digest. reads.same live digest ∙ before.same (lived' live) digest;
   usable = reads.usable;

@@ -15,7 +15,7 @@ use Rattle.wire.specs.Meaning.{meaning_of}
 use Rattle.wire.specs.Told.{outcome_text}
 use Rattle.service.specs.Served.{served_to}
 use Rattle.service.specs.Replies.{unavailable}
-use Rattle.service.specs.Responds.{Answers, Responds, IsAsking, IsCaller, AgreesOn}
+use Rattle.service.specs.Responds.{AnswersAsked, Responds, IsAsking, IsCaller, AgreesOn}
 use Rattle.service.specs.Responds.{PageTellsNothing, HealthTellsNothing}
 
 -- bytes have one head
@@ -26,7 +26,7 @@ HeadsAreUnique =
 same_text :
     (asked : Result Question Early) (old new old' new' : Tenants) (moment : ℕ)
     (text text' : List ℕ) →
-    Answers old new asked moment text → Answers old' new' asked moment text' →
+    AnswersAsked old new asked moment text → AnswersAsked old' new' asked moment text' →
     ((digest : List ℕ) → IsAsking asked digest → old digest ≡ old' digest) → text ≡ text'
 same_text (Ok q) old new old' new' moment text text' a a' agree =
     a.told
@@ -40,7 +40,7 @@ same_text (Err early) old new old' new' moment text text' a a' agree = a.told �
 same_own :
     (asked : Result Question Early) (old new old' new' : Tenants) (moment : ℕ)
     (text text' : List ℕ) →
-    Answers old new asked moment text → Answers old' new' asked moment text' →
+    AnswersAsked old new asked moment text → AnswersAsked old' new' asked moment text' →
     ((digest : List ℕ) → IsAsking asked digest → old digest ≡ old' digest) →
     (digest : List ℕ) → IsAsking asked digest → new digest ≡ new' digest
 same_own (Ok q) old new old' new' moment text text' a a' agree digest is =
@@ -55,7 +55,7 @@ same_own (Err early) old new old' new' moment text text' a a' agree digest is = 
 
 others_stay :
     (asked : Result Question Early) (old new : Tenants) (moment : ℕ) (text : List ℕ) →
-    Answers old new asked moment text →
+    AnswersAsked old new asked moment text →
     (digest : List ℕ) → (IsAsking asked digest → ⊥) → new digest ≡ old digest
 others_stay (Ok q) old new moment text a digest not_asking = a.others digest not_asking
 others_stay (Err early) old new moment text a digest not_asking = a.same digest
@@ -75,10 +75,10 @@ pub isolated :
     reply ≢ unavailable → reply' ≢ unavailable →
     AgreesOn bytes old new old' new' reply reply'
 isolated unique old new old' new' bytes moment reply reply' r r' agree ne ne' =
-    let a : Answers old new (asked_of bytes r.head) moment (reply_text reply) = r.answered ne in
-    let a' : Answers old' new' (asked_of bytes r.head) moment (reply_text reply') =
+    let a : AnswersAsked old new (asked_of bytes r.head) moment (reply_text reply) = r.answered ne in
+    let a' : AnswersAsked old' new' (asked_of bytes r.head) moment (reply_text reply') =
     subst
-    (λ (h : Option RequestHead). Answers old' new' (asked_of bytes h) moment (reply_text reply'))
+    (λ (h : Option RequestHead). AnswersAsked old' new' (asked_of bytes h) moment (reply_text reply'))
     (unique bytes r'.head r.head r'.has r.has) (r'.answered ne') in
     let agrees : (digest : List ℕ) → IsAsking (asked_of bytes r.head) digest → old digest ≡ old'
     digest =
@@ -99,18 +99,18 @@ isolated unique old new old' new' bytes moment reply reply' r r' agree ne ne' =
 pub page_tells_nothing : HeadsAreUnique → PageTellsNothing
 page_tells_nothing unique old new bytes head moment reply has asks r ne =
     let a =
-    subst (λ (asked : Result Question Early). Answers old new asked moment (reply_text reply)) asks
+    subst (λ (asked : Result Question Early). AnswersAsked old new asked moment (reply_text reply)) asks
     (subst
-    (λ (h : Option RequestHead). Answers old new (asked_of bytes h) moment (reply_text reply))
+    (λ (h : Option RequestHead). AnswersAsked old new (asked_of bytes h) moment (reply_text reply))
     (unique bytes r.head head r.has has) (r.answered ne)) in
     (a.told, a.same)
 
 pub health_tells_nothing : HeadsAreUnique → HealthTellsNothing
 health_tells_nothing unique old new bytes head moment reply has asks r ne =
     let a =
-    subst (λ (asked : Result Question Early). Answers old new asked moment (reply_text reply)) asks
+    subst (λ (asked : Result Question Early). AnswersAsked old new asked moment (reply_text reply)) asks
     (subst
-    (λ (h : Option RequestHead). Answers old new (asked_of bytes h) moment (reply_text reply))
+    (λ (h : Option RequestHead). AnswersAsked old new (asked_of bytes h) moment (reply_text reply))
     (unique bytes r.head head r.has has) (r.answered ne)) in
     (a.told, a.same)
 
@@ -123,7 +123,7 @@ alone unique old new unread message moment reply s r = record {
   head = Some s.head;
   has = s.unread_has;
   answered = λ ne.
-      subst (λ (asked : Result Question Early). Answers old new asked moment (reply_text reply))
+      subst (λ (asked : Result Question Early). AnswersAsked old new asked moment (reply_text reply))
       (ap (asked_of message) (unique message r.head (Some s.head) r.has s.has) ∙ s.same)
       (r.answered ne);
   same = r.same;

@@ -8,8 +8,8 @@ use Rattle.ledger_http.specs.declared.reply.Reply.{Reply}
 use Rattle.ledger_http.specs.ReplyText.{reply_text}
 use Rattle.ledger_http.specs.Question.{Question, asked_of}
 use Rattle.service.specs.Replies.{unavailable}
-use Rattle.service.specs.Responds.{Answers, Responds, RefusesEarly}
-use Rattle.service.specs.Responds.{IsAnswered, IsLeftBy, IsLeftByAsked}
+use Rattle.service.specs.Responds.{AnswersAsked, Responds, RefusesEarly}
+use Rattle.service.specs.Responds.{IsQuestionAnswered, IsLeftBy, IsLeftByAsked}
 use Rattle.service.specs.Deeds.{Deed, asking, deeds_in}
 use Rattle.service.specs.Courses.{Event, Replied, is_unavailable, IsStill, untold_in}
 use Rattle.service.specs.Openings.{run_meaning, IsSettled, FoundAfter, As_now, As_before, As_done}
@@ -40,7 +40,7 @@ module _ {S : Type 0} (t : LedgersMeaning S) (unique : HeadsAreUnique) (old new 
       answered = λ available.
           subst
           (λ (asked : Result Question Early).
-          Answers tenants tenants asked moment (reply_text reply))
+          AnswersAsked tenants tenants asked moment (reply_text reply))
           (sym is)
           (record { told = early.refused told is available; same = λ digest. refl });
       same = λ u digest. refl;
@@ -58,7 +58,7 @@ module _ {S : Type 0} (t : LedgersMeaning S) (unique : HeadsAreUnique) (old new 
       live (found, left, λ digest. refl)
   found_lost (Err told) found is untold live left = absurd left
 
-  module _ (finds : Finds t (IsAnswered bytes reply) (IsLeftBy bytes moment) old new)
+  module _ (finds : Finds t (IsQuestionAnswered bytes reply) (IsLeftBy bytes moment) old new)
       (settled : IsSettled (run_meaning t) new)
     where
       at_head :

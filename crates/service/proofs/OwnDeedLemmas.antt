@@ -14,7 +14,7 @@ use Rattle.ledger_http.specs.declared.early.Early.{Early}
 use Rattle.ledger_http.specs.declared.reply.Reply.{Reply}
 use Rattle.ledger_http.specs.ReplyText.{reply_text}
 use Rattle.ledger_http.specs.Question.{Question}
-use Rattle.service.specs.Responds.{Answers}
+use Rattle.service.specs.Responds.{AnswersAsked}
 use Rattle.service.specs.Deeds.{Deed, asking, deeds_in, tenant_of, digest_after, after_deed}
 use Rattle.service.specs.Deeds.{IsDeedDone, AreDone}
 use Rattle.service.specs.Courses.{Event, Replied, Tried, Reopened, IsReplied, Happens, Course}
@@ -150,7 +150,7 @@ dones_seen (deed ∷ deeds) old new digest done =
 
 answer_seen :
     (asked : Result Question Early) (old new : Tenants) (digest text : List ℕ) (moment : ℕ) →
-    Answers old new asked moment text →
+    AnswersAsked old new asked moment text →
     IsSeen old new digest (map (λ deed. Told deed text) (deeds_in asked moment))
 answer_seen (Ok question) old new digest text moment a =
     one_seen old new digest (Told (asking question moment) text) (record {

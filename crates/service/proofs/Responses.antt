@@ -16,7 +16,7 @@ use Rattle.ledger_http.specs.Message.{First, HasHead, first_message}
 use Rattle.ledger_http.specs.Question.{Question, as_early, question_in, asked_of}
 use Rattle.wire.specs.Meaning.{meaning_of}
 use Rattle.service.specs.Replies.{Serves, unavailable, told_early}
-use Rattle.service.specs.Responds.{Answers, Responds, RefusesEarly, TellsPage}
+use Rattle.service.specs.Responds.{AnswersAsked, Responds, RefusesEarly, TellsPage}
 use Rattle.service.specs.Responds.{TellsHealth, TellsFailure}
 
 first_is_ok :
@@ -55,7 +55,7 @@ responds_to old new bytes head question moment reply has is serves = record {
   head = head;
   has = has;
   answered = λ ne.
-      subst (λ (asked : Result Question Early). Answers old new asked moment (reply_text reply))
+      subst (λ (asked : Result Question Early). AnswersAsked old new asked moment (reply_text reply))
       (sym is) (serves.answered ne);
   same = serves.same;
   whole = λ u. whole_of bytes head question is;
@@ -107,7 +107,7 @@ responds_early tenants bytes head early moment has told whole = record {
   has = has;
   answered = λ ne.
       subst
-      (λ (asked : Result Question Early). Answers tenants tenants asked moment (early_text early))
+      (λ (asked : Result Question Early). AnswersAsked tenants tenants asked moment (early_text early))
       (sym (told (λ is. ne (ap early_reply is)))) (record { told = refl; same = λ digest. refl });
   same = λ is digest. refl;
   whole = λ is. whole (is_unavailable early is);

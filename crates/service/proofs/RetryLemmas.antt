@@ -17,13 +17,13 @@ use Rattle.service.specs.Deeds.{Deed, Asked, Joined, Keyed, after_deed}
 use Rattle.chain.specs.Ledgers.{Tenants}
 use Rattle.service.specs.Courses.{Course, Event}
 use Rattle.service.specs.OwnDeeds.{Happening, deed_of, digest_since, own_happenings, after_all}
-use Rattle.service.specs.Retries.{IsAsked, HasAsked}
+use Rattle.service.specs.Retries.{IsAskedEarlier, HasAsked}
 use Rattle.service.proofs.OwnDeedLemmas.{after_more, sees_itself}
 
 -- what comes behind a request finds the machine that it left
 asked_then :
     (began : Option Machine) (owns : List Happening) (request : Request) (moment : ℕ) (m : Machine)
-    (asked : IsAsked began owns request moment m) →
+    (asked : IsAskedEarlier began owns request moment m) →
     after_all began owns ≡ after_all (Some (left_by m moment request)) asked.since
 asked_then began owns request moment m asked =
     ap (after_all began) asked.is

@@ -11,7 +11,7 @@ use Rattle.wire.specs.declared.outcome.Outcome.{Outcome}
 use Rattle.wire.specs.declared.outcome.Outcome.TheVariants.{Refused}
 use Rattle.wire.specs.declared.request.Request.{Request}
 use Rattle.service.specs.Served.{told_by, answer_told, served_to}
-use Rattle.service.specs.Reading.{Shows, refusal_of}
+use Rattle.service.specs.Reading.{ShowsOutcome, refusal_of}
 
 -- how a request for a read is answered: what is asked of the machine, and how that is shown
 pub record IsRead {A : Type 0} (request : Request) (moment : ℕ)
@@ -53,7 +53,7 @@ pub told_as_fault :
     (shows : ℕ → A → Outcome) (sees : X → Seen A) (tenant : Option Machine) (why : ReadFault) →
     IsRead request moment answers shows →
     IsShown sees (seen_in answers tenant) (Err why) →
-    Shows (served_to tenant (Ok request) moment).told (Err why)
+    ShowsOutcome (served_to tenant (Ok request) moment).told (Err why)
 told_as_fault request moment answers shows sees tenant fault.UnknownKey read is =
     λ ne. told_as_seen request moment answers shows tenant (Err fault.UnknownKey) read is
 told_as_fault request moment answers shows sees tenant (fault.Unavailable why) read is =
@@ -67,7 +67,7 @@ told_as_fault request moment answers shows sees tenant (fault.Sink why) read is 
 -- a fault that is handed on
 pub told_on :
     (told : Outcome) (result : Result Outcome ReadFault) (why : ReadFault) →
-    IsErrAnd result (λ fault. fault ≡ why) → Shows told (Err why) → Shows told result
+    IsErrAnd result (λ fault. fault ≡ why) → ShowsOutcome told (Err why) → ShowsOutcome told result
 told_on told (Ok outcome) why is shows = absurd is
 told_on told (Err fault) why is shows =
-    subst (λ (f : ReadFault). Shows told (Err f)) (sym is) shows
+    subst (λ (f : ReadFault). ShowsOutcome told (Err f)) (sym is) shows

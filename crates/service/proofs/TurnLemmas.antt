@@ -12,7 +12,7 @@ use Rattle.ledger_http.specs.ReplyText.{reply_text}
 use Rattle.ledger_http.specs.Question.{Question, asked_of}
 use Rattle.service.specs.declared.turns.Message.{Message}
 use Rattle.service.specs.Replies.{unavailable}
-use Rattle.service.specs.Responds.{Answers, RefusesEarly}
+use Rattle.service.specs.Responds.{AnswersAsked, RefusesEarly}
 use Rattle.service.specs.Deeds.{Deed, deeds_in, AreDone}
 use Rattle.service.specs.Courses.{Event, Replied, HappenInTurn, is_unavailable, IsStill, untold_in}
 use Rattle.service.specs.Courses.{IsReplyTo}
@@ -135,7 +135,7 @@ kept_moves t old new messages replies Answered Leads answered run lived finds se
 -- what was answered was done
 answered_done :
     (asked : Result Question Early) (moment : ℕ) (text : List ℕ) (old new : Tenants) →
-    Answers old new asked moment text → AreDone (deeds_in asked moment) old new
+    AnswersAsked old new asked moment text → AreDone (deeds_in asked moment) old new
 answered_done (Ok question) moment text old new a =
     (new, record { may = tt; own = a.own; others = a.others }, λ digest. refl)
 answered_done (Err refusal) moment text old new a = a.same
@@ -162,7 +162,7 @@ module _ (unique : HeadsAreUnique) where
       (answered_done asked message.moment (reply_text told) old new
       (subst
       (λ (head : Option RequestHead).
-      Answers old new (asked_of bytes head) message.moment (reply_text told))
+      AnswersAsked old new (asked_of bytes head) message.moment (reply_text told))
       (unique bytes responds.head to.head responds.has to.has) (responds.answered available)))
 
   -- so it is of all messages of a round

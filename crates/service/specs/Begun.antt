@@ -4,7 +4,7 @@ use Rattle.chain.specs.Ledgers.{Tenants, KeepsAll}
 use Rattle.ledger_http.specs.declared.reply.Reply.{Reply}
 use Rattle.ledger_http.specs.declared.reply.Reply.TheVariants.{Whole}
 use Rattle.ledger_http.specs.ReplyText.{reply_text}
-use Rattle.parts.specs.Parts.{IsHeld, chunks_left}
+use Rattle.parts.specs.Parts.{IsRestHeld, chunks_left}
 use Rattle.parts.specs.declared.rest.Rest.{Rest}
 use Rattle.service.specs.declared.begun.Begun.{Begun}
 
@@ -23,4 +23,4 @@ reply_of tenants begun = reply_with tenants begun.front begun.rest
 
 -- a statement is begun: the machines are as before, and something of it is left
 abbrev pub IsLeftOf : Tenants → Tenants → Rest → Type 0
-IsLeftOf old new rest = KeepsAll old new × IsHeld new rest
+IsLeftOf old new rest = KeepsAll old new × IsRestHeld new rest

@@ -4,7 +4,7 @@ use Rattle.std.proofs.Common.{inl, inr}
 use Rattle.chain.specs.Ledgers.{LedgersMeaning, Tenants}
 use Rattle.ledger_http.specs.declared.reply.Reply.{Reply}
 use Rattle.ledger_http.specs.Question.{asked_of}
-use Rattle.service.specs.Connections.{Connection, IsAnswered, IsTurnedAway, LacksMemory, Exchange}
+use Rattle.service.specs.Connections.{Connection, IsFirstAnswered, IsTurnedAway, LacksMemory, Exchange}
 use Rattle.service.specs.Connections.{Runs, Nothing, More}
 use Rattle.service.specs.Courses.{Event, Replied, Course}
 use Rattle.service.specs.OwnDeeds.{SeesItself}
@@ -13,7 +13,7 @@ use Rattle.service.specs.OwnDeeds.{SeesItself}
 abbrev pub event_in :
     {S C : Type 0} {t : LedgersMeaning S} {gives : C → ℕ → C → Type 0} {old new : Connection S C}
     (reply : Reply) →
-    IsAnswered t gives old reply new ⊎ (IsTurnedAway old reply new ⊎ LacksMemory old reply new)
+    IsFirstAnswered t gives old reply new ⊎ (IsTurnedAway old reply new ⊎ LacksMemory old reply new)
     → List Event
 event_in reply (inl answered) =
     Replied (asked_of answered.message answered.early.head) answered.moment reply ∷ []

@@ -32,7 +32,7 @@ connection ledgers unread moments goes_on =
 
 -- the first message of what is unread is answered, at the moment that is then given; where the
 -- ledgers are no longer live, no more is known than what is refused before a tenant is looked up
-pub record IsAnswered {S C : Type 0} (t : LedgersMeaning S) (gives : C → ℕ → C → Type 0)
+pub record IsFirstAnswered {S C : Type 0} (t : LedgersMeaning S) (gives : C → ℕ → C → Type 0)
     (old : Connection S C) (reply : Reply) (new : Connection S C) : Type 0 where
   pub message : List ℕ
   pub moment : ℕ
@@ -43,7 +43,8 @@ pub record IsAnswered {S C : Type 0} (t : LedgersMeaning S) (gives : C → ℕ �
       → Responds (t.tenants old.ledgers) (t.tenants new.ledgers) message moment reply
   pub early : RefusesEarly message reply
   pub finds :
-      Finds t (response.IsAnswered message reply) (IsLeftBy message moment) old.ledgers new.ledgers
+      Finds t (response.IsQuestionAnswered message reply) (IsLeftBy message moment)
+      old.ledgers new.ledgers
   pub follows : t.follows old.ledgers new.ledgers
   pub goes_on : new.goes_on ≡ true
 
@@ -85,7 +86,8 @@ pub record Exchange {S C : Type 0} (t : LedgersMeaning S) (gives : C → ℕ →
     (old : Connection S C) (reply : Reply) (new : Connection S C) : Type 0 where
   pub open_before : old.goes_on ≡ true
   pub by :
-      IsAnswered t gives old reply new ⊎ (IsTurnedAway old reply new ⊎ LacksMemory old reply new)
+      IsFirstAnswered t gives old reply new
+      ⊎ (IsTurnedAway old reply new ⊎ LacksMemory old reply new)
 
 -- the input has ended before the first byte of a message, where it is known what is unread; where it
 -- is not, as over a socket, this says nothing: no reader tells its end but by what it gives

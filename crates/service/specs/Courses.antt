@@ -13,7 +13,7 @@ use Rattle.ledger_http.specs.ReplyText.{reply_text}
 use Rattle.ledger_http.specs.Message.{HasHead, first_message}
 use Rattle.ledger_http.specs.Question.{Question, asked_of}
 use Rattle.service.specs.Replies.{unavailable}
-use Rattle.service.specs.Responds.{Answers, Responds}
+use Rattle.service.specs.Responds.{AnswersAsked, Responds}
 use Rattle.service.specs.Deeds.{Deed, deeds_in, IsDeedDone, AreDone}
 
 -- how a deed that no message asks for ended: it was done; it was declined; or the ledgers were
@@ -34,7 +34,7 @@ pub data Event : Type 0 where
 -- a message is answered, or the ledgers are unavailable, and then nothing has changed
 pub record IsReplied (asked : Result Question Early) (moment : ℕ) (reply : Reply)
     (old new : Tenants) : Type 0 where
-  pub answered : reply ≢ unavailable → Answers old new asked moment (reply_text reply)
+  pub answered : reply ≢ unavailable → AnswersAsked old new asked moment (reply_text reply)
   pub same : reply ≡ unavailable → KeepsAll old new
 
 -- what an event makes of the tenants' machines
@@ -88,17 +88,17 @@ pub record MayBeFound (deeds : List Deed) (events : List Event) : Type 0 where
   pub all : deeds ≡ flat_map untold_in round
 
 -- what may come after these events: a reopening finds no other deeds
-abbrev pub Follows : List Event → Event → Type 0
-Follows events (Replied asked moment reply) = Unit {0}
-Follows events (Tried deed ending) = Unit {0}
-Follows events (Reopened deeds) = MayBeFound deeds events
+abbrev pub MayFollow : List Event → Event → Type 0
+MayFollow events (Replied asked moment reply) = Unit {0}
+MayFollow events (Tried deed ending) = Unit {0}
+MayFollow events (Reopened deeds) = MayBeFound deeds events
 
 -- events, one after the other
 pub data Course (first : Tenants) : List Event → Tenants → Type 0 where
   Begin : Course first [] first
   Then :
       (events : List Event) (last : Tenants) (event : Event) (next : Tenants) →
-      Course first events last → Follows events event → Happens last event next →
+      Course first events last → MayFollow events event → Happens last event next →
       Course first (events ++ event ∷ []) next
 
 -- events happen, one after the other

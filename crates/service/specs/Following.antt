@@ -9,7 +9,7 @@ use Rattle.wire.specs.declared.outcome.Outcome.{Outcome}
 use Rattle.wire.specs.declared.outcome.Outcome.TheVariants as told
 use Rattle.wire.specs.declared.request.Request.{Request}
 use Rattle.chain.specs.Ledgers.{Tenants}
-use Rattle.parts.specs.Parts.{IsHeld, chunks_left}
+use Rattle.parts.specs.Parts.{IsRestHeld, chunks_left}
 use Rattle.parts.specs.declared.rest.Rest.{Rest}
 use Rattle.service.specs.Courses.{Course, Event}
 use Rattle.service.specs.OwnDeeds.{digest_since}
@@ -52,6 +52,6 @@ LeftStays =
     (old new : Tenants) (events : List Event)
     → Course old events new
     → (rest : Rest)
-    → IsHeld old rest
+    → IsRestHeld old rest
     → digest_since rest.digest events ≡ rest.digest
     → chunks_left new (Some rest) ≡ chunks_left old (Some rest)

@@ -6,8 +6,8 @@ use Rattle.chain.specs.Ledgers.{LedgersMeaning, Tenants, KeepsAll, Finds}
 use Rattle.ledger_http.specs.declared.reply.Reply.{Reply}
 use Rattle.ledger_http.specs.Question.{asked_of}
 use Rattle.service.specs.Deeds.{Deed, AreDone}
-use Rattle.service.specs.Responds.{Responds, RefusesEarly, IsAnswered, IsLeftBy}
-use Rattle.service.specs.Courses.{Event, Replied, Happens, HappenInTurn, Follows, IsStill, untold_in}
+use Rattle.service.specs.Responds.{Responds, RefusesEarly, IsQuestionAnswered, IsLeftBy}
+use Rattle.service.specs.Courses.{Event, Replied, Happens, HappenInTurn, MayFollow, IsStill, untold_in}
 use Rattle.service.specs.Courses.{MayBeFound, Course, IsReplyTo}
 
 -- what ledgers that can be opened again mean: their machines, whether calls are allowed, whether
@@ -89,7 +89,7 @@ abbrev pub ResponsesMove : {S : Type 0} → LedgersMeaning S → Type 0
 ResponsesMove {S} t =
     (old new : S) (bytes : List ℕ) (moment : ℕ) (reply : Reply) (early : RefusesEarly bytes reply)
     → (t.is_live new → Responds (t.tenants old) (t.tenants new) bytes moment reply)
-    → Finds t (IsAnswered bytes reply) (IsLeftBy bytes moment) old new
+    → Finds t (IsQuestionAnswered bytes reply) (IsLeftBy bytes moment) old new
     → t.follows old new
     → IsSettled (run_meaning t) new
     → Moves (run_meaning t) old (Replied (asked_of bytes early.head) moment reply) new
@@ -134,7 +134,7 @@ GoesOn Since more Now =
 
 -- an event that needs nothing before it
 abbrev pub IsFree : Event → Type 0
-IsFree event = (events : List Event) → Follows events event
+IsFree event = (events : List Event) → MayFollow events event
 
 -- the machines that are there, or that an opening may find
 abbrev pub MayBegin : {S : Type 0} → RunMeaning S → S → Tenants → Type 0

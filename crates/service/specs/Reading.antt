@@ -21,11 +21,11 @@ refusal_of (fault.Sink why) = Unavailable
 
 -- a read shows what is told, or fails with the refusal that is told; want of memory, size or disk
 -- says nothing of that
-abbrev pub Shows : Outcome → Result Outcome ReadFault → Type 0
-Shows told (Ok outcome) = told ≡ outcome
-Shows told (Err why) = refusal_of why ≢ Unavailable → told ≡ Refused (refusal_of why)
+abbrev pub ShowsOutcome : Outcome → Result Outcome ReadFault → Type 0
+ShowsOutcome told (Ok outcome) = told ≡ outcome
+ShowsOutcome told (Err why) = refusal_of why ≢ Unavailable → told ≡ Refused (refusal_of why)
 
 -- a read shows a tenant what it is told, whatever the moment
 abbrev pub ShowsTo : Option Machine → Request → Result Outcome ReadFault → Type 0
 ShowsTo tenant request result =
-    (moment : ℕ) → Shows (served_to tenant (Ok request) moment).told result
+    (moment : ℕ) → ShowsOutcome (served_to tenant (Ok request) moment).told result

@@ -22,11 +22,11 @@ pub record TellsEarly (old new : Tenants) (early : Early) (text : List ℕ) : Ty
   pub same : KeepsAll old new
 
 -- what is asked is answered: the tenant that the key names by what is served to its own machine
-abbrev pub Answers : Tenants → Tenants → Result Question Early → ℕ → List ℕ → Type 0
-Answers old new (Ok question) moment text =
+abbrev pub AnswersAsked : Tenants → Tenants → Result Question Early → ℕ → List ℕ → Type 0
+AnswersAsked old new (Ok question) moment text =
     AnswersTenant old new (sha256 question.key)
     (λ tenant. served tenant question.route question.account question.body moment) text
-Answers old new (Err early) moment text = TellsEarly old new early text
+AnswersAsked old new (Err early) moment text = TellsEarly old new early text
 
 -- the response to the first message of the bytes: an answer, or that the ledgers were unavailable,
 -- which changes nothing and never stands for one of the first five refusals
@@ -34,7 +34,7 @@ pub record Responds (old new : Tenants) (bytes : List ℕ) (moment : ℕ) (reply
   pub head : Option RequestHead
   pub has : HasHead bytes head
   pub answered :
-      reply ≢ unavailable → Answers old new (asked_of bytes head) moment (reply_text reply)
+      reply ≢ unavailable → AnswersAsked old new (asked_of bytes head) moment (reply_text reply)
   pub same : reply ≡ unavailable → KeepsAll old new
   pub whole : reply ≡ unavailable → IsOk (first_message bytes head)
 
@@ -75,7 +75,7 @@ pub record IsQuestion (bytes : List ℕ) : Type 0 where
   pub is : asked_of bytes head ≡ Ok question
 
 -- the bytes ask a question, and it is answered
-pub record IsAnswered (bytes : List ℕ) (reply : Reply) : Type 0 where
+pub record IsQuestionAnswered (bytes : List ℕ) (reply : Reply) : Type 0 where
   pub asks : (head : Option RequestHead) → HasHead bytes head → IsOk (asked_of bytes head)
   pub available : reply ≢ unavailable
 
@@ -146,8 +146,8 @@ HealthTellsNothing =
     → (reply_text reply ≡ health_reply) × KeepsAll old new
 
 -- what stands behind a message does not matter to its answer
-abbrev pub StandsAlone : Type 0
-StandsAlone =
+abbrev pub MessagesStandAlone : Type 0
+MessagesStandAlone =
     (old new : Tenants) (unread message : List ℕ) (left : Option (List ℕ)) (moment : ℕ)
     (reply : Reply)
     → Begins unread message left

@@ -17,7 +17,7 @@ use Rattle.service.specs.OwnDeeds.{Happening, deed_of, own_happenings, digest_si
 
 -- among what happened to a tenant is a request that was answered, or answered `unavailable` and
 -- found done, and this is its machine then
-pub record IsAsked (began : Option Machine) (owns : List Happening) (request : Request)
+pub record IsAskedEarlier (began : Option Machine) (owns : List Happening) (request : Request)
     (moment : ℕ) (m : Machine) : Type 0 where
   pub before : List Happening
   pub own : Happening
@@ -35,7 +35,7 @@ pub record HasAsked (digest : List ℕ) (request : Request) (moment : ℕ) (m no
   pub last : Tenants
   pub events : List Event
   pub course : Course began events last
-  pub asked : IsAsked (began digest) (own_happenings digest events) request moment m
+  pub asked : IsAskedEarlier (began digest) (own_happenings digest events) request moment m
   pub held : last (digest_since digest events) ≡ Some now
 
 -- a batch that was done, and whose every event was accepted, adds nothing when it is sent again
@@ -49,8 +49,8 @@ RetriesAddNothing {E} WasAsked rules exists asks =
     → (again : ℕ) → AddsNothing rules exists now batch again
 
 -- an event that failed for good stays failed
-abbrev pub FailedStaysFailed : (List ℕ → Request → ℕ → Machine → Machine → Type 0) → Type 0
-FailedStaysFailed WasAsked =
+abbrev pub StaysFailedOnceAsked : (List ℕ → Request → ℕ → Machine → Machine → Type 0) → Type 0
+StaysFailedOnceAsked WasAsked =
     (digest : List ℕ) (batch : List TransferEvent) (moment : ℕ) (m now : Machine)
     → WasAsked digest (Transfers batch) moment m now → IsValid now
     → (again : List TransferEvent) (later : ℕ)

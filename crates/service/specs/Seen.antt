@@ -2,27 +2,27 @@
 use Rattle.chain.specs.Ledgers.{LedgersMeaning, Tenants, KeepsAll}
 
 -- ledgers with no round open; or the ledgers behind a round, and the machines at a point of it
-pub data Seen (S : Type 0) : Type 0 where
-  Whole : S → Seen S
-  Within : S → Tenants → Seen S
+pub data SeenAt (S : Type 0) : Type 0 where
+  Whole : S → SeenAt S
+  Within : S → Tenants → SeenAt S
 
 -- the ledgers, or those behind the round
-abbrev pub ledgers_seen : {S : Type 0} → Seen S → S
+abbrev pub ledgers_seen : {S : Type 0} → SeenAt S → S
 ledgers_seen (Whole ledgers) = ledgers
 ledgers_seen (Within ledgers machines) = ledgers
 
-abbrev pub machines_seen : {S : Type 0} → LedgersMeaning S → Seen S → Tenants
+abbrev pub machines_seen : {S : Type 0} → LedgersMeaning S → SeenAt S → Tenants
 machines_seen t (Whole ledgers) = t.tenants ledgers
 machines_seen t (Within ledgers machines) = machines
 
 -- nobody can see what lies behind a point of a round, since nothing is written before its end: it is
 -- as if a stop came there
-abbrev pub MayBeSeen : {S : Type 0} → LedgersMeaning S → Seen S → Tenants → Type 0
+abbrev pub MayBeSeen : {S : Type 0} → LedgersMeaning S → SeenAt S → Tenants → Type 0
 MayBeSeen t (Whole ledgers) found = t.may_find ledgers found
 MayBeSeen t (Within ledgers machines) found = t.is_live ledgers × KeepsAll machines found
 
 -- what ledgers mean at each such point
-abbrev pub seen : {S : Type 0} → LedgersMeaning S → LedgersMeaning (Seen S)
+abbrev pub seen : {S : Type 0} → LedgersMeaning S → LedgersMeaning (SeenAt S)
 seen t = record {
   tenants = machines_seen t;
   is_usable = λ point. t.is_usable (ledgers_seen point);

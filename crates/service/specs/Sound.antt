@@ -13,5 +13,5 @@ pub record IsSound (m : Machine) : Type 0 where
   pub failed_ids : FailedIdsHold m
 
 -- every tenant's machine is such a one
-abbrev pub AreSound : Tenants → Type 0
-AreSound tenants = (digest : List ℕ) (m : Machine) → tenants digest ≡ Some m → IsSound m
+abbrev pub EachIsSound : Tenants → Type 0
+EachIsSound tenants = (digest : List ℕ) (m : Machine) → tenants digest ≡ Some m → IsSound m

@@ -5,10 +5,10 @@ ghost use Rattle.service.specs.Courses.{ResponsesHappen};
 ghost use Rattle.service.specs.Following.{LeftStays, ToldStays};
 ghost use Rattle.service.specs.Openings.{ResponsesMove};
 ghost use Rattle.service.specs.OwnDeeds.{EachSeesItself};
-ghost use Rattle.service.specs.Responds.{Isolates, PageTellsNothing, HealthTellsNothing, StandsAlone};
-ghost use Rattle.service.specs.Retries.{HasAsked, RetriesAddNothing, FailedStaysFailed};
+ghost use Rattle.service.specs.Responds.{Isolates, PageTellsNothing, HealthTellsNothing, MessagesStandAlone};
+ghost use Rattle.service.specs.Retries.{HasAsked, RetriesAddNothing, StaysFailedOnceAsked};
 ghost use Rattle.service.specs.Seen.{seen};
-ghost use Rattle.service.specs.Sound.{AreSound};
+ghost use Rattle.service.specs.Sound.{EachIsSound};
 ghost use Rattle.service.specs.Turns.{EachHearsItsOwn};
 ghost use Rattle.records.specs.Step.{account_rules, transfer_rules};
 ghost use Rattle.records.specs.declared.account_result.AccountResult.TheVariants as for_account;
@@ -52,7 +52,7 @@ pub fn health_tells_nothing()
 
 /// What stands behind a message does not matter to its answer.
 pub fn messages_answered_alone()
-    ensures { StandsAlone }
+    ensures { MessagesStandAlone }
 {
     meanings_are_unique();
     messages_stand_alone();
@@ -127,7 +127,7 @@ pub fn retried_in_course_adds_nothing()
 /// whenever, as the first event of a closed chain it answers `id_already_failed`, and its chain
 /// changes nothing.
 pub fn failed_in_course_stays_failed()
-    ensures { FailedStaysFailed HasAsked }
+    ensures { StaysFailedOnceAsked HasAsked }
 {
     steps_lead_to_later();
     later_of_later_is_later();
@@ -160,7 +160,7 @@ pub fn left_in_course_stays()
 /// balance, its limits hold and its pending transfers end once at most.
 pub fn ledgers_are_sound<L: Ledgers>()
     ensures { (ledgers : L) → L.means.is_live ledgers → L.means.is_usable ledgers
-        → AreSound (L.means.tenants ledgers) }
+        → EachIsSound (L.means.tenants ledgers) }
 {
     sums_fit();
     books_balance();

@@ -5,7 +5,7 @@ ghost use Rattle.chain.specs.declared.reads.ReadFault.TheVariants.{Unavailable};
 ghost use Rattle.wire.specs.declared.request.Query.TheVariants.{Accounts, Transfers, OpenPending};
 ghost use Rattle.wire.specs.declared.request.Request.TheVariants as asks;
 ghost use Rattle.chain.specs.Ledgers.{Finds, KeepsAll};
-ghost use Rattle.chain.specs.LedgerReads.{Reads, IsTold};
+ghost use Rattle.chain.specs.LedgerReads.{ReadsOnly, IsTold};
 ghost use Rattle.service.specs.Reading.{ShowsTo};
 
 use chain::{Ledgers, ReadFault};
@@ -24,7 +24,7 @@ fn accounts<L: Ledgers>(
         (asks.Query (Accounts asked.now)) result }
     ensures failed { L.means.has_failed ledgers.old ≡ true → result ≡ Err (Unavailable Disk) }
     ensures finds { Finds L.means (IsTold result) KeepsAll ledgers.old ledgers.new }
-    ensures reads { Reads L.means ledgers.old ledgers.new }
+    ensures reads { ReadsOnly L.means ledgers.old ledgers.new }
 {
     let page = ledgers.query_accounts(alloc, digest, asked)?;
     Ok(Outcome::Page {
@@ -45,7 +45,7 @@ fn transfers<L: Ledgers>(
         (asks.Query (Transfers asked.now)) result }
     ensures failed { L.means.has_failed ledgers.old ≡ true → result ≡ Err (Unavailable Disk) }
     ensures finds { Finds L.means (IsTold result) KeepsAll ledgers.old ledgers.new }
-    ensures reads { Reads L.means ledgers.old ledgers.new }
+    ensures reads { ReadsOnly L.means ledgers.old ledgers.new }
 {
     let page = ledgers.query_transfers(alloc, digest, asked)?;
     Ok(Outcome::Page {
@@ -66,7 +66,7 @@ fn open_holds<L: Ledgers>(
         (asks.Query (OpenPending asked.now)) result }
     ensures failed { L.means.has_failed ledgers.old ≡ true → result ≡ Err (Unavailable Disk) }
     ensures finds { Finds L.means (IsTold result) KeepsAll ledgers.old ledgers.new }
-    ensures reads { Reads L.means ledgers.old ledgers.new }
+    ensures reads { ReadsOnly L.means ledgers.old ledgers.new }
 {
     let page = ledgers.open_pending(alloc, digest, asked)?;
     Ok(Outcome::Page {
@@ -88,7 +88,7 @@ pub(crate) fn queried<L: Ledgers>(
         → ShowsTo (L.means.tenants ledgers.old digest.now) (asks.Query query.now) result }
     ensures failed { L.means.has_failed ledgers.old ≡ true → result ≡ Err (Unavailable Disk) }
     ensures finds { Finds L.means (IsTold result) KeepsAll ledgers.old ledgers.new }
-    ensures reads { Reads L.means ledgers.old ledgers.new }
+    ensures reads { ReadsOnly L.means ledgers.old ledgers.new }
 {
     match query {
         Query::Accounts(asked) => accounts(alloc, ledgers, digest, asked),

@@ -7,7 +7,7 @@ ghost use Rattle.wire.specs.declared.request.Request.TheVariants.{LookupPending}
 ghost use Rattle.wire.specs.declared.request.Request.TheVariants.{HistoryTransfers};
 ghost use Rattle.wire.specs.declared.request.Request.TheVariants.{HistoryBalances};
 ghost use Rattle.chain.specs.Ledgers.{Finds, KeepsAll};
-ghost use Rattle.chain.specs.LedgerReads.{Reads, IsTold};
+ghost use Rattle.chain.specs.LedgerReads.{ReadsOnly, IsTold};
 ghost use Rattle.service.specs.Reading.{ShowsTo};
 
 use chain::{Ledgers, ReadFault};
@@ -26,7 +26,7 @@ pub(crate) fn looked_up_accounts<L: Ledgers>(
         → ShowsTo (L.means.tenants ledgers.old digest.now) (LookupAccounts ids.now) result }
     ensures failed { L.means.has_failed ledgers.old ≡ true → result ≡ Err (Unavailable Disk) }
     ensures finds { Finds L.means (IsTold result) KeepsAll ledgers.old ledgers.new }
-    ensures reads { Reads L.means ledgers.old ledgers.new }
+    ensures reads { ReadsOnly L.means ledgers.old ledgers.new }
 {
     let found = ledgers.lookup_accounts(alloc, digest, ids)?;
     Ok(Outcome::Accounts {
@@ -46,7 +46,7 @@ pub(crate) fn looked_up_transfers<L: Ledgers>(
         → ShowsTo (L.means.tenants ledgers.old digest.now) (LookupTransfers ids.now) result }
     ensures failed { L.means.has_failed ledgers.old ≡ true → result ≡ Err (Unavailable Disk) }
     ensures finds { Finds L.means (IsTold result) KeepsAll ledgers.old ledgers.new }
-    ensures reads { Reads L.means ledgers.old ledgers.new }
+    ensures reads { ReadsOnly L.means ledgers.old ledgers.new }
 {
     let found = ledgers.lookup_transfers(alloc, digest, ids)?;
     Ok(Outcome::Transfers {
@@ -66,7 +66,7 @@ pub(crate) fn looked_up_holds<L: Ledgers>(
         → ShowsTo (L.means.tenants ledgers.old digest.now) (LookupPending ids.now) result }
     ensures failed { L.means.has_failed ledgers.old ≡ true → result ≡ Err (Unavailable Disk) }
     ensures finds { Finds L.means (IsTold result) KeepsAll ledgers.old ledgers.new }
-    ensures reads { Reads L.means ledgers.old ledgers.new }
+    ensures reads { ReadsOnly L.means ledgers.old ledgers.new }
 {
     let found = ledgers.lookup_pending(alloc, digest, ids)?;
     Ok(Outcome::Holds {
@@ -86,7 +86,7 @@ pub(crate) fn history_of_transfers<L: Ledgers>(
         → ShowsTo (L.means.tenants ledgers.old digest.now) (HistoryTransfers asked.now) result }
     ensures failed { L.means.has_failed ledgers.old ≡ true → result ≡ Err (Unavailable Disk) }
     ensures finds { Finds L.means (IsTold result) KeepsAll ledgers.old ledgers.new }
-    ensures reads { Reads L.means ledgers.old ledgers.new }
+    ensures reads { ReadsOnly L.means ledgers.old ledgers.new }
 {
     let found = ledgers.history_transfers(alloc, digest, asked)?;
     Ok(Outcome::Transfers {
@@ -106,7 +106,7 @@ pub(crate) fn history_of_balances<L: Ledgers>(
         → ShowsTo (L.means.tenants ledgers.old digest.now) (HistoryBalances asked.now) result }
     ensures failed { L.means.has_failed ledgers.old ≡ true → result ≡ Err (Unavailable Disk) }
     ensures finds { Finds L.means (IsTold result) KeepsAll ledgers.old ledgers.new }
-    ensures reads { Reads L.means ledgers.old ledgers.new }
+    ensures reads { ReadsOnly L.means ledgers.old ledgers.new }
 {
     let found = ledgers.history_balances(alloc, digest, asked)?;
     Ok(Outcome::Balances {

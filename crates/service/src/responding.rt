@@ -1,7 +1,7 @@
 ghost use Rattle.std.specs.Prelude.{◌≡◌, IfSome};
 ghost use Rattle.chain.specs.Ledgers.{Finds};
 ghost use Rattle.service.specs.Responds.{Responds, RefusesEarly, TellsPage, IsQuestion, IsLeftSame};
-ghost use Rattle.service.specs.Responds.{IsAnswered, IsLeftBy, TellsHealth, TellsFailure};
+ghost use Rattle.service.specs.Responds.{IsQuestionAnswered, IsLeftBy, TellsHealth, TellsFailure};
 ghost use Rattle.service.specs.Begun.{reply_of};
 ghost use Rattle.service.specs.Replies.{health_by, told_early};
 
@@ -54,7 +54,7 @@ pub fn begin<L: Ledgers>(alloc: Global, ledgers: &mut L, bytes: &[u8], moment: u
     ensures failed { TellsFailure (L.means.has_failed ledgers.old) bytes.now
         (reply_of (L.means.tenants ledgers.new) result) }
     ensures finds { Finds L.means
-        (IsAnswered bytes.now (reply_of (L.means.tenants ledgers.new) result))
+        (IsQuestionAnswered bytes.now (reply_of (L.means.tenants ledgers.new) result))
         (IsLeftBy bytes.now moment) ledgers.old ledgers.new }
     ensures usable { L.means.is_usable ledgers.new }
     ensures follows { L.means.follows ledgers.old ledgers.new }
@@ -75,7 +75,7 @@ pub fn respond<L: Ledgers>(alloc: Global, ledgers: &mut L, bytes: &[u8], moment:
     ensures page { TellsPage bytes.now result }
     ensures health { TellsHealth (L.means.has_failed ledgers.old) bytes.now result }
     ensures failed { TellsFailure (L.means.has_failed ledgers.old) bytes.now result }
-    ensures finds { Finds L.means (IsAnswered bytes.now result) (IsLeftBy bytes.now moment)
+    ensures finds { Finds L.means (IsQuestionAnswered bytes.now result) (IsLeftBy bytes.now moment)
         ledgers.old ledgers.new }
     ensures usable { L.means.is_usable ledgers.new }
     ensures follows { L.means.follows ledgers.old ledgers.new }

@@ -7,7 +7,7 @@ ghost use Rattle.service.specs.Replies.{unavailable};
 ghost use Rattle.chain.specs.LedgerReads.{IsTold};
 ghost use Rattle.chain.specs.declared.reads.ReadFault.TheVariants as fault;
 ghost use Rattle.records.specs.declared.unavailable.Unavailable.{Unavailable};
-ghost use Rattle.service.specs.Reading.{Shows, refusal_of};
+ghost use Rattle.service.specs.Reading.{ShowsOutcome, refusal_of};
 
 use chain::ReadFault;
 use ledger_http::{Refusal, Reply};
@@ -35,7 +35,7 @@ pub(crate) fn refusal_of(fault: ReadFault) -> Refusal
 
 /// The reply to a read.
 pub(crate) fn reply_to_read(alloc: Global, read: Result<Outcome, ReadFault>) -> Reply
-    ensures shows { (told : Outcome) → Shows told read → result ≢ unavailable
+    ensures shows { (told : Outcome) → ShowsOutcome told read → result ≢ unavailable
         → reply_text result ≡ outcome_text told }
     ensures told { result ≢ unavailable → IsTold read }
     ensures failed { (why : Unavailable) → read ≡ Err (fault.Unavailable why)

@@ -1,7 +1,7 @@
 //! Statements, which are told in parts.
 ghost use Rattle.std.specs.Prelude.{◌≡◌, ◌≢◌, ℕ, true, IfSome, Ok, Some};
 ghost use Rattle.chain.specs.Ledgers.{Finds, KeepsAll};
-ghost use Rattle.chain.specs.LedgerReads.{Reads};
+ghost use Rattle.chain.specs.LedgerReads.{ReadsOnly};
 ghost use Rattle.ledger_http.specs.ReplyText.{reply_text};
 ghost use Rattle.wire.specs.declared.request.Request.TheVariants.{Statement};
 ghost use Rattle.service.specs.Begun.{IsLeftOf, reply_of, reply_with, whole};
@@ -63,7 +63,7 @@ pub(crate) fn finish_statement<L: Ledgers>(
     ensures text { L.means.is_live ledgers.new → result ≢ unavailable → reply_text result
         ≡ reply_text (reply_with (L.means.tenants ledgers.old) front.now (Some rest)) }
     ensures finds { Finds L.means (result ≢ unavailable) KeepsAll ledgers.old ledgers.new }
-    ensures reads { Reads L.means ledgers.old ledgers.new }
+    ensures reads { ReadsOnly L.means ledgers.old ledgers.new }
 {
     let mut text = Vec::new(alloc);
     if text.extend_from_slice(front.bytes()).is_err() {

@@ -2,7 +2,7 @@
 ghost use Rattle.std.specs.Prelude.{◌≡◌};
 ghost use Rattle.chain.specs.Ledgers.{Finds};
 ghost use Rattle.service.specs.Courses.{is_unavailable};
-ghost use Rattle.service.specs.Responds.{RefusesEarly, IsAnswered, IsLeftBy};
+ghost use Rattle.service.specs.Responds.{RefusesEarly, IsQuestionAnswered, IsLeftBy};
 ghost use Rattle.service.specs.Turns.{RespondsTo, TakeTurns};
 
 use crate::responding::respond;
@@ -25,7 +25,7 @@ impl Message {
         ensures responds { L.means.is_live ledgers.new →
             RespondsTo (L.means.tenants ledgers.old) self.now result (L.means.tenants ledgers.new) }
         ensures early { RefusesEarly self.now.bytes.items result }
-        ensures finds { Finds L.means (IsAnswered self.now.bytes.items result)
+        ensures finds { Finds L.means (IsQuestionAnswered self.now.bytes.items result)
             (IsLeftBy self.now.bytes.items self.now.moment) ledgers.old ledgers.new }
         ensures usable { L.means.is_usable ledgers.new }
         ensures follows { L.means.follows ledgers.old ledgers.new }

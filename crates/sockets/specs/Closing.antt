@@ -26,6 +26,6 @@ left None seen = 0
 left (Some until) seen = as_nanos until - as_nanos seen
 
 -- that moment is past, whatever the moment is
-abbrev pub IsOver : Option Duration → Type 0
-IsOver None = ⊥
-IsOver (Some until) = as_nanos until ≡ 0
+abbrev pub IsMomentPast : Option Duration → Type 0
+IsMomentPast None = ⊥
+IsMomentPast (Some until) = as_nanos until ≡ 0

@@ -19,7 +19,7 @@ abbrev pub IsFull : Room → ℕ → Type 0
 IsFull room bytes = (room.waiting.items ≢ []) ⊎ (room.free < share room bytes)
 
 -- who waited first waits no more, and has its share
-pub record IsFirst (old new : Room) (let_in : Asked) : Type 0 where
+pub record IsLetIn (old new : Room) (let_in : Asked) : Type 0 where
   pub asked : ℕ
   pub order : old.waiting.items ≡ record let_in { bytes = asked } ∷ new.waiting.items
   pub share : let_in.bytes ≡ share old asked

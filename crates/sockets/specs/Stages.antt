@@ -33,11 +33,11 @@ IsMessage moment Room = ⊥
 IsMessage moment (Reply until) = ⊥
 
 -- it is to take a reply until this moment
-abbrev pub IsReply : ℕ → Stage → Type 0
-IsReply moment (Idle until) = ⊥
-IsReply moment (Message until) = ⊥
-IsReply moment Room = ⊥
-IsReply moment (Reply until) = as_nanos until ≡ moment
+abbrev pub TakesReplyUntil : ℕ → Stage → Type 0
+TakesReplyUntil moment (Idle until) = ⊥
+TakesReplyUntil moment (Message until) = ⊥
+TakesReplyUntil moment Room = ⊥
+TakesReplyUntil moment (Reply until) = as_nanos until ≡ moment
 
 -- behind bytes that were read: the first of a message give it its time, later ones no more
 abbrev pub IsBehindBytes : Limits → Duration → Stage → Stage → Type 0
@@ -50,9 +50,9 @@ IsBehindBytes limits now (Reply until) new = new ≡ Reply until
 -- later ones no more
 abbrev pub IsBehindPart : Limits → Duration → ℕ → Stage → Stage → Type 0
 IsBehindPart limits now size (Idle until) new =
-    IsReply (behind now (reply_nanos limits size)) new
+    TakesReplyUntil (behind now (reply_nanos limits size)) new
 IsBehindPart limits now size (Message until) new =
-    IsReply (behind now (reply_nanos limits size)) new
+    TakesReplyUntil (behind now (reply_nanos limits size)) new
 IsBehindPart limits now size Room new =
-    IsReply (behind now (reply_nanos limits size)) new
+    TakesReplyUntil (behind now (reply_nanos limits size)) new
 IsBehindPart limits now size (Reply until) new = new ≡ Reply until

@@ -1,7 +1,7 @@
 //! How serving ends.
 ghost use Rattle.std.specs.Prelude.{◌≡◌, None};
 ghost use Rattle.std.specs.Duration.{as_nanos};
-ghost use Rattle.sockets.specs.Closing.{phase, IsUntil, left, IsOver};
+ghost use Rattle.sockets.specs.Closing.{phase, IsUntil, left, IsMomentPast};
 
 use crate::stages::has_come;
 use std::time::Duration;
@@ -67,7 +67,7 @@ impl Closing {
 
     /// Nobody is left to be served.
     pub(crate) fn end(&mut self)
-        ensures { IsOver self.new.until }
+        ensures { IsMomentPast self.new.until }
     {
         self.until = Some(Duration::ZERO);
     }

@@ -1,6 +1,6 @@
 //! Room for long messages.
 ghost use Rattle.std.specs.Prelude.{◌≡◌, ◌≤◌, ◌+◌, ◌-◌, ◌^◌, ◌++◌, ◌∷◌, [], min, filter, not, nat_eq, IfSome, IfNone, OnOk, OnErr};
-ghost use Rattle.sockets.specs.Room.{IsFirst, IsFull, IsTaken, IsTooLong, share};
+ghost use Rattle.sockets.specs.Room.{IsLetIn, IsFull, IsTaken, IsTooLong, share};
 
 use std::alloc::{AllocError, Global};
 use std::collections::VecDeque;
@@ -75,7 +75,7 @@ impl Room {
     /// Whoever has waited for longest takes its room, where there is as much. Says who, and how much.
     /// Where all room is free nobody is left to wait.
     pub(crate) fn admit(&mut self) -> Option<Asked>
-        ensures first { IfSome result (IsFirst self.old self.new) }
+        ensures first { IfSome result (IsLetIn self.old self.new) }
         ensures none { IfNone result (IsTooLong self.old) }
         ensures never { IfNone result (self.old.all ≤ self.old.free → self.old.waiting.items ≡ []) }
         ensures same { IfNone result (self.new ≡ self.old) }

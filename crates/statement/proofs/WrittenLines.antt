@@ -3,7 +3,7 @@ use Rattle.std.proofs.Common.{◌≡◌, ◌∙◌, ◌∷◌, ◌++◌, ◌+◌
 use Rattle.records.specs.declared.balances.Balances.{Balances}
 use Rattle.records.specs.declared.statement_row.StatementRow.{StatementRow}
 use Rattle.records.specs.declared.transfer.Transfer.{Transfer}
-use Rattle.statement.specs.Lines.{IsNext, all_lines, closing_line, entry_line, entry_lines, opening_line}
+use Rattle.statement.specs.Lines.{IsNextDetails, all_lines, closing_line, entry_line, entry_lines, opening_line}
 use Rattle.statement.specs.Written.{extract_text, line_text, lines_text, names_line, sums_text}
 use Rattle.statement.specs.declared.details.Details.{Details}
 use Rattle.statement.specs.declared.form.Form.{Form}
@@ -11,7 +11,7 @@ use Rattle.statement.specs.declared.layout.Layout.{Layout}
 use Rattle.statement.specs.declared.wide_line.Line.{Line}
 
 -- the line of an entry, and those of the entries behind it
-next_line : (row : StatementRow) (rows : List StatementRow) (transfers rest : List Transfer) (details : Details) → IsNext row.side transfers details rest
+next_line : (row : StatementRow) (rows : List StatementRow) (transfers rest : List Transfer) (details : Details) → IsNextDetails row.side transfers details rest
     → entry_lines (row ∷ rows) transfers ≡ entry_line row details ∷ entry_lines rows rest
 next_line row rows [] rest details next =
     ap₂ (λ (d : Details) (ts : List Transfer). entry_line row d ∷ entry_lines rows ts) (sym next.0) (sym next.1)
@@ -20,7 +20,7 @@ next_line row rows (transfer ∷ transfers) rest details next =
 
 -- an entry's line more
 pub one_entry_more : (form : Form) (is_wide : Bool) (rows : List StatementRow) (i : ℕ) (row : StatementRow) (transfers rest : List Transfer) (details : Details)
-    (line : Line) (out new whole : List ℕ) → i < length rows → row ≡ get_or rows i row → IsNext row.side transfers details rest → line ≡ entry_line row details
+    (line : Line) (out new whole : List ℕ) → i < length rows → row ≡ get_or rows i row → IsNextDetails row.side transfers details rest → line ≡ entry_line row details
     → new ≡ out ++ line_text form is_wide line → out ++ lines_text form is_wide (entry_lines (drop i rows) transfers) ≡ whole
     → new ++ lines_text form is_wide (entry_lines (drop (i + 1) rows) rest) ≡ whole
 one_entry_more form is_wide rows i row transfers rest details line out new whole inside is next told written before =

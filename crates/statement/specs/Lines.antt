@@ -63,9 +63,9 @@ abbrev pub closing_line : Balances → Line
 closing_line balances = record (opening_line balances) { kind = Closing }
 
 -- what is told of the first of some transfers, and those behind it
-abbrev pub IsNext : Side → List Transfer → Details → List Transfer → Type 0
-IsNext side [] details rest = (details ≡ no_details) × (rest ≡ [])
-IsNext side (transfer ∷ transfers) details rest =
+abbrev pub IsNextDetails : Side → List Transfer → Details → List Transfer → Type 0
+IsNextDetails side [] details rest = (details ≡ no_details) × (rest ≡ [])
+IsNextDetails side (transfer ∷ transfers) details rest =
     (details ≡ details_of side transfer) × (rest ≡ transfers)
 
 -- the lines of entries, each with its transfer; where their transfers are not asked for, there are

@@ -1,7 +1,7 @@
 //! The statement of a period.
 ghost use Rattle.std.specs.Prelude.{◌≡◌, ◌++◌, IfOk, OnOk};
 ghost use Rattle.statement.specs.Extract.{closing_of, kept_of, opening_of};
-ghost use Rattle.statement.specs.Lines.{IsNext, entry_lines};
+ghost use Rattle.statement.specs.Lines.{IsNextDetails, entry_lines};
 ghost use Rattle.statement.specs.Written.{extract_text, lines_text, sums_text};
 
 use crate::details::Details;
@@ -13,7 +13,7 @@ use std::alloc::{AllocError, Global};
 
 // What is told of the next entry's transfer, and the transfers behind it.
 fn details_next<'a>(side: Side, transfers: &'a [Transfer]) -> (Details, &'a [Transfer])
-    ensures { IsNext side transfers.now result.0 result.1.now }
+    ensures { IsNextDetails side transfers.now result.0 result.1.now }
 {
     match transfers {
         [first, others @ ..] => (Details::of(side, first), others),

@@ -12,7 +12,7 @@ use Rattle.sqlite.specs.State.{State, HasCleanDisk}
 use Rattle.ledger_sql.specs.Frames.{Live, Follows}
 use Rattle.stored_ledgers.specs.Directory.{tenants_in}
 use Rattle.stored_ledgers.specs.DueSets.{DueSets}
-use Rattle.stored_ledgers.specs.Resting.{IsResting, IsSame, Serves, HoldsHere}
+use Rattle.stored_ledgers.specs.Resting.{IsResting, IsSame, IsServing, HoldsHere}
 use Rattle.store.specs.Stores.{IsUsable, IsUsableAt, IsLiveAt, IsHonestAt, OfDatabaseAt, tenants_at, may_find_at, Answers, Reads}
 use Rattle.store.specs.declared.place.Place.{Place}
 use Rattle.store.specs.declared.place.Place.TheVariants as at
@@ -26,14 +26,14 @@ clean_before : (a b : State) → Follows a b → HasCleanDisk b → HasCleanDisk
 clean_before a b f clean = omega (arith, f.survives.clean, clean)
 
 -- a connection that serves holds ledgers
-pub holds_here : (sets : DueSets) (s : State) → Serves sets s → HoldsHere s
+pub holds_here : (sets : DueSets) (s : State) → IsServing sets s → HoldsHere s
 holds_here sets s serves clean =
     let now = serves clean in (now.0, now.1.quiet, now.1.ledgers)
 
 module _ {D : Type 0} (g : disk.Ghosts D) where
   -- a store that answers serves
   pub serves_open : (ready : Bool) (sets : DueSets) (place : Place D g) (conn : Held (FileStore D g))
-      → place ≡ at.Open conn → ready ≡ true → IsUsableAt ready sets place → Serves sets (file_state conn)
+      → place ≡ at.Open conn → ready ≡ true → IsUsableAt ready sets place → IsServing sets (file_state conn)
   serves_open ready sets place conn is answers usable clean =
       let here : IsUsableAt ready sets (at.Open conn) = subst (IsUsableAt ready sets) is usable in
       let is_open = here.1 answers clean in

@@ -10,7 +10,7 @@ use Rattle.sqlite_wal.specs.Recovery.{Image}
 use Rattle.sqlite.specs.Effect.{Database}
 use Rattle.sqlite.specs.Files.{HoldsDatabase, AreFoundIn, image_of, file_state}
 use Rattle.openings.specs.Damage.{Hold}
-use Rattle.openings.specs.Found.{FilesStay, IsThere, Yields}
+use Rattle.openings.specs.Found.{FilesStay, AreOnlyThere, Yields}
 use Rattle.store.specs.Stores.{IsHonest, IsHonestAt, IsOpenedAt, KeepsFound}
 use Rattle.store.specs.Stores.{FindsAt, GivesBack, GivesBackAt, left_in, may_find_at}
 use Rattle.store.specs.declared.place.Place.{Place}
@@ -31,7 +31,7 @@ module _ {D : Type 0} (g : disk.Ghosts D) (files : Files D) (clean : AreClean g 
 module _ {D : Type 0} (g : disk.Ghosts D) (stays : (file : D) → g.may_leave file (g.seen file)) (files : Files D)
     (clean : AreClean g files.log files.db) where
   -- the files as they read now are an outcome of a crash
-  found_of : (place : Place D g) (trees : Trees) → GivesBackAt place files → IsThere (image_of g files) trees
+  found_of : (place : Place D g) (trees : Trees) → GivesBackAt place files → AreOnlyThere (image_of g files) trees
       → ∥ may_find_at place trees ∥₁
   found_of place trees back there =
       found_in g files clean place (image_of g files) trees back (stays files.log, stays files.db)
@@ -57,7 +57,7 @@ module _ {D : Type 0} (g : disk.Ghosts D) (stays : (file : D) → g.may_leave fi
 
   -- and what is found in files that hold what these held
   stayed : (old : Place D g) (left : Files D) → GivesBackAt old files → AreClean g left.log left.db
-      → Yields g left (IsThere (image_of g files)) → (db : Trees) → left_in g left db → ∥ may_find_at old db ∥₁
+      → Yields g left (AreOnlyThere (image_of g files)) → (db : Trees) → left_in g left db → ∥ may_find_at old db ∥₁
   stayed old left back honest yields db here =
       ∥∥₁_elim (yields honest here.0 here.1) squash₁ (λ held.
       subst (λ (trees : Trees). ∥ may_find_at old trees ∥₁) (sym (here.3 held.0 held.2))

@@ -1,7 +1,7 @@
 -- What the opening of a store again leaves of it.
 use Rattle.std.specs.Prelude.{◌≡◌, ℕ, false, Result, IfErr, OnOk, OnErr}
 use Rattle.sqlite_disk.specs.declared.Disk as disk
-use Rattle.openings.specs.Damage.{IfDamaged, IsDamagedIn}
+use Rattle.openings.specs.Damage.{IfOpeningDamaged, IsDamagedIn}
 use Rattle.openings.specs.declared.refused.Refused.{Refused}
 use Rattle.store.specs.Stores.{Finds, IsHonest, IsLive, IsReady, IsUsable, LeavesStore, MayHold, may_find}
 use Rattle.store.specs.declared.store.Store.{Store}
@@ -16,7 +16,7 @@ pub record OpensAgain {D A : Type 0} {g : disk.Ghosts D} (version : ℕ) (old ne
   pub found : IsHonest new → OnOk result (Finds new (may_find old))
   pub honest : IsHonest new → OnOk result (IsHonest old)
   pub damaged :
-      IsHonest new → IfErr result (λ refused. IfDamaged refused.fault
+      IsHonest new → IfErr result (λ refused. IfOpeningDamaged refused.fault
       (λ damage. MayHold old (IsDamagedIn version damage)))
   pub left : IfErr result (λ refused. LeavesStore refused old new)
   pub refused : OnErr result (new.ready ≡ false)

@@ -18,9 +18,9 @@ use Rattle.ledger_sql.specs.Frames.{Live}
 use Rattle.stored_ledgers.specs.Directory.{tenants_in}
 use Rattle.stored_ledgers.specs.DueSets.{DueSets}
 use Rattle.stored_ledgers.specs.Outcomes.{KeepsTables}
-use Rattle.openings.specs.Found.{IsOfLedger, IsSettled, LeavesUnopened, Yields}
-use Rattle.openings.specs.Opened.{IsOpened}
-use Rattle.openings.specs.Told.{IsSoundLedger, IsTold}
+use Rattle.openings.specs.Found.{IsOfLedger, LeavesCommitted, LeavesUnopened, Yields}
+use Rattle.openings.specs.Opened.{WasOpenedOn}
+use Rattle.openings.specs.Told.{IsSoundLedger, IsFaultTold}
 use Rattle.openings.specs.declared.opening.OpenFault.{OpenFault}
 use Rattle.openings.specs.declared.refused.Refused.{Refused}
 use Rattle.stored_ledgers.specs.Resting.{IsResting}
@@ -145,7 +145,7 @@ module _ {D : Type 0} {g : disk.Ghosts D} where
 
   -- a crash leaves what is there, and nothing else
   abbrev pub IsSettledAt : Place D g → Type 0
-  IsSettledAt (at.Open conn) = IsSettled (file_state conn)
+  IsSettledAt (at.Open conn) = LeavesCommitted (file_state conn)
   IsSettledAt (at.Shut files) = Unit {0}
 
   abbrev pub IsSettledStore : Store D g → Type 0
@@ -192,7 +192,7 @@ module _ {D : Type 0} {g : disk.Ghosts D} where
   -- a store was opened on what the files held, which was a sound ledger
   abbrev pub IsOpenedAt : Image → Place D g → Type 0
   IsOpenedAt image (at.Open conn) =
-      IsOpened image (file_state conn) × IsSoundLedger (file_state conn).now
+      WasOpenedOn image (file_state conn) × IsSoundLedger (file_state conn).now
   IsOpenedAt image (at.Shut files) = ⊥
 
   abbrev pub IsOpenedOn : Image → Store D g → Type 0
@@ -218,7 +218,7 @@ module _ {D : Type 0} {g : disk.Ghosts D} where
     pub back : GivesBack old files
     pub left : Files D
     pub place : new.place ≡ at.Shut left
-    pub told : AreClean g left.log left.db → IsTold g files fault left
+    pub told : AreClean g left.log left.db → IsFaultTold g files fault left
 
   -- what a reopening that was refused leaves, as it tells: where it is told that the files stand, an
   -- opening finds what it might have found before, and so it is told of each fault of the ledger that

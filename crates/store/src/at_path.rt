@@ -4,7 +4,7 @@ ghost use Rattle.std.specs.Prelude.{◌≡◌, IfErr, IfOk};
 ghost use Rattle.sqlite_wal.specs.Files.{image_at};
 ghost use Rattle.ledger_sql.specs.Creating.{IsEmptyLedger};
 ghost use Rattle.openings.specs.AtPath.{LeavesPath};
-ghost use Rattle.openings.specs.Found.{FindsNone};
+ghost use Rattle.openings.specs.Found.{FindsNoSchema};
 ghost use Rattle.openings.specs.Refused.{RefusesToMake};
 ghost use Rattle.store.specs.Refused.{RefusesToOpen};
 ghost use Rattle.store.specs.Stores.{IsHonest, IsLive, IsOpenedOn, IsReady, IsUsable, OfDatabase};
@@ -30,7 +30,7 @@ impl<St: Start> Store<FileFrom<St>> {
         ensures ready { IfOk result IsReady }
         ensures empty { IfOk result (λ store. IsHonest store → IsLive store
             × OfDatabase (λ db. IsEmptyLedger db.trees) store) }
-        ensures blank { IfOk result (λ store. IsHonest store → FindsNone (image_at St.Start)) }
+        ensures blank { IfOk result (λ store. IsHonest store → FindsNoSchema (image_at St.Start)) }
         ensures refused { IfErr result (λ e. LeavesPath ⟦<FileFrom<St> as Disk>⟧
             (image_at St.Start) (RefusesToMake ⟦<FileFrom<St> as Disk>⟧) e.0 e.1) }
     {

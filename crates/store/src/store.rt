@@ -10,12 +10,12 @@ ghost use Rattle.sqlite_wal.specs.Reads.{AreClean};
 ghost use Rattle.ledger_sql.specs.Creating.{IsEmptyLedger};
 ghost use Rattle.stored_ledgers.specs.Directory.{digest_in};
 ghost use Rattle.openings.specs.Calls.{AreUsable};
-ghost use Rattle.openings.specs.Found.{FindsNone};
+ghost use Rattle.openings.specs.Found.{FindsNoSchema};
 ghost use Rattle.stored_ledgers.specs.Listing.{AreListed};
 ghost use Rattle.stored_ledgers.specs.Joining.{HasJoined, Joined};
 ghost use Rattle.stored_ledgers.specs.Keying.{HasKeyed, Keyed};
 ghost use Rattle.openings.specs.Refused.{RefusesToMake};
-ghost use Rattle.stored_ledgers.specs.Resting.{Serves};
+ghost use Rattle.stored_ledgers.specs.Resting.{IsServing};
 ghost use Rattle.stored_ledgers.specs.Rounds.{IsAfterRound};
 ghost use Rattle.service.specs.Courses.{Tried};
 ghost use Rattle.service.specs.Deeds.{Joined as DeedJoined, Keyed as DeedKeyed};
@@ -25,7 +25,7 @@ ghost use Rattle.store.specs.Names.{digest_named};
 ghost use Rattle.store.specs.Refused.{RefusesToOpen};
 ghost use Rattle.store.specs.StoreLaws.{store_meaning};
 ghost use Rattle.store.specs.Stores.{IsLive, IsHonest, IsOpenedOn, IsReady, IsStoreOver, tenants_of, GivesBack, IsUsable, Goes, OfDatabase, OfDatabases, IsSettledStore, Answers, Reads};
-ghost use Rattle.openings.specs.Whole.{AreAllRows, AreRowsOf};
+ghost use Rattle.openings.specs.Whole.{AreAllRows, AreRowsOfDigest};
 
 use crate::place::Place;
 use chain::{BatchFault, RoundWork, Work};
@@ -78,7 +78,7 @@ impl<D: Disk + Drop> Store<D> {
         ensures empty { IfOk result (λ store. IsHonest store → IsLive store
             × OfDatabase (λ db. IsEmptyLedger db.trees) store) }
         ensures blank { IfOk result (λ store. IsHonest store
-            → FindsNone (image_of D.Disk files)) }
+            → FindsNoSchema (image_of D.Disk files)) }
         ensures honest { IfOk result (λ store. IsHonest store
             → AreClean D.Disk files.log files.db) }
         ensures refused { IfErr result (RefusesToMake D.Disk files) }
@@ -117,7 +117,7 @@ impl<D: Disk + Drop> Store<D> {
         due: DueSets,
         options: Options,
     ) -> Store<D>
-        requires { Serves due (file_state conn) }
+        requires { IsServing due (file_state conn) }
         ensures usable { IsUsable result }
         ensures ready { IsReady result }
         ensures over { IsStoreOver conn result }
@@ -212,7 +212,7 @@ impl<D: Disk + Drop> Store<D> {
     pub fn rows_of(&mut self, digest: &[u8; 32]) -> Result<Option<TenantRows>, Unavailable>
         requires { IsUsable self.old }
         ensures value { IsLive self.new → IfOk result (λ rows. OfDatabase
-            (λ db. AreRowsOf CURRENT_VERSION digest.now db.trees rows) self.old) }
+            (λ db. AreRowsOfDigest CURRENT_VERSION digest.now db.trees rows) self.old) }
         ensures reads { Reads self.old self.new result }
     {
         if !self.ready {

@@ -15,7 +15,7 @@ use Rattle.std.specs.BTreeSet.{contains}
 use Rattle.std.specs.Cmp.{IsTotalOrder}
 use Rattle.std.proofs.lemmas.Bool.{cases_Bool}
 use Rattle.stored_ledgers.specs.DueSets.{DueSet, due_cmp}
-use Rattle.stored_ledgers.specs.Overdue.{HasHold, HasOneAt, IsNotOverdue, IsPiece, due_within}
+use Rattle.stored_ledgers.specs.Overdue.{HasHold, HasOneAt, IsNotOverdue, IsDuePiece, due_within}
 
 -- tests that agree on all elements count alike, and one that none passes counts none
 count_same : {X : Type 0} (p q : X → Bool) (xs : List X) → All (λ x. p x ≡ q x) xs
@@ -170,7 +170,7 @@ parts p keys seen rest is = ap (count_by p) is ∙ sum_by-append (λ h. cond (p 
 pub read_all : (set : DueSet) (first released moment until count : ℕ) (seen rest : List (ℕ × ℕ))
     → set.keys ≡ seen ++ rest → All (λ h. moment < h.0) rest
     → IsRead set first released moment until count seen → HasOneAt set first
-    → IsPiece set released moment (record { until = until; has_more = false })
+    → IsDuePiece set released moment (record { until = until; has_more = false })
 read_all set first released moment until count seen rest keys later read has =
     let due : ℕ × ℕ → Bool = λ h. nat_lt released h.0 && nat_le h.0 moment in
     let before : ℕ × ℕ → Bool = λ h. nat_lt released h.0 && nat_lt h.0 until in
@@ -224,7 +224,7 @@ pub read_enough : (set : DueSet) (first released moment until count : ℕ)
     → set.keys ≡ seen ++ hold ∷ rest → IsStrictlySortedBy due_cmp set.keys
     → hold.0 ≤ moment → count ≡ 200
     → IsRead set first released moment until count seen → HasOneAt set first
-    → IsPiece set released moment (record { until = until; has_more = true })
+    → IsDuePiece set released moment (record { until = until; has_more = true })
 read_enough set first released moment until count seen hold rest keys sorted by full read has =
     let due : ℕ × ℕ → Bool = λ h. nat_lt released h.0 && nat_le h.0 moment in
     let told : ℕ × ℕ → Bool = λ h. nat_lt released h.0 && nat_le h.0 until in

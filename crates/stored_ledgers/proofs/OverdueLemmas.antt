@@ -11,7 +11,7 @@ use Rattle.std.specs.Prelude.{Some, ◌-◌, ◌<◌}
 use Rattle.stored_tables.specs.Covers.{IsCovered}
 use Rattle.stored_tables.specs.MachineOf.{machine_of}
 use Rattle.stored_ledgers.specs.DueSets.{DueSet, DueSets, CoversMachine, due_cmp}
-use Rattle.stored_ledgers.specs.Overdue.{IsNotOverdue, IsTimely, Begins, least_number, ArePassed, FindsNone, WholeSearchTells}
+use Rattle.stored_ledgers.specs.Overdue.{IsNotOverdue, IsTimely, BeginsSearch, least_number, ArePassed, FindsNone, WholeSearchTells}
 use Rattle.stored_ledgers.specs.declared.due_search.Search.{Search}
 
 -- a set that is not overdue, and covers a machine
@@ -25,8 +25,8 @@ timely set released moment m covers quiet =
     (rows_for 3 m).statuses covers.all
 
 -- a search that begins and begins anew has passed all
-all_passed : (due : DueSets) (moment : ℕ) (old new : Search) → Begins old
-    → FindsNone due moment old new → Begins new → ArePassed due moment old
+all_passed : (due : DueSets) (moment : ℕ) (old new : Search) → BeginsSearch old
+    → FindsNone due moment old new → BeginsSearch new → ArePassed due moment old
 all_passed due moment old new begins none anew = elim none.0 [
   | inl whole ↦ whole.passed
   | inr on ↦ absurd (let later = on.later in

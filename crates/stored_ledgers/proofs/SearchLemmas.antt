@@ -18,7 +18,7 @@ use Rattle.std.proofs.lemmas.Map.Views.{range_contains-from_IsInRange, btree_map
 use Rattle.stored_ledgers.specs.DueSets.{DueSet, DueSets}
 use Rattle.stored_ledgers.specs.declared.due_search.Search.{Search}
 use Rattle.stored_ledgers.specs.declared.due_search.Piece.{Piece}
-use Rattle.stored_ledgers.specs.Overdue.{IsOverdue, IsNotOverdue, IsPiece, Begins, number_behind, settled_to, ArePassed, ArePassedBefore, FindsOverdue, FindsNone}
+use Rattle.stored_ledgers.specs.Overdue.{IsOverdue, IsNotOverdue, IsDuePiece, BeginsSearch, number_behind, settled_to, ArePassed, ArePassedBefore, FindsOverdue, FindsNone}
 
 -- what the order of two numbers says
 less_is : (a b : ℤ) → int_cmp a b ≡ Less → a <ℤ b
@@ -207,7 +207,7 @@ stops due moment old new seen e rest is sorted there all some from last = (
 pub begins_anew : (due : DueSets) (moment : ℕ) (old new : Search) (seen : List (ℤ × DueSet))
     → entries_on old.from due ≡ seen ++ [] → IsOrdered int_cmp due
     → All (λ s. IsNotOverdue s.1 (settled_to old s.0) moment) seen
-    → Begins new → new.last ≡ old.last → FindsNone due moment old new
+    → BeginsSearch new → new.last ≡ old.last → FindsNone due moment old new
 begins_anew due moment old new seen is sorted all begins last =
     (inl (record { passed = passed_all due moment old seen is sorted all; begins = begins }), last)
 
@@ -218,12 +218,12 @@ pub finds : (due : DueSets) (moment : ℕ) (old new : Search) (seen : List (ℤ 
     → All (IsEntryInRange int_cmp (Included old.from) Unbounded due) (entries_on old.from due)
     → All (λ s. IsNotOverdue s.1 (settled_to old s.0) moment) seen → number ≡ e.0
     → released ≡ settled_to old e.0
-    → IsOverdue e.1 released moment × IsPiece e.1 released moment piece
+    → IsOverdue e.1 released moment × IsDuePiece e.1 released moment piece
     → new.from ≡ number_behind number → new.last ≡ (number, piece.until)
     → FindsOverdue due moment old new number piece
 finds due moment old new seen e rest number piece released is sorted there all same to told =
     let next = next_there old.from due seen e rest is there in
-    let settled = subst (λ r. IsOverdue e.1 r moment × IsPiece e.1 r moment piece) to told in
+    let settled = subst (λ r. IsOverdue e.1 r moment × IsDuePiece e.1 r moment piece) to told in
     let P : ℤ → Type 0 = λ n. new.from ≡ number_behind n → new.last ≡ (n, piece.until)
     → FindsOverdue due moment old new n piece in
     subst P (sym same) (λ from last. record {

@@ -75,7 +75,7 @@ number_is (Text bytes) number is = absurd (cc)
 number_is (Blob bytes) number is = absurd (cc)
 
 -- the row of a tenant that is found by its digest
-pub record IsFound (digest : List ℕ) (number : ℤ) (rows : List Row) : Type 0 where
+pub record IsFoundByDigest (digest : List ℕ) (number : ℤ) (rows : List Row) : Type 0 where
   pub row : Row
   pub among : Among row rows
   pub has_digest : is_blob digest (column row 2) ≡ true
@@ -83,7 +83,7 @@ pub record IsFound (digest : List ℕ) (number : ℤ) (rows : List Row) : Type 0
 
 found_first : (digest : List ℕ) (number : ℤ) (rows found : List Row)
     → filter (λ row. is_blob digest (column row 2)) rows ≡ found → first_number found ≡ Some number
-    → IsFound digest number rows
+    → IsFoundByDigest digest number rows
 found_first digest number rows [] same is = absurd (cc)
 found_first digest number rows (row ∷ rest) same is =
     let head = filter_head _ rows row rest same in record {
@@ -94,7 +94,7 @@ found_first digest number rows (row ∷ rest) same is =
     }
 
 pub found_row : (digest : List ℕ) (number : ℤ) (trees : Trees)
-    → number_of digest trees ≡ Some number → IsFound digest number (directory_rows trees)
+    → number_of digest trees ≡ Some number → IsFoundByDigest digest number (directory_rows trees)
 unfolding number_of
 found_row digest number trees is =
     found_first digest number (directory_rows trees) (with_digest digest trees) refl is

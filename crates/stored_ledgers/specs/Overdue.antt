@@ -48,7 +48,7 @@ pub record IsNotOverdue (set : DueSet) (released moment : ℕ) : Type 0 where
 
 -- what is released of it at once: up to the last that is due by the moment, or, where more are due
 -- since the tenant was settled than are released at once, up to the last of the first so many
-pub record IsPiece (set : DueSet) (released moment : ℕ) (piece : Piece) : Type 0 where
+pub record IsDuePiece (set : DueSet) (released moment : ℕ) (piece : Piece) : Type 0 where
   pub by : piece.until ≤ moment
   pub at : HasOneAt set piece.until
   pub few : due_between set released piece.until < PIECE
@@ -66,8 +66,8 @@ abbrev pub number_behind : ℤ → ℤ
 number_behind number = int_wrapping_add w64 number (pos 1)
 
 -- the search begins with the first tenant
-abbrev pub Begins : Search → Type 0
-Begins search = search.from ≡ least_number
+abbrev pub BeginsSearch : Search → Type 0
+BeginsSearch search = search.from ≡ least_number
 
 -- to what time a tenant was settled, as far as the search knows
 abbrev pub settled_to : Search → ℤ → ℕ
@@ -96,7 +96,7 @@ pub record FindsOverdue (due : DueSets) (moment : ℕ) (old new : Search) (numbe
   pub passed : ArePassedBefore due moment old number
   pub found : (set : DueSet) × (get int_cmp due number ≡ Some set)
       × IsOverdue set (settled_to old number) moment
-      × IsPiece set (settled_to old number) moment piece
+      × IsDuePiece set (settled_to old number) moment piece
   pub goes_on : new.from ≡ number_behind number
   pub last : new.last ≡ (number, piece.until)
 
@@ -117,17 +117,17 @@ piece_of overdue = record { until = overdue.until; has_more = overdue.has_more }
 -- all that is left was passed, and the search begins anew
 pub record BeginsAnew (due : DueSets) (moment : ℕ) (old new : Search) : Type 0 where
   pub passed : ArePassed due moment old
-  pub begins : Begins new
+  pub begins : BeginsSearch new
 
 -- some were passed, and the search goes on at a later number
-pub record GoesOn (due : DueSets) (moment : ℕ) (old new : Search) : Type 0 where
+pub record SearchGoesOn (due : DueSets) (moment : ℕ) (old new : Search) : Type 0 where
   pub passed : ArePassedBefore due moment old new.from
   pub later : old.from <ℤ new.from
 
 -- nothing was found
 abbrev pub FindsNone : DueSets → ℕ → Search → Search → Type 0
 FindsNone due moment old new =
-    (BeginsAnew due moment old new ⊎ GoesOn due moment old new) × (new.last ≡ old.last)
+    (BeginsAnew due moment old new ⊎ SearchGoesOn due moment old new) × (new.last ≡ old.last)
 
 -- no open pending transfer of a machine has been due for a second
 abbrev pub IsTimely : Machine → ℕ → Type 0
@@ -139,6 +139,6 @@ IsTimely m moment = All (λ row. (due : ℕ) → row.state ≡ Open → row.due 
 abbrev pub WholeSearchTells : Type 0
 WholeSearchTells =
     (due : DueSets) (moment : ℕ) (old new : Search) (trees : Trees) → AreCovered due trees
-    → Begins old → FindsNone due moment old new → Begins new
+    → BeginsSearch old → FindsNone due moment old new → BeginsSearch new
     → (digest : List ℕ) (number : ℤ) → number_of digest trees ≡ Some number
     → least_number ≤ℤ number → IsTimely (machine_of number trees) moment

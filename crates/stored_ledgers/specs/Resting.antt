@@ -29,8 +29,8 @@ pub record CanServe (sets : DueSets) (db : Database) : Type 0 where
   pub covered : AreCovered sets db.trees
 
 -- as long as the disk was honest it is open and rests
-abbrev pub Serves : DueSets → State → Type 0
-Serves sets s = HasCleanDisk s → IsTrue s.is_open × IsResting sets s
+abbrev pub IsServing : DueSets → State → Type 0
+IsServing sets s = HasCleanDisk s → IsTrue s.is_open × IsResting sets s
 
 -- a new ledger: the tables of the current version, with no tenant
 pub record IsNewLedger (s : State) : Type 0 where

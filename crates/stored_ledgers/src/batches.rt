@@ -9,7 +9,7 @@ ghost use Rattle.ledger_sql.specs.Frames.{Live};
 ghost use Rattle.stored_ledgers.specs.Calls.{ServesOn};
 ghost use Rattle.stored_ledgers.specs.Directory.{tenants_in};
 ghost use Rattle.stored_ledgers.specs.Outcomes.{batch_answer, IsAfterBatch, IsBatchTimed, KeepsTables};
-ghost use Rattle.stored_ledgers.specs.Resting.{Serves, CanServe};
+ghost use Rattle.stored_ledgers.specs.Resting.{IsServing, CanServe};
 
 use crate::transactions::{Change, in_transaction};
 use crate::working::{Worked, forget, work_here};
@@ -33,7 +33,7 @@ pub fn in_batch<S: Alter, W: Work + Drop>(
     digest: &[u8; 32],
     work: W,
 ) -> Result<Result<W::Output, UnknownKey>, Unavailable>
-    requires { Serves due.old (state S.Store conn.old) }
+    requires { IsServing due.old (state S.Store conn.old) }
     ensures run { Live (state S.Store conn.new) → IsRun (W.gives work) digest.now
         (tenants_in (state S.Store conn.old).now.trees)
         (tenants_in (state S.Store conn.new).now.trees) (batch_answer result) }

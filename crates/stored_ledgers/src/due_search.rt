@@ -1,8 +1,8 @@
 //! The search for tenants with holds that are due, over the due times in memory.
 
 ghost use Rattle.std.specs.Prelude.{◌≡◌, ◌≤◌, ◌↔◌, MatchOption, IsTrue};
-ghost use Rattle.stored_ledgers.specs.Overdue.{HasOneAt, IsOverdue, IsNotOverdue, IsPiece};
-ghost use Rattle.stored_ledgers.specs.Overdue.{Begins, settled_to, least_number};
+ghost use Rattle.stored_ledgers.specs.Overdue.{HasOneAt, IsOverdue, IsNotOverdue, IsDuePiece};
+ghost use Rattle.stored_ledgers.specs.Overdue.{BeginsSearch, settled_to, least_number};
 ghost use Rattle.stored_ledgers.specs.Overdue.{FindsOverdue, FindsNone};
 
 use crate::batches::DueSets;
@@ -31,7 +31,7 @@ pub(crate) struct Piece {
 /// that are already, where the earliest of all is due at `first`.
 fn first_holds(set: &BTreeSet<(u64, u128)>, first: u64, released: u64, moment: u64) -> Piece
     requires { first ≤ moment }
-    ensures { HasOneAt set.now first → IsPiece set.now released moment result }
+    ensures { HasOneAt set.now first → IsDuePiece set.now released moment result }
 {
     let mut until = first;
     let mut count = 0;
@@ -64,7 +64,7 @@ fn first_holds(set: &BTreeSet<(u64, u128)>, first: u64, released: u64, moment: u
 /// already: then one more batch drops that.
 fn due_in(set: &BTreeSet<(u64, u128)>, released: u64, moment: u64) -> Option<Piece>
     ensures { MatchOption result (IsNotOverdue set.now released moment) (λ piece.
-        IsOverdue set.now released moment × IsPiece set.now released moment piece) }
+        IsOverdue set.now released moment × IsDuePiece set.now released moment piece) }
 {
     let first = set.first()?.0;
     if first > moment {
@@ -91,7 +91,7 @@ pub struct Search {
 impl Search {
     /// One that begins.
     pub fn new() -> Search
-        ensures begins { Begins result }
+        ensures begins { BeginsSearch result }
         ensures last { result.last ≡ (least_number, 0) }
     {
         Search {
@@ -102,7 +102,7 @@ impl Search {
 
     /// Whether it begins, since all tenants were looked at or none was.
     pub fn begins(&self) -> bool
-        ensures { IsTrue result ↔ Begins self.now }
+        ensures { IsTrue result ↔ BeginsSearch self.now }
     {
         self.from == i64::MIN
     }

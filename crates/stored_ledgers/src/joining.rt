@@ -12,7 +12,7 @@ ghost use Rattle.stored_ledgers.specs.Calls.{Sees, ServesOn};
 ghost use Rattle.stored_ledgers.specs.Directory.{IsLeastFree, IsLeastMissing, has_number, with_name, with_digest};
 ghost use Rattle.stored_ledgers.specs.Joining.{HasJoined, Joined, IsJoined, joining_answer, AreTaken};
 ghost use Rattle.stored_ledgers.specs.Ledger.{HoldsLedgers};
-ghost use Rattle.stored_ledgers.specs.Resting.{Serves, CanServe};
+ghost use Rattle.stored_ledgers.specs.Resting.{IsServing, CanServe};
 
 use crate::batches::DueSets;
 use crate::transactions::{Change, in_transaction};
@@ -52,7 +52,7 @@ pub fn join<S: Alter>(
     name: &TenantName,
     digest: &[u8; 32],
 ) -> Result<Result<(), Taken>, Unavailable>
-    requires { Serves due.old (state S.Store conn.old) }
+    requires { IsServing due.old (state S.Store conn.old) }
     ensures told { Live (state S.Store conn.new) → HasJoined name.now digest.now
         (state S.Store conn.old).now (state S.Store conn.new).now (joining_answer result) }
     ensures serves { ServesOn Disk due.new (state S.Store conn.new) result }

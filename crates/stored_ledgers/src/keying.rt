@@ -7,7 +7,7 @@ ghost use Rattle.sqlite.specs.Held.{state};
 ghost use Rattle.ledger_sql.specs.Frames.{Live};
 ghost use Rattle.stored_ledgers.specs.Calls.{ServesOn};
 ghost use Rattle.stored_ledgers.specs.Keying.{HasKeyed, Keyed, IsKeyed, IsKeyRefused, keying_answer};
-ghost use Rattle.stored_ledgers.specs.Resting.{Serves, CanServe};
+ghost use Rattle.stored_ledgers.specs.Resting.{IsServing, CanServe};
 
 use crate::batches::DueSets;
 use crate::transactions::{Change, in_transaction};
@@ -43,7 +43,7 @@ pub fn change_key<S: Alter>(
     name: &TenantName,
     digest: &[u8; 32],
 ) -> Result<Result<(), KeyRefused>, Unavailable>
-    requires { Serves due.old (state S.Store conn.old) }
+    requires { IsServing due.old (state S.Store conn.old) }
     ensures told { Live (state S.Store conn.new) → HasKeyed name.now digest.now
         (state S.Store conn.old).now (state S.Store conn.new).now (keying_answer result) }
     ensures serves { ServesOn Disk due.new (state S.Store conn.new) result }

@@ -10,7 +10,7 @@ ghost use Rattle.stored_ledgers.specs.Calls.{ServesOn};
 ghost use Rattle.stored_ledgers.specs.Directory.{tenants_in};
 ghost use Rattle.stored_ledgers.specs.DueSets.{AreCovered};
 ghost use Rattle.stored_ledgers.specs.Outcomes.{ArePast, KeepsTables};
-ghost use Rattle.stored_ledgers.specs.Resting.{IsSame, Serves, CanServe};
+ghost use Rattle.stored_ledgers.specs.Resting.{IsSame, IsServing, CanServe};
 ghost use Rattle.stored_ledgers.specs.Rounds.{CanGoOn, FollowsHere, GrowsSets, IsAfterRound, IsRoundDone};
 
 use crate::batches::DueSets;
@@ -30,7 +30,7 @@ pub fn in_round<S: Alter, W: RoundWork + Drop>(
     due: &mut DueSets,
     work: W,
 ) -> Result<W::Output, Unavailable>
-    requires { Serves due.old (state S.Store conn.old) }
+    requires { IsServing due.old (state S.Store conn.old) }
     ensures run { Live (state S.Store conn.new) → IfOk result (λ output. W.gives work
         (tenants_in (state S.Store conn.old).now.trees) output
         (tenants_in (state S.Store conn.new).now.trees)) }

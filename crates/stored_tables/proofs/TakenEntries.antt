@@ -16,7 +16,7 @@ use Rattle.stored_tables.specs.declared.entries_within.EntriesWithin.{EntriesWit
 use Rattle.stored_tables.specs.declared.entries_within.Progress.{Progress}
 use Rattle.stored_tables.specs.declared.entries_within.Progress.TheVariants.{Open, Over, Failed}
 use Rattle.stored_tables.specs.Handing.{AreFirst, AreAll}
-use Rattle.stored_tables.specs.Taken.{TakesEntry, IsNext, AddsEntry, is_closed}
+use Rattle.stored_tables.specs.Taken.{TakesEntry, TakesNext, AddsEntry, is_closed}
 use Rattle.stored_tables.proofs.BoundTimes.{all_taken}
 
 module _ (span : Span) where
@@ -80,8 +80,8 @@ module _ (span : Span) where
     grown [] (c ∷ handed) taken old new same_span is is_open stops are took = absurd are
     grown (e ∷ es) (c ∷ handed) taken old new same_span is is_open stops are (mid, took, rest) =
         behind mid.progress refl
-        (subst (λ (s : Span). IsNext s taken (account_entry account e) mid mid.progress) same_span
-        (subst (λ xs. IsNext old.span xs (account_entry account e) mid mid.progress) is (took.next account e are.0)))
+        (subst (λ (s : Span). TakesNext s taken (account_entry account e) mid mid.progress) same_span
+        (subst (λ xs. TakesNext old.span xs (account_entry account e) mid mid.progress) is (took.next account e are.0)))
         (λ is_p. grown es handed mid.entries.items mid new (took.span_is ∙ same_span) refl is_p stops.1 are.1 rest)
       where
         over : (handed : List EntryCells) → mid.progress ≢ Open → TakesRows TakesEntry mid handed new → mid ≡ new
@@ -93,7 +93,7 @@ module _ (span : Span) where
         widened Over entries_are more = more ∙ ap (λ xs. xs ++ those es) entries_are ∙ joined taken e es
         widened (Failed why) entries_are more = tt
 
-        behind : (p : Progress) → mid.progress ≡ p → IsNext span taken (account_entry account e) mid p
+        behind : (p : Progress) → mid.progress ≡ p → TakesNext span taken (account_entry account e) mid p
             → (mid.progress ≡ Open → IsGrown mid.entries.items es handed new.entries.items new.progress)
             → IsGrown taken (e ∷ es) (c ∷ handed) new.entries.items new.progress
         behind Open is_p adds more = widened new.progress adds.entries (more is_p)

@@ -32,15 +32,15 @@ pub record AddsEntry (span : Span) (old : List AccountEntry) (entry : AccountEnt
   pub more_is : more ≡ is_within span entry.transfer.timestamp
 
 -- there is one entry more, or it has failed
-abbrev pub IsNext :
+abbrev pub TakesNext :
     Span → List AccountEntry → AccountEntry → EntriesWithin → Progress → Type 0
-IsNext span old entry new Open = AddsEntry span old entry new.entries.items true
-IsNext span old entry new Over = AddsEntry span old entry new.entries.items false
-IsNext span old entry new (Failed why) = Unit {0}
+TakesNext span old entry new Open = AddsEntry span old entry new.entries.items true
+TakesNext span old entry new Over = AddsEntry span old entry new.entries.items false
+TakesNext span old entry new (Failed why) = Unit {0}
 
 -- where more are wanted, the cells of an entry are taken
 pub record TakesEntry (old : EntriesWithin) (cells : EntryCells) (new : EntriesWithin) : Type 0 where
   pub is_open : old.progress ≡ Open
   pub span_is : new.span ≡ old.span
   pub next : (account : ℕ) (entry : Entry) → AreCellsOf account entry cells
-      → IsNext old.span old.entries.items (account_entry account entry) new new.progress
+      → TakesNext old.span old.entries.items (account_entry account entry) new new.progress

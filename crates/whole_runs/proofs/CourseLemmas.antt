@@ -20,7 +20,7 @@ use Rattle.whole_runs.specs.declared.steps.Answer.{Answer}
 use Rattle.whole_runs.specs.declared.steps.Answer.TheVariants as answer
 use Rattle.whole_runs.specs.Courses.{AreOf, IsSince, Start, Anew, Onward}
 use Rattle.whole_runs.specs.Names.{NamesMeaning}
-use Rattle.whole_runs.specs.Reopenings.{StepMakes, HasNamed, HasRun, IsInOrder, IsAnswerTo, IsRefused}
+use Rattle.whole_runs.specs.Reopenings.{StepMakes, HasNamed, HasRun, IsInOrder, IsAnswerTo, RefusesReopening}
 use Rattle.whole_runs.specs.Reopenings.{RunsThrough, Goes_on}
 use Rattle.whole_runs.proofs.NameLemmas.{named_more}
 
@@ -39,7 +39,7 @@ module _ {S : Type 0} (t : RunMeaning S) (n : NamesMeaning S) (Refuses : Refused
   where
     -- an opening that was refused
     refused_more :
-        (refused : Refused) → IsRefused t Refuses mid refused new →
+        (refused : Refused) → RefusesReopening t Refuses mid refused new →
         (stands : Bool) → refused.stands ≡ stands →
         HasRun t old (steps ++ step.Reopen ∷ []) (answers ++ answer.Reopened (Err refused) ∷ []) new
     refused_more refused makes true is =

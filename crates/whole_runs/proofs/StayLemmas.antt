@@ -14,7 +14,7 @@ use Rattle.wire.specs.Meaning.{meaning_of}
 use Rattle.service.specs.declared.turns.Message.{Message}
 use Rattle.service.specs.Courses.{is_unavailable}
 use Rattle.service.specs.EventLaws.{told_available, told_unavailable}
-use Rattle.service.specs.Responds.{Answers, Responds}
+use Rattle.service.specs.Responds.{AnswersAsked, Responds}
 use Rattle.service.specs.Replies.{AnswersTenant}
 use Rattle.service.specs.Served.{Served, served_to}
 use Rattle.service.specs.Turns.{RespondInTurn}
@@ -45,7 +45,7 @@ module _ (old new : Tenants) (caller : List ℕ) (serves : Option Machine → Se
 
 answered_stay :
     (old new : Tenants) (asked : Result Question Early) (moment : ℕ) (text : List ℕ) →
-    Answers old new asked moment text → SameStay old new
+    AnswersAsked old new asked moment text → SameStay old new
 answered_stay old new (Ok question) moment text answers digest =
     by_caller old new _ _ text answers
     (λ tenant. served_stays tenant (meaning_of question.route question.account question.body) moment)

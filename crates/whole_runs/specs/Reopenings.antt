@@ -26,7 +26,8 @@ use Rattle.whole_runs.specs.Names.{NamesMeaning, ReopensNames}
 
 -- an opening was refused: they are not live; where it is told that what it might have found stands,
 -- the next opening finds that; and what keeps the ledgers has refused so
-pub record IsRefused {S : Type 0} (t : RunMeaning S) (Refuses : Refused → S → S → Type 0) (old : S)
+pub record RefusesReopening {S : Type 0} (t : RunMeaning S)
+    (Refuses : Refused → S → S → Type 0) (old : S)
     (refused : Refused) (new : S) : Type 0 where
   pub shut : t.is_live new → ⊥
   pub kept : IsTrue refused.stands → (found : Tenants) → t.may_find new found
@@ -37,7 +38,7 @@ abbrev pub Reopens :
     {S : Type 0} → RunMeaning S → (Refused → S → S → Type 0) → S → Result (Unit {0}) Refused → S
     → Type 0
 Reopens t Refuses old (Ok done) new = IsOpened t old new
-Reopens t Refuses old (Err refused) new = IsRefused t Refuses old refused new
+Reopens t Refuses old (Err refused) new = RefusesReopening t Refuses old refused new
 
 -- what a round makes of them; where memory lacks for the replies, nothing was done
 abbrev pub RoundMakes :

@@ -11,7 +11,7 @@ use Rattle.wire.specs.declared.request.Request.TheVariants.{Transfers}
 use Rattle.service.specs.Courses.{Event}
 use Rattle.service.specs.Openings.{RunMeaning}
 use Rattle.service.specs.OwnDeeds.{own_happenings, digest_since}
-use Rattle.service.specs.Retries.{IsAsked}
+use Rattle.service.specs.Retries.{IsAskedEarlier}
 use Rattle.whole_runs.specs.declared.steps.Step.{Step}
 use Rattle.whole_runs.specs.declared.steps.Answer.{Answer}
 use Rattle.whole_runs.specs.Courses.{RunCourse}
@@ -27,7 +27,7 @@ pub record HasAskedInRun (digest : List ℕ) (request : Request) (moment : ℕ) 
   pub answers : List Answer
   pub events : List Event
   pub course : RunCourse first steps answers events began last
-  pub asked : IsAsked (began digest) (own_happenings digest events) request moment m
+  pub asked : IsAskedEarlier (began digest) (own_happenings digest events) request moment m
   pub held : last (digest_since digest events) ≡ Some now
 
 -- where a run has come to live ledgers that may be called, an event that failed for good in its

@@ -1,6 +1,6 @@
 //! Laws of whole runs. The functions do nothing; their contracts are the laws.
 ghost use Rattle.service.specs.Following.{ToldStays};
-ghost use Rattle.service.specs.Retries.{RetriesAddNothing, FailedStaysFailed};
+ghost use Rattle.service.specs.Retries.{RetriesAddNothing, StaysFailedOnceAsked};
 ghost use Rattle.whole_runs.specs.Courses.{RunsServeEachAlone};
 ghost use Rattle.whole_runs.specs.NameCourses.{DigestsStay, NamesStay};
 ghost use Rattle.whole_runs.specs.Retries.{HasAskedInRun, StaysFailedIn};
@@ -38,7 +38,7 @@ pub fn retries_add_nothing()
 /// often and whenever, as the first event of a closed chain it answers `id_already_failed`, and its
 /// chain changes nothing. The tenant's machine has to be valid by then, as it is in live ledgers.
 pub fn stays_failed<L: Reopening>()
-    ensures valid { FailedStaysFailed HasAskedInRun }
+    ensures valid { StaysFailedOnceAsked HasAskedInRun }
     ensures live { StaysFailedIn L.means }
 {
     failed_in_course_stays_failed();

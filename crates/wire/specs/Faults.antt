@@ -100,15 +100,15 @@ IsObjectFault fields body fault =
     ObjectLacks fields body fault.item (told_field fault) fault.wanted
 
 -- a fault tells why a body is refused on a route
-abbrev pub IsFaultOf : Route → List ℕ → BodyFault → Type 0
-IsFaultOf route.Accounts body fault = IsListFault (an_object account_fields) body fault
-IsFaultOf route.Transfers body fault = IsListFault (an_object transfer_fields) body fault
-IsFaultOf route.LookupAccounts body fault = IsListFault an_id body fault
-IsFaultOf route.LookupTransfers body fault = IsListFault an_id body fault
-IsFaultOf route.HistoryTransfers body fault = IsObjectFault filter_fields body fault
-IsFaultOf route.HistoryBalances body fault = IsObjectFault filter_fields body fault
-IsFaultOf route.QueryAccounts body fault = IsObjectFault query_fields body fault
-IsFaultOf route.QueryTransfers body fault = IsObjectFault query_fields body fault
-IsFaultOf route.LookupPending body fault = IsListFault an_id body fault
-IsFaultOf route.OpenPending body fault = IsObjectFault page_fields body fault
-IsFaultOf route.Statement body fault = ⊥
+abbrev pub IsBodyFaultOn : Route → List ℕ → BodyFault → Type 0
+IsBodyFaultOn route.Accounts body fault = IsListFault (an_object account_fields) body fault
+IsBodyFaultOn route.Transfers body fault = IsListFault (an_object transfer_fields) body fault
+IsBodyFaultOn route.LookupAccounts body fault = IsListFault an_id body fault
+IsBodyFaultOn route.LookupTransfers body fault = IsListFault an_id body fault
+IsBodyFaultOn route.HistoryTransfers body fault = IsObjectFault filter_fields body fault
+IsBodyFaultOn route.HistoryBalances body fault = IsObjectFault filter_fields body fault
+IsBodyFaultOn route.QueryAccounts body fault = IsObjectFault query_fields body fault
+IsBodyFaultOn route.QueryTransfers body fault = IsObjectFault query_fields body fault
+IsBodyFaultOn route.LookupPending body fault = IsListFault an_id body fault
+IsBodyFaultOn route.OpenPending body fault = IsObjectFault page_fields body fault
+IsBodyFaultOn route.Statement body fault = ⊥

@@ -5,7 +5,7 @@ ghost use Rattle.wire.specs.Body.{list_in, object_in};
 ghost use Rattle.wire.specs.Fields.{known_names, object_of};
 ghost use Rattle.wire.specs.Meaning.{meaning_of};
 ghost use Rattle.wire.specs.Misfits.{IsMisfitAt, first_bad};
-ghost use Rattle.wire.specs.Faults.{IsFaultOf, IsListFault, IsObjectFault, first_bad_in, place_in};
+ghost use Rattle.wire.specs.Faults.{IsBodyFaultOn, IsListFault, IsObjectFault, first_bad_in, place_in};
 ghost use Rattle.wire.specs.Faults.{refusal_in, refused, told_place, told_refusal};
 ghost use Rattle.ledger_http.specs.declared.route.Route.{Route as ARoute};
 
@@ -24,7 +24,7 @@ use std::alloc::Global;
 pub fn fault_in(alloc: Global, route: Route, body: &[u8]) -> Result<Option<BodyFault>, Unavailable>
     ensures refusal { IfOk result (λ fault. told_refusal fault ≡ refusal_in route body.now) }
     ensures place { IfOk result (λ fault. told_place fault ≡ place_in route body.now) }
-    ensures misfit { IfOk result (λ fault. IfSome fault (IsFaultOf route body.now)) }
+    ensures misfit { IfOk result (λ fault. IfSome fault (IsBodyFaultOn route body.now)) }
 {
     match route {
         Route::Accounts => list_fault::<AccountEvent>(alloc, body),

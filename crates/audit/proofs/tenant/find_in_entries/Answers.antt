@@ -6,15 +6,15 @@ use Rattle.running.specs.History.{IsToldMore}
 use Rattle.audit.specs.declared.replayed.Replayed.{Replayed}
 use Rattle.audit.specs.declared.damage.DamageKind.TheVariants as kind
 use Rattle.audit.specs.Meeting.{Met}
-use Rattle.audit.specs.Replayed.{IfAccepted, IsReplayed}
+use Rattle.audit.specs.Replayed.{IfAllAccepted, IsReplayed}
 use Rattle.audit.specs.Stages.{IsClearBelow}
 use Rattle.audit.specs.Table.{IsBadTime}
-use Rattle.audit.specs.Told.{Tells, entries_told}
+use Rattle.audit.specs.Told.{TellsRows, entries_told}
 use Rattle.audit.proofs.Stages.{answers_found, still_clear, first_of_told}
 use Rattle.audit.proofs.tenant.find_in_entries.Goals as goal
 
 -- no time is bad
-times : (version : ℕ) (rows : _) (typed : TypedRows) → IsClearBelow version rows 3 → Tells rows typed → (place : ℕ) → IsBadTime typed place → ⊥
+times : (version : ℕ) (rows : _) (typed : TypedRows) → IsClearBelow version rows 3 → TellsRows rows typed → (place : ℕ) → IsBadTime typed place → ⊥
 times version rows typed clear tells place bad = clear kind.Timestamp place (omega arith) (typed, tells, bad)
 
 pub replay_told-requires : goal.replay_told-requires
@@ -35,7 +35,7 @@ find_behind-requires-clause-running c =
     let rows = lists_of c.args.rows.now in
     let held = c.requires.tells in
     let replayed = c.in_ok-place.ensures.replayed held.0 held.1 held.2 (times c.args.version rows held.0 c.requires.clear held.1) in
-    let told = subst (λ (x : Replayed). IfAccepted x (IsToldMore Met c.of-meeting.result c.replay_told.new.history new_machine (machine_of (entries_told held.0)))) c.in-Accepted.is (c.in_ok-place.ensures.told held.0 held.1 held.2 (times c.args.version rows held.0 c.requires.clear held.1)) in
+    let told = subst (λ (x : Replayed). IfAllAccepted x (IsToldMore Met c.of-meeting.result c.replay_told.new.history new_machine (machine_of (entries_told held.0)))) c.in-Accepted.is (c.in_ok-place.ensures.told held.0 held.1 held.2 (times c.args.version rows held.0 c.requires.clear held.1)) in
     (held.0, held.1, held.2, (subst (IsReplayed held.0) c.in-Accepted.is replayed).1, (c.of-meeting.result, c.of-meeting.ensures.rows ∙ c.deref.ensures.value, told c.of-meeting.result c.of-meeting.ensures.none))
 
 pub find_behind-requires-clause-clear : goal.find_behind-requires-clause-clear

@@ -1,5 +1,5 @@
 use Rattle.std.proofs.Common.{List, ℕ, refl, subst}
-use Rattle.control.specs.Listing.{IsListed}
+use Rattle.control.specs.Listing.{HasLines}
 use Rattle.commands.proofs.over_tenants.list.Goals as goal
 
 pub returns-in_ok-put_listed-in-Some-clause-listed : goal.returns-in_ok-put_listed-in-Some-clause-listed
@@ -10,7 +10,7 @@ returns-in_ok-put_listed-in-Some-clause-listed g c =
         _,
         refl,
         rw c.in-Some.is at c.in_ok-answer.ensures.answer,
-        subst (λ (body : List ℕ). IsListed body listed.0) c.body.ensures listed.1,
+        subst (λ (body : List ℕ). HasLines body listed.0) c.body.ensures listed.1,
       ),
       listed.2,
     )

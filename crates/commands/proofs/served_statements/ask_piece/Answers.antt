@@ -1,5 +1,5 @@
 use Rattle.std.proofs.Common.{List, ℕ, refl, subst}
-use Rattle.control.specs.Entries.{IsTold}
+use Rattle.control.specs.Entries.{AreEntriesTold}
 use Rattle.commands.proofs.served_statements.ask_piece.Goals as goal
 
 pub returns-in_ok-entries_in-in-Some-clause-told : goal.returns-in_ok-entries_in-in-Some-clause-told
@@ -8,5 +8,5 @@ returns-in_ok-entries_in-in-Some-clause-told c =
       _,
       refl,
       rw c.in-Some.is at c.in_ok-answer.ensures.answer,
-      subst (λ (body : List ℕ). IsTold body entries.field-0) c.body.ensures entries.ensures.told,
+      subst (λ (body : List ℕ). AreEntriesTold body entries.field-0) c.body.ensures entries.ensures.told,
     )

@@ -2,7 +2,7 @@ use Rattle.std.proofs.Common.{◌++◌, ◌∷◌, ◌∙◌, List, ℕ, [], app
 use Rattle.chain.specs.declared.account_entry.AccountEntry.{AccountEntry}
 use Rattle.control.specs.declared.entries.Entries.{Entries}
 use Rattle.records.specs.Streams.{TakesRows}
-use Rattle.commands.specs.Served.{ComeBehind, IsAnswered, last_time, piece_behind, up_to}
+use Rattle.commands.specs.Served.{ComeBehind, IsPieceAnswered, last_time, piece_behind, up_to}
 use Rattle.commands.proofs.ServedLemmas.{pieces_more, taken_then}
 use Rattle.commands.specs.Undone.{IsUnserved}
 use Rattle.commands.proofs.OpeningLemmas.{err_so}
@@ -22,7 +22,7 @@ pieces-init g c = record {
   ready = c.in_ok-last.ensures.refused;
   behind = λ pieces come.
       subst
-      (λ (to : ℕ). ComeBehind IsAnswered (record c.args.first.asked { to = to })
+      (λ (to : ℕ). ComeBehind IsPieceAnswered (record c.args.first.asked { to = to })
       c.args.first.entries pieces)
       c.min.ensures come;
 }
@@ -48,7 +48,7 @@ pieces-preserved g c =
       ready = c.in_ok-last-2.ensures.refused;
       behind = λ pieces come.
           subst
-          (λ (all : List Entries). ComeBehind IsAnswered
+          (λ (all : List Entries). ComeBehind IsPieceAnswered
           (up_to c.args.first.entries.clock c.args.first.asked) c.args.first.entries all)
           (sym (append_assoc before.so_far (more ∷ []) pieces))
           (before.behind (more ∷ pieces) (
@@ -65,7 +65,7 @@ returns-in_default-clause-taken g c =
     let before = c.pieces.invariant in (
       before.so_far,
       subst
-          (λ (all : List Entries). ComeBehind IsAnswered
+          (λ (all : List Entries). ComeBehind IsPieceAnswered
           (up_to c.args.first.entries.clock c.args.first.asked) c.args.first.entries all)
           (append-nil before.so_far)
           (before.behind []

@@ -1,7 +1,7 @@
 use Rattle.std.proofs.Common.{◌≡◌, ◌++◌, ◌∷◌, List, false}
 use Rattle.control.specs.declared.entries.Entries.{Entries}
 use Rattle.records.specs.Streams.{TakesRows}
-use Rattle.commands.specs.Served.{ComeBehind, IsAnswered, entries_of, last_time, up_to}
+use Rattle.commands.specs.Served.{ComeBehind, IsPieceAnswered, entries_of, last_time, up_to}
 use Rattle.commands.proofs.served_statements.hand_over.Given as goal
 
 -- the entries of the first piece and of some behind it are taken, and none was refused; what comes
@@ -13,7 +13,7 @@ invariant-pieces g l = record {
   last : l.last ≡ last_time latest.entries.items;
   taken : TakesRows g.S.EntrySink.takes l.fn.sink (entries_of (l.fn.first.entries ∷ so_far)) l.sink;
   ready : g.S.EntrySink.refused l.sink ≡ false;
-  behind : (pieces : List Entries) → ComeBehind IsAnswered l.asked latest pieces
-      → ComeBehind IsAnswered (up_to l.fn.first.entries.clock l.fn.first.asked) l.fn.first.entries
+  behind : (pieces : List Entries) → ComeBehind IsPieceAnswered l.asked latest pieces
+      → ComeBehind IsPieceAnswered (up_to l.fn.first.entries.clock l.fn.first.asked) l.fn.first.entries
       (so_far ++ pieces);
 }

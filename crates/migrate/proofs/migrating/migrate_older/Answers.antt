@@ -2,7 +2,7 @@ use Rattle.std.proofs.Common.{◌≡◌, true, not, IsTrue, IfOk, IfErr, OnOk, O
 use Rattle.sqlite.specs.Files.{file_state}
 use Rattle.openings.specs.Damage.{HasFirstDamage}
 use Rattle.stored_ledgers.specs.Resting.{IsQuiet, IsSame}
-use Rattle.migrate.specs.Faults.{IfDamaged}
+use Rattle.migrate.specs.Faults.{IfMigrationDamaged}
 use Rattle.openings.specs.Opened.{IsSoundIn}
 use Rattle.migrate.specs.Upgrading.{IsRaised}
 use Rattle.migrate.specs.UpgradingLaws.{raised_kept}
@@ -94,7 +94,7 @@ returns-in-Err-clause-migrates g c =
       version = tt;
       kept = λ _. tt;
       damaged = λ clean.
-          subst (λ r. IfErr r (λ told. IfDamaged told (λ damage. HasFirstDamage c.args.ledger.now.version damage s.now.trees)))
+          subst (λ r. IfErr r (λ told. IfMigrationDamaged told (λ damage. HasFirstDamage c.args.ledger.now.version damage s.now.trees)))
           c.in-Err.is (c.raise_rows-raised.ensures.audited.damaged clean);
       same = λ live. (subst (λ r. OnErr r (IsSame s s')) c.in-Err.is (e.same live)).now;
       stays = refl;

@@ -5,7 +5,7 @@ use Rattle.audit.specs.Damage.{IsFirstDamage}
 use Rattle.audit.specs.declared.damage.Damage.{Damage}
 use Rattle.audit.specs.Sound.{AreSound}
 use Rattle.sqlite.specs.Held.{state}
-use Rattle.openings.specs.Damage.{HasFirstDamage, IfDamaged}
+use Rattle.openings.specs.Damage.{HasFirstDamage, IfOpeningDamaged}
 use Rattle.openings.specs.declared.opening.OpenFault.{OpenFault}
 use Rattle.openings.specs.DamageLaws.{first_of_read, if_damaged_more}
 use Rattle.openings.specs.NameLaws.{good_names}
@@ -43,7 +43,7 @@ returns g c =
           let P = λ (damage : Damage). IsFirstDamage rows.version rows.tenants.items damage in
           let Q = λ (damage : Damage). HasFirstDamage version damage db.trees in
           both_err c.audit_older.result (λ (told : OpenFault). TellsOfRows told rows)
-          (λ (told : OpenFault). IfDamaged told P) (λ (told : OpenFault). TellsOlder version told db)
+          (λ (told : OpenFault). IfOpeningDamaged told P) (λ (told : OpenFault). TellsOlder version told db)
           (λ told of first. told_rows version told db rows schema read of
           (if_damaged_more told P Q (λ damage is. first_of_read version rows.version db.trees rows damage read read.version_is is) first))
           c.audit_older.ensures.told c.audit_older.ensures.damaged;

@@ -10,7 +10,7 @@ use Rattle.sqlite.specs.State.{HasCleanDisk}
 use Rattle.ledger_sql.specs.Effects.{IsLedger}
 use Rattle.openings.specs.Whole.{AreAllRows}
 use Rattle.openings.specs.Opened.{IsExamined}
-use Rattle.openings.specs.Told.{IsCurrent, Tells}
+use Rattle.openings.specs.Told.{IsCurrent, Warrants}
 use Rattle.openings.proofs.OpenedLedger.{examined_holds, examined_covered}
 use Rattle.openings.specs.DamageLaws.{first_of_read}
 use Rattle.openings.specs.NameLaws.{good_names}
@@ -65,7 +65,7 @@ returns-in_err-rows g c = record {
       omega (arith, c.in_err-rows.ensures.examines.looks.follows.survives.clean, clean) in
       let kept = c.in_ok-find_current.ensures.looks.kept first in
       let current = subst IsCurrent (sym kept.0.now_is) (c.in_ok-find_current.ensures.finds first) in
-      subst (λ (db : Database). IfErr c.from_residual-in_err-rows.result (λ told. Tells told db)) kept.0.now_is
+      subst (λ (db : Database). IfErr c.from_residual-in_err-rows.result (λ told. Warrants told db)) kept.0.now_is
       (rw (p.1, p.2) (c.in_err-rows.ensures.examines.told clean current));
   looks = search rules;
 }

@@ -4,7 +4,7 @@ use Rattle.std.proofs.lemmas.Result.{err_from_is_err_and, IfErr-weaker}
 use Rattle.sqlite_schema.specs.declared.schema.Schema.{Schema}
 use Rattle.sqlite.specs.Held.{state}
 use Rattle.openings.specs.Opened.{HasNames}
-use Rattle.openings.specs.Told.{LacksTables, No_name, Tells}
+use Rattle.openings.specs.Told.{LacksTables, No_name, Warrants}
 use Rattle.openings.proofs.ToldLemmas.{told_by_want, told_tables}
 use Rattle.ledger_sql.specs.Effects.{IsLedger}
 use Rattle.openings.proofs.WholeLemmas.{has_tables}
@@ -35,7 +35,7 @@ returns-in_err-rows-clause-examines g c =
     record {
       finds = search rules;
       told = λ clean.
-          IfErr-weaker c.from_residual.result (λ told. Tells told db) _ (λ told tells current. tells)
+          IfErr-weaker c.from_residual.result (λ told. Warrants told db) _ (λ told tells current. tells)
           (told_by_want c.from_residual.result _ db (p.1 ∙ ap Err p.2));
       looks = search rules;
     }

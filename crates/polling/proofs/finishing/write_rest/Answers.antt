@@ -1,7 +1,7 @@
 use Rattle.std.proofs.Common.{refl}
 use Rattle.polling.specs.Serving.{rules}
 use Rattle.polling.specs.Seating.{held_by}
-use Rattle.polling.specs.Ending.{AreWritten, Start, Quiet}
+use Rattle.polling.specs.Ending.{NothingIsLeft, Start, Quiet}
 use Rattle.polling.proofs.TurnLemmas.{turns_serve, next_turn, too_long, quiet_serves, quiet_then}
 use Rattle.polling.proofs.finishing.write_rest.Goals as goal
 
@@ -59,7 +59,7 @@ returns-clause-serves g c moments =
 pub returns-clause-ends : goal.returns-clause-ends
 returns-clause-ends g c moments =
     too_long (rules g.L.Ledgers.means g.C.Moments.gives g.H.Steward.renews g.H.Steward.waits g.P.Peers.does)
-    (AreWritten c.loop.seats.clients)
+    (NothingIsLeft c.loop.seats.clients)
     (held_by c.args.ledgers.now moments c.args.peers.now c.args.seats.now)
     (held_by c.loop.ledgers moments c.loop.peers c.loop.seats) c.loop.counter 0 c.loop.auto.counter-end
     c.loop-test.false (c.loop.invariant.1 moments)

@@ -1,5 +1,5 @@
 use Rattle.std.proofs.Common.{◌≡◌, ◌≤◌, []}
-use Rattle.service.specs.Seen.{Seen}
+use Rattle.service.specs.Seen.{SeenAt}
 use Rattle.polling.specs.Serving.{rules}
 use Rattle.polling.specs.Standing.{turns_of}
 use Rattle.polling.specs.Seating.{held_by, ServesOwed}
@@ -10,7 +10,7 @@ use Rattle.polling.proofs.serving.serve_ready.Given as goal
 abbrev pub invariant-loop : goal.invariant-loop
 invariant-loop g l = record {
   turns :
-      Turns (Seen g.row.L.Denot) g.row.C.Denot g.row.P.Denot
+      Turns (SeenAt g.row.L.Denot) g.row.C.Denot g.row.P.Denot
       (rules g.L.Ledgers.means g.C.Moments.gives g.H.Steward.renews g.H.Steward.waits g.P.Peers.does)
       (held_by l.fn.ledgers l.fn.moments l.fn.peers l.fn.seats) l.counter l.replies
       (held_by l.ledgers l.moments l.peers l.seats);

@@ -1,7 +1,7 @@
 use Rattle.std.proofs.Common.{inl, inr, true, false, refl, ap, sym, subst, ◌∙◌}
 use Rattle.service.specs.Replies.{unavailable}
 use Rattle.clients.specs.Talk.{Talk, given_up}
-use Rattle.clients.specs.Answering.{HasReplied}
+use Rattle.clients.specs.Answering.{IsReplyReady}
 use Rattle.service.specs.Seen.{Whole}
 use Rattle.polling.specs.Serving.{rules}
 use Rattle.polling.specs.Seating.{has_nothing}
@@ -35,7 +35,7 @@ returns-in-Err g c moments =
     c.args.client.now c.give_up.new.self unavailable
     (subst
     (λ (now : Talk).
-    HasReplied g.L.Ledgers.means g.C.Moments.gives c.args.ledgers.now moments c.args.client.now unavailable
+    IsReplyReady g.L.Ledgers.means g.C.Moments.gives c.args.ledgers.now moments c.args.client.now unavailable
     c.args.ledgers.now moments now)
     (ap given_up (sym c.reserve_due.ensures.same) ∙ sym c.give_up.ensures)
     (c.giving_up_replies.ensures c.args.ledgers.now moments c.args.client.now c.in-Err.ensures.due)))

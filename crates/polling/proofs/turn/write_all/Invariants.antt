@@ -1,5 +1,5 @@
 use Rattle.std.proofs.Common.{◌≡◌, ◌⊎◌, Bool, false}
-use Rattle.service.specs.Seen.{Seen}
+use Rattle.service.specs.Seen.{SeenAt}
 use Rattle.polling.specs.Serving.{rules}
 use Rattle.polling.proofs.OneLemmas.{Stays}
 use Rattle.polling.proofs.turn.write_all.Given as goal
@@ -10,6 +10,6 @@ invariant-loop g l =
     (idle : Bool)
     × ((idle ≡ false) ⊎ ((l.counter ≡ 0) × (l.client ≡ l.fn.client)))
     × (l.client.rest ≡ l.fn.client.rest)
-    × ((ledgers : Seen g.row.L.Denot) (moments : g.row.C.Denot)
+    × ((ledgers : SeenAt g.row.L.Denot) (moments : g.row.C.Denot)
     → Stays (rules g.L.Ledgers.means g.C.Moments.gives g.H.Steward.renews g.H.Steward.waits g.P.Peers.does)
     l.number ledgers moments l.fn.peers l.fn.client ledgers moments l.peers l.client idle 0)

@@ -1,7 +1,7 @@
 use Rattle.std.proofs.Common.{refl, inl, inr, subst, List, ℕ, arith}
 use Rattle.chain.specs.Ledgers.{Finds}
 use Rattle.ledger_http.specs.Message.{head_size, refused_size}
-use Rattle.service.specs.Responds.{Responds, RefusesEarly, IsAnswered, IsLeftBy}
+use Rattle.service.specs.Responds.{Responds, RefusesEarly, IsQuestionAnswered, IsLeftBy}
 use Rattle.service.proofs.ConnectionRuns.{stays_ended}
 use Rattle.service.proofs.exchanging.exchange.Goals as goal
 
@@ -26,7 +26,7 @@ returns-in-Whole-clause-exchanges g c = record {
     finds =
         subst
         (λ (bytes : List ℕ).
-        Finds g.L.Ledgers.means (IsAnswered bytes c.respond-reply.result)
+        Finds g.L.Ledgers.means (IsQuestionAnswered bytes c.respond-reply.result)
         (IsLeftBy bytes c.moment-moment.result) c.args.ledgers.now c.respond-reply.new.ledgers)
         c.deref.ensures.value c.respond-reply.ensures.finds;
     follows = c.respond-reply.ensures.follows;

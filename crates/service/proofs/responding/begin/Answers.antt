@@ -4,7 +4,7 @@ use Rattle.ledger_http.specs.Question.{Question, question_of}
 use Rattle.chain.specs.Ledgers.{Finds}
 use Rattle.ledger_http.specs.declared.reply.Reply.{Reply}
 use Rattle.service.specs.Replies.{unavailable}
-use Rattle.service.specs.Responds.{IsAnswered, IsLeftBy, IsLeftByAsked, IsLeftSame, IsQuestion, RefusesEarly, Responds, TellsFailure, TellsHealth, TellsPage}
+use Rattle.service.specs.Responds.{IsQuestionAnswered, IsLeftBy, IsLeftByAsked, IsLeftSame, IsQuestion, RefusesEarly, Responds, TellsFailure, TellsHealth, TellsPage}
 use Rattle.service.specs.Begun.{IsLeftOf, reply_of}
 use Rattle.parts.specs.declared.rest.Rest.{Rest}
 use Rattle.service.proofs.BegunLemmas.{available_where_left, done_by, so_whole, where_left}
@@ -91,7 +91,7 @@ returns-in-Ok-clause-finds g c =
 pub returns-in-Err-clause-finds : goal.returns-in-Err-clause-finds
 returns-in-Err-clause-finds g c =
     let a = c.in-Err.ensures in
-    so_whole (λ (r : Reply). Finds g.L.Ledgers.means (IsAnswered c.args.bytes.now r) (IsLeftBy c.args.bytes.now c.args.moment) c.args.ledgers.now c.args.ledgers.now) _ _ _ c.whole.ensures (
+    so_whole (λ (r : Reply). Finds g.L.Ledgers.means (IsQuestionAnswered c.args.bytes.now r) (IsLeftBy c.args.bytes.now c.args.moment) c.args.ledgers.now c.args.ledgers.now) _ _ _ c.whole.ensures (
     finds_same g.L.Ledgers.means _ _ _
     (λ answered.
     let asks =

@@ -1,6 +1,6 @@
 use Rattle.std.proofs.Common.{append-nil, subst, ◌∙◌, Bool}
 use Rattle.service.specs.Begun.{reply_of}
-use Rattle.clients.specs.Answering.{IsExchange, IsWanting, IsOver}
+use Rattle.clients.specs.Answering.{IsExchange, IsWanting, IsAllAnswered}
 use Rattle.clients.proofs.ExchangeLemmas.{has_replied, goes_on_still, is_unmoved, put_whole}
 use Rattle.clients.proofs.client.Client.answer.Goals as goal
 
@@ -41,5 +41,5 @@ returns-in-Wanting-clause-answers g c =
 
 pub returns-in-Over-clause-answers : goal.returns-in-Over-clause-answers
 returns-in-Over-clause-answers g c =
-    is_unmoved IsOver _ _ _ _ c.args.self.now _ _ c.self.inside.outbox c.self.inside.rest c.self.inside.goes_on
+    is_unmoved IsAllAnswered _ _ _ _ c.args.self.now _ _ c.self.inside.outbox c.self.inside.rest c.self.inside.goes_on
     c.self.view_is (rw c.in-Over.is at c.exchange.ensures.exchanges)

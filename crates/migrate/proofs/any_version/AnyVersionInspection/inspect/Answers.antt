@@ -4,8 +4,8 @@ use Rattle.sqlite.specs.Effect.{Database}
 use Rattle.sqlite.specs.Held.{state}
 use Rattle.sqlite.specs.State.{HasCleanDisk}
 use Rattle.openings.specs.Damage.{NamesVersion}
-use Rattle.openings.specs.Opened.{CanServe, IsSoundIn}
-use Rattle.openings.specs.Told.{HasNamesIn, IsSoundLedger, Tells}
+use Rattle.openings.specs.Opened.{CanServeOrdered, IsSoundIn}
+use Rattle.openings.specs.Told.{HasNamesIn, IsSoundLedger, Warrants}
 use Rattle.migrate.specs.Told.{TellsAny, TellsOlder}
 use Rattle.migrate.specs.Upgrading.{older_schema}
 use Rattle.migrate.proofs.ToldLemmas.{told_current}
@@ -51,7 +51,7 @@ returns-clause-examines g c = record {
           older = λ less. absurd (let three = c.if-version-lt-CURRENT_VERSION.false in omega (arith, three, less));
           current = λ _. subst IsSoundLedger same (c.in_ok-due.ensures.finds clean).1;
         };
-        serves = λ _. subst (CanServe c.in_ok-due.due) same (c.in_ok-due.ensures.finds clean).0;
+        serves = λ _. subst (CanServeOrdered c.in_ok-due.due) same (c.in_ok-due.ensures.finds clean).0;
       };
   told = search rules;
   looks = search rules;
@@ -102,9 +102,9 @@ returns-in_err-due-clause-examines g c = record {
       let names = subst (λ n. NamesVersion n s0.now.trees) found.is found.named in
       let r = c.from_residual-in_err-due.result in
       let p = err_from_is_err_and r c.from_residual-in_err-due.ensures.1 in
-      IfErr-weaker r (λ told. Tells told s0.now) (λ told. TellsAny told s0.now)
+      IfErr-weaker r (λ told. Warrants told s0.now) (λ told. TellsAny told s0.now)
       (λ told tells. told_current s0.now c.in_ok-version.version told c.if-version-lt-CURRENT_VERSION.false names tells)
-      (subst (λ (db : Database). IfErr r (λ told. Tells told db)) same
+      (subst (λ (db : Database). IfErr r (λ told. Warrants told db)) same
       (rw (p.1, p.2) (c.in_err-due.ensures.told clean)));
   looks = search rules;
 }

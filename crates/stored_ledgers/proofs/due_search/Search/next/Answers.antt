@@ -4,7 +4,7 @@ use Rattle.std.proofs.lemmas.Int.{to_z-of_z}
 use Rattle.std.proofs.lemmas.List.{map-append, length-map, length-append}
 use Rattle.std.proofs.lemmas.List.Elements.{All-push}
 use Rattle.stored_ledgers.specs.DueSets.{DueSet}
-use Rattle.stored_ledgers.specs.Overdue.{IsOverdue, IsNotOverdue, IsPiece, settled_to, number_behind}
+use Rattle.stored_ledgers.specs.Overdue.{IsOverdue, IsNotOverdue, IsDuePiece, settled_to, number_behind}
 use Rattle.stored_ledgers.specs.declared.due_search.Search.{Search}
 use Rattle.stored_ledgers.proofs.SeenLemmas.{seen_more, seen_all}
 use Rattle.stored_ledgers.proofs.SearchLemmas.{entries_on, stops, begins_anew, finds, still_settled, in_range}
@@ -18,7 +18,7 @@ loop-number-preserved c =
     c.loop-number.invariant.2.unchanged same c.released.ensures in
     let none = subst (λ r. MatchOption r (IsNotOverdue c.in-Some.set.now c.released.result c.args.moment)
     (λ piece. IsOverdue c.in-Some.set.now c.released.result c.args.moment
-    × IsPiece c.in-Some.set.now c.released.result c.args.moment piece)) c.in_default.is c.due_in.ensures in (
+    × IsDuePiece c.in-Some.set.now c.released.result c.args.moment piece)) c.in_default.is c.due_in.ensures in (
       tt,
       tt,
       record {
