@@ -12,12 +12,12 @@ use Rattle.service.specs.Deeds.{Asked, Deed, AreDone, IsDeedDone}
 use Rattle.service.specs.Openings.{run_meaning, FoundAfter, As_now, As_before, As_done, Moves}
 use Rattle.service.specs.Served.{served_to}
 use Rattle.store.specs.StoreLaws.{store_meaning}
-use Rattle.store.specs.Stores.{FindsTenants, Reads, tenants_of}
+use Rattle.store.specs.Stores.{FindsTenants, ReadsStore, tenants_of}
 use Rattle.store.specs.declared.store.Store.{Store}
 
 module _ {D : Type 0} {g : disk.Ghosts D} where
   module _ {T : Type 0} (digest : List ℕ) (meaning : Result Request Refusal) (moment : ℕ)
-      (old mid new : Store D g) (told : Result T Unavailable) (reads : Reads old mid told)
+      (old mid new : Store D g) (told : Result T Unavailable) (reads : ReadsStore old mid told)
     where
       done_before :
           (found : Tenants) → KeepsAll (tenants_of old) (tenants_of mid) →

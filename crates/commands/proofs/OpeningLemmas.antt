@@ -19,12 +19,12 @@ use Rattle.migrate.specs.Ledgers.{RefusesFiles}
 use Rattle.migrate.specs.Told.{TellsAny}
 use Rattle.store.specs.Refused.{RefusesToOpen}
 use Rattle.command_texts.specs.declared.fault.Fault.{Fault}
-use Rattle.commands.specs.Openings.{HasFound, HasFoundSome, IsFound, IsFoundSo}
+use Rattle.commands.specs.Openings.{HasFound, HasFoundSome, IsFoundFault, IsFoundSo}
 use Rattle.commands.specs.Openings.{RefusesImage, RefusesOlder, open_fault}
 
 module _ (Finds : OpenFault → Type 0) where
   -- what was found where an opening told it was found where the program tells it
-  pub found_so : (fault : OpenFault) → IsFound Finds fault → IsFoundSo Finds (open_fault fault)
+  pub found_so : (fault : OpenFault) → IsFoundFault Finds fault → IsFoundSo Finds (open_fault fault)
   found_so opening.InUse found = tt
   found_so opening.Unreadable found = tt
   found_so opening.NotALedger found = tt
@@ -34,7 +34,7 @@ module _ (Finds : OpenFault → Type 0) where
   found_so (opening.Unavailable why) found = tt
 
   -- of what speaks of no ledger nothing has to be found
-  pub none_found : (fault : OpenFault) → (IsOfLedger fault → ⊥) → IsFound Finds fault
+  pub none_found : (fault : OpenFault) → (IsOfLedger fault → ⊥) → IsFoundFault Finds fault
   none_found opening.InUse none = tt
   none_found opening.Unreadable none = tt
   none_found opening.NotALedger none = tt
@@ -44,7 +44,7 @@ module _ (Finds : OpenFault → Type 0) where
   none_found (opening.Unavailable why) none = tt
 
   -- it is found, if it is where a ledger is spoken of
-  pub found_if : (fault : OpenFault) → (IsOfLedger fault → Finds fault) → IsFound Finds fault
+  pub found_if : (fault : OpenFault) → (IsOfLedger fault → Finds fault) → IsFoundFault Finds fault
   found_if opening.InUse finds = tt
   found_if opening.Unreadable finds = tt
   found_if opening.NotALedger finds = tt
@@ -97,7 +97,7 @@ module _ {D : Type 0} (g : disk.Ghosts D) where
   -- so has one of files, whatever they hold
   pub found_some :
       (files left : Files D) (fault : OpenFault) → RefusesToOpen g files (fault, left) →
-      IsFound (HasFoundSome g) fault
+      IsFoundFault (HasFoundSome g) fault
   found_some files left fault refuses =
       found_if (HasFoundSome g) fault (λ (of : IsOfLedger fault). (
         image_of g files,

@@ -8,7 +8,7 @@ use Rattle.service.specs.Deeds.{Joined, Keyed}
 use Rattle.service.specs.Openings.{run_meaning, FoundAfter, As_now, As_before, As_done, Moves}
 use Rattle.polling.specs.Courses.{IsAtRest}
 use Rattle.store.specs.StoreLaws.{store_meaning}
-use Rattle.store.specs.Stores.{FindsTenants, IsHonest, Reads, may_find}
+use Rattle.store.specs.Stores.{FindsTenants, IsHonest, ReadsStore, may_find}
 use Rattle.store.specs.declared.store.Store.{Store}
 use Rattle.command_texts.specs.declared.fault.Fault.{Fault}
 use Rattle.commands.specs.Kept.{kept_store, Attends, Tries, Looks}
@@ -55,7 +55,7 @@ module _ {D : Type 0} {g : disk.Ghosts D} where
 
   -- a call that only reads changes nothing for any tenant
   pub rest_so :
-      {T : Type 0} (old new : Store D g) (result : Result T Unavailable) → Reads old new result →
+      {T : Type 0} (old new : Store D g) (result : Result T Unavailable) → ReadsStore old new result →
       IsAtRest (run_meaning store_meaning) old new
   rest_so old new result reads = record {
     lived = reads.answers.follows.lived;

@@ -8,11 +8,11 @@ use Rattle.openings.specs.declared.opening.OpenFault.{OpenFault}
 use Rattle.service.specs.Openings.{run_meaning, IsSettled, IsOpened}
 use Rattle.service.specs.OpeningLaws.{is_opened}
 use Rattle.store.specs.StoreLaws.{store_meaning, finds_itself, opened_is_found, opened_is_live}
-use Rattle.store.specs.Stores.{IsHonest, IsSettledStore, IsUsable, Finds, may_find}
+use Rattle.store.specs.Stores.{IsHonest, IsSettledStore, IsUsable, StoreFinds, may_find}
 use Rattle.store.specs.declared.store.Store.{Store}
 use Rattle.command_texts.specs.declared.fault.Fault.{Fault}
 use Rattle.commands.specs.Kept.{kept_store, IsLiveKept, IsUsableKept, answers, WasRefused}
-use Rattle.commands.specs.Kept.{Attends, IsAnew, MayBeCalled, kept_of}
+use Rattle.commands.specs.Kept.{Attends, IsOpenedAnew, MayBeCalled, kept_of}
 use Rattle.commands.specs.Kept.{Renews, Stays, Again, Anew, Refuses, Tries, Looks}
 use Rattle.commands.specs.declared.kept.Kept.{Kept}
 use Rattle.commands.specs.declared.kept.Kept.TheVariants.{Open, Closed}
@@ -30,7 +30,7 @@ module _ {D : Type 0} {g : disk.Ghosts D} where
   -- a store that was opened again is what was to be found
   pub opened_so :
       (old new : Store D g) (result : Result (Unit {0}) OpenFault) →
-      (IsHonest new → OnOk result (Finds new (may_find old))) →
+      (IsHonest new → OnOk result (StoreFinds new (may_find old))) →
       (IsHonest new → OnOk result (IsHonest old)) → IsSettled (run_meaning store_meaning) new →
       OnOk result (IsOpened (run_meaning store_meaning) old new)
   opened_so old new (Ok done) finds honest settled =
@@ -42,7 +42,7 @@ module _ {D : Type 0} {g : disk.Ghosts D} where
   pub anew_so :
       (opens : Option (Files D) → Tenants → Type 0) (old left new : Kept (Store D g))
       (result : Result (Unit {0}) Fault) → answers old ≡ false → WasRefused old left →
-      OnOk result (IsAnew opens left new) → OnOk result (IsTrue (answers new)) →
+      OnOk result (IsOpenedAnew opens left new) → OnOk result (IsTrue (answers new)) →
       OnOk result (IsSettled kept_store new) → OnErr result (new ≡ Closed) → Renews opens old new
   anew_so opens old left new (Ok done) silent refused anew answering settled closed =
       Anew left silent refused anew answering settled

@@ -11,7 +11,7 @@ use Rattle.service.specs.Deeds.{IsDeedDone}
 use Rattle.service.specs.Openings.{run_meaning, FoundAfter, As_now, As_before, As_done, IsSettled, Moves}
 use Rattle.service.specs.Served.{served_to}
 use Rattle.store.specs.StoreLaws.{store_meaning}
-use Rattle.store.specs.Stores.{FindsTenants, Follows, IsLive, tenants_of}
+use Rattle.store.specs.Stores.{FindsTenants, StoreFollows, IsLive, tenants_of}
 use Rattle.store.specs.declared.store.Store.{Store}
 use Rattle.commands.specs.Kept.{Attends, Tries, Looks}
 use Rattle.commands.specs.Settling.{GivesSettled, SettlesBy, batch_ending, settling}
@@ -73,7 +73,7 @@ module _ {D : Type 0} {g : disk.Ghosts D} where
         (IsLive new
         → IsRun (GivesSettled moment) digest (tenants_of old) (tenants_of new) settled) →
         Finds store_meaning (IsAnswered settled) (LeadsBy (GivesSettled moment) digest) old new →
-        IsSettled (run_meaning store_meaning) new → Follows old new →
+        IsSettled (run_meaning store_meaning) new → StoreFollows old new →
         Moves (run_meaning store_meaning) old
         (Tried (settling digest moment) (batch_ending settled)) new
     settled_moves settled run finds rests follows = record {

@@ -24,7 +24,7 @@ use Rattle.commands.specs.GivenKeys.{IsGivenKey, OfDigest, key_text}
 use Rattle.commands.specs.Holding.{IsFrom, IsNotBrought}
 use Rattle.commands.specs.Openings.{RefusesImage, RefusesOlder}
 use Rattle.commands.specs.Pieces.{machine_named}
-use Rattle.commands.specs.Program.{AddsTenant, ChangesKey, Migrates, WritesStatement}
+use Rattle.commands.specs.Program.{AddsNamedTenant, ChangesKey, Migrates, WritesStatement}
 use Rattle.commands.specs.Undone.{IsNotAdded, IsNotChanged, IsNotMigrated, IsNotWritten}
 use Rattle.commands.specs.Undone.{IsUndone, IsUndoneAsked, IsUndoneWith, IsUnserved}
 use Rattle.commands.specs.declared.asked.Asked.{Asked}
@@ -110,7 +110,7 @@ module _ {O D : Type 0} (g : disk.Ghosts D) (written : O → Option (List ℕ)) 
       IsTenantName name → named ≡ name → IsGivenKey key given →
       IsDigestOfKey (key_of (key_text given)) (Ok digest) →
       IsUndone g image (IsNotAdded g image named digest) fault →
-      AddsTenant written image db name key out result
+      AddsNamedTenant written image db name key out result
   not_added db name named key out (Ok ended) fault given digest same good is given_so hashed why =
       absurd same
   not_added db name named key out (Err told) fault given digest same good is given_so hashed why =

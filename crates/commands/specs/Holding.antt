@@ -71,9 +71,9 @@ module _ {D : Type 0} {g : disk.Ghosts D} where
     pub made : IsHonest store → IsNew image store
 
   -- a store was opened, or is a new one
-  abbrev pub IsBegun : Bool → Image → Store D g → Type 0
-  IsBegun true image store = IsMade image store
-  IsBegun false image store = IsFrom image store
+  abbrev pub IsOpenedOrMade : Bool → Image → Store D g → Type 0
+  IsOpenedOrMade true image store = IsMade image store
+  IsOpenedOrMade false image store = IsFrom image store
 
   -- a store has come of one that began so: as long as it is open on an honest disk, this is so of
   -- the database then and now

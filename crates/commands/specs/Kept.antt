@@ -137,9 +137,9 @@ module _ {D : Type 0} {g : disk.Ghosts D} where
   GivesFiles Closed None = Unit {0}
 
   -- a home was given the files of what is left as they were, and has opened a store in its place
-  abbrev pub IsAnew :
+  abbrev pub IsOpenedAnew :
       (Option (Files D) → Tenants → Type 0) → (left new : Kept (Store D g)) → Type 0
-  IsAnew opens left new =
+  IsOpenedAnew opens left new =
       (files : Option (Files D)) × GivesFiles left files
       × opens files (tenants_kept store_meaning new)
 
@@ -156,7 +156,7 @@ module _ {D : Type 0} {g : disk.Ghosts D} where
         → Renews opens old new
     Anew :
         (left : Kept (Store D g)) → answers old ≡ false → WasRefused old left →
-        IsAnew opens left new → IsTrue (answers new) → IsSettled kept_store new
+        IsOpenedAnew opens left new → IsTrue (answers new) → IsSettled kept_store new
         → Renews opens old new
     Refuses :
         answers old ≡ false → answers new ≡ false → (IsLiveKept store_meaning new → ⊥)

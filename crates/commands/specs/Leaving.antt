@@ -5,7 +5,7 @@ use Rattle.sqlite_disk.specs.declared.Disk as disk
 use Rattle.sqlite_disk.specs.declared.Files.{Files}
 use Rattle.chain.specs.Ledgers.{Tenants}
 use Rattle.polling.specs.Peers.{Doing}
-use Rattle.store.specs.Stores.{IsReady, IsUsable}
+use Rattle.store.specs.Stores.{AnswersCalls, IsUsable}
 use Rattle.store.specs.declared.store.Store.{Store}
 use Rattle.commands.specs.Kept.{kept_of}
 use Rattle.commands.specs.Listening.{ReadsListening}
@@ -22,14 +22,14 @@ pub record ListensAt (word : Option (List ℕ)) (number : ℕ) (listening : List
 
 module _ {D : Type 0} {g : disk.Ghosts D} where
   -- what is served first: a store that was opened, or none where the file is waited for
-  pub record IsFirst (standby : Bool) (first : Option (Store D g)) : Type 0 where
+  pub record IsServedFirst (standby : Bool) (first : Option (Store D g)) : Type 0 where
     pub usable : IfSome first IsUsable
-    pub ready : IfSome first IsReady
+    pub ready : IfSome first AnswersCalls
     pub waits : first ≡ None → IsTrue standby
 
 module _ {D : Type 0} {g : disk.Ghosts D} {C : Type 0} where
   -- these peers were served so, and that ended with a fault, behind which nothing of it is left
-  pub record HasFailed {P : Type 0} (opens : Option (Files D) → Tenants → Type 0)
+  pub record HasFailedServing {P : Type 0} (opens : Option (Files D) → Tenants → Type 0)
       (gives : C → ℕ → C → Type 0) (does : P → Doing → P → Type 0) (first : Kept (Store D g))
       (moments : C) (peers : P) (most : ℕ) (fault : Fault) : Type 0 where
     pub kept : Kept (Store D g)
@@ -41,10 +41,10 @@ module _ {D : Type 0} {g : disk.Ghosts D} {C : Type 0} where
 module _ {D : Type 0} {g : disk.Ghosts D} {C O : Type 0} where
   -- what is left has served these peers a store, or what stands in its place, from these moments on,
   -- until so many messages were replied to, or it was asked to end
-  abbrev pub HasServed :
+  abbrev pub HasServedStore :
       {P : Type 0} → (Option (Files D) → Tenants → Type 0) → (C → ℕ → C → Type 0)
       → (P → Doing → P → Type 0) → Kept (Store D g) → C → P → ℕ → EndedService D P C O g → Type 0
-  HasServed opens gives does first moments peers most ended =
+  HasServedStore opens gives does first moments peers most ended =
       ServesKept opens gives does first moments peers most ended.kept ended.moments ended.peers
       (Ok ended.why)
 
@@ -55,8 +55,8 @@ module _ {D : Type 0} {g : disk.Ghosts D} {C O : Type 0} where
     pub listening : Listening
     pub listens : ListensAt word number listening
     pub first : Option (Store D g)
-    pub begins : IsFirst standby first
+    pub begins : IsServedFirst standby first
     pub moments : C
     pub served :
-        HasServed (λ files tenants. Unit {0}) (λ old moment new. ⊤) (λ old doing new. ⊤)
+        HasServedStore (λ files tenants. Unit {0}) (λ old moment new. ⊤) (λ old doing new. ⊤)
         (kept_of first) moments listening most ended

@@ -43,11 +43,11 @@ IsUnopened other = ⊥
 
 module _ (Finds : OpenFault → Type 0) where
   -- what is told of a ledger's version, or of its rows, was found
-  abbrev pub IsFound : OpenFault → Type 0
-  IsFound opening.OldSchema = Finds opening.OldSchema
-  IsFound opening.NewerSchema = Finds opening.NewerSchema
-  IsFound (opening.Damaged damage) = Finds (opening.Damaged damage)
-  IsFound other = Unit {0}
+  abbrev pub IsFoundFault : OpenFault → Type 0
+  IsFoundFault opening.OldSchema = Finds opening.OldSchema
+  IsFoundFault opening.NewerSchema = Finds opening.NewerSchema
+  IsFoundFault (opening.Damaged damage) = Finds (opening.Damaged damage)
+  IsFoundFault other = Unit {0}
 
   -- so it was where the program tells such a fault
   abbrev pub IsFoundSo : Fault → Type 0

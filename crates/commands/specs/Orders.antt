@@ -14,7 +14,7 @@ use Rattle.command_texts.specs.declared.fault.Fault.TheVariants.{Unavailable}
 use Rattle.commands.specs.Adding.{IsAdded}
 use Rattle.commands.specs.Endings.{ending_told}
 use Rattle.commands.specs.Keying.{IsChanged}
-use Rattle.commands.specs.Pieces.{IsPieceTold, IsRead, machine_named}
+use Rattle.commands.specs.Pieces.{IsPieceTold, IsReadForOperator, machine_named}
 use Rattle.commands.specs.declared.kept.Kept.{Kept}
 use Rattle.commands.specs.declared.kept.Kept.TheVariants.{Open, Closed}
 use Rattle.commands.specs.declared.orders.Order.{Order}
@@ -58,7 +58,7 @@ module _ {D : Type 0} {g : disk.Ghosts D} where
   CarriesOut (Statement tenant account span) old result new =
       (IsLive new
       → OfDatabase (λ db. IsPieceTold account span (machine_named tenant db.trees) result) old)
-      × IsRead account old result new
+      × IsReadForOperator account old result new
 
   -- so it is of a store that may not be there: then something is unavailable
   abbrev pub CarriesOutKept :
@@ -68,7 +68,7 @@ module _ {D : Type 0} {g : disk.Ghosts D} where
   CarriesOutKept order Closed result new = (result ≡ Err Unavailable) × (new ≡ Closed)
 
   -- an order was carried out, and whoever gave it was told what it came to, and nothing else
-  pub record IsToldOf {O : Type 0} (tells : O → Order → Result Done Fault → O → Type 0)
+  pub record IsToldOfOrder {O : Type 0} (tells : O → Order → Result Done Fault → O → Type 0)
       (order : Order) (orders : O) (old : Kept (Store D g)) (orders_now : O)
       (new : Kept (Store D g)) : Type 0 where
     pub done : Result Done Fault

@@ -18,7 +18,7 @@ use Rattle.control.specs.declared.answer.Answer.{Answer}
 use Rattle.control.specs.declared.counting.CountForm.{CountForm}
 use Rattle.control.specs.declared.counting.CountForm.TheVariants.{Metric, Plain}
 use Rattle.commands.specs.Extracts.{IsAskedTold}
-use Rattle.commands.specs.Holding.{Becomes, ComesOf, IsBegun, IsFrom}
+use Rattle.commands.specs.Holding.{Becomes, ComesOf, IsOpenedOrMade, IsFrom}
 use Rattle.commands.specs.Listing.{row_of}
 use Rattle.commands.specs.Pieces.{machine_named}
 use Rattle.commands.specs.declared.asked.Asked.{Asked}
@@ -61,7 +61,8 @@ module _ {D : Type 0} {g : disk.Ghosts D} (image : Image) where
   -- told as a new ledger's
   abbrev pub HasAdded : Option (List ℕ) → List ℕ → List ℕ → Store D g → Type 0
   HasAdded made name digest =
-      Becomes (IsBegun (is_some made) image) (λ old new. HasJoined name digest old new (Ok tt))
+      Becomes (IsOpenedOrMade (is_some made) image)
+      (λ old new. HasJoined name digest old new (Ok tt))
 
   -- a tenant of the ledger that was opened has another key
   abbrev pub HasChanged : List ℕ → List ℕ → Store D g → Type 0
@@ -74,5 +75,5 @@ module _ {D : Type 0} {g : disk.Ghosts D} (image : Image) where
       Becomes (IsFrom image) (λ old new. AreListedTold old.trees before behind)
 
   -- a statement of the ledger that was opened is written
-  abbrev pub HasWritten : (Trees → Type 0) → Store D g → Type 0
-  HasWritten IsWritten = ComesOf (IsFrom image) (λ old new. IsWritten old.trees)
+  abbrev pub HasWrittenStatement : (Trees → Type 0) → Store D g → Type 0
+  HasWrittenStatement IsWritten = ComesOf (IsFrom image) (λ old new. IsWritten old.trees)

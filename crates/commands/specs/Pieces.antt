@@ -53,8 +53,8 @@ asked_for digest account = Asked digest (Ok (asks.Statement account)) 0
 
 module _ {D : Type 0} {g : disk.Ghosts D} where
   -- a piece is read for an operator: nothing is as it was not for any tenant
-  abbrev pub IsRead : ℕ → Store D g → Result Done Fault → Store D g → Type 0
-  IsRead account old result new =
+  abbrev pub IsReadForOperator : ℕ → Store D g → Result Done Fault → Store D g → Type 0
+  IsReadForOperator account old result new =
       IsAtRest (run_meaning store_meaning) old new
       ⊎ ((digest : List ℕ)
       × Moves (run_meaning store_meaning) old

@@ -30,7 +30,7 @@ use Rattle.commands.specs.Holding.{HasDamaged, HasMigrated, HasOpened, HasTold, 
 use Rattle.commands.specs.Holding.{IsBroughtTo, IsDamagedAt, IsFrom}
 use Rattle.commands.specs.Openings.{RefusesImage}
 use Rattle.commands.specs.OverFiles.{AreCountsTold, AreTenantsTold, count_form}
-use Rattle.commands.specs.OverFiles.{HasAdded, HasChanged, HasListed, HasWritten, IsWrittenFrom}
+use Rattle.commands.specs.OverFiles.{HasAdded, HasChanged, HasListed, HasWrittenStatement, IsWrittenFrom}
 use Rattle.commands.specs.Undone.{IsNotAdded, IsNotChanged, IsNotCopied, IsNotMigrated}
 use Rattle.commands.specs.Undone.{IsUnanswered, IsUndone, IsUndoneAsked, IsUndoneWith}
 use Rattle.commands.specs.Served.{IsStatementServed}
@@ -74,7 +74,7 @@ module _ {O D : Type 0} {g : disk.Ghosts D} where
         (HasOpened (HasAdded image (text_in ended.made) name digest)) ended.held)
 
   -- so it is; before the file is opened the name is judged, then the key
-  pub record AddsTenant (written : O → Option (List ℕ)) (image : Image) (db name : List ℕ)
+  pub record AddsNamedTenant (written : O → Option (List ℕ)) (image : Image) (db name : List ℕ)
       (key : Option (List ℕ)) (out : O) (result : Result (Ended O D g) Fault) : Type 0 where
     pub name_first : ¬ IsTenantName name → result ≡ Err BadName
     pub key_next : IsTenantName name → IsNoKey key → result ≡ Err BadKey
@@ -109,7 +109,7 @@ module _ {O D : Type 0} {g : disk.Ghosts D} where
     pub asked : Asked
     pub means : IsAskedInWords words asked
     pub told : HasToldOr (IsStatementServed name id asked (written out) (written ended.out))
-        (HasOpened (HasWritten image (IsWrittenFrom written name id asked out ended.out)))
+        (HasOpened (HasWrittenStatement image (IsWrittenFrom written name id asked out ended.out)))
         ended.held
 
   -- so it is; before the file is opened the name is judged, then the account's id, then the period's
@@ -187,7 +187,7 @@ module _ {O D : Type 0} {g : disk.Ghosts D} where
     pub copied : HasToldOr (TellsCopied path (decimal bytes)) (HasOpened (IsFrom image)) ended.held
 
   -- so it is
-  pub record Copies (written : O → Option (List ℕ)) (image : Image) (to : List ℕ) (out : O)
+  pub record CopiesFile (written : O → Option (List ℕ)) (image : Image) (to : List ℕ) (out : O)
       (result : Result (Ended O D g) Fault) : Type 0 where
     pub copied : IfOk result (IsCopiedSo written image to out)
     pub calm : IfOk result IsCalm
@@ -222,26 +222,28 @@ module _ {O D : Type 0} {g : disk.Ghosts D} where
       result ≡ Ok (record { out = out; is_damaged = false; made = None; held = Nothing })
 
   -- what a command comes to, of a file and its log that hold this
-  abbrev pub Does :
+  abbrev pub Performs :
       (O → Option (List ℕ)) → Image → Command → O → Result (Ended O D g) Fault → Type 0
-  Does written image command.Lists out result = DoesNothing out result
-  Does written image (command.Serve db address port requests standby limits) out result =
+  Performs written image command.Lists out result = DoesNothing out result
+  Performs written image (command.Serve db address port requests standby limits) out result =
       DoesNothing out result
-  Does written image (command.AddTenant db name key) out result =
-      AddsTenant written image db.now name.now (text_in key) out result
-  Does written image (command.ChangeKey db name key) out result =
+  Performs written image (command.AddTenant db name key) out result =
+      AddsNamedTenant written image db.now name.now (text_in key) out result
+  Performs written image (command.ChangeKey db name key) out result =
       ChangesKey written image name.now (text_in key) out result
-  Does written image (command.Statement db tenant account asked) out result =
+  Performs written image (command.Statement db tenant account asked) out result =
       WritesStatement written image tenant.now account.now asked out result
-  Does written image (command.Check db) out result = Checks written image out result
-  Does written image (command.Migrate db to) out result = Migrates written image to.now out result
-  Does written image (command.Lint route) out result = DoesNothing out result
-  Does written image (command.Tenants db) out result = ListsTenants written image out result
-  Does written image (command.Status db prometheus) out result =
+  Performs written image (command.Check db) out result = Checks written image out result
+  Performs written image (command.Migrate db to) out result =
+      Migrates written image to.now out result
+  Performs written image (command.Lint route) out result = DoesNothing out result
+  Performs written image (command.Tenants db) out result = ListsTenants written image out result
+  Performs written image (command.Status db prometheus) out result =
       AsksStatus written prometheus out result
-  Does written image (command.Copy db to) out result = Copies written image to.now out result
-  Does written image (command.Stop db) out result = Stops written out result
-  Does written image command.Version out result = TellsVersion written out result
+  Performs written image (command.Copy db to) out result =
+      CopiesFile written image to.now out result
+  Performs written image (command.Stop db) out result = Stops written out result
+  Performs written image command.Version out result = TellsVersion written out result
 
 -- standard error, before and behind the program
 pub record Told : Type 0 where
@@ -288,7 +290,7 @@ module _ {O D : Type 0} (g : disk.Ghosts D) (written : O → Option (List ℕ)) 
   abbrev pub HasRunFor : List (List ℕ) → O → Told → ℕ → Result Command LineFault → Type 0
   HasRunFor words out err status (Ok asked) =
       IsCommandOf words asked
-      × ((ended : Result (Ended O D g) Fault) × Does written image asked out ended
+      × ((ended : Result (Ended O D g) Fault) × Performs written image asked out ended
       × TellsEnded ended err status)
   HasRunFor words out err status (Err (Refused error)) =
       IsAmong (kind_of error) (fault_of ledgerd_app words) × IsRefusalTold err status
@@ -299,6 +301,6 @@ module _ {O D : Type 0} (g : disk.Ghosts D) (written : O → Option (List ℕ)) 
   HasRunFor words out err status (Err Memory) = TellsFault Unavailable err status
 
   -- what the program does for its words
-  abbrev pub HasRun : List (List ℕ) → O → Told → ℕ → Type 0
-  HasRun words out err status =
+  abbrev pub RunsProgram : List (List ℕ) → O → Told → ℕ → Type 0
+  RunsProgram words out err status =
       (line : Result Command LineFault) × HasRunFor words out err status line

@@ -53,7 +53,8 @@ module _ {D : Type 0} {g : disk.Ghosts D} where
   HasSettled moment search searched old new (Err why) = Unit {0}
 
   -- a piece of settling at a moment: what a search told was done, and is noted
-  pub record Settles (moment : ℕ) (settler settler' : Settler) (old new : Store D g) : Type 0 where
+  pub record SettlesPiece (moment : ℕ) (settler settler' : Settler) (old new : Store D g)
+      : Type 0 where
     pub by : SettlesBy moment old new
     pub searched : Search
     pub told : Result (Option Overdue) BatchFault

@@ -16,7 +16,7 @@ use Rattle.commands.specs.Adding.{IsAdded}
 use Rattle.commands.specs.Asking.{IsAccountId, IsAskedInWords, IsUnasked, IsVersion}
 use Rattle.commands.specs.Extracts.{IsAskedTold}
 use Rattle.commands.specs.GivenKeys.{IsGivenKey, OfDigest, key_text}
-use Rattle.commands.specs.Holding.{ComesOf, IsBegun, IsFrom, IsNotBrought}
+use Rattle.commands.specs.Holding.{ComesOf, IsOpenedOrMade, IsFrom, IsNotBrought}
 use Rattle.commands.specs.Keying.{IsChanged}
 use Rattle.commands.specs.Openings.{RefusesImage, RefusesOlder}
 use Rattle.commands.specs.Pieces.{machine_named}
@@ -55,7 +55,8 @@ module _ {D : Type 0} (g : disk.Ghosts D) (image : Image) where
   abbrev pub IsNotAdded : List ℕ → List ℕ → Fault → Type 0
   IsNotAdded name digest fault =
       (is_new : Bool) × (store : Store D g)
-      × ComesOf (IsBegun is_new image) (λ old new. IsAdded name digest old new (Err fault)) store
+      × ComesOf (IsOpenedOrMade is_new image)
+        (λ old new. IsAdded name digest old new (Err fault)) store
 
   -- a tenant of a ledger that was opened has no other key
   abbrev pub IsNotChanged : List ℕ → List ℕ → Fault → Type 0

@@ -4,7 +4,7 @@ ghost use Rattle.service.specs.Courses.{Tried};
 ghost use Rattle.service.specs.Deeds.{Joined};
 ghost use Rattle.service.specs.Openings.{run_meaning, Moves};
 ghost use Rattle.store.specs.StoreLaws.{store_meaning};
-ghost use Rattle.store.specs.Stores.{Follows, IsHonest, IsLive, IsUsable, OfDatabases};
+ghost use Rattle.store.specs.Stores.{StoreFollows, IsHonest, IsLive, IsUsable, OfDatabases};
 ghost use Rattle.commands.specs.Adding.{IsAdded, add_fault};
 ghost use Rattle.commands.specs.Endings.{ending_told};
 
@@ -25,7 +25,7 @@ pub(crate) fn add_tenant<D: Disk + Drop>(
     ensures moves { Moves (run_meaning store_meaning) store.old
         (Tried (Joined digest.now) (ending_told result)) store.new }
     ensures usable { IsUsable store.new }
-    ensures follows { Follows store.old store.new }
+    ensures follows { StoreFollows store.old store.new }
     ensures open { IsHonest store.new → OnOk result (IsLive store.new) }
 {
     match store.add_tenant(name, digest) {

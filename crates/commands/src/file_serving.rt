@@ -1,7 +1,7 @@
 //! Serves the ledger in a file of this machine to many clients at once, and to an operator.
 ghost use Rattle.std.specs.Prelude.{◌≡◌, ◌⊎◌, IfErr, IfOk, IsTrue, Ok, Err};
 ghost use Rattle.command_line.specs.Values.{text_in};
-ghost use Rattle.commands.specs.Leaving.{HasServedFile, IsFirstPiece};
+ghost use Rattle.commands.specs.Leaving.{HasServedFile, IsServedFirst};
 ghost use Rattle.commands.specs.Listening.{IsNoAddress};
 ghost use Rattle.commands.specs.Openings.{RefusesSome};
 
@@ -107,7 +107,7 @@ impl<'a> HostFile<'a> {
     // The store, if it can be opened now; none where another process has the file and it is waited
     // for.
     fn first_store(&self, standby: bool) -> Result<Option<Store<ServedFile<'a>>>, Fault>
-        ensures first { IfOk result (IsFirstPiece standby) }
+        ensures first { IfOk result (IsServedFirst standby) }
         ensures fault { IfErr result (RefusesSome ⟦<ServedFile<'a> as Disk>⟧) }
     {
         match self.open_store(&mut None) {

@@ -3,7 +3,7 @@ ghost use Rattle.std.specs.Prelude.{◌≡◌, OnOk};
 ghost use Rattle.service.specs.Courses.{Tried};
 ghost use Rattle.service.specs.Openings.{run_meaning};
 ghost use Rattle.store.specs.StoreLaws.{store_meaning};
-ghost use Rattle.store.specs.Stores.{Follows, IsHonest, IsLive, IsUsable, OfDatabases};
+ghost use Rattle.store.specs.Stores.{StoreFollows, IsHonest, IsLive, IsUsable, OfDatabases};
 ghost use Rattle.commands.specs.Keying.{IsChanged, key_fault};
 ghost use Rattle.commands.specs.Orders.{IsKeyingTold};
 
@@ -23,7 +23,7 @@ pub(crate) fn change_key<D: Disk + Drop>(
         (λ old new. IsChanged name.now digest.now old new result) store.old store.new }
     ensures moves { IsKeyingTold digest.now store.old result store.new }
     ensures usable { IsUsable store.new }
-    ensures follows { Follows store.old store.new }
+    ensures follows { StoreFollows store.old store.new }
     ensures open { IsHonest store.new → OnOk result (IsLive store.new) }
 {
     match store.change_key(name, digest) {

@@ -4,9 +4,9 @@ ghost use Rattle.sqlite_wal.specs.Files.{image_at};
 ghost use Rattle.sqlite_wal.specs.Recovery.{Image};
 ghost use Rattle.migrate.specs.Ledgers.{IsMigratable, IsOpenedToMigrate};
 ghost use Rattle.openings.specs.Found.{AreOnlyThere, Yields};
-ghost use Rattle.store.specs.Stores.{IsReady, IsUsable};
-ghost use Rattle.commands.specs.Holding.{IsBegun, IsFoundAs, IsFrom, IsMade};
-ghost use Rattle.commands.specs.Openings.{HasFoundSome, IsFound, IsOpeningFault, IsUnopened, open_fault};
+ghost use Rattle.store.specs.Stores.{AnswersCalls, IsUsable};
+ghost use Rattle.commands.specs.Holding.{IsOpenedOrMade, IsFoundAs, IsFrom, IsMade};
+ghost use Rattle.commands.specs.Openings.{HasFoundSome, IsFoundFault, IsOpeningFault, IsUnopened, open_fault};
 ghost use Rattle.commands.specs.Openings.{RefusesImage, RefusesOlder, RefusesSome};
 
 use audit::Damage;
@@ -69,7 +69,7 @@ pub(crate) fn open_served<'a, A: Audit>(
     meter: &'a Meter,
 ) -> Result<Store<ServedFile<'a>>, Fault>
     ensures usable { IfOk result IsUsable }
-    ensures ready { IfOk result IsReady }
+    ensures ready { IfOk result AnswersCalls }
     ensures fault { IfErr result (RefusesSome ⟦<ServedFile<'a> as Disk>⟧) }
 {
     match open_measured(rt, path, audit, meter) {
@@ -85,8 +85,8 @@ fn open_measured<'a, A: Audit>(
     meter: &'a Meter,
 ) -> Result<Store<ServedFile<'a>>, OpenFault>
     ensures usable { IfOk result IsUsable }
-    ensures ready { IfOk result IsReady }
-    ensures fault { IfErr result (IsFound (HasFoundSome ⟦<ServedFile<'a> as Disk>⟧)) }
+    ensures ready { IfOk result AnswersCalls }
+    ensures fault { IfErr result (IsFoundFault (HasFoundSome ⟦<ServedFile<'a> as Disk>⟧)) }
 {
     find(rt, path)?;
     let files = measured(files_at(rt, path, Unknown)?, rt, meter);
@@ -112,7 +112,7 @@ pub(crate) fn open_or_make<St: Start>(
 ) -> Result<Opened<FileFrom<St>>, Fault>
     ensures usable { IfOk result (λ opened. IsUsable opened.store) }
     ensures begun { IfOk result (λ opened.
-        IsBegun opened.is_new (image_at St.Start) opened.store) }
+        IsOpenedOrMade opened.is_new (image_at St.Start) opened.store) }
     ensures fault { IfErr result (RefusesImage ⟦<FileFrom<St> as Disk>⟧ (image_at St.Start)) }
 {
     match look(rt, path).map_err(open_fault)? {
@@ -238,7 +238,7 @@ fn make_file(rt: &HostRuntime, path: &str) -> Result<(), Fault>
 fn make<St: Start>(rt: &HostRuntime, path: &str, start: St) -> Result<Opened<FileFrom<St>>, Fault>
     ensures usable { IfOk result (λ opened. IsUsable opened.store) }
     ensures begun { IfOk result (λ opened.
-        IsBegun opened.is_new (image_at St.Start) opened.store) }
+        IsOpenedOrMade opened.is_new (image_at St.Start) opened.store) }
     ensures fault { IfErr result (RefusesImage ⟦<FileFrom<St> as Disk>⟧ (image_at St.Start)) }
 {
     let options = small_options(rt)?;
@@ -260,7 +260,7 @@ fn open_or_make_in<St: Start>(
 ) -> Result<Opened<FileFrom<St>>, Fault>
     ensures usable { IfOk result (λ opened. IsUsable opened.store) }
     ensures begun { IfOk result (λ opened.
-        IsBegun opened.is_new (image_at St.Start) opened.store) }
+        IsOpenedOrMade opened.is_new (image_at St.Start) opened.store) }
     ensures fault { IfErr result (RefusesImage ⟦<FileFrom<St> as Disk>⟧ (image_at St.Start)) }
 {
     let options = small_options(rt)?;

@@ -3,7 +3,7 @@ ghost use Rattle.std.specs.Prelude.{◌≡◌, Bool};
 ghost use Rattle.store.specs.Stores.{IsUsable};
 ghost use Rattle.store.specs.StoreLaws.{store_meaning};
 ghost use Rattle.commands.specs.Kept.{Attends, MayBeCalled};
-ghost use Rattle.commands.specs.Orders.{CarriesOut, IsToldOf};
+ghost use Rattle.commands.specs.Orders.{CarriesOut, IsToldOfOrder};
 
 use crate::adding::add_tenant;
 use crate::kept::Kept;
@@ -116,7 +116,7 @@ pub(crate) fn carry_out<D: Disk + Drop, O: Orders>(
     order: &Order,
 )
     requires { MayBeCalled kept.old }
-    ensures told { IsToldOf O.tells order.now orders.old kept.old orders.new kept.new }
+    ensures told { IsToldOfOrder O.tells order.now orders.old kept.old orders.new kept.new }
     ensures renews { Attends kept.old kept.new }
     ensures usable { MayBeCalled kept.new }
 {

@@ -6,9 +6,9 @@ ghost use Rattle.control.specs.Answers.{TellsCopied};
 ghost use Rattle.commands.specs.Holding.{HasOpened, HasToldOr, IsBroughtTo, IsFrom, IsNotBrought};
 ghost use Rattle.commands.specs.Migrating.{migrate_fault};
 ghost use Rattle.commands.specs.Openings.{IsOpeningFault, RefusesImage, RefusesOlder};
-ghost use Rattle.commands.specs.OverFiles.{HasWritten, IsWrittenFrom, count_form};
+ghost use Rattle.commands.specs.OverFiles.{HasWrittenStatement, IsWrittenFrom, count_form};
 ghost use Rattle.commands.specs.Served.{IsStatementServed};
-ghost use Rattle.commands.specs.Program.{AsksStatus, Checks, Copies, Migrates, Stops};
+ghost use Rattle.commands.specs.Program.{AsksStatus, Checks, CopiesFile, Migrates, Stops};
 ghost use Rattle.commands.specs.Program.{WritesStatement};
 ghost use Rattle.commands.specs.Undone.{IsNotCopied, IsNotWritten, IsUndone};
 
@@ -71,7 +71,7 @@ pub(crate) fn run_copy<St: Start, O: Drain + Drop>(
     mut out: O,
 ) -> Result<Ended<'static, O, FileFrom<St>>, Fault>
     requires { O.failed out ≡ false }
-    ensures { Copies O.written (image_at St.Start) to.now out result }
+    ensures { CopiesFile O.written (image_at St.Start) to.now out result }
 {
     let to = absolute(rt, to)?;
     let (digits, held) = copy(rt, db, to.as_str(), start)?;
@@ -166,7 +166,7 @@ fn write<St: Start, O: Drain + Drop>(
     requires { O.failed out ≡ false }
     ensures written { IfOk result (λ done. HasToldOr
         (IsStatementServed tenant.now account asked.now (O.written out) (O.written done.0))
-        (HasOpened (HasWritten (image_at St.Start)
+        (HasOpened (HasWrittenStatement (image_at St.Start)
         (IsWrittenFrom O.written tenant.now account asked.now out done.0))) done.1) }
     ensures fault { IfErr result (IsUndone ⟦<FileFrom<St> as Disk>⟧ (image_at St.Start)
         (IsNotWritten ⟦<FileFrom<St> as Disk>⟧ (image_at St.Start)
@@ -195,7 +195,7 @@ fn write_unserved<St: Start, O: Drain + Drop>(
     out: O,
 ) -> Result<(O, Store<FileFrom<St>>), Fault>
     requires { O.failed out ≡ false }
-    ensures written { IfOk result (λ done. HasWritten (image_at St.Start)
+    ensures written { IfOk result (λ done. HasWrittenStatement (image_at St.Start)
         (IsWrittenFrom O.written tenant.now account asked.now out done.0) done.1) }
     ensures fault { IfErr result (λ fault.
         RefusesImage ⟦<FileFrom<St> as Disk>⟧ (image_at St.Start) fault

@@ -6,7 +6,7 @@ ghost use Rattle.control.specs.Answers.{TellsAdded, TellsChanged};
 ghost use Rattle.commands.specs.Holding.{HasOpened, HasToldOr};
 ghost use Rattle.commands.specs.OverFiles.{AreTenantsTold, HasAdded, HasChanged, HasListed};
 ghost use Rattle.commands.specs.Openings.{RefusesImage};
-ghost use Rattle.commands.specs.Program.{AddsTenant, ChangesKey, IsNoneOr, ListsTenants};
+ghost use Rattle.commands.specs.Program.{AddsNamedTenant, ChangesKey, IsNoneOr, ListsTenants};
 ghost use Rattle.commands.specs.Undone.{IsNotAdded, IsNotChanged, IsUndone};
 
 use crate::adding::add_tenant;
@@ -34,8 +34,8 @@ pub(crate) fn run_add_tenant<'a, St: Start, O: Drain + Drop>(
     mut out: O,
 ) -> Result<Ended<'a, O, FileFrom<St>>, Fault>
     requires { O.failed out ≡ false }
-    ensures { AddsTenant O.written (image_at St.Start) db.now tenant.now (text_in key.entry) out
-        result }
+    ensures { AddsNamedTenant O.written (image_at St.Start) db.now tenant.now (text_in key.entry)
+        out result }
 {
     let tenant = name(tenant)?;
     let key = GivenKey::read(rt, key)?;

@@ -7,7 +7,7 @@ ghost use Rattle.store.specs.StoreLaws.{store_meaning};
 ghost use Rattle.store.specs.Stores.{IsLive, IsUsable, OfDatabase, tenants_of};
 ghost use Rattle.commands.specs.Endings.{ending_told};
 ghost use Rattle.commands.specs.Pieces.{asked_for, piece_told, machine_named};
-ghost use Rattle.commands.specs.Pieces.{IsPieceTold, IsRead, IsTried};
+ghost use Rattle.commands.specs.Pieces.{IsPieceTold, IsReadForOperator, IsTried};
 
 use crate::orders::Done;
 use chain::{AccountEntry, Listed, ReadFault};
@@ -81,7 +81,7 @@ pub(crate) fn read_piece<D: Disk + Drop>(
     requires { IsUsable store.old }
     ensures told { IsLive store.new → OfDatabase
         (λ db. IsPieceTold account span.now (machine_named tenant.now db.trees) result) store.old }
-    ensures read { IsRead account store.old result store.new }
+    ensures read { IsReadForOperator account store.old result store.new }
     ensures usable { IsUsable store.new }
 {
     match store.digest_of(tenant) {

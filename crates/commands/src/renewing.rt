@@ -2,11 +2,11 @@
 //! carried out on it, and holds that are due are released.
 ghost use Rattle.std.specs.Prelude.{◌≡◌, ◌≤◌, ◌*◌, min, false, IfErr, IfOk, IsTrue, OnErr, OnOk};
 ghost use Rattle.service.specs.Openings.{run_meaning, IsSettled, IsOpened};
-ghost use Rattle.store.specs.Stores.{IsLive, IsReady, IsUsable};
+ghost use Rattle.store.specs.Stores.{IsLive, AnswersCalls, IsUsable};
 ghost use Rattle.store.specs.StoreLaws.{store_meaning};
 ghost use Rattle.commands.specs.Behind.{MayWait};
 ghost use Rattle.commands.specs.Kept.{answers, kept_store, IsLiveKept, MayBeCalled};
-ghost use Rattle.commands.specs.Kept.{Attends, GivesFiles, IsAnew, IsRefusedAgain, Renews};
+ghost use Rattle.commands.specs.Kept.{Attends, GivesFiles, IsOpenedAnew, IsRefusedAgain, Renews};
 ghost use Rattle.commands.specs.Openings.{IsOpeningFault};
 
 use crate::kept::Kept;
@@ -37,7 +37,7 @@ pub trait Home<D: Disk + Drop> {
     ghost use Rattle.std.specs.Prelude.{IfErr, IfOk, Option};
     ghost use Rattle.sqlite_disk.specs.declared.Files.{Files};
     ghost use Rattle.chain.specs.Ledgers.{Tenants};
-    ghost use Rattle.store.specs.Stores.{IsReady, IsUsable, tenants_of};
+    ghost use Rattle.store.specs.Stores.{AnswersCalls, IsUsable, tenants_of};
     ghost use Rattle.commands.specs.Openings.{IsOpeningFault, RefusesSome};
 
     // Which tenants a store may have that it opens in the place of one that gave these files back.
@@ -48,7 +48,7 @@ pub trait Home<D: Disk + Drop> {
     fn open_store(&self, left: &mut Option<Files<D>>) -> Result<Store<D>, Fault>
         ensures opens { IfOk result (λ store. opens left.old (tenants_of store)) }
         ensures usable { IfOk result IsUsable }
-        ensures ready { IfOk result IsReady }
+        ensures ready { IfOk result AnswersCalls }
         ensures fault { IfErr result (RefusesSome D.Disk) };
 
     /// Is told why a store could not be opened again: once, until it is told that a store answers.
@@ -64,7 +64,7 @@ pub trait Home<D: Disk + Drop> {
 
     /// Is told that a store answers calls again.
     fn tell_answers(&self, store: &Store<D>)
-        requires { IsReady store.now };
+        requires { AnswersCalls store.now };
 }
 
 /// A time in which a store that was refused is not opened.
@@ -265,7 +265,7 @@ fn tell_answers<D: Disk + Drop, H: Home<D>>(home: &H, kept: &Kept<Store<D>>)
 // Opens a store again over its own files.
 fn reopened<D: Disk + Drop>(store: &mut Store<D>) -> Result<(), OpenFault>
     ensures usable { IsUsable store.new }
-    ensures ready { OnOk result (IsReady store.new) }
+    ensures ready { OnOk result (AnswersCalls store.new) }
     ensures opened { OnOk result (IsOpened (run_meaning store_meaning) store.old store.new) }
     ensures refused { OnErr result (IsRefusedAgain store.old store.new) }
 {
@@ -294,7 +294,7 @@ fn open_anew<D: Disk + Drop, H: Home<D>>(home: &H, kept: &mut Kept<Store<D>>) ->
     requires { IsLiveKept store_meaning kept.old → ⊥ }
     ensures usable { MayBeCalled kept.new }
     ensures answers { OnOk result (IsTrue (answers kept.new)) }
-    ensures anew { OnOk result (IsAnew H.opens kept.old kept.new) }
+    ensures anew { OnOk result (IsOpenedAnew H.opens kept.old kept.new) }
     ensures settled { OnOk result (IsSettled kept_store kept.new) }
     ensures refused { OnErr result (kept.new ≡ Kept.Closed) }
     ensures fault { IfErr result IsOpeningFault }

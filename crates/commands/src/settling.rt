@@ -6,7 +6,7 @@ ghost use Rattle.stored_ledgers.specs.Overdue.{BeginsSearch};
 ghost use Rattle.store.specs.StoreLaws.{store_meaning};
 ghost use Rattle.store.specs.Stores.{IsUsable};
 ghost use Rattle.commands.specs.Behind.{IsEmpty, AsksForOneBehind, NotesPiece, NotesTold, search_behind};
-ghost use Rattle.commands.specs.Settling.{GivesSettled, HasSettled, Settles, SettlesBy, batch_ending, settling};
+ghost use Rattle.commands.specs.Settling.{GivesSettled, HasSettled, SettlesPiece, SettlesBy, batch_ending, settling};
 
 use crate::behind::Behind;
 use crate::moments::moment_of;
@@ -154,7 +154,7 @@ impl Settler {
     /// Looks at some tenants, and releases a piece of what is due at one of them by the clock's moment.
     pub(crate) fn settle<D: Disk + Drop, K: Clock>(&mut self, clock: &K, store: &mut Store<D>)
         requires { IsUsable store.old }
-        ensures settles { (moment : ℕ) × Settles moment self.old self.new store.old store.new }
+        ensures settles { (moment : ℕ) × SettlesPiece moment self.old self.new store.old store.new }
         ensures usable { IsUsable store.new }
     {
         let begun = clock.monotonic().unwrap_or(Duration::ZERO);

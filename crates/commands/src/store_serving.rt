@@ -2,7 +2,7 @@
 ghost use Rattle.std.specs.Prelude.{◌≡◌, IfErr, IfOk, IfSome, IsTrue, Ok};
 ghost use Rattle.store.specs.Stores.{IsUsable};
 ghost use Rattle.commands.specs.Kept.{kept_of, MayBeCalled};
-ghost use Rattle.commands.specs.Leaving.{HasFailed, HasServed};
+ghost use Rattle.commands.specs.Leaving.{HasFailedServing, HasServedStore};
 ghost use Rattle.commands.specs.Serving.{ServesKept, ServesStore};
 
 use crate::desk::HostDesk;
@@ -67,12 +67,12 @@ pub(crate) fn serve_to_end<
 ) -> Result<EndedService<D, P, C, O>, (Fault, O)>
     requires { IfSome store IsUsable }
     ensures served { IfOk result
-        (HasServed H.opens C.gives P.does (kept_of store) moments peers most) }
+        (HasServedStore H.opens C.gives P.does (kept_of store) moments peers most) }
     ensures stopped { IfOk result
         (λ ended. ended.why ≡ Served.Stopped → IsTrue (O.stops ended.orders)) }
     ensures fault { IfErr result (λ error. error.0 ≡ Fault.Socket) }
     ensures failed { IfErr result (λ error.
-        HasFailed H.opens C.gives P.does (kept_of store) moments peers most error.0) }
+        HasFailedServing H.opens C.gives P.does (kept_of store) moments peers most error.0) }
 {
     let mut kept = Kept::of(store);
     let (served, orders) = serve_kept(

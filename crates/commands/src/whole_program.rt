@@ -2,7 +2,7 @@
 ghost use Rattle.std.specs.Prelude.{◌≡◌, false, map};
 ghost use Rattle.sqlite_wal.specs.Files.{image_at};
 ghost use Rattle.command_line.specs.Values.{text_in};
-ghost use Rattle.commands.specs.Program.{Does, HasRun, IsMadeTold, IsRefusalTold, TellsEnded};
+ghost use Rattle.commands.specs.Program.{Performs, RunsProgram, IsMadeTold, IsRefusalTold, TellsEnded};
 ghost use Rattle.commands.specs.Program.{TellsVersion, told};
 
 use crate::ended::{Ended, Held};
@@ -34,8 +34,8 @@ pub fn program<S: AsStr, St: Start, O: Drain + Drop, E: Drain>(
 ) -> u8
     requires out { O.failed out ≡ false }
     requires err { E.failed err.old ≡ false }
-    ensures { HasRun ⟦<FileFrom<St> as Disk>⟧ O.written (image_at St.Start) (map S.text words.now) out
-        (told (E.written err.old) (E.written err.new) (E.failed err.new)) result }
+    ensures { RunsProgram ⟦<FileFrom<St> as Disk>⟧ O.written (image_at St.Start) (map S.text words.now)
+        out (told (E.written err.old) (E.written err.new) (E.failed err.new)) result }
 {
     match command(rt.alloc(), words) {
         Ok(asked) => tell(rt, err, run(rt, asked, start, out), Place::of(asked)),
@@ -117,7 +117,7 @@ fn run<'a, St: Start, O: Drain + Drop>(
     out: O,
 ) -> Result<Ended<'a, O, FileFrom<St>>, Fault>
     requires { O.failed out ≡ false }
-    ensures { Does O.written (image_at St.Start) asked.entry out result }
+    ensures { Performs O.written (image_at St.Start) asked.entry out result }
 {
     match asked {
         Command::Lists | Command::Serve { .. } | Command::Lint { .. } => {

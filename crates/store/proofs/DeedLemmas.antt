@@ -32,7 +32,7 @@ use Rattle.store.specs.Deeds.{ending_of, key_ending}
 use Rattle.store.specs.Names.{names_at, digest_named}
 use Rattle.store.specs.StoreLaws.{store_meaning, finds_itself}
 use Rattle.store.specs.Stores.{IsUsable, IsUsableAt, IsLive, IsLiveAt, IsHonest, IsSettledStore, tenants_of}
-use Rattle.store.specs.Stores.{tenants_at, Answers, FindsTenants, Follows, Goes, OfDatabase, OfDatabaseAt, OfDatabases}
+use Rattle.store.specs.Stores.{tenants_at, AnswersUnless, FindsTenants, StoreFollows, Goes, OfDatabase, OfDatabaseAt, OfDatabases}
 use Rattle.store.specs.declared.place.Place.{Place}
 use Rattle.store.specs.declared.place.Place.TheVariants as at
 use Rattle.store.specs.declared.store.Store.{Store}
@@ -131,7 +131,7 @@ module _ {D : Type 0} {g : disk.Ghosts D} where
 
   -- a deed that was tried on a store that is settled, and what a crash in it may leave
   module _ (deed : Deed) (After : Database → Trees → Type 0) (old new : Store D g)
-      (usable : IsUsable old) (follows : Follows old new) (unready : old.ready ≡ false → new ≡ old)
+      (usable : IsUsable old) (follows : StoreFollows old new) (unready : old.ready ≡ false → new ≡ old)
       (goes : Goes old new (λ db. OfDatabase (λ was. After was db) old))
       (done : IsLive old → (db : Trees) (found : Tenants)
       → ((d : List ℕ) → found d ≡ tenants_in db d) → OfDatabase (λ was. After was db) old
@@ -163,7 +163,7 @@ module _ {D : Type 0} {g : disk.Ghosts D} where
   -- the adding of a tenant
   pub joins_so : JoiningAddsOne → (name digest : List ℕ) (old new : Store D g)
       (joined : Answer (Unit {0}) Taken) (result : Result (Unit {0}) AddTenant)
-      → result ≡ joining_answer joined → IsUsable old → Answers (add.Unavailable DiskFailed) old new result
+      → result ≡ joining_answer joined → IsUsable old → AnswersUnless (add.Unavailable DiskFailed) old new result
       → Goes old new (λ db. OfDatabase (λ was. Joined name digest was db) old)
       → IsSettledStore new
       → (IsLive new → OfDatabases (λ before after.
@@ -192,7 +192,7 @@ module _ {D : Type 0} {g : disk.Ghosts D} where
   -- the change of a tenant's key: of whoever has the name
   pub keys_so : KeyingMovesKey → (name digest : List ℕ) (old new : Store D g)
       (keyed : Answer (Unit {0}) KeyRefused) (result : Result (Unit {0}) ChangeKey)
-      → result ≡ keying_answer keyed → IsUsable old → Answers (key.Unavailable DiskFailed) old new result
+      → result ≡ keying_answer keyed → IsUsable old → AnswersUnless (key.Unavailable DiskFailed) old new result
       → Goes old new (λ db. OfDatabase (λ was. Keyed name digest was db) old)
       → IsSettledStore new
       → (IsLive new → OfDatabases (λ before after.

@@ -19,7 +19,7 @@ use Rattle.stored_ledgers.specs.Outcomes.{IsAfterBatch, KeepsTables}
 use Rattle.stored_ledgers.specs.Rounds.{IsAfterRound}
 use Rattle.store.specs.StoreLaws.{store_meaning}
 use Rattle.store.specs.Stores.{IsUsable, IsUsableAt, IsLive, IsLiveAt, IsHonest, IsHonestAt, tenants_of, tenants_at}
-use Rattle.store.specs.Stores.{FindsTenants, Follows, Goes, OfDatabase, OfDatabaseAt, Answers, Reads, may_find}
+use Rattle.store.specs.Stores.{FindsTenants, StoreFollows, Goes, OfDatabase, OfDatabaseAt, AnswersUnless, ReadsStore, may_find}
 use Rattle.store.specs.Stores.{IsSettledAt, IsSettledStore, MayHold, may_find_at}
 use Rattle.store.specs.Stores.{AreKeptAt, StaysFound}
 use Rattle.store.specs.declared.place.Place.{Place}
@@ -88,7 +88,7 @@ module _ {D : Type 0} {g : disk.Ghosts D} where
   still_keeps (at.Shut files) new same = absurd same
 
   -- what a call may leave in the files leads to the machines of its work
-  module _ (old new : Store D g) (usable : IsUsable old) (follows : Follows old new)
+  module _ (old new : Store D g) (usable : IsUsable old) (follows : StoreFollows old new)
       (unready : old.ready ≡ false → new ≡ old) (After : Database → Trees → Type 0)
       (Leads : Tenants → Tenants → Type 0)
       (leads : IsLive old → (db : Trees) (found : Tenants) →
@@ -141,7 +141,7 @@ module _ {D : Type 0} {g : disk.Ghosts D} where
   -- what a call may leave in the files has the directory and the tables of strangers of what might
   -- have been found before
   module _ (old new : Store D g) (settled : IsSettledStore old) (usable : IsUsable old)
-      (follows : Follows old new) (unready : old.ready ≡ false → new ≡ old)
+      (follows : StoreFollows old new) (unready : old.ready ≡ false → new ≡ old)
       (After : Database → Trees → Type 0)
       (keeps : (was : Database) (db : Trees) → After was db
       → KeepsTables was (record { schema = was.schema; trees = db }))
@@ -167,7 +167,7 @@ module _ {D : Type 0} {g : disk.Ghosts D} where
   -- after a batch
   pub finds_batch :
       {O : Type 0} (gives : Machine → O → Machine → Type 0) (digest : List ℕ) (old new : Store D g) →
-      IsUsable old → Follows old new →
+      IsUsable old → StoreFollows old new →
       Goes old new (λ db. OfDatabase (λ was. IsAfterBatch gives digest was db) old) →
       (result : Result O BatchFault) → (old.ready ≡ false → new ≡ old)
       → (IsHonest new → result ≢ Err (batch_fault.Unavailable DiskFailed) → IsLive new)
@@ -181,7 +181,7 @@ module _ {D : Type 0} {g : disk.Ghosts D} where
   -- after a round
   pub finds_round :
       {O : Type 0} (gives : Tenants → O → Tenants → Type 0) (old new : Store D g)
-      (result : Result O Unavailable) → IsUsable old → Answers DiskFailed old new result →
+      (result : Result O Unavailable) → IsUsable old → AnswersUnless DiskFailed old new result →
       Goes old new (λ db. OfDatabase (λ was. IsAfterRound gives was db) old) →
       Finds store_meaning (result ≢ Err DiskFailed) (LeadsByRound gives) old new
   finds_round gives old new result usable answers goes = record {
@@ -192,7 +192,7 @@ module _ {D : Type 0} {g : disk.Ghosts D} where
 
   -- a call that only reads leaves what might have been found before
   pub found_unchanged :
-      {T : Type 0} (old new : Store D g) (result : Result T Unavailable) → Reads old new result →
+      {T : Type 0} (old new : Store D g) (result : Result T Unavailable) → ReadsStore old new result →
       IsHonest new → (db : Trees) → may_find new db → MayHold old (λ was. StaysFound old was db)
   found_unchanged old new result reads honest db may = elim (reads.finds honest db may) [
     | inl before ↦ ∣ (db, before, inl refl) ∣₁
@@ -202,7 +202,7 @@ module _ {D : Type 0} {g : disk.Ghosts D} where
   -- after a call that only reads
   pub finds_known :
       {T : Type 0} (old new : Store D g) (result : Result T Unavailable)
-      (Leads : Tenants → Tenants → Type 0) → Reads old new result →
+      (Leads : Tenants → Tenants → Type 0) → ReadsStore old new result →
       Finds store_meaning (IsOk result) Leads old new
   finds_known old new result Leads reads = record {
     found = λ found f. elim (reads.finds f.honest f.db f.may) [

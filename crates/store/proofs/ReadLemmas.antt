@@ -13,7 +13,7 @@ use Rattle.ledger_sql.specs.Frames.{Live, Follows}
 use Rattle.stored_ledgers.specs.Directory.{tenants_in}
 use Rattle.stored_ledgers.specs.DueSets.{DueSets}
 use Rattle.stored_ledgers.specs.Resting.{IsResting, IsSame, IsServing, HoldsHere}
-use Rattle.store.specs.Stores.{IsUsable, IsUsableAt, IsLiveAt, IsHonestAt, OfDatabaseAt, tenants_at, may_find_at, Answers, Reads}
+use Rattle.store.specs.Stores.{IsUsable, IsUsableAt, IsLiveAt, IsHonestAt, OfDatabaseAt, tenants_at, may_find_at, AnswersUnless, ReadsStore}
 use Rattle.store.specs.declared.place.Place.{Place}
 use Rattle.store.specs.declared.place.Place.TheVariants as at
 use Rattle.store.specs.declared.store.Store.{Store}
@@ -55,7 +55,7 @@ module _ {D : Type 0} (g : disk.Ghosts D) where
 
     -- a call on the open database, which then rests
     pub answers_open : (HasCleanDisk (file_state conn') → HasCleanDisk (file_state conn))
-        → (Live (file_state conn') → IsResting new.due (file_state conn')) → Answers DiskFailed old new result
+        → (Live (file_state conn') → IsResting new.due (file_state conn')) → AnswersUnless DiskFailed old new result
     answers_open before rests = record {
       usable = subst (IsUsableAt new.ready new.due) (sym new_is)
           (rests, λ ready clean. is_open clean (unless_fault ready));
@@ -74,7 +74,7 @@ module _ {D : Type 0} (g : disk.Ghosts D) where
   -- the same of a call that tells the fault in words of its own
   pub answers_as : {T U E : Type 0} (fault : E) (old new : Store D g) (done : Result T Unavailable)
       (result : Result U E) → (result ≡ Err fault ↔ done ≡ Err DiskFailed) → old.ready ≡ true
-      → Answers DiskFailed old new done → Answers fault old new result
+      → AnswersUnless DiskFailed old new done → AnswersUnless fault old new result
   answers_as fault old new done result told was_ready answers = record {
     usable = answers.usable;
     follows = answers.follows;
@@ -100,7 +100,7 @@ module _ {D : Type 0} (g : disk.Ghosts D) where
         (was.0 (live_before (file_state conn) (file_state conn') follows live)) (same live))
 
     -- a read of the open database
-    pub reads_open : Reads old new result
+    pub reads_open : ReadsStore old new result
     reads_open = record {
       answers = answers_open result fault old new conn conn' old_is new_is was_ready now_ready told usable is_open
           (clean_before (file_state conn) (file_state conn') follows) still_resting;

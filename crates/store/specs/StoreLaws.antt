@@ -13,8 +13,8 @@ use Rattle.stored_ledgers.specs.Directory.{tenants_in, KeepsDirectory}
 use Rattle.stored_ledgers.specs.DueSets.{DueSets}
 use Rattle.stored_ledgers.specs.Outcomes.{KeepsTables}
 use Rattle.stored_ledgers.specs.RoundLaws.{valid_in}
-use Rattle.store.specs.Stores.{IsUsable, IsUsableAt, IsLive, IsLiveAt, IsHonest, IsHonestAt, Follows}
-use Rattle.store.specs.Stores.{tenants_of, tenants_at, may_find, may_find_at, FindsTenants, Finds}
+use Rattle.store.specs.Stores.{IsUsable, IsUsableAt, IsLive, IsLiveAt, IsHonest, IsHonestAt, StoreFollows}
+use Rattle.store.specs.Stores.{tenants_of, tenants_at, may_find, may_find_at, FindsTenants, StoreFinds}
 use Rattle.store.specs.Stores.{FindsAt, IsSettledStore, IsSettledAt, Continues, OfDatabaseAt}
 use Rattle.store.specs.Stores.{AreKeptAt, StaysFound}
 use Rattle.store.specs.declared.place.Place.{Place}
@@ -47,7 +47,7 @@ module _ {D : Type 0} {g : disk.Ghosts D} where
   }
 
   -- no call at all is a run of calls
-  follows_itself : (a : Store D g) → Follows a a
+  follows_itself : (a : Store D g) → StoreFollows a a
   follows_itself a = record {
     lived = λ live. live;
     honest = λ honest. honest;
@@ -55,7 +55,7 @@ module _ {D : Type 0} {g : disk.Ghosts D} where
   }
 
   -- a run of calls behind another is one
-  follows_then : (a b c : Store D g) → Follows a b → Follows b c → Follows a c
+  follows_then : (a b c : Store D g) → StoreFollows a b → StoreFollows b c → StoreFollows a c
   follows_then a b c first second = record {
     lived = λ live. first.lived (second.lived live);
     honest = λ honest. first.honest (second.honest honest);
@@ -192,7 +192,7 @@ module _ {D : Type 0} {g : disk.Ghosts D} where
 
   -- a store that is opened again is what might have been found before
   pub opened_is_found :
-      (old new : Store D g) → (IsHonest new → Finds new (may_find old)) →
+      (old new : Store D g) → (IsHonest new → StoreFinds new (may_find old)) →
       (IsHonest new → IsHonest old) → IsLive new → ∥ FindsTenants old (tenants_of new) ∥₁
   opened_is_found old new finds honest live =
       let now = honest_at new.place live in opened_at old new.place (honest now) (finds now)
@@ -204,7 +204,7 @@ module _ {D : Type 0} {g : disk.Ghosts D} where
 
   -- and where an opening may find something, it is live
   pub opened_is_live :
-      (old new : Store D g) → (IsHonest new → Finds new (may_find old)) → (found : Tenants) →
+      (old new : Store D g) → (IsHonest new → StoreFinds new (may_find old)) → (found : Tenants) →
       FindsTenants new found → IsLive new
   opened_is_live old new finds found f =
       found_live_at (may_find old) new.place f.honest (finds f.honest)

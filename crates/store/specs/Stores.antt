@@ -95,11 +95,11 @@ module _ {D : Type 0} {g : disk.Ghosts D} where
   FindsAt X (at.Open conn) = IsTrue (file_state conn).is_open × ∥ X (file_state conn).now.trees ∥₁
   FindsAt X (at.Shut files) = ⊥
 
-  abbrev pub Finds : Store D g → (Trees → Type 0) → Type 0
-  Finds store X = FindsAt X store.place
+  abbrev pub StoreFinds : Store D g → (Trees → Type 0) → Type 0
+  StoreFinds store X = FindsAt X store.place
 
   -- what every run of calls keeps: what was lost stays so, and no reopening is among them
-  pub record Follows (old new : Store D g) : Type 0 where
+  pub record StoreFollows (old new : Store D g) : Type 0 where
     pub lived : IsLive new → IsLive old
     pub honest : IsHonest new → IsHonest old
     pub unready : IsTrue new.ready → IsTrue old.ready
@@ -138,7 +138,7 @@ module _ {D : Type 0} {g : disk.Ghosts D} where
   -- what every run of batches and reads keeps: that, the schema, the number, name and digest of each
   -- tenant, and the tables of strangers, also in whatever an opening may find
   pub record Continues (old new : Store D g) : Type 0 where
-    pub follows : Follows old new
+    pub follows : StoreFollows old new
     pub tables : IsLive new → OfDatabases KeepsTables old new
     pub found : IsHonest new → (db : Trees) → may_find new db
         → MayHold old (λ was. StaysFound old was db)
@@ -160,8 +160,8 @@ module _ {D : Type 0} {g : disk.Ghosts D} where
   GivesBack store = GivesBackAt store.place
 
   -- calls are answered
-  abbrev pub IsReady : Store D g → Type 0
-  IsReady store = IsTrue store.ready
+  abbrev pub AnswersCalls : Store D g → Type 0
+  AnswersCalls store = IsTrue store.ready
 
   -- the store is over this open database
   abbrev pub IsStoreOver : Held (FileStore D g) → Store D g → Type 0
@@ -173,18 +173,19 @@ module _ {D : Type 0} {g : disk.Ghosts D} where
 
   -- where a call is answered with this fault, that the disk failed, no call is answered from then on;
   -- otherwise the store is open, if the disk was honest
-  pub record Answers {T E : Type 0} (fault : E) (old new : Store D g) (result : Result T E)
+  pub record AnswersUnless {T E : Type 0} (fault : E) (old new : Store D g) (result : Result T E)
       : Type 0 where
     pub usable : IsUsable new
-    pub follows : Follows old new
+    pub follows : StoreFollows old new
     pub open_yet : IsHonest new → result ≢ Err fault → IsLive new
     pub unready : result ≡ Err fault → new.ready ≡ false
     pub refuses : RefusesUnready fault old new result
 
   -- a call that only reads changes nothing in the database, so it keeps every machine, and what may
   -- be found
-  pub record Reads {T : Type 0} (old new : Store D g) (result : Result T Unavailable) : Type 0 where
-    pub answers : Answers DiskFailed old new result
+  pub record ReadsStore {T : Type 0} (old new : Store D g) (result : Result T Unavailable)
+      : Type 0 where
+    pub answers : AnswersUnless DiskFailed old new result
     pub unchanged : IsLive new → OfDatabases (λ before after. after ≡ before) old new
     pub same : IsLive new → KeepsAll (tenants_of old) (tenants_of new)
     pub finds : Goes old new (λ db. ⊥)
@@ -204,7 +205,7 @@ module _ {D : Type 0} {g : disk.Ghosts D} where
     pub found : IsHonest new → (db : Trees) → may_find new db → ∥ may_find old db ∥₁
 
   -- the database's own opening refused the files, and the store has them as that left them
-  pub record IsUnopened (old new : Store D g) : Type 0 where
+  pub record IsLeftUnopened (old new : Store D g) : Type 0 where
     pub files : Files D
     pub back : GivesBack old files
     pub left : Files D
@@ -225,6 +226,6 @@ module _ {D : Type 0} {g : disk.Ghosts D} where
   -- is there; else the database's own opening refused them
   pub record LeavesStore (refused : Refused) (old new : Store D g) : Type 0 where
     pub stand : IsTrue refused.stands → KeepsFound old new
-    pub unopened : refused.stands ≡ false → IsUnopened old new
+    pub unopened : refused.stands ≡ false → IsLeftUnopened old new
     pub of_ledger : IsOfLedger refused.fault → IsTrue refused.stands
     pub cause : IsRefusedFor refused.fault old new

@@ -7,7 +7,7 @@ ghost use Rattle.openings.specs.AtPath.{LeavesPath};
 ghost use Rattle.openings.specs.Found.{FindsNoSchema};
 ghost use Rattle.openings.specs.Refused.{RefusesToMake};
 ghost use Rattle.store.specs.Refused.{RefusesToOpen};
-ghost use Rattle.store.specs.Stores.{IsHonest, IsLive, IsOpenedOn, IsReady, IsUsable, OfDatabase};
+ghost use Rattle.store.specs.Stores.{IsHonest, IsLive, IsOpenedOn, AnswersCalls, IsUsable, OfDatabase};
 
 use crate::Store;
 use openings::auditing::Audit;
@@ -27,7 +27,7 @@ impl<St: Start> Store<FileFrom<St>> {
         options: Options,
     ) -> Result<Store<FileFrom<St>>, (OpenFault, Option<Files<FileFrom<St>>>)>
         ensures usable { IfOk result IsUsable }
-        ensures ready { IfOk result IsReady }
+        ensures ready { IfOk result AnswersCalls }
         ensures empty { IfOk result (λ store. IsHonest store → IsLive store
             × OfDatabase (λ db. IsEmptyLedger db.trees) store) }
         ensures blank { IfOk result (λ store. IsHonest store → FindsNoSchema (image_at St.Start)) }
@@ -54,7 +54,7 @@ impl<St: Start> Store<FileFrom<St>> {
         audit: &A,
     ) -> Result<Store<FileFrom<St>>, (OpenFault, Option<Files<FileFrom<St>>>)>
         ensures usable { IfOk result IsUsable }
-        ensures ready { IfOk result IsReady }
+        ensures ready { IfOk result AnswersCalls }
         ensures opened { IfOk result (λ store. IsHonest store
             → IsOpenedOn (image_at St.Start) store) }
         ensures refused { IfErr result (λ e. LeavesPath ⟦<FileFrom<St> as Disk>⟧

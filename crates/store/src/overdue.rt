@@ -4,7 +4,7 @@ ghost use Rattle.std.specs.Prelude.{◌≡◌, ◌≤◌, None, Some, IfOk, IfSo
 ghost use Rattle.stored_ledgers.specs.Directory.{first_digest, with_number};
 ghost use Rattle.stored_ledgers.specs.Overdue.{FindsOverdue, piece_of};
 ghost use Rattle.store.specs.Overdue.{FindsNoneListed};
-ghost use Rattle.store.specs.Stores.{IsUsable, IsLive, OfDatabase, Reads};
+ghost use Rattle.store.specs.Stores.{IsUsable, IsLive, OfDatabase, ReadsStore};
 
 use crate::Store;
 use crate::place::Place;
@@ -33,7 +33,7 @@ impl<D: Disk + Drop> Store<D> {
             ≡ first_digest (with_number overdue.number db.trees)) self.old)) }
         ensures none { IfOk result (λ found. found ≡ None
             → FindsNoneListed moment search.old search.new self.old self.new) }
-        ensures reads { Reads self.old self.new result }
+        ensures reads { ReadsStore self.old self.new result }
     {
         if !self.ready {
             return Err(Unavailable::Disk);

@@ -24,7 +24,7 @@ ghost use Rattle.store.specs.Deeds.{IsKeyTried, ending_of, key_ending};
 ghost use Rattle.store.specs.Names.{digest_named};
 ghost use Rattle.store.specs.Refused.{RefusesToOpen};
 ghost use Rattle.store.specs.StoreLaws.{store_meaning};
-ghost use Rattle.store.specs.Stores.{IsLive, IsHonest, IsOpenedOn, IsReady, IsStoreOver, tenants_of, GivesBack, IsUsable, Goes, OfDatabase, OfDatabases, IsSettledStore, Answers, Reads};
+ghost use Rattle.store.specs.Stores.{IsLive, IsHonest, IsOpenedOn, AnswersCalls, IsStoreOver, tenants_of, GivesBack, IsUsable, Goes, OfDatabase, OfDatabases, IsSettledStore, AnswersUnless, ReadsStore};
 ghost use Rattle.openings.specs.Whole.{AreAllRows, AreRowsOfDigest};
 
 use crate::place::Place;
@@ -74,7 +74,7 @@ impl<D: Disk + Drop> Store<D> {
     ) -> Result<Store<D>, (OpenFault, Files<D>)>
         requires { AreUsable D.Disk files }
         ensures usable { IfOk result IsUsable }
-        ensures ready { IfOk result IsReady }
+        ensures ready { IfOk result AnswersCalls }
         ensures empty { IfOk result (λ store. IsHonest store → IsLive store
             × OfDatabase (λ db. IsEmptyLedger db.trees) store) }
         ensures blank { IfOk result (λ store. IsHonest store
@@ -96,7 +96,7 @@ impl<D: Disk + Drop> Store<D> {
     ) -> Result<Store<D>, (OpenFault, Files<D>)>
         requires { AreUsable D.Disk files }
         ensures usable { IfOk result IsUsable }
-        ensures ready { IfOk result IsReady }
+        ensures ready { IfOk result AnswersCalls }
         ensures opened { IfOk result (λ store. IsHonest store
             → IsOpenedOn (image_of D.Disk files) store) }
         ensures honest { IfOk result (λ store. IsHonest store
@@ -119,7 +119,7 @@ impl<D: Disk + Drop> Store<D> {
     ) -> Store<D>
         requires { IsServing due (file_state conn) }
         ensures usable { IsUsable result }
-        ensures ready { IsReady result }
+        ensures ready { AnswersCalls result }
         ensures over { IsStoreOver conn result }
     {
         Store {
@@ -177,7 +177,7 @@ impl<D: Disk + Drop> Store<D> {
         requires { IsUsable self.old }
         ensures value { IsLive self.new → IfOk result (λ known.
             known ≡ is_some (tenants_of self.old digest.now)) }
-        ensures reads { Reads self.old self.new result }
+        ensures reads { ReadsStore self.old self.new result }
     {
         if !self.ready {
             return Err(Unavailable::Disk);
@@ -195,7 +195,7 @@ impl<D: Disk + Drop> Store<D> {
         requires { IsUsable self.old }
         ensures value { IsLive self.new → IfOk result (λ rows. OfDatabase
             (λ db. AreAllRows CURRENT_VERSION db.trees rows) self.old) }
-        ensures reads { Reads self.old self.new result }
+        ensures reads { ReadsStore self.old self.new result }
     {
         if !self.ready {
             return Err(Unavailable::Disk);
@@ -213,7 +213,7 @@ impl<D: Disk + Drop> Store<D> {
         requires { IsUsable self.old }
         ensures value { IsLive self.new → IfOk result (λ rows. OfDatabase
             (λ db. AreRowsOfDigest CURRENT_VERSION digest.now db.trees rows) self.old) }
-        ensures reads { Reads self.old self.new result }
+        ensures reads { ReadsStore self.old self.new result }
     {
         if !self.ready {
             return Err(Unavailable::Disk);
@@ -231,7 +231,7 @@ impl<D: Disk + Drop> Store<D> {
         requires { IsUsable self.old }
         ensures value { IsLive self.new → IfOk result (λ digest.
             OfDatabase (λ db. digest ≡ digest_in name.now db.trees) self.old) }
-        ensures reads { Reads self.old self.new result }
+        ensures reads { ReadsStore self.old self.new result }
     {
         if !self.ready {
             return Err(Unavailable::Disk);
@@ -249,7 +249,7 @@ impl<D: Disk + Drop> Store<D> {
         requires { IsUsable self.old }
         ensures value { IsLive self.new → IfOk result (λ tenants. OfDatabase
             (λ db. AreListed db.trees tenants.items) self.old) }
-        ensures reads { Reads self.old self.new result }
+        ensures reads { ReadsStore self.old self.new result }
     {
         if !self.ready {
             return Err(Unavailable::Disk);
@@ -269,7 +269,8 @@ impl<D: Disk + Drop> Store<D> {
             (λ old new. HasJoined name.now digest.now old new result) self.old self.new }
         ensures finds { Goes self.old self.new (λ db. OfDatabase
             (λ old. Joined name.now digest.now old db) self.old) }
-        ensures answers { Answers (AddTenant.Unavailable DiskFailed) self.old self.new result }
+        ensures answers { AnswersUnless (AddTenant.Unavailable DiskFailed)
+            self.old self.new result }
         ensures moves { Moves (run_meaning store_meaning) self.old
             (Tried (DeedJoined digest.now) (ending_of result)) self.new }
     {
@@ -294,7 +295,8 @@ impl<D: Disk + Drop> Store<D> {
             (λ old new. HasKeyed name.now digest.now old new result) self.old self.new }
         ensures finds { Goes self.old self.new (λ db. OfDatabase
             (λ old. Keyed name.now digest.now old db) self.old) }
-        ensures answers { Answers (ChangeKey.Unavailable DiskFailed) self.old self.new result }
+        ensures answers { AnswersUnless (ChangeKey.Unavailable DiskFailed)
+            self.old self.new result }
         ensures moves { IsKeyTried (run_meaning store_meaning) self.old digest.now result self.new }
         ensures whose { Moves (run_meaning store_meaning) self.old
             (Tried (DeedKeyed (digest_named self.old name.now) digest.now) (key_ending result))
@@ -325,7 +327,7 @@ impl<D: Disk + Drop> Store<D> {
         ensures tables { IsLive self.new → OfDatabases KeepsTables self.old self.new }
         ensures finds { Goes self.old self.new (λ db. OfDatabase
             (λ old. IsAfterBatch (W.gives work) digest.now old db) self.old) }
-        ensures answers { Answers (AreUnavailable DiskFailed) self.old self.new result }
+        ensures answers { AnswersUnless (AreUnavailable DiskFailed) self.old self.new result }
     {
         if !self.ready {
             return Err(BatchFault::Unavailable(Unavailable::Disk));
@@ -349,7 +351,7 @@ impl<D: Disk + Drop> Store<D> {
         ensures tables { IsLive self.new → OfDatabases KeepsTables self.old self.new }
         ensures finds { Goes self.old self.new (λ db. OfDatabase
             (λ old. IsAfterRound (W.gives work) old db) self.old) }
-        ensures answers { Answers DiskFailed self.old self.new result }
+        ensures answers { AnswersUnless DiskFailed self.old self.new result }
     {
         if !self.ready {
             return Err(Unavailable::Disk);

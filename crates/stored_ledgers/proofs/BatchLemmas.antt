@@ -7,7 +7,7 @@ use Rattle.chain.specs.Tables.{State as Meant}
 use Rattle.ledger_sql.specs.Frames.{Live}
 use Rattle.stored_tables.specs.BatchLaws.{batch_of}
 use Rattle.stored_tables.specs.Covers.{CoversBatch, Covers, DueTest}
-use Rattle.stored_tables.specs.InBatch.{IsInBatchOf, IsUsable, FollowsInBatch, shown, marked_in}
+use Rattle.stored_tables.specs.InBatch.{IsInBatchOf, IsInOwnBatch, FollowsInBatch, shown, marked_in}
 use Rattle.stored_tables.specs.MachineOf.{machine_of}
 use Rattle.stored_ledgers.specs.DueSets.{DueSet, due_cmp, CoversMachine}
 use Rattle.stored_ledgers.specs.Outcomes.{IsWorkable, HasWorkedHere}
@@ -80,14 +80,14 @@ pub has_worked :
     → shown tenant1 read ≡ shown tenant old → past.clock ≡ (shown tenant old).now.clock
     → FollowsInBatch tenant old new
     → gives (shown tenant1 read).now output (shown tenant2 new).now
-    → IsUsable tenant2 new
+    → IsInOwnBatch tenant2 new
     × (Live new → CoversBatch (contains due_cmp set) clock (shown tenant2 new))
     → (shown tenant2 new).marked ≡ None → HasWorkedHere gives tenant set old new output past
 unfolding shown
 has_worked gives tenant tenant1 tenant2 set old read new output past clock one two whose at live same was follows given usable unmarked =
     let to = two ∙ one in
     let holds = subst
-    (λ t. IsUsable t new × (Live new → CoversBatch (contains due_cmp set) clock (shown t new)))
+    (λ t. IsInOwnBatch t new × (Live new → CoversBatch (contains due_cmp set) clock (shown t new)))
     to usable in
     let batch = holds.0 live.0 in
     let covers = holds.1 live in record {

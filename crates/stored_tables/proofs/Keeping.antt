@@ -9,7 +9,7 @@ use Rattle.ledger_sql.specs.Calls.{LeavesOver}
 use Rattle.ledger_sql.specs.Frames.{Live, Follows}
 use Rattle.stored_tables.specs.BatchLaws.{live_before, follows_then, rest_itself}
 use Rattle.stored_tables.specs.Holds.{HoldsMachine}
-use Rattle.stored_tables.specs.InBatch.{HoldsOwn, KeepsRest, IsInBatchOf, AreMarks, IsUsable, shown, marked_in}
+use Rattle.stored_tables.specs.InBatch.{HoldsOwn, KeepsRest, IsInBatchOf, AreMarks, IsInOwnBatch, shown, marked_in}
 use Rattle.stored_tables.specs.Idle.{CanRead}
 use Rattle.stored_tables.specs.MachineOf.{machine_of}
 use Rattle.stored_tables.specs.Meaning.{batch_meaning}
@@ -21,7 +21,7 @@ undone tenant old mid new f end live =
     ap (λ db. machine_of tenant db.trees) ((end.over live).now ∙ f.committed (live_before mid new end.follows live))
 
 -- what may be called in a batch may be read
-pub can_read : (tenant : ℤ) (s : State) → IsUsable tenant s → CanRead tenant s
+pub can_read : (tenant : ℤ) (s : State) → IsInOwnBatch tenant s → CanRead tenant s
 can_read tenant s usable clean =
     let batch = usable clean in
     record { is_open = batch.is_open; schema = batch.now.ledger; holds = batch.now.holds }
@@ -49,7 +49,7 @@ pub same_rest : (tenant : ℤ) (old new : State) → IsUnchanged old new → IsT
 same_rest tenant old new is mode = (sym is.0.mode ∙ mode, subst (KeepsRest tenant old.now) (sym is.0.now_is) (rest_itself tenant old.now))
 
 module _ {S : Type 0} (store : Ghosts S) (tenant : ℤ) (old new : Held S) where
-  pub reads : {X : Type 0} (x : X) → IsUsable tenant (state store old) → Follows (state store old) (state store new) → (HasCleanDisk (state store new) → IsUnchanged (state store old) (state store new))
+  pub reads : {X : Type 0} (x : X) → IsInOwnBatch tenant (state store old) → Follows (state store old) (state store new) → (HasCleanDisk (state store new) → IsUnchanged (state store old) (state store new))
       → Leaves {S = Held S} {X = X} (batch_meaning store tenant) old new (Ok x) same
   reads x usable follows is = record {
     state = λ live. same_shown tenant (state store old) (state store new) (is live.0);
@@ -71,7 +71,7 @@ module _ {S : Type 0} (store : Ghosts S) (tenant : ℤ) (old new : Held S) where
   }
 
   -- what was there before a call were the rows of the tenant's machine
-  pub held_before : IsUsable tenant (state store old) → Follows (state store old) (state store new) → Live (state store new)
+  pub held_before : IsInOwnBatch tenant (state store old) → Follows (state store old) (state store new) → Live (state store new)
       → HoldsMachine tenant (shown tenant (state store old)).now (state store old).now.trees
   unfolding shown
   held_before usable follows live = (usable (omega (arith, follows.survives.clean, live.0))).now.holds

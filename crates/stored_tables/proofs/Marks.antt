@@ -7,7 +7,7 @@ use Rattle.sqlite.specs.State.{State, Savepoint, HasCleanDisk}
 use Rattle.sqlite.specs.Held.{Held, state}
 use Rattle.ledger_sql.specs.Frames.{Live, Follows}
 use Rattle.ledger_sql.specs.Stages.{the_mark, IsMarked, HasMarked, HasGoneBack, HasReleased}
-use Rattle.stored_tables.specs.InBatch.{HoldsOwn, KeepsRest, IsInBatchOf, AreMarks, IsUsable, shown, marked_in}
+use Rattle.stored_tables.specs.InBatch.{HoldsOwn, KeepsRest, IsInBatchOf, AreMarks, IsInOwnBatch, shown, marked_in}
 use Rattle.stored_tables.specs.BatchLaws.{rest_itself}
 use Rattle.stored_tables.specs.MachineOf.{machine_of}
 use Rattle.stored_tables.specs.Meaning.{batch_meaning}
@@ -88,7 +88,7 @@ module _ (tenant : ℤ) (old new : State) where
     marks = inl (has.marks [] db marks);
   }
 
-module _ {S : Type 0} (store : Ghosts S) (tenant : ℤ) (old : Held S) (usable : IsUsable tenant (state store old)) where
+module _ {S : Type 0} (store : Ghosts S) (tenant : ℤ) (old : Held S) (usable : IsInOwnBatch tenant (state store old)) where
   -- in a batch a disk that was honest is live
   pub live_now : HasCleanDisk (state store old) → Live (state store old)
   live_now clean = (clean, (usable clean).is_open)

@@ -15,7 +15,7 @@ use Rattle.ledger_sql.specs.Frames.{Live, Follows}
 use Rattle.stored_tables.specs.BatchLaws.{others_then, rest_then, rest_back}
 use Rattle.stored_tables.specs.Frames.{AreNumbered}
 use Rattle.stored_tables.specs.Holds.{HoldsRows, HoldsMachine}
-use Rattle.stored_tables.specs.InBatch.{KeepsRest, AreMarks, IsInBatchOf, IsUsable, shown, marked_in}
+use Rattle.stored_tables.specs.InBatch.{KeepsRest, AreMarks, IsInBatchOf, IsInOwnBatch, shown, marked_in}
 use Rattle.stored_tables.specs.MachineOf.{machine_of}
 use Rattle.stored_tables.specs.Meaning.{batch_meaning}
 use Rattle.stored_tables.specs.Moves.{MovesRows, ChangesRows}
@@ -99,7 +99,7 @@ module _ (held_machines : HeldMachines) (tenant : ℤ) (can : TypedRows → Type
 
 -- what a write leaves of the tenant's tables
 pub writes_leave : {S : Type 0} (store : Ghosts S) (tenant : ℤ) (old new : Held S) {X : Type 0} (x : X) (can : TypedRows → Type 0) (change : TypedRows → TypedRows) (step : Machine → Machine)
-    → HeldMachines → IsUsable tenant (state store old) → Follows (state store old) (state store new) → (HasCleanDisk (state store new) → ChangesRows tenant can change (state store old) (state store new))
+    → HeldMachines → IsInOwnBatch tenant (state store old) → Follows (state store old) (state store new) → (HasCleanDisk (state store new) → ChangesRows tenant can change (state store old) (state store new))
     → (Live (state store old) → IsValid (shown tenant (state store old)).now → IsChange can change step (shown tenant (state store old)).now)
     → Leaves {S = Held S} {X = X} (batch_meaning store tenant) old new (Ok x) (on_now step)
 unfolding shown

@@ -9,7 +9,7 @@ use Rattle.ledger_sql.specs.Frames.{Live, Follows}
 use Rattle.sqlite_trees.specs.Tree.{Trees}
 use Rattle.stored_tables.specs.Frames.{KeepsRows, KeepsOtherTenants}
 use Rattle.stored_tables.specs.InBatch.{HoldsOwn, KeepsRest, IsBatchOf, FollowsInBatch}
-use Rattle.stored_tables.specs.InBatch.{IsUsable, shown}
+use Rattle.stored_tables.specs.InBatch.{IsInOwnBatch, shown}
 
 -- no call at all is a run of calls
 pub follows_itself : (a : State) → Follows a a
@@ -156,6 +156,7 @@ calls_then_for tenant same a b c is f g =
     calls_then tenant a b c f (subst (λ (t : ℤ). FollowsInBatch t b c) is g)
 
 -- live tables that may be called hold a valid machine
-pub valid_now : (tenant : ℤ) (s : State) → Live s → IsUsable tenant s → IsValid (shown tenant s).now
+pub valid_now :
+    (tenant : ℤ) (s : State) → Live s → IsInOwnBatch tenant s → IsValid (shown tenant s).now
 unfolding shown
 valid_now tenant s live usable = (usable live.0).now.holds.valid

@@ -50,8 +50,8 @@ pub record IsInBatchOf (tenant : ℤ) (s : State) : Type 0 where
   pub marks : AreMarks tenant s.now s.marks
 
 -- so it is as long as the disk was honest
-abbrev pub IsUsable : ℤ → State → Type 0
-IsUsable tenant s = HasCleanDisk s → IsInBatchOf tenant s
+abbrev pub IsInOwnBatch : ℤ → State → Type 0
+IsInOwnBatch tenant s = HasCleanDisk s → IsInBatchOf tenant s
 
 -- the machine at the mark
 abbrev pub marked_in : ℤ → List Savepoint → Option Machine

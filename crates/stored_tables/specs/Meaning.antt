@@ -6,14 +6,14 @@ use Rattle.chain.specs.Tables.{Meaning, Tells, Leaves, same}
 use Rattle.sqlite_trees.specs.declared.store.Store.{Ghosts}
 use Rattle.sqlite.specs.Held.{Held, state}
 use Rattle.ledger_sql.specs.Frames.{Live}
-use Rattle.stored_tables.specs.InBatch.{IsUsable, FollowsInBatch, shown}
+use Rattle.stored_tables.specs.InBatch.{IsInOwnBatch, FollowsInBatch, shown}
 
 -- the tenant's machines; calls are allowed inside the batch; nothing is committed, and all but the
 -- tenant's rows stays
 abbrev pub batch_meaning : {S : Type 0} → Ghosts S → ℤ → Meaning (Held S)
 batch_meaning store tenant = record {
   state = λ conn. shown tenant (state store conn);
-  is_usable = λ conn. IsUsable tenant (state store conn);
+  is_usable = λ conn. IsInOwnBatch tenant (state store conn);
   is_live = λ conn. Live (state store conn);
   follows = λ old new. FollowsInBatch tenant (state store old) (state store new);
 }

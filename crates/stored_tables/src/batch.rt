@@ -33,12 +33,12 @@ impl<S: Alter> Tables for Batch<'_, S> {
     ghost use Rattle.stored_tables.specs.BatchLaws.{calls_itself, calls_then_for};
     ghost use Rattle.stored_tables.specs.BatchLaws.{live_before, valid_now};
     ghost use Rattle.stored_tables.specs.Covers.{CoversBatch};
-    ghost use Rattle.stored_tables.specs.InBatch.{IsUsable, FollowsInBatch, shown};
+    ghost use Rattle.stored_tables.specs.InBatch.{IsInOwnBatch, FollowsInBatch, shown};
 
     ghost means = { record {
       state = λ b. shown b.tenant.0 (conn_state S.Store b.conn.now);
       is_usable = λ b.
-          IsUsable b.tenant.0 (conn_state S.Store b.conn.now)
+          IsInOwnBatch b.tenant.0 (conn_state S.Store b.conn.now)
           × (Live (conn_state S.Store b.conn.now) →
           CoversBatch (contains ⟦<(u64, u128) as Ord>⟧.cmp b.due.now) b.past
           (shown b.tenant.0 (conn_state S.Store b.conn.now)));

@@ -18,7 +18,7 @@ use Rattle.whole_runs.specs.declared.steps.Step.{Step}
 use Rattle.whole_runs.specs.declared.steps.Step.TheVariants as step
 use Rattle.whole_runs.specs.declared.steps.Answer.{Answer}
 use Rattle.whole_runs.specs.declared.steps.Answer.TheVariants as answer
-use Rattle.whole_runs.specs.Courses.{AreOf, IsSince, Start, Anew, Onward}
+use Rattle.whole_runs.specs.Courses.{AreOfStep, HaveComeSince, Start, Anew, Onward}
 use Rattle.whole_runs.specs.Names.{NamesMeaning}
 use Rattle.whole_runs.specs.Reopenings.{StepMakes, HasNamed, HasRun, IsInOrder, IsAnswerTo, RefusesReopening}
 use Rattle.whole_runs.specs.Reopenings.{RunsThrough, Goes_on}
@@ -27,9 +27,9 @@ use Rattle.whole_runs.proofs.NameLemmas.{named_more}
 -- behind a step there are its events
 step_on :
     (first : Tenants) (steps : List Step) (answers : List Answer) (step : Step) (answer : Answer)
-    (events : List Event) → AreOf step answer events →
-    GoesOn (IsSince first steps answers) events
-    (IsSince first (steps ++ step ∷ []) (answers ++ answer ∷ []))
+    (events : List Event) → AreOfStep step answer events →
+    GoesOn (HaveComeSince first steps answers) events
+    (HaveComeSince first (steps ++ step ∷ []) (answers ++ answer ∷ []))
 step_on first steps answers step answer more are events began since =
     Onward steps answers events began step answer more since are
 
@@ -44,8 +44,8 @@ module _ {S : Type 0} (t : RunMeaning S) (n : NamesMeaning S) (Refuses : Refused
         HasRun t old (steps ++ step.Reopen ∷ []) (answers ++ answer.Reopened (Err refused) ∷ []) new
     refused_more refused makes true is =
         let same =
-        same_more (IsSince (t.tenants old) steps answers)
-        (IsSince (t.tenants old) (steps ++ step.Reopen ∷ []) (answers ++ answer.Reopened (Err refused) ∷ []))
+        same_more (HaveComeSince (t.tenants old) steps answers)
+        (HaveComeSince (t.tenants old) (steps ++ step.Reopen ∷ []) (answers ++ answer.Reopened (Err refused) ∷ []))
         t mid (step_on (t.tenants old) steps answers step.Reopen (answer.Reopened (Err refused)) [] is) run in
         record {
           here = λ live. absurd (makes.shut live);
@@ -53,17 +53,17 @@ module _ {S : Type 0} (t : RunMeaning S) (n : NamesMeaning S) (Refuses : Refused
         }
     refused_more refused makes false is =
         begun_anew t
-        (IsSince (t.tenants old) (steps ++ step.Reopen ∷ [])
+        (HaveComeSince (t.tenants old) (steps ++ step.Reopen ∷ [])
         (answers ++ answer.Reopened (Err refused) ∷ []))
         new (λ began may. Anew steps answers refused began is)
 
     event_step :
-        (step : Step) (answer : Answer) (event : Event) → AreOf step answer (event ∷ []) →
+        (step : Step) (answer : Answer) (event : Event) → AreOfStep step answer (event ∷ []) →
         IsFree event → Moves t mid event new →
         HasRun t old (steps ++ step ∷ []) (answers ++ answer ∷ []) new
     event_step step answer event are free moves =
-        event_more (IsSince (t.tenants old) steps answers)
-        (IsSince (t.tenants old) (steps ++ step ∷ []) (answers ++ answer ∷ [])) t mid new event
+        event_more (HaveComeSince (t.tenants old) steps answers)
+        (HaveComeSince (t.tenants old) (steps ++ step ∷ []) (answers ++ answer ∷ [])) t mid new event
         (step_on (t.tenants old) steps answers step answer (event ∷ []) are) free moves run
 
     -- one step more
@@ -78,8 +78,8 @@ module _ {S : Type 0} (t : RunMeaning S) (n : NamesMeaning S) (Refuses : Refused
     step_more (step.Request bytes moment) (answer.Keyed result) makes = absurd makes
     step_more (step.Request bytes moment) (answer.Reopened result) makes = absurd makes
     step_more (step.Round messages) (answer.Round (Ok replies)) makes =
-        round_more t (IsSince (t.tenants old) steps answers)
-        (IsSince (t.tenants old) (steps ++ step.Round messages ∷ [])
+        round_more t (HaveComeSince (t.tenants old) steps answers)
+        (HaveComeSince (t.tenants old) (steps ++ step.Round messages ∷ [])
         (answers ++ answer.Round (Ok replies) ∷ []))
         mid new messages.items replies.items
         (step_on (t.tenants old) steps answers (step.Round messages) (answer.Round (Ok replies)))
@@ -87,11 +87,11 @@ module _ {S : Type 0} (t : RunMeaning S) (n : NamesMeaning S) (Refuses : Refused
     step_more (step.Round messages) (answer.Round (Err why)) makes =
         subst
         (HasLed t
-        (IsSince (t.tenants old) (steps ++ step.Round messages ∷ [])
+        (HaveComeSince (t.tenants old) (steps ++ step.Round messages ∷ [])
         (answers ++ answer.Round (Err why) ∷ [])))
         (sym makes.0)
-        (same_more (IsSince (t.tenants old) steps answers)
-        (IsSince (t.tenants old) (steps ++ step.Round messages ∷ [])
+        (same_more (HaveComeSince (t.tenants old) steps answers)
+        (HaveComeSince (t.tenants old) (steps ++ step.Round messages ∷ [])
         (answers ++ answer.Round (Err why) ∷ []))
         t mid
         (step_on (t.tenants old) steps answers (step.Round messages) (answer.Round (Err why)) [] tt)
@@ -116,8 +116,8 @@ module _ {S : Type 0} (t : RunMeaning S) (n : NamesMeaning S) (Refuses : Refused
     step_more (step.ChangeKey name digest) (answer.Added result) makes = absurd makes
     step_more (step.ChangeKey name digest) (answer.Reopened result) makes = absurd makes
     step_more step.Reopen (answer.Reopened (Ok done)) makes =
-        opened_more (IsSince (t.tenants old) steps answers)
-        (IsSince (t.tenants old) (steps ++ step.Reopen ∷ []) (answers ++ answer.Reopened (Ok tt) ∷ []))
+        opened_more (HaveComeSince (t.tenants old) steps answers)
+        (HaveComeSince (t.tenants old) (steps ++ step.Reopen ∷ []) (answers ++ answer.Reopened (Ok tt) ∷ []))
         t mid new
         (λ (deeds : List Deed).
         step_on (t.tenants old) steps answers step.Reopen (answer.Reopened (Ok tt))
@@ -135,7 +135,7 @@ pub none_yet :
     {S : Type 0} (t : RunMeaning S) (old : S) → t.is_live old → IsSettled t old →
     HasRun t old [] [] old
 none_yet t old live settled =
-    openings.none_yet t (IsSince (t.tenants old) [] []) old live settled Start
+    openings.none_yet t (HaveComeSince (t.tenants old) [] []) old live settled Start
 
 answers_more :
     (steps : List Step) (answers : List Answer) (step : Step) (answer : Answer) →

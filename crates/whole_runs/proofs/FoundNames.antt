@@ -17,7 +17,7 @@ use Rattle.stored_ledgers.specs.Ledger.{HoldsLedgers}
 use Rattle.stored_ledgers.specs.Names.{Names, KeepsNames, first_named, names_in}
 use Rattle.store.specs.Names.{FindsNames, names_at, names_of}
 use Rattle.store.specs.StoreLaws.{store_meaning, found_directory}
-use Rattle.store.specs.Stores.{Continues, Finds, FindsAt, Follows, Goes, IsHonest, IsHonestAt, IsLive}
+use Rattle.store.specs.Stores.{Continues, StoreFinds, FindsAt, StoreFollows, Goes, IsHonest, IsHonestAt, IsLive}
 use Rattle.store.specs.Stores.{IsLiveAt, IsSettledAt, IsSettledStore, IsUsable, IsUsableAt, LeavesStore}
 use Rattle.store.specs.Stores.{OfDatabase, OfDatabaseAt, may_find, may_find_at}
 use Rattle.store.specs.declared.place.Place.{Place}
@@ -97,7 +97,7 @@ module _ {D : Type 0} {g : disk.Ghosts D} where
       (law : (before : Database) (db : Trees) → HoldsLedgers before → After before db
       → Changes (names_in before.trees) (names_in db))
       (old new : Store D g) (settled : IsSettledStore old) (usable : IsUsable old)
-      (follows : Follows old new) (unready : old.ready ≡ false → new ≡ old)
+      (follows : StoreFollows old new) (unready : old.ready ≡ false → new ≡ old)
       (goes : Goes old new (λ db. OfDatabase (λ was. After was db) old))
       (settled' : IsSettledStore new) (usable' : IsUsable new) where
     abbrev Ends : Ending → Names → Type 0
@@ -166,7 +166,7 @@ module _ {D : Type 0} {g : disk.Ghosts D} where
   -- an opening again
   pub names_reopened : (old new : Store D g) (result : Result (Unit {0}) Refused)
       → IsSettledStore new → IsUsable new
-      → (IsHonest new → OnOk result (Finds new (may_find old)))
+      → (IsHonest new → OnOk result (StoreFinds new (may_find old)))
       → (IsHonest new → OnOk result (IsHonest old))
       → IfErr result (λ refused. LeavesStore refused old new)
       → ReopensNames (run_meaning store_meaning) store_names old result new

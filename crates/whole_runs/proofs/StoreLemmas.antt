@@ -5,7 +5,7 @@ use Rattle.sqlite_disk.specs.declared.Disk as disk
 use Rattle.openings.specs.declared.refused.Refused.{Refused}
 use Rattle.store.specs.declared.store.Store.{Store}
 use Rattle.store.specs.StoreLaws.{store_meaning, opened_is_found, opened_is_live}
-use Rattle.store.specs.Stores.{IsLive, IsHonest, may_find, Finds, LeavesStore}
+use Rattle.store.specs.Stores.{IsLive, IsHonest, may_find, StoreFinds, LeavesStore}
 use Rattle.service.specs.Openings.{run_meaning, IsSettled}
 use Rattle.service.specs.OpeningLaws.{is_opened}
 use Rattle.whole_runs.specs.Reopenings.{Reopens}
@@ -14,7 +14,7 @@ module _ {D : Type 0} {g : disk.Ghosts D} where
   -- a reopening, as a step of a run
   pub reopens_so :
       (old new : Store D g) (result : Result (Unit {0}) Refused) →
-      (IsHonest new → OnOk result (Finds new (may_find old))) →
+      (IsHonest new → OnOk result (StoreFinds new (may_find old))) →
       (IsHonest new → OnOk result (IsHonest old)) →
       OnErr result (IsLive new → ⊥) →
       IfErr result (λ refused. LeavesStore refused old new) →

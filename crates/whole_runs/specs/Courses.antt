@@ -15,41 +15,43 @@ use Rattle.whole_runs.specs.declared.steps.Answer.TheVariants as answer
 
 -- the events are those of a step and its answer: one; or of a round one for each message; and none
 -- where nothing was done, or an opening was refused and what it might have found stands
-abbrev pub AreOf : Step → Answer → List Event → Type 0
-AreOf (step.Request bytes moment) (answer.Replied reply) (event ∷ []) =
+abbrev pub AreOfStep : Step → Answer → List Event → Type 0
+AreOfStep (step.Request bytes moment) (answer.Replied reply) (event ∷ []) =
     IsReplyTo bytes.items moment reply event
-AreOf (step.Round messages) (answer.Round (Ok replies)) events =
+AreOfStep (step.Round messages) (answer.Round (Ok replies)) events =
     AreRepliesTo messages.items replies.items events
-AreOf (step.Round messages) (answer.Round (Err why)) [] = Unit {0}
-AreOf (step.AddTenant name digest) (answer.Added result) (event ∷ []) =
+AreOfStep (step.Round messages) (answer.Round (Err why)) [] = Unit {0}
+AreOfStep (step.AddTenant name digest) (answer.Added result) (event ∷ []) =
     event ≡ Tried (Joined digest) (ending_of result)
-AreOf (step.ChangeKey name digest) (answer.Keyed result) (event ∷ []) =
+AreOfStep (step.ChangeKey name digest) (answer.Keyed result) (event ∷ []) =
     (was : List ℕ) × (event ≡ Tried (Keyed was digest) (key_ending result))
-AreOf step.Reopen (answer.Reopened (Ok done)) (Reopened deeds ∷ []) = Unit {0}
-AreOf step.Reopen (answer.Reopened (Err refused)) [] = IsTrue refused.stands
-AreOf step answer events = ⊥
+AreOfStep step.Reopen (answer.Reopened (Ok done)) (Reopened deeds ∷ []) = Unit {0}
+AreOfStep step.Reopen (answer.Reopened (Err refused)) [] = IsTrue refused.stands
+AreOfStep step answer events = ⊥
 
 -- the events of steps and their answers since the last opening of which nothing stands, or since
 -- the beginning where there was none, and the machines at that time. Behind such an opening the
 -- machines are taken as the next one finds them.
-pub data IsSince (first : Tenants) : List Step → List Answer → List Event → Tenants → Type 0 where
-  Start : IsSince first [] [] [] first
+pub data HaveComeSince (first : Tenants) :
+    List Step → List Answer → List Event → Tenants → Type 0 where
+  Start : HaveComeSince first [] [] [] first
   Anew :
       (steps : List Step) (answers : List Answer) (refused : Refused) (found : Tenants) →
       refused.stands ≡ false →
-      IsSince first (steps ++ step.Reopen ∷ []) (answers ++ answer.Reopened (Err refused) ∷ []) []
+      HaveComeSince first (steps ++ step.Reopen ∷ [])
+      (answers ++ answer.Reopened (Err refused) ∷ []) []
       found
   Onward :
       (steps : List Step) (answers : List Answer) (events : List Event) (began : Tenants)
       (step : Step) (answer : Answer) (more : List Event) →
-      IsSince first steps answers events began → AreOf step answer more →
-      IsSince first (steps ++ step ∷ []) (answers ++ answer ∷ []) (events ++ more) began
+      HaveComeSince first steps answers events began → AreOfStep step answer more →
+      HaveComeSince first (steps ++ step ∷ []) (answers ++ answer ∷ []) (events ++ more) began
 
 -- a run is the course of these events, from the machines at that time to those now
 abbrev pub RunCourse :
     Tenants → List Step → List Answer → List Event → Tenants → Tenants → Type 0
 RunCourse first steps answers events began last =
-    CourseSince (IsSince first steps answers) events began last
+    CourseSince (HaveComeSince first steps answers) events began last
 
 -- in a run each tenant sees its own deeds alone
 abbrev pub RunsServeEachAlone : Type 0

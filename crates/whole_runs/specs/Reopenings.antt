@@ -19,7 +19,7 @@ use Rattle.whole_runs.specs.declared.steps.Step.{Step}
 use Rattle.whole_runs.specs.declared.steps.Step.TheVariants as step
 use Rattle.whole_runs.specs.declared.steps.Answer.{Answer}
 use Rattle.whole_runs.specs.declared.steps.Answer.TheVariants as answer
-use Rattle.whole_runs.specs.Courses.{IsSince}
+use Rattle.whole_runs.specs.Courses.{HaveComeSince}
 use Rattle.whole_runs.specs.NameCourses.{AreNamesAfter}
 use Rattle.whole_runs.specs.Names.{AreNamesSettled, IsJoinTried, IsKeyTriedOf, LeavesNames}
 use Rattle.whole_runs.specs.Names.{NamesMeaning, ReopensNames}
@@ -72,7 +72,7 @@ StepMakes t n Refuses old step answer new = ⊥
 -- what a run makes of them: some course of the steps and the answers leads to what is there, and
 -- one to whatever an opening may find
 abbrev pub HasRun : {S : Type 0} → RunMeaning S → S → List Step → List Answer → S → Type 0
-HasRun t old steps answers new = HasLed t (IsSince (t.tenants old) steps answers) new
+HasRun t old steps answers new = HasLed t (HaveComeSince (t.tenants old) steps answers) new
 
 -- the same of names
 pub record HasNamed {S : Type 0} (t : RunMeaning S) (n : NamesMeaning S) (old : S)

@@ -1,6 +1,6 @@
 //! Stores in memory whose disks fail, and homes that open others in their place.
 ghost use Rattle.std.specs.Prelude.{IfSome};
-ghost use Rattle.store.specs.Stores.{IsReady, IsUsable};
+ghost use Rattle.store.specs.Stores.{AnswersCalls, IsUsable};
 
 use super::firms::KEY;
 use super::scripted::Hand;
@@ -46,7 +46,7 @@ pub trait Firms<D: Disk + Drop> {
     /// The ledgers of a new firm, if its disk lets it be made.
     fn store(&self, fails: Fails) -> Option<Store<D>>
         ensures usable { IfSome result IsUsable }
-        ensures ready { IfSome result IsReady };
+        ensures ready { IfSome result AnswersCalls };
 }
 
 /// Makes them in memory.
@@ -73,7 +73,7 @@ impl Firms<TestDisk> for InMemory {
 fn with_firm<D: Disk + Drop>(mut store: Store<D>) -> Option<Store<D>>
     requires { IsUsable store }
     ensures usable { IfSome result IsUsable }
-    ensures ready { IfSome result IsReady }
+    ensures ready { IfSome result AnswersCalls }
 {
     let name = TenantName::read("firm")?;
     let key = Key::read(KEY.as_bytes())?;

@@ -1,7 +1,7 @@
 use Rattle.std.proofs.Common.{List, ℕ, arith, refl, rules, subst}
 use Rattle.sqlite_wal.specs.Files.{image_at}
 use Rattle.commands.specs.Holding.{HasOpened, HasToldOr}
-use Rattle.commands.specs.OverFiles.{HasWritten, IsWrittenFrom}
+use Rattle.commands.specs.OverFiles.{HasWrittenStatement, IsWrittenFrom}
 use Rattle.commands.specs.Served.{IsStatementServed}
 use Rattle.commands.proofs.UndoneLemmas.{not_written}
 use Rattle.commands.proofs.over_files.run_statement.Goals as goal
@@ -25,7 +25,7 @@ returns g c = record {
         (λ (name : List ℕ). HasToldOr
         (IsStatementServed name c.in_ok-account.account c.in_ok-asked.asked (g.O.Drain.written c.args.out)
         (g.O.Drain.written c.in_ok-out.out))
-        (HasOpened (HasWritten (image_at g.St.Start)
+        (HasOpened (HasWrittenStatement (image_at g.St.Start)
         (IsWrittenFrom g.O.Drain.written name c.in_ok-account.account c.in_ok-asked.asked c.args.out
         c.in_ok-out.out)))
         c.in_ok-out.held)

@@ -2,7 +2,7 @@ use Rattle.std.proofs.Common.{◌⊎◌, Bool, Ok, inr, subst, sym}
 use Rattle.sqlite_wal.specs.Files.{image_at}
 use Rattle.stored_ledgers.specs.Joining.{HasJoined}
 use Rattle.command_texts.specs.declared.fault.Fault.{Fault}
-use Rattle.commands.specs.Holding.{Becomes, IsBegun}
+use Rattle.commands.specs.Holding.{Becomes, IsOpenedOrMade}
 use Rattle.commands.specs.Openings.{RefusesImage}
 use Rattle.commands.specs.Undone.{IsNotAdded}
 use Rattle.commands.proofs.OpeningLemmas.{err_so}
@@ -11,7 +11,7 @@ use Rattle.commands.proofs.over_tenants.add_to.Goals as goal
 pub returns-clause-added : goal.returns-clause-added
 returns-clause-added g c =
     subst
-    (λ (is_new : Bool). Becomes (IsBegun is_new (image_at g.St.Start))
+    (λ (is_new : Bool). Becomes (IsOpenedOrMade is_new (image_at g.St.Start))
     (λ old new. HasJoined c.args.tenant.now c.args.digest.now old new (Ok tt)) c.add_tenant.new.store)
     (sym c.made_if.ensures.new)
     (record {
