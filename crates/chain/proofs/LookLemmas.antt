@@ -1,5 +1,5 @@
 -- A list of ids, looked up one by one, and what is told of work that only reads.
-use Rattle.std.proofs.Common.{◌≡◌, ℕ, ◌+◌, ◌<◌, Option, Some, None, List, [], ◌∷◌, ◌++◌, take, get_or, length, append-nil, Result, Ok, Err, inl, inr, refl, sym, ap, subst, ◌∙◌}
+use Rattle.std.proofs.Common.{◌≡◌, true, ℕ, ◌+◌, ◌<◌, Option, Some, None, List, [], ◌∷◌, ◌++◌, take, get_or, length, append-nil, Result, Ok, Err, inl, inr, refl, sym, ap, subst, ◌∙◌}
 use Rattle.std.specs.List.{filter_map}
 use Rattle.std.specs.Str.{bytes_eq}
 use Rattle.std.proofs.lemmas.Bool.{cases_Bool, both_ways}
@@ -13,11 +13,11 @@ use Rattle.chain.specs.declared.ledgers.BatchFault.{BatchFault}
 use Rattle.chain.specs.declared.ledgers.BatchFault.TheVariants as batch_fault
 use Rattle.chain.specs.declared.reads.ReadFault.{ReadFault}
 use Rattle.chain.specs.declared.reads.ReadFault.TheVariants as fault
-use Rattle.chain.specs.LedgerReads.{IsShown, IsTold, ReadsOnly, Seen, seen_in}
+use Rattle.chain.specs.LedgerReads.{IsShown, IsTold, ReadsOnly, ReadsTenant, Seen, seen_in}
 use Rattle.chain.specs.Ledgers.{Tenants, LedgersMeaning, KeepsAll, KeepsOthers, IsDone, IsRun, Finds, IsAnswered, LeadsBy}
-use Rattle.records.specs.Reads.{AccountAnswer}
+use Rattle.records.specs.Reads.{AccountAnswer, Found}
 use Rattle.chain.specs.declared.reading.AccountFault.{AccountFault}
-use Rattle.chain.specs.Looks.{Answers, account_answer, answer_of, read_answer}
+use Rattle.chain.specs.Looks.{Answers, Shows, account_answer, answer_of, read_answer}
 use Rattle.chain.specs.Tables.{Meaning, State}
 use Rattle.engine.proofs.ValidMachineLemmas.{found_key}
 
@@ -184,6 +184,55 @@ account_answered {X} result told is answered =
     at (Ok output) h = tt
     at (Err batch_fault.UnknownKey) h = tt
     at (Err (batch_fault.Unavailable why)) h = absurd h
+
+-- what is told of work that shows something
+shown_told :
+    {A X : Type 0} (shows : X → Seen A) (answer : Machine → A) (digest : List ℕ) (old new : Tenants)
+    (result : Result X BatchFault) → IsRun (Shows shows answer) digest old new result →
+    IsShown shows (seen_in (λ m. Found (answer m)) (old digest)) (read_answer result)
+shown_told shows answer digest old new (Ok output) run =
+    ap (seen_in (λ m. Found (answer m))) run.held ∙ sym (ap (λ (s : Seen _). Ok s) run.given.is)
+shown_told shows answer digest old new (Err batch_fault.UnknownKey) run =
+    ap (seen_in (λ m. Found (answer m))) run.0
+shown_told shows answer digest old new (Err (batch_fault.Unavailable why)) run = tt
+
+-- such work, as a read
+pub shown_read :
+    {S A X : Type 0} (shows : X → Seen A) (answer : Machine → A) (t : LedgersMeaning S) (digest : List ℕ)
+    (old new : S) (result : Result X BatchFault) (told : Result X ReadFault) → told ≡ read_answer result →
+    (t.is_live new → IsRun (Shows shows answer) digest (t.tenants old) (t.tenants new) result) →
+    (t.has_failed old ≡ true → result ≡ Err (batch_fault.Unavailable Disk)) →
+    Finds t (IsAnswered result) (LeadsBy (Shows shows answer) digest) old new →
+    t.is_usable new → t.follows old new →
+    ReadsTenant t digest (λ tenant. IsShown shows (seen_in (λ m. Found (answer m)) tenant)) old new told
+shown_read {S} {A} {X} shows answer t digest old new result told is run failed finds usable follows = record {
+  told = λ live.
+      subst (λ (r : Result X ReadFault). IsShown shows (seen_in (λ m. Found (answer m)) (t.tenants old digest)) r)
+      (sym is) (shown_told shows answer digest (t.tenants old) (t.tenants new) result (run live));
+  failed = λ has. is ∙ ap read_answer (failed has);
+  finds = found_so (Shows shows answer) (λ before output after given. given.same) t digest old new result told is finds;
+  reads = read_so (Shows shows answer) (λ before output after given. given.same) t digest old new result run usable follows;
+}
+
+-- work that answers about an account, as a read
+pub account_read :
+    {S A X : Type 0} (shows : X → Seen A) (answer : Machine → AccountAnswer A) (t : LedgersMeaning S)
+    (digest : List ℕ) (old new : S) (result : Result (Result X AccountFault) BatchFault)
+    (told : Result X ReadFault) → told ≡ account_answer result →
+    (t.is_live new → IsRun (Answers shows answer) digest (t.tenants old) (t.tenants new) result) →
+    (t.has_failed old ≡ true → result ≡ Err (batch_fault.Unavailable Disk)) →
+    Finds t (IsAnswered result) (LeadsBy (Answers shows answer) digest) old new →
+    t.is_usable new → t.follows old new →
+    ReadsTenant t digest (λ tenant. IsShown shows (seen_in answer tenant)) old new told
+account_read {S} {A} {X} shows answer t digest old new result told is run failed finds usable follows = record {
+  told = λ live.
+      subst (λ (r : Result X ReadFault). IsShown shows (seen_in answer (t.tenants old digest)) r)
+      (sym is) (account_told shows answer digest (t.tenants old) (t.tenants new) result (run live));
+  failed = λ has. is ∙ ap account_answer (failed has);
+  finds = found_by (Answers shows answer) (λ before output after given. given.same) t digest old new result _
+      (account_answered result told is) finds;
+  reads = read_so (Answers shows answer) (λ before output after given. given.same) t digest old new result run usable follows;
+}
 
 -- a batch that is refused for the disk, as a read
 pub account_refused :

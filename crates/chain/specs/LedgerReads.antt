@@ -2,6 +2,7 @@
 use Rattle.std.specs.Prelude.{◌≡◌, ◌∷◌, ◌++◌, ℕ, Bool, true, false, List, [], take}
 use Rattle.std.specs.Prelude.{Option, Some, None}
 use Rattle.std.specs.Prelude.{Result, Ok, Err}
+use Rattle.records.specs.declared.unavailable.Unavailable.TheVariants.{Disk}
 use Rattle.records.specs.Machine.{Machine}
 use Rattle.records.specs.Reads.{AccountAnswer, NoAccount, NoHistory, Found}
 use Rattle.records.specs.Queries.{Page}
@@ -11,7 +12,7 @@ use Rattle.chain.specs.declared.reads.Listed.{Listed}
 use Rattle.chain.specs.declared.reads.QueryPage.{QueryPage}
 use Rattle.chain.specs.declared.reads.ReadFault.{ReadFault}
 use Rattle.chain.specs.declared.reads.ReadFault.TheVariants as fault
-use Rattle.chain.specs.Ledgers.{LedgersMeaning, KeepsAll}
+use Rattle.chain.specs.Ledgers.{LedgersMeaning, KeepsAll, Finds}
 
 -- what a read shows, and the clock at which it is judged
 pub record Seen (A : Type 0) : Type 0 where
@@ -66,6 +67,18 @@ IsListed = IsShown seen_of_list
 abbrev pub IsPaged :
     {A : Type 0} → Result (Seen (Page A)) ReadFault → Result (QueryPage A) ReadFault → Type 0
 IsPaged = IsShown seen_of_page
+
+-- a list of what a tenant answers, or the fault that there is
+abbrev pub IsListOf :
+    {A : Type 0} → (Machine → AccountAnswer (List A)) → Option Machine
+    → Result (Listed A) ReadFault → Type 0
+IsListOf answers tenant result = IsListed (seen_in answers tenant) result
+
+-- a page of what a tenant answers, or the fault that there is
+abbrev pub IsPageOf :
+    {A : Type 0} → (Machine → AccountAnswer (Page A)) → Option Machine
+    → Result (QueryPage A) ReadFault → Type 0
+IsPageOf answers tenant result = IsPaged (seen_in answers tenant) result
 
 -- a sink took the rows that are seen, all of them, and nothing else
 pub record IsHanded {S A : Type 0} (takes : S → A → S → Type 0)
@@ -131,3 +144,13 @@ pub record ReadsOnly {S : Type 0} (t : LedgersMeaning S) (old new : S) : Type 0 
   pub same : t.is_live new → KeepsAll (t.tenants old) (t.tenants new)
   pub usable : t.is_usable new
   pub follows : t.follows old new
+
+-- a read of one tenant's machine: it is told so of the tenant, or that the disk failed where the
+-- ledgers have failed; and nothing changes
+pub record ReadsTenant {S X : Type 0} (t : LedgersMeaning S) (digest : List ℕ)
+    (IsSo : Option Machine → Result X ReadFault → Type 0) (old new : S)
+    (result : Result X ReadFault) : Type 0 where
+  pub told : t.is_live new → IsSo (t.tenants old digest) result
+  pub failed : t.has_failed old ≡ true → result ≡ Err (fault.Unavailable Disk)
+  pub finds : Finds t (IsTold result) KeepsAll old new
+  pub reads : ReadsOnly t old new

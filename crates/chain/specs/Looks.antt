@@ -1,5 +1,5 @@
 -- Work that only reads: what it gives, what it leaves, and how its answer is told.
-use Rattle.std.specs.Prelude.{◌≡◌, Result, Ok, Err, OnOk}
+use Rattle.std.specs.Prelude.{◌≡◌, Result, Ok, Err, IfOk, OnOk}
 use Rattle.records.specs.declared.unavailable.Unavailable.{Unavailable}
 use Rattle.records.specs.Machine.{Machine}
 use Rattle.chain.specs.declared.ledgers.BatchFault.{BatchFault}
@@ -24,6 +24,13 @@ pub record LeavesSame {S X : Type 0} (t : Meaning S) (old new : S) (result : Res
   pub same : t.is_live new → OnOk result (t.state new ≡ t.state old)
   pub usable : OnOk result (t.is_usable new)
   pub follows : t.follows old new
+
+-- several look-ups: where the tables are live this is so of the machine and of what is found; if they
+-- answer, nothing changes
+pub record Searches {S X : Type 0} (t : Meaning S) (IsSo : Machine → X → Type 0) (old new : S)
+    (result : Result X Unavailable) : Type 0 where
+  pub value : t.is_live new → IfOk result (IsSo (t.state old).now)
+  pub leaves : LeavesSame t old new result
 
 -- the answer of a batch, as a read
 abbrev pub read_answer : {A : Type 0} → Result A BatchFault → Result A ReadFault

@@ -70,6 +70,13 @@ pub record Leaves {S X : Type 0} (t : Meaning S) (old new : S) (result : Result 
   pub undone : t.is_live new → OnErr result ((t.state new).now ≡ (t.state old).begun)
   pub follows : t.follows old new
 
+-- a look-up: where the tables are live this is so of the machine and of what is found, and nothing
+-- changes
+pub record LooksUp {S X : Type 0} (t : Meaning S) (IsSo : Machine → X → Type 0) (old new : S)
+    (result : Result X Unavailable) : Type 0 where
+  pub value : t.is_live new → IfOk result (IsSo (t.state old).now)
+  pub leaves : Leaves t old new result same
+
 -- what a run of a whole batch leaves: as a call, but after Err it may also be the machine before it,
 -- which is the same one where nothing came since the beginning
 pub record LeavesRun {S X : Type 0} (t : Meaning S) (old new : S) (result : Result X Unavailable)

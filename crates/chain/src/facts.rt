@@ -3,7 +3,7 @@ ghost use Rattle.std.specs.Option.{option_map, option_and_then};
 ghost use Rattle.records.specs.Machine.{transfer_with};
 ghost use Rattle.records.specs.Facts.{facts_of, with_pending_amount, pending_amount_in};
 ghost use Rattle.records.specs.Facts.{pending_transfer_in, account_id_of, account_in};
-ghost use Rattle.chain.specs.Tables.{Tells, Leaves, same};
+ghost use Rattle.chain.specs.Tables.{LooksUp};
 
 use crate::Tables;
 use amount::Amount;
@@ -21,8 +21,7 @@ pub fn transfer_facts<T: Tables>(
     ev: &TransferEvent,
 ) -> Result<TransferFacts, Unavailable>
     requires { T.means.is_usable tables.old }
-    ensures value { Tells T.means tables.old tables.new result (λ m. facts_of m ev.now) }
-    ensures leaves { Leaves T.means tables.old tables.new result same }
+    ensures { LooksUp T.means (λ m found. found ≡ facts_of m ev.now) tables.old tables.new result }
 {
     let existing = existing_transfer(tables, ev.id)?;
     let failed = tables.failed(ev.id)?;
@@ -44,9 +43,9 @@ fn existing_transfer<T: Tables>(
     id: u128,
 ) -> Result<Option<ExistingTransfer>, Unavailable>
     requires { T.means.is_usable tables.old }
-    ensures value { Tells T.means tables.old tables.new result
-        (λ m. option_map (with_pending_amount m) (transfer_with id m.transfers)) }
-    ensures leaves { Leaves T.means tables.old tables.new result same }
+    ensures { LooksUp T.means
+        (λ m found. found ≡ option_map (with_pending_amount m) (transfer_with id m.transfers))
+        tables.old tables.new result }
 {
     let Some(transfer) = tables.transfer(id)? else {
         return Ok(None);
@@ -61,9 +60,8 @@ fn existing_transfer<T: Tables>(
 // The amount of the pending transfer that a post or void ended, else its own.
 fn pending_amount<T: Tables>(tables: &mut T, transfer: &Transfer) -> Result<Amount, Unavailable>
     requires { T.means.is_usable tables.old }
-    ensures value { Tells T.means tables.old tables.new result
-        (λ m. pending_amount_in m transfer.now) }
-    ensures leaves { Leaves T.means tables.old tables.new result same }
+    ensures { LooksUp T.means (λ m found. found ≡ pending_amount_in m transfer.now)
+        tables.old tables.new result }
 {
     if !transfer.flags.is_post_or_void() {
         return Ok(transfer.amount);
@@ -80,8 +78,8 @@ fn pending_transfer<T: Tables>(
     ev: &TransferEvent,
 ) -> Result<Option<PendingTransfer>, Unavailable>
     requires { T.means.is_usable tables.old }
-    ensures value { Tells T.means tables.old tables.new result (λ m. pending_transfer_in m ev.now) }
-    ensures leaves { Leaves T.means tables.old tables.new result same }
+    ensures { LooksUp T.means (λ m found. found ≡ pending_transfer_in m ev.now)
+        tables.old tables.new result }
 {
     if !ev.flags.is_post_or_void() {
         return Ok(None);
@@ -98,9 +96,8 @@ fn account_of<T: Tables>(
     id: Option<u128>,
 ) -> Result<Option<AccountWithBalances>, Unavailable>
     requires { T.means.is_usable tables.old }
-    ensures value { Tells T.means tables.old tables.new result
-        (λ m. option_and_then (account_in m) id) }
-    ensures leaves { Leaves T.means tables.old tables.new result same }
+    ensures { LooksUp T.means (λ m found. found ≡ option_and_then (account_in m) id)
+        tables.old tables.new result }
 {
     match id {
         Some(id) => tables.account(id),

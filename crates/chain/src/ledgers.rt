@@ -6,7 +6,8 @@ ghost use Rattle.records.specs.Queries.{queried_transfers};
 ghost use Rattle.records.specs.Reads.{history_answer, history_balances_answer, statement_answer};
 ghost use Rattle.chain.specs.Ledgers.{LedgersMeaning, AreValid, KeepsAll, IsRun, Finds};
 ghost use Rattle.chain.specs.Ledgers.{IsAnswered, LeadsBy, LeadsNowhere};
-ghost use Rattle.chain.specs.LedgerReads.{seen_in, IsListed, IsPaged, HandsOut, is_refused, ReadsOnly, IsTold};
+ghost use Rattle.chain.specs.LedgerReads.{seen_in, IsListOf, IsPageOf, HandsOut, is_refused, ReadsOnly};
+ghost use Rattle.chain.specs.LedgerReads.{IsTold, ReadsTenant};
 ghost use Rattle.chain.specs.declared.ledgers.BatchFault.TheVariants as batch_fault;
 ghost use Rattle.chain.specs.declared.reads.ReadFault.TheVariants as read_fault;
 
@@ -92,13 +93,8 @@ pub trait Ledgers {
         ids: &[u128],
     ) -> Result<Listed<AccountWithBalances>, ReadFault>
         requires { means.is_usable self.old }
-        ensures told { means.is_live self.new → IsListed
-            (seen_in (λ m. Found (found_accounts m ids.now)) (means.tenants self.old digest.now))
-            result }
-        ensures failed { means.has_failed self.old ≡ true
-            → result ≡ Err (read_fault.Unavailable Disk) }
-        ensures finds { Finds means (IsTold result) KeepsAll self.old self.new }
-        ensures reads { ReadsOnly means self.old self.new }
+        ensures { ReadsTenant means digest.now (IsListOf (λ m. Found (found_accounts m ids.now)))
+            self.old self.new result }
     {
         let by = AccountsById;
         read_answer(self.in_batch(digest, Lookup { alloc, by, ids }))
@@ -112,13 +108,8 @@ pub trait Ledgers {
         ids: &[u128],
     ) -> Result<Listed<Transfer>, ReadFault>
         requires { means.is_usable self.old }
-        ensures told { means.is_live self.new → IsListed
-            (seen_in (λ m. Found (found_transfers m ids.now)) (means.tenants self.old digest.now))
-            result }
-        ensures failed { means.has_failed self.old ≡ true
-            → result ≡ Err (read_fault.Unavailable Disk) }
-        ensures finds { Finds means (IsTold result) KeepsAll self.old self.new }
-        ensures reads { ReadsOnly means self.old self.new }
+        ensures { ReadsTenant means digest.now (IsListOf (λ m. Found (found_transfers m ids.now)))
+            self.old self.new result }
     {
         let by = TransfersById;
         read_answer(self.in_batch(digest, Lookup { alloc, by, ids }))
@@ -133,13 +124,8 @@ pub trait Ledgers {
         ids: &[u128],
     ) -> Result<Listed<Hold>, ReadFault>
         requires { means.is_usable self.old }
-        ensures told { means.is_live self.new → IsListed
-            (seen_in (λ m. Found (found_holds m ids.now)) (means.tenants self.old digest.now))
-            result }
-        ensures failed { means.has_failed self.old ≡ true
-            → result ≡ Err (read_fault.Unavailable Disk) }
-        ensures finds { Finds means (IsTold result) KeepsAll self.old self.new }
-        ensures reads { ReadsOnly means self.old self.new }
+        ensures { ReadsTenant means digest.now (IsListOf (λ m. Found (found_holds m ids.now)))
+            self.old self.new result }
     {
         let by = HoldsById;
         read_answer(self.in_batch(digest, Lookup { alloc, by, ids }))
@@ -153,13 +139,8 @@ pub trait Ledgers {
         asked: &PageFilter,
     ) -> Result<QueryPage<Hold>, ReadFault>
         requires { means.is_usable self.old }
-        ensures told { means.is_live self.new → IsPaged
-            (seen_in (λ m. Found (open_holds m asked.now)) (means.tenants self.old digest.now))
-            result }
-        ensures failed { means.has_failed self.old ≡ true
-            → result ≡ Err (read_fault.Unavailable Disk) }
-        ensures finds { Finds means (IsTold result) KeepsAll self.old self.new }
-        ensures reads { ReadsOnly means self.old self.new }
+        ensures { ReadsTenant means digest.now (IsPageOf (λ m. Found (open_holds m asked.now)))
+            self.old self.new result }
     {
         let query = OpenHolds { asked: *asked };
         read_answer(self.in_batch(digest, PageOf { alloc, query }))
@@ -173,13 +154,8 @@ pub trait Ledgers {
         asked: &QueryFilter,
     ) -> Result<QueryPage<AccountWithBalances>, ReadFault>
         requires { means.is_usable self.old }
-        ensures told { means.is_live self.new → IsPaged
-            (seen_in (λ m. Found (queried_accounts m asked.now)) (means.tenants self.old digest.now))
-            result }
-        ensures failed { means.has_failed self.old ≡ true
-            → result ≡ Err (read_fault.Unavailable Disk) }
-        ensures finds { Finds means (IsTold result) KeepsAll self.old self.new }
-        ensures reads { ReadsOnly means self.old self.new }
+        ensures { ReadsTenant means digest.now (IsPageOf (λ m. Found (queried_accounts m asked.now)))
+            self.old self.new result }
     {
         let query = AccountQuery { asked: *asked };
         read_answer(self.in_batch(digest, PageOf { alloc, query }))
@@ -193,13 +169,8 @@ pub trait Ledgers {
         asked: &QueryFilter,
     ) -> Result<QueryPage<Transfer>, ReadFault>
         requires { means.is_usable self.old }
-        ensures told { means.is_live self.new → IsPaged
-            (seen_in (λ m. Found (queried_transfers m asked.now))
-            (means.tenants self.old digest.now)) result }
-        ensures failed { means.has_failed self.old ≡ true
-            → result ≡ Err (read_fault.Unavailable Disk) }
-        ensures finds { Finds means (IsTold result) KeepsAll self.old self.new }
-        ensures reads { ReadsOnly means self.old self.new }
+        ensures { ReadsTenant means digest.now (IsPageOf (λ m. Found (queried_transfers m asked.now)))
+            self.old self.new result }
     {
         let query = TransferQuery { asked: *asked };
         read_answer(self.in_batch(digest, PageOf { alloc, query }))
@@ -213,12 +184,8 @@ pub trait Ledgers {
         asked: &AccountFilter,
     ) -> Result<Listed<Transfer>, ReadFault>
         requires { means.is_usable self.old }
-        ensures told { means.is_live self.new → IsListed
-            (seen_in (λ m. history_answer m asked.now) (means.tenants self.old digest.now)) result }
-        ensures failed { means.has_failed self.old ≡ true
-            → result ≡ Err (read_fault.Unavailable Disk) }
-        ensures finds { Finds means (IsTold result) KeepsAll self.old self.new }
-        ensures reads { ReadsOnly means self.old self.new }
+        ensures { ReadsTenant means digest.now (IsListOf (λ m. history_answer m asked.now))
+            self.old self.new result }
     {
         let asked = *asked;
         account_answer(self.in_batch(digest, TransfersOf { alloc, asked }))
@@ -232,13 +199,8 @@ pub trait Ledgers {
         asked: &AccountFilter,
     ) -> Result<Listed<BalanceAt>, ReadFault>
         requires { means.is_usable self.old }
-        ensures told { means.is_live self.new → IsListed
-            (seen_in (λ m. history_balances_answer m asked.now) (means.tenants self.old digest.now))
-            result }
-        ensures failed { means.has_failed self.old ≡ true
-            → result ≡ Err (read_fault.Unavailable Disk) }
-        ensures finds { Finds means (IsTold result) KeepsAll self.old self.new }
-        ensures reads { ReadsOnly means self.old self.new }
+        ensures { ReadsTenant means digest.now (IsListOf (λ m. history_balances_answer m asked.now))
+            self.old self.new result }
     {
         let asked = *asked;
         account_answer(self.in_batch(digest, BalancesOf { alloc, asked }))

@@ -1,6 +1,6 @@
 //! Look-ups by id, as work on one tenant's tables.
 
-ghost use Rattle.std.specs.Prelude.{◌≡◌, ◌≤◌, ℕ, Option, IfOk};
+ghost use Rattle.std.specs.Prelude.{◌≡◌, ◌≤◌, ℕ, Option};
 ghost use Rattle.std.specs.List.{filter_map};
 ghost use Rattle.records.specs.Due.{due_of};
 ghost use Rattle.records.specs.Facts.{account_in};
@@ -8,8 +8,7 @@ ghost use Rattle.records.specs.Machine.{Machine, transfer_with};
 ghost use Rattle.records.specs.Queries.{hold_in, hold_of, shown_due};
 ghost use Rattle.records.specs.Step.{max_clock};
 ghost use Rattle.chain.specs.LedgerReads.{seen_of_list};
-ghost use Rattle.chain.specs.Looks.{LeavesSame, Shows};
-ghost use Rattle.chain.specs.Tables.{Tells};
+ghost use Rattle.chain.specs.Looks.{Searches, Shows};
 
 use crate::batch::MAX_CLOCK;
 use crate::{Listed, Tables, Work};
@@ -27,8 +26,7 @@ pub(crate) trait ById {
     /// What there is under an id.
     fn find<T: Tables>(&self, tables: &mut T, id: u128) -> Result<Option<Self::Found>, Unavailable>
         requires { T.means.is_usable tables.old }
-        ensures value { Tells T.means tables.old tables.new result (λ m. found_in m id) }
-        ensures leaves { LeavesSame T.means tables.old tables.new result };
+        ensures { Searches T.means (λ m found. found ≡ found_in m id) tables.old tables.new result };
 }
 
 /// Accounts by id, with their balances at the clock.
@@ -89,8 +87,8 @@ pub(crate) fn hold_of<T: Tables>(
     requires held { T.means.is_live tables.old →
         transfer_with transfer.now.id (T.means.state tables.old).now.transfers
         ≡ Some transfer.now }
-    ensures value { Tells T.means tables.old tables.new result (λ m. hold_of m transfer.now) }
-    ensures leaves { LeavesSame T.means tables.old tables.new result }
+    ensures { Searches T.means (λ m found. found ≡ hold_of m transfer.now)
+        tables.old tables.new result }
 {
     let Some(state) = tables.pending_state(transfer.id)? else {
         return Ok(None);
@@ -142,9 +140,8 @@ fn found<T: Tables, B: ById>(
     ids: &[u128],
 ) -> Result<Vec<B::Found>, Unavailable>
     requires { T.means.is_usable tables.old }
-    ensures value { T.means.is_live tables.new → IfOk result (λ found.
-        found.items ≡ filter_map (B.found_in (T.means.state tables.old).now) ids.now) }
-    ensures leaves { LeavesSame T.means tables.old tables.new result }
+    ensures { Searches T.means (λ m found. found.items ≡ filter_map (B.found_in m) ids.now)
+        tables.old tables.new result }
 {
     let mut found = Vec::new(alloc);
     for id in ids {

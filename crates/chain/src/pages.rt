@@ -1,11 +1,11 @@
 //! Pages of what a query asks for, as work on one tenant's tables.
 
-ghost use Rattle.std.specs.Prelude.{◌≡◌, ◌++◌, ◌<◌, ◌≤◌, All, IfOk, OnOk};
+ghost use Rattle.std.specs.Prelude.{◌≡◌, ◌++◌, ◌<◌, ◌≤◌, All, OnOk};
 ghost use Rattle.std.specs.Option.{option_to_list};
 ghost use Rattle.records.specs.Queries.{page_in, page_order, time_behind};
 ghost use Rattle.records.specs.Step.{max_clock};
 ghost use Rattle.chain.specs.LedgerReads.{seen_of_page};
-ghost use Rattle.chain.specs.Looks.{LeavesSame, Shows};
+ghost use Rattle.chain.specs.Looks.{LeavesSame, Searches, Shows};
 ghost use Rattle.chain.specs.Pages.{IsRecord, LooksThrough, LooksWithin, first_shown};
 ghost use Rattle.chain.specs.Pages.{is_full, page_of, span_behind};
 
@@ -55,10 +55,9 @@ fn page<T: Tables, Q: Query>(
     query: &Q,
 ) -> Result<Draft<Q::Shown>, Unavailable>
     requires { T.means.is_usable tables.old }
-    ensures value { T.means.is_live tables.new → IfOk result (λ page. page_of page
-        ≡ page_in Q.time_of (Q.shown_in query.now (T.means.state tables.old).now)
-        (Q.asks query.now) (Q.records_in query.now (T.means.state tables.old).now)) }
-    ensures leaves { LeavesSame T.means tables.old tables.new result }
+    ensures { Searches T.means (λ m page. page_of page
+        ≡ page_in Q.time_of (Q.shown_in query.now m) (Q.asks query.now) (Q.records_in query.now m))
+        tables.old tables.new result }
 {
     let asked = query.page();
     let mut draft = Draft {
@@ -95,10 +94,9 @@ pub(crate) fn first_shown<T: Tables, Q: Query>(
     query: &Q,
 ) -> Result<Vec<Q::Shown>, Unavailable>
     requires { T.means.is_usable tables.old }
-    ensures value { T.means.is_live tables.new → IfOk result (λ shown. shown.items
-        ≡ first_shown Q.time_of (Q.shown_in query.now (T.means.state tables.old).now)
-        (Q.asks query.now) (Q.records_in query.now (T.means.state tables.old).now)) }
-    ensures leaves { LeavesSame T.means tables.old tables.new result }
+    ensures { Searches T.means (λ m shown. shown.items
+        ≡ first_shown Q.time_of (Q.shown_in query.now m) (Q.asks query.now) (Q.records_in query.now m))
+        tables.old tables.new result }
 {
     let asked = query.page();
     let mut draft = Draft {
@@ -133,11 +131,9 @@ fn look_within<T: Tables, Q: Query>(
     requires usable { T.means.is_usable tables.old }
     requires order { span.now.order ≡ page_order (Q.asks query.now) }
     requires some { 0 < span.now.most }
-    ensures value { T.means.is_live tables.new → IfOk result (LooksWithin Q.time_of
-        (Q.shown_in query.now (T.means.state tables.old).now) (Q.asks query.now)
-        (Q.records_in query.now (T.means.state tables.old).now) span.now
-        (page_of draft.old) (page_of draft.new)) }
-    ensures leaves { LeavesSame T.means tables.old tables.new result }
+    ensures { Searches T.means (λ m. LooksWithin Q.time_of (Q.shown_in query.now m) (Q.asks query.now)
+        (Q.records_in query.now m) span.now (page_of draft.old) (page_of draft.new))
+        tables.old tables.new result }
 {
     let records = query.within(alloc, tables, span)?;
     look_through(tables, query, &records, draft)?;
@@ -161,10 +157,9 @@ fn look_through<T: Tables, Q: Query>(
     requires usable { T.means.is_usable tables.old }
     requires kept { T.means.is_live tables.old → All (IsRecord Q.time_of
         (Q.is_kept (T.means.state tables.old).now)) records.now }
-    ensures value { T.means.is_live tables.new → OnOk result (LooksThrough Q.time_of
-        (Q.shown_in query.now (T.means.state tables.old).now) (Q.asks query.now)
-        records.now (page_of draft.old) (page_of draft.new)) }
-    ensures leaves { LeavesSame T.means tables.old tables.new result }
+    ensures { Searches T.means (λ m done. LooksThrough Q.time_of (Q.shown_in query.now m)
+        (Q.asks query.now) records.now (page_of draft.old) (page_of draft.new))
+        tables.old tables.new result }
 {
     for record in records {
         if is_full(query, draft) {

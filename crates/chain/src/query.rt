@@ -1,15 +1,14 @@
 //! What can be asked for in pages: accounts, transfers and open holds.
 
-ghost use Rattle.std.specs.Prelude.{◌≡◌, ℕ, List, Option, Some, IfOk};
+ghost use Rattle.std.specs.Prelude.{◌≡◌, ℕ, List, Option, Some};
 ghost use Rattle.std.specs.Option.{option_and_then};
 ghost use Rattle.records.specs.Machine.{Machine, account_with, transfer_with};
 ghost use Rattle.records.specs.Queries.{asked_account, asked_transfer, hold_of, if_open, within};
 ghost use Rattle.records.specs.Valid.{IsValid};
 ghost use Rattle.records.specs.declared.query.PageFilter.{PageFilter as Asked};
-ghost use Rattle.chain.specs.Looks.{LeavesSame};
+ghost use Rattle.chain.specs.Looks.{Searches};
 ghost use Rattle.chain.specs.Pages.{AreRecords};
 ghost use Rattle.chain.specs.Records.{account_records, transfer_records};
-ghost use Rattle.chain.specs.Tables.{Tells};
 
 use crate::Tables;
 use crate::lookups::hold_of;
@@ -53,10 +52,9 @@ pub(crate) trait Query {
         span: &Span,
     ) -> Result<Vec<Self::Record>, Unavailable>
         requires { T.means.is_usable tables.old }
-        ensures value { T.means.is_live tables.new → IfOk result (λ found.
-            found.items ≡ within time_of span.now
-            (records_in self.now (T.means.state tables.old).now)) }
-        ensures leaves { LeavesSame T.means tables.old tables.new result };
+        ensures { Searches T.means
+            (λ m found. found.items ≡ within time_of span.now (records_in self.now m))
+            tables.old tables.new result };
 
     /// What is shown of a record of the tables, if it is asked for.
     fn show<T: Tables>(
@@ -67,9 +65,8 @@ pub(crate) trait Query {
         requires usable { T.means.is_usable tables.old }
         requires kept { T.means.is_live tables.old →
             is_kept (T.means.state tables.old).now record.now }
-        ensures value { Tells T.means tables.old tables.new result
-            (λ m. shown_in self.now m record.now) }
-        ensures leaves { LeavesSame T.means tables.old tables.new result };
+        ensures { Searches T.means (λ m found. found ≡ shown_in self.now m record.now)
+            tables.old tables.new result };
 
     /// The records of a valid machine stand in order of time.
     ghost in_turn: { (query : Self) (m : Machine) → IsValid m →

@@ -1,4 +1,4 @@
-ghost use Rattle.std.specs.Prelude.{◌≡◌, ◌≤◌, None, IsSome, IfOk};
+ghost use Rattle.std.specs.Prelude.{◌≡◌, ◌≤◌, None, IsSome};
 ghost use Rattle.records.specs.Machine.{transfer_with, has_id, with_failed};
 ghost use Rattle.records.specs.Facts.{account_in};
 ghost use Rattle.records.specs.Queries.{accounts_within, transfers_within};
@@ -6,8 +6,8 @@ ghost use Rattle.records.specs.Step.{at_clock, max_clock};
 ghost use Rattle.records.specs.Valid.{IsValid, IsNextAccount, with_account, with_transfer};
 ghost use Rattle.records.specs.Accepted.{IsAccepted};
 ghost use Rattle.chain.specs.AccountEntries.{account_entries_within};
-ghost use Rattle.chain.specs.Tables.{Meaning, Tells, Leaves, pending_state_of, FailsNow, on_now};
-ghost use Rattle.chain.specs.Tables.{marking, at_mark, unmarked, same};
+ghost use Rattle.chain.specs.Tables.{Meaning, Leaves, LooksUp, pending_state_of, FailsNow, on_now};
+ghost use Rattle.chain.specs.Tables.{marking, at_mark, unmarked};
 
 use crate::AccountEntry;
 use records::{Accepted, Account, AccountWithBalances, PendingState, Span, Transfer, Unavailable};
@@ -26,46 +26,41 @@ pub trait Tables {
     /// The tenant's clock, in nanoseconds.
     fn clock(&mut self) -> Result<u64, Unavailable>
         requires { means.is_usable self.old }
-        ensures value { Tells means self.old self.new result (λ m. m.clock) }
-        ensures leaves { Leaves means self.old self.new result same };
+        ensures { LooksUp means (λ m found. found ≡ m.clock) self.old self.new result };
 
     /// The account with this id, with its balances at the clock.
     fn account(&mut self, id: u128) -> Result<Option<AccountWithBalances>, Unavailable>
         requires { means.is_usable self.old }
-        ensures value { Tells means self.old self.new result (λ m. account_in m id) }
-        ensures leaves { Leaves means self.old self.new result same };
+        ensures { LooksUp means (λ m found. found ≡ account_in m id) self.old self.new result };
 
     /// The transfer with this id.
     fn transfer(&mut self, id: u128) -> Result<Option<Transfer>, Unavailable>
         requires { means.is_usable self.old }
-        ensures value { Tells means self.old self.new result (λ m. transfer_with id m.transfers) }
-        ensures leaves { Leaves means self.old self.new result same };
+        ensures { LooksUp means (λ m found. found ≡ transfer_with id m.transfers)
+            self.old self.new result };
 
     /// What has become of the transfer with this id at the clock, if it is a pending one.
     fn pending_state(&mut self, id: u128) -> Result<Option<PendingState>, Unavailable>
         requires { means.is_usable self.old }
-        ensures value { Tells means self.old self.new result (λ m. pending_state_of m id) }
-        ensures leaves { Leaves means self.old self.new result same };
+        ensures { LooksUp means (λ m found. found ≡ pending_state_of m id)
+            self.old self.new result };
 
     /// Whether the id has failed for good.
     fn failed(&mut self, id: u128) -> Result<bool, Unavailable>
         requires { means.is_usable self.old }
-        ensures value { Tells means self.old self.new result (λ m. has_id id m.failed) }
-        ensures leaves { Leaves means self.old self.new result same };
+        ensures { LooksUp means (λ m found. found ≡ has_id id m.failed) self.old self.new result };
 
     /// The accounts within a span of time.
     fn accounts_within(&mut self, alloc: Global, span: &Span) -> Result<Vec<Account>, Unavailable>
         requires { means.is_usable self.old }
-        ensures value { means.is_live self.new → IfOk result (λ found.
-            found.items ≡ accounts_within (means.state self.old).now span.now) }
-        ensures leaves { Leaves means self.old self.new result same };
+        ensures { LooksUp means (λ m found. found.items ≡ accounts_within m span.now)
+            self.old self.new result };
 
     /// The transfers within a span of time.
     fn transfers_within(&mut self, alloc: Global, span: &Span) -> Result<Vec<Transfer>, Unavailable>
         requires { means.is_usable self.old }
-        ensures value { means.is_live self.new → IfOk result (λ found.
-            found.items ≡ transfers_within (means.state self.old).now span.now) }
-        ensures leaves { Leaves means self.old self.new result same };
+        ensures { LooksUp means (λ m found. found.items ≡ transfers_within m span.now)
+            self.old self.new result };
 
     /// An account's entries within a span of time, each with the account's balances after it.
     fn account_entries(
@@ -75,9 +70,8 @@ pub trait Tables {
         span: &Span,
     ) -> Result<Vec<AccountEntry>, Unavailable>
         requires { means.is_usable self.old }
-        ensures value { means.is_live self.new → IfOk result (λ found.
-            found.items ≡ account_entries_within (means.state self.old).now account span.now) }
-        ensures leaves { Leaves means self.old self.new result same };
+        ensures { LooksUp means (λ m found. found.items ≡ account_entries_within m account span.now)
+            self.old self.new result };
 
     /// Sets the clock, in nanoseconds, and releases what is due at it.
     fn settle(&mut self, clock: u64) -> Result<(), Unavailable>

@@ -21,9 +21,16 @@ spans-preserved g c =
     c.in_ok-look_within.ensures.leaves.same c.in_ok-look_within.ensures.leaves.usable
     c.in_ok-look_within.ensures.leaves.follows c.span_behind.ensures c.min-most.ensures
 
-pub returns-then-branch-clause-value : goal.returns-then-branch-clause-value
-returns-then-branch-clause-value g c live =
-    showing_ends g.T.Tables.means g.Q.Query.time_of (g.Q.Query.shown_in c.args.query.now) (g.Q.Query.asks c.args.query.now)
-    (g.Q.Query.records_in c.args.query.now) c.args.tables.now c.spans.tables c.look_within.new.tables c.spans.span
-    c.spans.draft c.look_within.new.draft c.in_ok-look_within.field-0 g.met.T.Tables.lived c.spans.invariant
-    c.in_ok-look_within.ensures.value c.if-branch.true c.in_ok-look_within.ensures.leaves.follows live
+pub returns-then-branch : goal.returns-then-branch
+returns-then-branch g c = record {
+  value = λ live.
+      showing_ends g.T.Tables.means g.Q.Query.time_of (g.Q.Query.shown_in c.args.query.now) (g.Q.Query.asks c.args.query.now)
+      (g.Q.Query.records_in c.args.query.now) c.args.tables.now c.spans.tables c.look_within.new.tables c.spans.span
+      c.spans.draft c.look_within.new.draft c.in_ok-look_within.field-0 g.met.T.Tables.lived c.spans.invariant
+      c.in_ok-look_within.ensures.value c.if-branch.true c.in_ok-look_within.ensures.leaves.follows live;
+  leaves = record {
+    same = λ live. c.in_ok-look_within.ensures.leaves.same live ∙ c.spans.invariant.same (g.met.T.Tables.lived _ _ c.in_ok-look_within.ensures.leaves.follows live);
+    usable = c.in_ok-look_within.ensures.leaves.usable;
+    follows = g.met.T.Tables.then _ _ _ c.spans.invariant.follows c.in_ok-look_within.ensures.leaves.follows;
+  };
+}

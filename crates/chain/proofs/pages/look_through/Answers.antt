@@ -4,11 +4,14 @@ use Rattle.chain.proofs.PageSteps.{full_on}
 use Rattle.chain.proofs.PageWalks.{looked_at}
 use Rattle.chain.proofs.pages.look_through.Goals as goal
 
-pub returns-then-is_full-clause-value : goal.returns-then-is_full-clause-value
-returns-then-is_full-clause-value g c live =
-    full_on g.Q.Query.time_of (g.Q.Query.shown_in c.args.query.now (g.T.Tables.means.state c.args.tables.now).now)
-    (g.Q.Query.asks c.args.query.now) c.args.records.now c.loop-record.record-index (page_of c.args.draft.now)
-    (page_of c.loop-record.draft) (c.loop-record.invariant.looked live) (sym c.is_full.ensures ∙ c.if-is_full.true)
+pub returns-then-is_full : goal.returns-then-is_full
+returns-then-is_full g c = record {
+  value = λ live.
+      full_on g.Q.Query.time_of (g.Q.Query.shown_in c.args.query.now (g.T.Tables.means.state c.args.tables.now).now)
+      (g.Q.Query.asks c.args.query.now) c.args.records.now c.loop-record.record-index (page_of c.args.draft.now)
+      (page_of c.loop-record.draft) (c.loop-record.invariant.looked live) (sym c.is_full.ensures ∙ c.if-is_full.true);
+  leaves = record { same = c.loop-record.invariant.same; usable = c.loop-record.invariant.usable; follows = c.loop-record.invariant.follows };
+}
 
 pub loop-record-preserved : goal.loop-record-preserved
 loop-record-preserved g c =

@@ -21,8 +21,11 @@ loop-left-preserved g c =
     c.in_ok-look_within.ensures.leaves.same c.in_ok-look_within.ensures.leaves.usable
     c.in_ok-look_within.ensures.leaves.follows c.span_behind.ensures c.min-most.ensures
 
-pub returns-clause-value : goal.returns-clause-value
-returns-clause-value g c live =
-    making_ends g.T.Tables.means g.Q.Query.time_of (g.Q.Query.shown_in c.args.query.now) (g.Q.Query.asks c.args.query.now)
-    (g.Q.Query.records_in c.args.query.now) c.args.tables.now c.loop-left.tables c.loop-left.left c.loop-left.span c.loop-left.draft
-    c.loop-left.invariant c.loop-left-test.false live
+pub returns : goal.returns
+returns g c = record {
+  value = λ live.
+      making_ends g.T.Tables.means g.Q.Query.time_of (g.Q.Query.shown_in c.args.query.now) (g.Q.Query.asks c.args.query.now)
+      (g.Q.Query.records_in c.args.query.now) c.args.tables.now c.loop-left.tables c.loop-left.left c.loop-left.span c.loop-left.draft
+      c.loop-left.invariant c.loop-left-test.false live;
+  leaves = record { same = c.loop-left.invariant.same; usable = c.loop-left.invariant.usable; follows = c.loop-left.invariant.follows };
+}
