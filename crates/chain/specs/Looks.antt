@@ -25,8 +25,8 @@ pub record LeavesSame {S X : Type 0} (t : Meaning S) (old new : S) (result : Res
   pub usable : OnOk result (t.is_usable new)
   pub follows : t.follows old new
 
--- several look-ups: where the tables are live this is so of the machine and of what is found; if they
--- answer, nothing changes
+-- several look-ups: where the tables are live this is so of the machine and of what is found; if
+-- they answer, nothing changes
 pub record Searches {S X : Type 0} (t : Meaning S) (IsSo : Machine → X → Type 0) (old new : S)
     (result : Result X Unavailable) : Type 0 where
   pub value : t.is_live new → IfOk result (IsSo (t.state old).now)
@@ -51,7 +51,8 @@ pub record Answers {A X : Type 0} (shows : X → Seen A) (answer : Machine → A
   pub same : after ≡ before
 
 -- the answer of a batch with such an output, as a read
-abbrev pub account_answer : {A : Type 0} → Result (Result A AccountFault) BatchFault → Result A ReadFault
+abbrev pub account_answer : {A : Type 0} → Result (Result A AccountFault) BatchFault →
+    Result A ReadFault
 account_answer (Ok output) = answer_of output
 account_answer (Err batch_fault.UnknownKey) = Err fault.UnknownKey
 account_answer (Err (batch_fault.Unavailable why)) = Err (fault.Unavailable why)

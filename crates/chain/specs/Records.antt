@@ -51,7 +51,8 @@ transfers_past n (IsValid.next_transfer m t valid next) =
     (next.timestamp.positive, next.timestamp.by_clock)
 transfers_past n (IsValid.next_failed m id valid next) = transfers_past m valid
 
-runs : {A : Type 0} (time : A → ℕ) (records : List A) → AreAscending time records → RunsIn time Oldest records
+runs : {A : Type 0} (time : A → ℕ) (records : List A) → AreAscending time records →
+    RunsIn time Oldest records
 runs time [] ascending = tt
 runs time (it ∷ more) ascending = (ascending.0, runs time more ascending.1)
 
@@ -75,7 +76,8 @@ pub account_records :
     AreRecords (λ (a : Account). a.timestamp) (λ a. account_with a.id m.accounts ≡ Some a)
     m.accounts
 account_records m valid =
-    are_records (λ (a : Account). a.timestamp) (λ a. account_with a.id m.accounts ≡ Some a) m m.accounts
+    are_records (λ (a : Account). a.timestamp)
+    (λ a. account_with a.id m.accounts ≡ Some a) m m.accounts
     valid (accounts_ascend m valid) (accounts_past m valid)
     (found_itself (λ (a : Account). a.id) m.accounts (sound m valid).accounts)
 
@@ -84,7 +86,8 @@ pub transfer_records :
     AreRecords (λ (t : Transfer). t.timestamp) (λ t. transfer_with t.id m.transfers ≡ Some t)
     m.transfers
 transfer_records m valid =
-    are_records (λ (t : Transfer). t.timestamp) (λ t. transfer_with t.id m.transfers ≡ Some t) m m.transfers
+    are_records (λ (t : Transfer). t.timestamp)
+    (λ t. transfer_with t.id m.transfers ≡ Some t) m m.transfers
     valid (transfers_ascend m valid) (transfers_past m valid)
     (found_itself (λ (t : Transfer). t.id) m.transfers (sound m valid).transfers)
 
@@ -95,13 +98,17 @@ entries_in account before transfers =
     (filter (λ entry. is_entry_of account entry.transfer) (entries_after before transfers))
 
 each_entry :
-    (P : ℕ → Type 0) (before transfers : List Transfer) → All (λ (t : Transfer). P t.timestamp) transfers →
+    (P : ℕ → Type 0) (before transfers : List Transfer) →
+    All (λ (t : Transfer). P t.timestamp) transfers →
     All (λ (e : Entry). P e.transfer.timestamp) (entries_after before transfers)
 each_entry P before [] all = All-nil (λ (e : Entry). P e.transfer.timestamp)
 each_entry P before (t ∷ transfers) all =
-    All-cons (λ (e : Entry). P e.transfer.timestamp) (record { before = before ++ t ∷ []; transfer = t })
-    (entries_after (before ++ t ∷ []) transfers) (All-head (λ (x : Transfer). P x.timestamp) t transfers all)
-    (each_entry P (before ++ t ∷ []) transfers (All-tail (λ (x : Transfer). P x.timestamp) t transfers all))
+    All-cons (λ (e : Entry). P e.transfer.timestamp)
+    (record { before = before ++ t ∷ []; transfer = t })
+    (entries_after (before ++ t ∷ []) transfers)
+    (All-head (λ (x : Transfer). P x.timestamp) t transfers all)
+    (each_entry P (before ++ t ∷ []) transfers
+    (All-tail (λ (x : Transfer). P x.timestamp) t transfers all))
 
 each_own :
     (account : ℕ) (P : ℕ → Type 0) (before transfers : List Transfer) →
@@ -116,7 +123,8 @@ each_own account P before transfers all =
     (each_entry P before transfers all))
 
 own_run :
-    (account : ℕ) (before transfers : List Transfer) → RunsIn (λ (t : Transfer). t.timestamp) Oldest transfers →
+    (account : ℕ) (before transfers : List Transfer) →
+    RunsIn (λ (t : Transfer). t.timestamp) Oldest transfers →
     RunsIn entry_time Oldest (entries_in account before transfers)
 unfolding entries_in
 own_run account before [] run = tt
@@ -141,9 +149,11 @@ entry_records m valid account =
     let is_time = λ (time : ℕ). (0 < time) × (time ≤ max_clock) in record {
       rise = own_run account [] m.transfers are.rise;
       each =
-          All-weaker (λ (e : AccountEntry). is_time (entry_time e)) (IsRecord entry_time (λ e. Unit {0}))
+          All-weaker (λ (e : AccountEntry). is_time (entry_time e))
+          (IsRecord entry_time (λ e. Unit {0}))
           (λ e h. record { positive = h.0; bounded = h.1; kept = tt }) (account_entries m account)
           (each_own account is_time [] m.transfers
-          (All-weaker (IsRecord (λ (t : Transfer). t.timestamp) there) (λ (t : Transfer). is_time t.timestamp)
+          (All-weaker (IsRecord (λ (t : Transfer). t.timestamp) there)
+          (λ (t : Transfer). is_time t.timestamp)
           (λ t h. (h.positive, h.bounded)) m.transfers are.each));
     }

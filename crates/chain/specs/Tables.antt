@@ -77,8 +77,8 @@ pub record LooksUp {S X : Type 0} (t : Meaning S) (IsSo : Machine → X → Type
   pub value : t.is_live new → IfOk result (IsSo (t.state old).now)
   pub leaves : Leaves t old new result same
 
--- what a run of a whole batch leaves: as a call, but after Err it may also be the machine before it,
--- which is the same one where nothing came since the beginning
+-- what a run of a whole batch leaves: as a call, but after Err it may also be the machine before
+-- it, which is the same one where nothing came since the beginning
 pub record LeavesRun {S X : Type 0} (t : Meaning S) (old new : S) (result : Result X Unavailable)
     (change : State → State) : Type 0 where
   pub state : t.is_live new → OnOk result (t.state new ≡ change (t.state old))

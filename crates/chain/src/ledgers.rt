@@ -154,7 +154,8 @@ pub trait Ledgers {
         asked: &QueryFilter,
     ) -> Result<QueryPage<AccountWithBalances>, ReadFault>
         requires { means.is_usable self.old }
-        ensures { ReadsTenant means digest.now (IsPageOf (λ m. Found (queried_accounts m asked.now)))
+        ensures { ReadsTenant means digest.now
+            (IsPageOf (λ m. Found (queried_accounts m asked.now)))
             self.old self.new result }
     {
         let query = AccountQuery { asked: *asked };
@@ -169,7 +170,8 @@ pub trait Ledgers {
         asked: &QueryFilter,
     ) -> Result<QueryPage<Transfer>, ReadFault>
         requires { means.is_usable self.old }
-        ensures { ReadsTenant means digest.now (IsPageOf (λ m. Found (queried_transfers m asked.now)))
+        ensures { ReadsTenant means digest.now
+            (IsPageOf (λ m. Found (queried_transfers m asked.now)))
             self.old self.new result }
     {
         let query = TransferQuery { asked: *asked };
@@ -206,9 +208,9 @@ pub trait Ledgers {
         account_answer(self.in_batch(digest, BalancesOf { alloc, asked }))
     }
 
-    /// Hands the account's statement to a sink, row by row, in this order, in pieces that are each a
-    /// batch. After `Unavailable` the sink has got a beginning of it; after `Sink` too, and it refused
-    /// the next row with that fault.
+    /// Hands the account's statement to a sink, row by row, in this order, in pieces that are each
+    /// a batch. After `Unavailable` the sink has got a beginning of it; after `Sink` too, and it
+    /// refused the next row with that fault.
     fn each_statement_row<S: RowSink>(
         &mut self,
         alloc: Global,

@@ -13,8 +13,8 @@ pub trait RoundWork {
     // What all machines before, the answer and all machines after are to one another.
     ghost gives: { Self → Tenants → Self.Output → Tenants → Type 0 };
 
-    /// Does it, on ledgers at the beginning of a round. After `Unavailable` whoever lent the ledgers
-    /// takes them back to that beginning.
+    /// Does it, on ledgers at the beginning of a round. After `Unavailable` whoever lent the
+    /// ledgers takes them back to that beginning.
     fn run<L: Ledgers>(self, ledgers: &mut L) -> Result<Self::Output, Unavailable>
         requires usable { L.means.is_usable ledgers.old }
         ensures gives { L.means.is_live ledgers.new → IfOk result (λ output.

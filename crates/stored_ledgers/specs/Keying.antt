@@ -30,9 +30,9 @@ abbrev pub without_number : ℤ → Trees → List Row
 without_number number trees =
     filter (λ row. not (is_int number (column row 0))) (directory_rows trees)
 
--- the tenant with this name has this digest, which it had before or nobody had; its number, the rest
--- of the directory, all tenants' rows and the tables of strangers stay; and nothing has changed where
--- it had it before
+-- the tenant with this name has this digest, which it had before or nobody had; its number, the
+-- rest of the directory, all tenants' rows and the tables of strangers stay; and nothing has
+-- changed where it had it before
 pub record IsKeyed (name digest : List ℕ) (old new : Database) : Type 0 where
   pub number : ℤ
   pub was : List ℕ

@@ -31,7 +31,8 @@ HasItsClock trees tenant =
 
 -- each tenant of the directory is listed once, with its clock, by name
 pub record AreListed (trees : Trees) (tenants : List ListedTenant) : Type 0 where
-  pub all : IsPermutation (map without_its_number (directory_rows trees)) (map listed_values tenants)
+  pub all : IsPermutation (map without_its_number (directory_rows trees))
+      (map listed_values tenants)
   pub clocks : All (HasItsClock trees) tenants
   pub order : IsSorted by_name tenants
 

@@ -17,8 +17,8 @@ use records::Unavailable;
 use sqlite::{Alter, Connection};
 use tenants::TenantName;
 
-/// Why a tenant's key was not changed, in the order in which it is tested. Nothing has changed; only
-/// where the disk failed may the next opening find the new key.
+/// Why a tenant's key was not changed, in the order in which it is tested. Nothing has changed;
+/// only where the disk failed may the next opening find the new key.
 #[derive(Clone, Copy, Debug, PartialEq, Eq)]
 pub enum ChangeKey {
     /// No tenant has this name.

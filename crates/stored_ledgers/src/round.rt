@@ -12,8 +12,8 @@ use sqlite::{Alter, Connection};
 
 /// The ledgers of a connection in an open transaction.
 ///
-/// Once a call has answered `Unavailable`, each answers so, and whoever lent the ledgers takes all of
-/// the round back.
+/// Once a call has answered `Unavailable`, each answers so, and whoever lent the ledgers takes all
+/// of the round back.
 #[derive(Drop)]
 pub(crate) struct Round<'a, S: Alter> {
     pub(crate) conn: &'a mut Connection<S>,

@@ -39,7 +39,8 @@ TakesNext span old entry new Over = AddsEntry span old entry new.entries.items f
 TakesNext span old entry new (Failed why) = Unit {0}
 
 -- where more are wanted, the cells of an entry are taken
-pub record TakesEntry (old : EntriesWithin) (cells : EntryCells) (new : EntriesWithin) : Type 0 where
+pub record TakesEntry (old : EntriesWithin) (cells : EntryCells) (new : EntriesWithin) :
+    Type 0 where
   pub is_open : old.progress ≡ Open
   pub span_is : new.span ≡ old.span
   pub next : (account : ℕ) (entry : Entry) → AreCellsOf account entry cells

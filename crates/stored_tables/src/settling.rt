@@ -86,7 +86,8 @@ fn release_due<S: Alter>(
     clock: u64,
 ) -> Result<(), Unavailable>
     requires { IfClean CanWrite S.Store conn.old }
-    ensures { Changes (ReleasesDue tenant.0 past clock (contains ⟦<(u64, u128) as Ord>⟧.cmp due.now))
+    ensures { Changes (ReleasesDue tenant.0 past clock
+        (contains ⟦<(u64, u128) as Ord>⟧.cmp due.now))
         S.Store conn.old conn.new result }
 {
     clock_rows();

@@ -45,7 +45,8 @@ fn read_accounts<S: Alter>(
     span: &Span,
 ) -> Result<Vec<Account>, Unavailable>
     requires { CanRead tenant.0 (state S.Store conn.old) }
-    ensures { Learns (λ trees found. found.items ≡ accounts_within (machine_of tenant.0 trees) span.now)
+    ensures { Learns (λ trees found. found.items ≡ accounts_within
+        (machine_of tenant.0 trees) span.now)
         S.Store conn.old conn.new result }
 {
     rows_fit();
@@ -88,7 +89,8 @@ fn read_transfers<S: Alter>(
     span: &Span,
 ) -> Result<Vec<Transfer>, Unavailable>
     requires { CanRead tenant.0 (state S.Store conn.old) }
-    ensures { Learns (λ trees found. found.items ≡ transfers_within (machine_of tenant.0 trees) span.now)
+    ensures { Learns (λ trees found. found.items ≡ transfers_within
+        (machine_of tenant.0 trees) span.now)
         S.Store conn.old conn.new result }
 {
     rows_fit();
