@@ -1,9 +1,6 @@
 //! Pieces of an account's statement, each read in a batch of its own.
-ghost use Rattle.std.specs.Prelude.{◌≡◌, true, Err};
-ghost use Rattle.records.specs.declared.unavailable.Unavailable.TheVariants.{Disk};
-ghost use Rattle.chain.specs.declared.reads.ReadFault.TheVariants as fault;
-ghost use Rattle.chain.specs.Ledgers.{Finds, KeepsAll};
-ghost use Rattle.chain.specs.LedgerReads.{ReadsOnly, IsTold};
+ghost use Rattle.std.specs.Prelude.{◌≡◌};
+ghost use Rattle.chain.specs.LedgerReads.{ReadsTenant};
 ghost use Rattle.parts.specs.Pieces.{GivesPiece, IsPieceOf, piece_told};
 
 use chain::{AccountEntry, BatchFault, Ledgers, Listed, ReadFault, Tables, Work};
@@ -57,11 +54,8 @@ pub fn read_piece<L: Ledgers>(
     span: &Span,
 ) -> Result<Listed<AccountEntry>, ReadFault>
     requires { L.means.is_usable ledgers.old }
-    ensures told { L.means.is_live ledgers.new
-        → IsPieceOf account span.now (L.means.tenants ledgers.old digest.now) result }
-    ensures failed { L.means.has_failed ledgers.old ≡ true → result ≡ Err (fault.Unavailable Disk) }
-    ensures finds { Finds L.means (IsTold result) KeepsAll ledgers.old ledgers.new }
-    ensures reads { ReadsOnly L.means ledgers.old ledgers.new }
+    ensures { ReadsTenant L.means digest.now (IsPieceOf account span.now)
+        ledgers.old ledgers.new result }
 {
     let span = *span;
     piece_told(ledgers.in_batch(

@@ -1,11 +1,8 @@
 //! What is left of a statement.
-ghost use Rattle.std.specs.Prelude.{◌≡◌, ◌≤◌, true, All, Err, IfOk};
+ghost use Rattle.std.specs.Prelude.{◌≡◌, ◌≤◌, All, IfOk};
 ghost use Rattle.records.specs.Step.{max_clock};
-ghost use Rattle.records.specs.declared.unavailable.Unavailable.TheVariants.{Disk};
 ghost use Rattle.chain.specs.AccountEntries.{entry_time};
-ghost use Rattle.chain.specs.declared.reads.ReadFault.TheVariants as fault;
-ghost use Rattle.chain.specs.Ledgers.{Finds, KeepsAll};
-ghost use Rattle.chain.specs.LedgerReads.{ReadsOnly, IsTold};
+ghost use Rattle.chain.specs.LedgerReads.{ReadsTenant};
 ghost use Rattle.parts.specs.Parts.{IsPartOf, IsPartTold, rest_behind, span_of, whole_rest};
 
 use crate::piece::read_piece;
@@ -105,11 +102,8 @@ impl Rest {
         before: &[u8],
     ) -> Result<Part, ReadFault>
         requires { L.means.is_usable ledgers.old }
-        ensures told { L.means.is_live ledgers.new → IsPartTold before.now
-            (L.means.tenants ledgers.old self.now.digest) self.now result }
-        ensures failed { L.means.has_failed ledgers.old ≡ true → result ≡ Err (fault.Unavailable Disk) }
-        ensures finds { Finds L.means (IsTold result) KeepsAll ledgers.old ledgers.new }
-        ensures reads { ReadsOnly L.means ledgers.old ledgers.new }
+        ensures { ReadsTenant L.means self.now.digest
+            (λ tenant. IsPartTold before.now tenant self.now) ledgers.old ledgers.new result }
     {
         let listed = read_piece(alloc, ledgers, &self.digest, self.account, &self.span())?;
         match self.part_of(alloc, before, &listed) {
