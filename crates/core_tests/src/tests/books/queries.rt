@@ -1,6 +1,6 @@
 //! Pages of transfers, accounts and open holds, each row counted by hand.
-use super::asserting::same;
 use super::firms::{FIRM, Firms, NOBODY};
+use crate::tests::asserting::same;
 use chain::{QueryPage, ReadFault};
 use records::{
     AccountWithBalances, Hold, PageFilter, PageFlags, PendingState, QueryFilter, Tags, Transfer,

@@ -1,4 +1,4 @@
-use super::asserting::same;
+use crate::tests::asserting::same;
 use chain::Tables;
 use plain::{Book, PlainTables};
 use records::Unavailable;

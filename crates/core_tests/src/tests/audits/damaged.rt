@@ -1,6 +1,7 @@
 //! Worked ledgers with damage, and what is told of them.
 
-use crate::tests::samples::{Sample, column, expired, posted_in_part};
+use super::worked_rows::{Sample, expired, posted_in_part};
+use crate::tests::cells::column;
 
 /// A ledger, the first version in which it is damaged, the number of the kind and the place.
 pub(crate) type Damaged = (Sample, u32, (u8, usize));

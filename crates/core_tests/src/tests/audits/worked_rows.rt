@@ -1,17 +1,11 @@
 //! The rows of worked ledgers, cell by cell.
 
+use crate::tests::cells::column;
 use rows::{
     AccountCells, AllRows, BalanceCells, HistoryCells, StatusCells, TenantOfDigest, TenantRows,
     TransferCells,
 };
 use std::alloc::{AllocError, Global};
-
-// The column of a number below 256.
-pub(crate) fn column(digit: u8) -> [u8; 16] {
-    let mut bytes = [0; 16];
-    bytes[15] = digit;
-    bytes
-}
 
 /// The rows of a tenant with four accounts and two transfers.
 #[derive(Clone, Copy)]

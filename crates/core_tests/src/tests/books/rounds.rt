@@ -1,7 +1,7 @@
 //! Rounds over a book: transfers of two firms at once, all of them kept or none.
 
-use super::asserting::same;
 use super::firms::*;
+use crate::tests::asserting::same;
 use chain::{BatchFault, BatchReply, Ledgers, RoundWork};
 use records::{TransferResult, Unavailable};
 use samples::transfer;

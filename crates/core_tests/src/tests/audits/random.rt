@@ -1,10 +1,11 @@
 //! Worked ledgers with cells changed at random, looked at in two ways.
 
+use super::dice::Dice;
+use super::found;
+use super::plain_audit::plain_find;
+use super::worked_rows::{Sample, expired, posted_in_part, tenant};
 use crate::tests::asserting::same;
-use crate::tests::dice::Dice;
-use crate::tests::found;
-use crate::tests::plain::plain_find;
-use crate::tests::samples::{Sample, column, expired, posted_in_part, tenant};
+use crate::tests::cells::column;
 use std::alloc::{AllocError, Global};
 
 fn change(sample: &mut Sample, dice: &mut Dice) {

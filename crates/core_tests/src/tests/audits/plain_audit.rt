@@ -1,8 +1,8 @@
 //! The audit of one tenant by the definitions alone: lists that are searched and summed anew for
 //! each row. It keeps no map and sorts nothing.
 
-use crate::tests::plain_ledger::{Ledger, MAX_CLOCK, is_above, moves, opens, transfer};
-use crate::tests::plain_tables::in_tables;
+use super::plain_ledger::{Ledger, MAX_CLOCK, is_above, moves, opens, transfer};
+use super::plain_tables::in_tables;
 use records::{Account, Transfer};
 use rows::TenantRows;
 use std::alloc::{AllocError, Global};

@@ -1,5 +1,5 @@
-use super::asserting::same;
 use super::firms::*;
+use crate::tests::asserting::same;
 use chain::{BatchFault, BatchReply, ReadFault, Tables, Work};
 use records::{
     AccountFilter, EventResult, FilterFlags, Order, TransferEvent, TransferResult, Unavailable,

@@ -1,6 +1,6 @@
 //! The tables of a tenant beside the rows that the definitions prescribe, one after the other.
 
-use crate::tests::plain_ledger::{Ledger, balances, fate, is_above};
+use super::plain_ledger::{Ledger, balances, fate, is_above};
 use records::{Account, Transfer};
 use rows::{BalanceRow, HistoryRow, StatusRow, TenantRows};
 

@@ -1,9 +1,9 @@
 //! A ledger of many transfers, kept by plain running sums that know nothing of the machine.
 
+use super::dice::Dice;
+use super::plain_audit::plain_find;
+use super::told_alone;
 use crate::tests::asserting::same;
-use crate::tests::dice::Dice;
-use crate::tests::plain::plain_find;
-use crate::tests::told_alone;
 use rows::{
     AccountCells, BalanceCells, HistoryCells, StatusCells, TenantOfDigest, TenantRows,
     TransferCells,

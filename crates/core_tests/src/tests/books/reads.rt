@@ -1,5 +1,5 @@
-use super::asserting::same;
 use super::firms::{FIRM, Firms};
+use crate::tests::asserting::same;
 use amount::Amount;
 use chain::ReadFault;
 use records::{

@@ -1,6 +1,6 @@
-use super::asserting::same;
 use super::firms::{FIRM, Firms};
 use super::reads::posted_in_part;
+use crate::tests::asserting::same;
 use amount::Amount;
 use chain::ReadFault;
 use records::{Kind, Order, Side, SinkFault, StatementRow, TransferEvent};

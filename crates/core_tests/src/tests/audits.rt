@@ -1,22 +1,25 @@
+//! Ledgers undamaged and damaged, worked and generated, beside a plain audit that searches and sums
+//! anew.
+
+use crate::tests::asserting::same;
+use crate::tests::cells::column;
 use audit::{AuditFault, Damage, DamageKind, check};
 use rows::TenantOfDigest;
 use std::alloc::{AllocError, Global};
 use std::process::Abort;
 use std::test::Fail;
 
-mod asserting;
 mod damaged;
 mod dice;
 mod generated;
-mod plain;
+mod plain_audit;
 mod plain_ledger;
 mod plain_tables;
 mod random;
-mod samples;
+mod worked_rows;
 
-use asserting::same;
 use damaged::damaged_ledger;
-use samples::{Sample, column, expired, file, posted_in_part, tenant};
+use worked_rows::{Sample, expired, file, posted_in_part, tenant};
 
 // The number of the kind, the first byte of the digest and the place; none where the rows pass.
 fn told(alloc: Global, version: u32, tenants: Vec<TenantOfDigest>) -> Option<(u8, u8, usize)> {

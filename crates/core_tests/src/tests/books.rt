@@ -1,6 +1,5 @@
 //! Tables of one tenant, batches over a book, and the reads of the model's worked examples.
 
-mod asserting;
 mod batches;
 mod firms;
 mod queries;
