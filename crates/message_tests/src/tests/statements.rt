@@ -1,11 +1,12 @@
+//! Statements as CSV, row by row and over a period, in other forms, and where the writer fails.
 ghost use Rattle.std.specs.Prelude.{◌≡◌, false, OnOk};
 ghost use Rattle.records.specs.Streamed.{stream_failed};
 
-use crate::{
-    Extract, Form, Layout, Period, StatementFault, StatementWriter, extract_text, write_statement,
-};
 use amount::Amount;
 use records::{Balances, Kind, RowSink, Side, SinkFault, StatementRow, Streamed, Sums, Transfer};
+use statement::{
+    Extract, Form, Layout, Period, StatementFault, StatementWriter, extract_text, write_statement,
+};
 use std::alloc::Global;
 use std::io::{self, ErrorKind, Write};
 
@@ -52,7 +53,7 @@ const PENDING_AND_POST: &str = "timestamp,transfer_id,side,kind,amount,debits_pe
     5,100,debit,pending,100,100,0,0,0\n\
     6,101,debit,post,40,0,40,0,0\n";
 
-fn statement(alloc: Global, rows: &[StatementRow]) -> Result<Vec<u8>, StatementFault> {
+fn statement_of(alloc: Global, rows: &[StatementRow]) -> Result<Vec<u8>, StatementFault> {
     let mut out = Streamed::new(Vec::new(alloc));
     write_statement(alloc, &mut out, rows)?;
     Ok(out.into_inner())
@@ -66,15 +67,15 @@ const RELEASED: &str = "timestamp,transfer_id,side,kind,amount,debits_pending,\
 #[test]
 fn writes_the_worked_statements(rt: HostRuntime) {
     let alloc = rt.alloc();
-    let posted = statement(alloc, &pending_and_post()).expect(&rt, "a statement");
+    let posted = statement_of(alloc, &pending_and_post()).expect(&rt, "a statement");
     assert_eq!(rt; posted.as_slice(), PENDING_AND_POST.as_bytes());
     let released = [
         debit(5, 100, Kind::Pending, 100, sums(100, 0)),
         debit(1000000006, 102, Kind::Single, 10, sums(0, 10)),
     ];
-    let released = statement(alloc, &released).expect(&rt, "a statement");
+    let released = statement_of(alloc, &released).expect(&rt, "a statement");
     assert_eq!(rt; released.as_slice(), RELEASED.as_bytes());
-    let none = statement(alloc, &[]).expect(&rt, "a statement");
+    let none = statement_of(alloc, &[]).expect(&rt, "a statement");
     assert_eq!(rt; none.as_slice(), HEADER.as_bytes());
 }
 
@@ -98,7 +99,7 @@ fn writes_the_widest_row(rt: HostRuntime) {
             credits: sums(u128::MAX, u128::MAX),
         },
     };
-    let text = statement(rt.alloc(), &[row]).expect(&rt, "a statement");
+    let text = statement_of(rt.alloc(), &[row]).expect(&rt, "a statement");
     assert_eq!(rt; text.as_slice(), WIDEST.as_bytes());
 }
 
