@@ -1,10 +1,11 @@
 //! Connections: several messages, ends and faults.
 ghost use Rattle.std.specs.Prelude.{◌≡◌};
 
-use super::asserting::same;
-use super::firms::Firms;
-use super::messages::{BATCH, CUT_SHORT, FIRST, good, post, wanted, written};
+use super::messages::{CUT_SHORT, good, post, wanted, written};
 use super::scripts::{Answers, base, parts};
+use crate::tests::asserting::same;
+use crate::tests::firms::Firms;
+use crate::tests::messages::{BATCH, FIRST};
 use records::Streamed;
 use service::{Moments, ServeFault};
 use std::alloc::{AllocError, Global};
@@ -185,7 +186,7 @@ fn comes_to(
     (sender, most): (Sender, u64),
     (told, ended, left): (&[u8], Result<u64, ServeFault>, &[u8]),
 ) -> Result<(), Fail> {
-    let mut firms = Firms::with(alloc, FIRST)?;
+    let mut firms = Firms::with(alloc, &[FIRST])?;
     let served = serve(alloc, &mut firms, sender, (ALL, 1000, most));
     same(rt, "the connection", served.ended, ended);
     same(rt, "what is written", served.written.as_slice(), told);

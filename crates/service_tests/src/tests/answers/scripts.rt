@@ -7,9 +7,9 @@
 //!
 //! A line that begins with two spaces goes on with the one before it. Where a script has several
 //! paragraphs, each is played by firms of its own.
-use super::asserting::same;
-use super::firms::Firms;
 use super::messages::{message, wanted};
+use crate::tests::asserting::same;
+use crate::tests::firms::Firms;
 use ledger_http::Reply;
 use service::Message;
 use std::alloc::{AllocError, Global};

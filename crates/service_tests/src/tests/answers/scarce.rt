@@ -3,9 +3,9 @@ ghost use Rattle.std.specs.Prelude.{Some, None, false, bytes_eq, if◌then◌els
 ghost use Rattle.std.proofs.Common.{refl, ◌∙◌};
 ghost use Rattle.chain.specs.Ledgers.{AreValid};
 
-use super::asserting::same;
-use super::messages::FIRST;
 use super::scripts::{Answers, are_told, exchange, messages};
+use crate::tests::asserting::same;
+use crate::tests::messages::FIRST;
 use chain::{AccountEntry, BatchFault, Ledgers, RoundWork, Rounds, Tables, Work};
 use ledger_http::Reply;
 use plain::PlainTables;

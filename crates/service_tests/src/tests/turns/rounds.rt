@@ -1,6 +1,6 @@
-use super::firms::Firms;
-use super::messages::{FIRST, OF_FIRST, OF_SECOND, SECOND, TO_CUT, TO_SECOND};
 use super::scripted::{Peer, Scripted};
+use crate::tests::firms::Firms;
+use crate::tests::messages::{FIRST, OF_FIRST, OF_SECOND, SECOND, TO_CUT, TO_SECOND};
 use std::test::Fail;
 
 const KEYS: [&str; 2] = [FIRST, SECOND];
@@ -45,7 +45,7 @@ pub(crate) fn has_heard(peers: &Scripted, number: usize, text: &[u8]) -> bool {
 
 #[test]
 fn two_that_are_ready_at_once_are_written_behind_one_round(rt: HostRuntime) -> Result<(), Fail> {
-    let to_first = Firms::with(rt.alloc(), &KEYS)?.serve(OF_FIRST.as_bytes());
+    let to_first = Firms::with(rt.alloc(), &KEYS)?.serve_alone(OF_FIRST.as_bytes());
     let mut firms = Firms::with(rt.alloc(), &KEYS)?;
     let mut peers = clients(&rt, &[OF_FIRST, OF_SECOND])?;
     assert!(rt; firms.serve_ready(&mut peers, 99) == 6);
@@ -61,7 +61,7 @@ fn many_share_rounds_and_hear_what_each_hears_alone(rt: HostRuntime) -> Result<(
     let mut firms = Firms::with(rt.alloc(), &KEYS)?;
     let mut texts = [OF_SECOND; 40];
     texts[7] = OF_FIRST;
-    let to_first = Firms::with(rt.alloc(), &KEYS)?.serve(OF_FIRST.as_bytes());
+    let to_first = Firms::with(rt.alloc(), &KEYS)?.serve_alone(OF_FIRST.as_bytes());
     let mut peers = clients(&rt, &texts)?;
     assert!(rt; firms.serve_ready(&mut peers, 999) == 120);
     for number in 0..40 {
@@ -160,7 +160,7 @@ fn a_round_stops_behind_so_many_replies(rt: HostRuntime) -> Result<(), Fail> {
 // meanwhile, and what is no batch is not put off. Then the first firm hears what it hears alone.
 #[test]
 fn who_is_put_off_is_answered_behind_the_others(rt: HostRuntime) -> Result<(), Fail> {
-    let to_first = Firms::with(rt.alloc(), &KEYS)?.serve(OF_FIRST.as_bytes());
+    let to_first = Firms::with(rt.alloc(), &KEYS)?.serve_alone(OF_FIRST.as_bytes());
     let mut firms = Firms::with(rt.alloc(), &KEYS)?;
     let mut peers = clients(&rt, &[OF_FIRST, READ, OF_SECOND])?;
     assert!(rt; firms.serve_putting_off(&mut peers, 150, 10) == 7);

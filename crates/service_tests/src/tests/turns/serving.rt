@@ -1,6 +1,6 @@
-use super::firms::Firms;
-use super::messages::{FIRST, OF_FIRST, OF_SECOND, SECOND, TO_SECOND};
 use super::scripted::{Peer, Scripted};
+use crate::tests::firms::Firms;
+use crate::tests::messages::{FIRST, OF_FIRST, OF_SECOND, SECOND, TO_SECOND};
 use std::test::Fail;
 
 const KEYS: [&str; 2] = [FIRST, SECOND];
@@ -30,7 +30,7 @@ fn has_heard_so_far(peers: &Scripted, number: usize, text: &[u8]) -> bool {
 
 #[test]
 fn each_client_hears_its_own_whatever_the_pieces(rt: HostRuntime) -> Result<(), Fail> {
-    let to_first = Firms::with(rt.alloc(), &KEYS)?.serve(OF_FIRST.as_bytes());
+    let to_first = Firms::with(rt.alloc(), &KEYS)?.serve_alone(OF_FIRST.as_bytes());
     for piece in [1, 7, 100] {
         let mut firms = Firms::with(rt.alloc(), &KEYS)?;
         let mut peers = two(&rt, piece, 10000)?;
@@ -44,7 +44,7 @@ fn each_client_hears_its_own_whatever_the_pieces(rt: HostRuntime) -> Result<(), 
 
 #[test]
 fn a_client_that_breaks_is_let_go_and_the_other_served(rt: HostRuntime) -> Result<(), Fail> {
-    let to_first = Firms::with(rt.alloc(), &KEYS)?.serve(OF_FIRST.as_bytes());
+    let to_first = Firms::with(rt.alloc(), &KEYS)?.serve_alone(OF_FIRST.as_bytes());
     let mut firms = Firms::with(rt.alloc(), &KEYS)?;
     let mut peers = two(&rt, 7, 10)?;
     let replies = firms.serve_ready(&mut peers, 99);
@@ -78,7 +78,7 @@ fn a_client_that_is_late_is_let_go_and_the_other_served(rt: HostRuntime) -> Resu
 #[test]
 fn what_is_left_of_replies_is_written_and_who_comes_is_let_go(rt: HostRuntime) -> Result<(), Fail> {
     let first = OF_FIRST.as_bytes().get(..190).unwrap_or(&[]);
-    let to_first = Firms::with(rt.alloc(), &KEYS)?.serve(first);
+    let to_first = Firms::with(rt.alloc(), &KEYS)?.serve_alone(first);
     let mut firms = Firms::with(rt.alloc(), &KEYS)?;
     let mut peers = two(&rt, 64, 10000)?;
     let another = Peer::new(rt.alloc(), first, 10000);

@@ -1,12 +1,12 @@
 //! Statements of which a piece is refused: a reply is whole or `unavailable`, and a sink has a
 //! beginning.
-use super::asserting::same;
 use super::chunks::in_chunks;
 use super::failing::FrailFirms;
 use super::looked_at::send;
-use super::memory::UNAVAILABLE;
-use super::messages::{FIRST, HEADER, get};
+use super::messages::get;
 use super::scripts::{Answers, base};
+use crate::tests::asserting::same;
+use crate::tests::messages::{FIRST, HEADER, UNAVAILABLE};
 use chain::ReadFault;
 use records::{Order, Unavailable};
 use std::alloc::{AllocError, Global};

@@ -1,6 +1,6 @@
 //! The console's page, which everybody is told.
-use super::asserting::same;
 use super::everybody::everybody_is_told;
+use crate::tests::asserting::same;
 use ledger_http::Reply;
 use std::test::Fail;
 

@@ -1,16 +1,10 @@
 //! Want of memory. To be run with each allocation refused in turn (`make alloc`).
-use super::firms::Firms;
-use super::messages::FIRST;
 use super::scripts::{Answers, exchange, joined};
+use crate::tests::firms::Firms;
+use crate::tests::messages::{FIRST, UNAVAILABLE};
 use ledger_http::Reply;
 use std::alloc::Global;
 use std::process::Abort;
-
-/// The reply where memory runs out.
-pub(crate) const UNAVAILABLE: &str = concat!(
-    "HTTP/1.1 503 Service Unavailable\r\ncontent-length: 23\r\n",
-    "content-type: application/json\r\n\r\n{\"error\":\"unavailable\"}"
-);
 
 const STEPS: &str = r#"North base => clock 4: 0@1 0@2 0@3 0@4
 North transfers 100: 1>2 70 flags=3; 101: post=100 MAX => clock 6: 0@5 0@6
@@ -40,7 +34,7 @@ impl Answers for AskedAgain {
 /// or for what is wanted.
 fn answers_at_last(rt: &impl Abort, alloc: Global) -> Option<()> {
     let steps = joined(alloc, STEPS).ok()?;
-    let mut firms = AskedAgain(Firms::with(alloc, FIRST).ok()?);
+    let mut firms = AskedAgain(Firms::with(alloc, &[FIRST]).ok()?);
     for line in steps.lines() {
         exchange(rt, alloc, &mut firms, line).ok()?;
     }

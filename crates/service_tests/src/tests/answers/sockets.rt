@@ -1,8 +1,9 @@
 //! A connection over a socket.
-use super::asserting::same;
 use super::connections::Thousands;
-use super::firms::Firms;
-use super::messages::{BATCH, FIRST, good};
+use super::messages::good;
+use crate::tests::asserting::same;
+use crate::tests::firms::Firms;
+use crate::tests::messages::{BATCH, FIRST};
 use records::Streamed;
 use service::ServeFault;
 use std::alloc::Global;
@@ -24,7 +25,7 @@ fn serve_one(
 /// Serves the connection of a new firm that comes next.
 fn serve_next(alloc: Global, listener: &TcpListener) -> Result<Result<u64, ServeFault>, Fail> {
     let (stream, _) = listener.accept()?;
-    let mut firms = Firms::with(alloc, FIRST)?;
+    let mut firms = Firms::with(alloc, &[FIRST])?;
     let ended = serve_one(alloc, &mut firms, &stream)?;
     stream.shutdown(Shutdown::Write)?;
     Ok(ended)

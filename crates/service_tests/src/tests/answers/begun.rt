@@ -1,11 +1,11 @@
 //! Statements that are begun: what is told first, and what is left and read in parts.
-use super::asserting::same;
 use super::failing::FrailFirms;
 use super::looked_at::send;
-use super::memory::UNAVAILABLE;
-use super::messages::{BATCH, FIRST, SECOND, get};
+use super::messages::get;
 use super::scripts::{Answers, base};
 use super::statements::{ENTRIES, filled, whole};
+use crate::tests::asserting::same;
+use crate::tests::messages::{BATCH, FIRST, SECOND, UNAVAILABLE};
 use chain::ReadFault;
 use parts::{Rest, row_of};
 use records::{Order, Span, Unavailable};

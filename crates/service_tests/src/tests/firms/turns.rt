@@ -1,30 +1,15 @@
-//! Firms whose ledgers are kept in memory.
-ghost use Rattle.std.specs.Prelude.{◌≡◌, ⊤};
+//! Firms that serve clients, each of whom has a turn.
+ghost use Rattle.std.specs.Prelude.{⊤};
 
-use super::frail::{Fate, Frail, Opens};
-use super::scripted::{Peer, Scripted};
+use super::{Always, Firms};
+use crate::tests::turns::frail::{Fate, Frail, Opens};
+use crate::tests::turns::scripted::{Peer, Scripted};
 use parts::{Part, Rest};
-use plain::{Book, PlainTables};
+use plain::Book;
 use polling::{Seats, Steward, serve_ready, write_rest};
-use records::Streamed;
-use service::{Moments, serve};
 use std::alloc::Global;
 use std::cell::Cell;
-use std::marker::Model;
 use std::test::Fail;
-use tenants::{Key, digest};
-
-/// Gives the same moment again and again.
-#[derive(Drop)]
-struct Always(u64);
-
-impl Moments for Always {
-    ghost gives = { λ old moment new. moment ≡ old.0 };
-
-    fn moment(&mut self) -> u64 {
-        self.0
-    }
-}
 
 /// Ledgers in memory do not fail.
 #[derive(Drop)]
@@ -89,49 +74,7 @@ impl Steward<Book> for PutsOff {
     }
 }
 
-/// The ledgers of several firms.
-#[derive(Drop)]
-pub(crate) struct Firms {
-    alloc: Global,
-    book: Book,
-}
-
-impl Model for Firms {
-    ghost use Rattle.std.specs.Prelude.{List};
-    ghost use Rattle.chain.specs.Ledgers.{AreValid};
-    ghost use Rattle.plain.specs.BookLedgers.{machines_in};
-    ghost use Rattle.plain.specs.declared.book.Tenant.{Tenant};
-
-    ghost Value = { List Tenant };
-
-    ghost view = { λ firms. firms.book };
-
-    ghost invariant = { λ firms. AreValid (machines_in firms.book) };
-}
-
 impl Firms {
-    /// Firms with these keys.
-    pub(crate) fn with(alloc: Global, keys: &[&str]) -> Result<Firms, Fail> {
-        let mut firms = Firms {
-            alloc,
-            book: Book::new(alloc),
-        };
-        for key in keys {
-            firms.add(key)?;
-        }
-        Ok(firms)
-    }
-
-    fn add(&mut self, key: &str) -> Result<(), &'static str> {
-        let digest = digest(&Key::read(key.as_bytes()).ok_or("no key")?);
-        if self.book.holds(&digest) {
-            return Ok(());
-        }
-        self.book
-            .add(digest, PlainTables::new(self.alloc))
-            .map_err(|_| "no memory")
-    }
-
     /// Serves clients until nothing more happens, or so many messages were replied to.
     pub(crate) fn serve_ready(&mut self, peers: &mut Scripted, most: u64) -> u64 {
         let mut seats = Seats::new(self.alloc);
@@ -180,11 +123,12 @@ impl Firms {
     /// Serves clients over ledgers of which the first round has a fate. Says how many messages were
     /// replied to, and how many rounds were begun.
     pub(crate) fn serve_frail(self, peers: &mut Scripted, fate: Fate) -> (u64, u64) {
-        let mut seats = Seats::new(self.alloc);
-        let mut ledgers = Frail::new(self.book, fate);
+        let Firms { alloc, book } = self;
+        let mut seats = Seats::new(alloc);
+        let mut ledgers = Frail::new(book, fate);
         let mut piece = [0; 100];
         let replies = serve_ready(
-            self.alloc,
+            alloc,
             peers,
             &mut seats,
             &mut ledgers,
@@ -234,20 +178,5 @@ impl Firms {
             &mut piece,
             most,
         )
-    }
-
-    /// What a connection is written that sends this and nothing else.
-    pub(crate) fn serve(&mut self, sent: &[u8]) -> Vec<u8> {
-        let mut reader = Streamed::new(sent);
-        let mut writer = Streamed::new(Vec::new(self.alloc));
-        let _ = serve(
-            self.alloc,
-            &mut self.book,
-            &mut reader,
-            &mut writer,
-            &mut Always(1000),
-            99,
-        );
-        writer.into_inner()
     }
 }

@@ -1,6 +1,6 @@
 //! Transfers of the first firm, and the statement that tells of them, built by hand.
-use super::firms::Firms;
-use super::messages::FIRST;
+use crate::tests::firms::Firms;
+use crate::tests::messages::{BATCH, FIRST, HEADER};
 use std::alloc::{AllocError, Global};
 use std::test::Fail;
 
@@ -28,11 +28,6 @@ pub(crate) const CHUNKED: &str = concat!(
 /// The last chunk.
 pub(crate) const LAST: &str = "0\r\n\r\n";
 
-const COLUMNS: &str = concat!(
-    "timestamp,transfer_id,side,kind,amount,",
-    "debits_pending,debits_posted,credits_pending,credits_posted\n"
-);
-
 /// How many transfers one message has at most.
 const MOST_EVENTS: u64 = 1000;
 
@@ -59,15 +54,25 @@ pub(crate) fn transfers(alloc: Global, before: u64, count: u64) -> Result<Vec<u8
     Ok(message)
 }
 
+/// Accounts, so many transfers between them, the statement of one, and a batch with no event.
+pub(crate) fn with_statement(alloc: Global, entries: u64) -> Result<Vec<u8>, AllocError> {
+    let mut all = Vec::new(alloc);
+    all.extend_from_slice(ACCOUNTS.as_bytes())?;
+    all.extend_from_slice(&transfers(alloc, 0, entries)?)?;
+    all.extend_from_slice(ASKS.as_bytes())?;
+    all.extend_from_slice(BATCH.as_bytes())?;
+    Ok(all)
+}
+
 /// Firms of whom the first has booked so many transfers.
 pub(crate) fn firms_with(alloc: Global, keys: &[&str], count: u64) -> Result<Firms, Fail> {
     let mut firms = Firms::with(alloc, keys)?;
-    let _ = firms.serve(ACCOUNTS.as_bytes());
+    let _ = firms.serve_alone(ACCOUNTS.as_bytes());
     let mut booked = 0;
     for _ in 0..count / MOST_EVENTS + 1 {
         let more = MOST_EVENTS.min(count.saturating_sub(booked));
         if more > 0 {
-            let _ = firms.serve(&transfers(alloc, booked, more)?);
+            let _ = firms.serve_alone(&transfers(alloc, booked, more)?);
         }
         booked = booked.saturating_add(more);
     }
@@ -88,7 +93,7 @@ fn put_line(alloc: Global, lines: &mut Vec<u8>, number: u64) -> Result<(), Alloc
 pub(crate) fn chunk(alloc: Global, from: u64, to: u64) -> Result<Vec<u8>, AllocError> {
     let mut lines = Vec::new(alloc);
     if from == 0 {
-        lines.extend_from_slice(COLUMNS.as_bytes())?;
+        lines.extend_from_slice(HEADER.as_bytes())?;
     }
     for number in from..to {
         put_line(alloc, &mut lines, number)?;

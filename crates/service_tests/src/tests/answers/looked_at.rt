@@ -1,8 +1,9 @@
 //! Pages that end because they have looked at as many records as they may: 2,000.
 use super::events::add;
-use super::firms::Firms;
-use super::messages::{FIRST, post};
+use super::messages::post;
 use super::scripts::{Answers, base, exchange, parts};
+use crate::tests::firms::Firms;
+use crate::tests::messages::FIRST;
 use std::alloc::{AllocError, Global};
 use std::process::Abort;
 use std::test::Fail;

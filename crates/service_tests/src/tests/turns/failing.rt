@@ -1,11 +1,11 @@
 //! Rounds that are refused, and rounds that are lost with the disk.
-use super::firms::Firms;
 use super::frail::Fate;
-use super::messages::{
-    FIRST, OF_FIRST, OF_SECOND, SECOND, TO_SECOND, TWICE_OF_FIRST, TWICE_OF_SECOND, UNAVAILABLE,
-};
 use super::rounds::{clients, has_heard, written_at};
 use super::scripted::Scripted;
+use crate::tests::firms::Firms;
+use crate::tests::messages::{
+    FIRST, OF_FIRST, OF_SECOND, SECOND, TO_SECOND, TWICE_OF_FIRST, TWICE_OF_SECOND, UNAVAILABLE,
+};
 use records::Unavailable;
 use std::test::Fail;
 
@@ -14,7 +14,7 @@ const KEYS: [&str; 2] = [FIRST, SECOND];
 // Were anything of the round left, the first firm would be told that its accounts exist.
 #[test]
 fn of_a_round_that_is_refused_each_is_answered_alone(rt: HostRuntime) -> Result<(), Fail> {
-    let to_first = Firms::with(rt.alloc(), &KEYS)?.serve(OF_FIRST.as_bytes());
+    let to_first = Firms::with(rt.alloc(), &KEYS)?.serve_alone(OF_FIRST.as_bytes());
     for why in [Unavailable::Memory, Unavailable::Size] {
         let firms = Firms::with(rt.alloc(), &KEYS)?;
         let mut peers = clients(&rt, &[OF_FIRST, OF_SECOND, OF_SECOND])?;
@@ -43,9 +43,9 @@ fn hears_again(
 ) -> Result<bool, Fail> {
     let twice = twice.as_bytes();
     let once = twice.get(..twice.len() / 2).unwrap_or(&[]);
-    let to_one = Firms::with(rt.alloc(), &KEYS)?.serve(once);
+    let to_one = Firms::with(rt.alloc(), &KEYS)?.serve_alone(once);
     let (before, replies) = if is_found {
-        let to_both = Firms::with(rt.alloc(), &KEYS)?.serve(twice);
+        let to_both = Firms::with(rt.alloc(), &KEYS)?.serve_alone(twice);
         (to_one.len(), to_both)
     } else {
         (0, to_one)

@@ -1,9 +1,9 @@
 //! Whether ledgers serve, which everybody is told.
 use super::everybody::{are_all_told, everybody_is_told};
 use super::failing::FrailFirms;
-use super::memory::UNAVAILABLE;
 use super::messages::good;
 use super::scripts::exchange;
+use crate::tests::messages::UNAVAILABLE;
 use std::alloc::Global;
 use std::process::Abort;
 use std::test::Fail;

@@ -1,7 +1,9 @@
-use super::firms::Firms;
-use super::messages::{
-    ANNOUNCED, FIRST, OF_FIRST, OF_SECOND, SECOND, TO_SECOND, UNAVAILABLE, transfers,
-    with_statement,
+//! Two clients whose messages come in pieces, one between the other's, and what each is written.
+
+use crate::tests::booked::{transfers, with_statement};
+use crate::tests::firms::Firms;
+use crate::tests::messages::{
+    ANNOUNCED, FIRST, OF_FIRST, OF_SECOND, SECOND, TO_SECOND, UNAVAILABLE,
 };
 use clients::{Answered, Client};
 use std::alloc::{AllocError, Global};
@@ -58,8 +60,8 @@ fn talk(
     for _ in 0..4000 {
         one.send(piece)?;
         other.send(piece)?;
-        firms.answer(&mut one.client);
-        firms.answer(&mut other.client);
+        firms.answer_client(&mut one.client);
+        firms.answer_client(&mut other.client);
         one.hear(most)?;
         other.hear(most)?;
     }
@@ -70,7 +72,7 @@ const KEYS: [&str; 2] = [FIRST, SECOND];
 
 // What the first is written who is alone.
 fn heard_alone(alloc: Global) -> Result<Vec<u8>, Fail> {
-    Ok(Firms::with(alloc, &KEYS)?.serve(OF_FIRST.as_bytes()))
+    Ok(Firms::with(alloc, &KEYS)?.serve_alone(OF_FIRST.as_bytes()))
 }
 
 // What two are written who send and hear in turns of so many bytes.
@@ -100,9 +102,9 @@ fn have_a_turn(
 ) -> Result<bool, AllocError> {
     let (first, second) = (one.heard.len(), other.heard.len());
     let answers = [
-        firms.answer(&mut one.client),
-        firms.answer(&mut other.client),
-        firms.answer(&mut one.client),
+        firms.answer_client(&mut one.client),
+        firms.answer_client(&mut other.client),
+        firms.answer_client(&mut one.client),
     ];
     one.hear(4096)?;
     other.hear(4096)?;
@@ -123,8 +125,8 @@ fn have_all_turns(
         are_answered = have_a_turn(firms, one, other)? && are_answered;
     }
     let ends = [
-        firms.answer(&mut one.client),
-        firms.answer(&mut other.client),
+        firms.answer_client(&mut one.client),
+        firms.answer_client(&mut other.client),
     ];
     Ok(are_answered && ends == [Some(Answered::Over), None])
 }
@@ -147,7 +149,7 @@ fn answer_behind(
     most: usize,
 ) -> Result<Option<Answered>, AllocError> {
     talker.hear(most)?;
-    Ok(firms.answer(&mut talker.client))
+    Ok(firms.answer_client(&mut talker.client))
 }
 
 // What is answered before anything is sent, then, where a byte of the reply is not taken yet, and
@@ -156,9 +158,9 @@ fn answers_of_one(
     firms: &mut Firms,
     talker: &mut Talker,
 ) -> Result<[Option<Answered>; 6], AllocError> {
-    let before = firms.answer(&mut talker.client);
+    let before = firms.answer_client(&mut talker.client);
     talker.send(4096)?;
-    let first = firms.answer(&mut talker.client);
+    let first = firms.answer_client(&mut talker.client);
     let size = talker.client.unsent().len();
     Ok([
         before,
@@ -187,7 +189,7 @@ fn gives_up(alloc: Global, firms: &mut Firms) -> Result<bool, AllocError> {
     let mut client = Client::new(alloc);
     let is_new = !client.is_announced() && client.reserve_due(9)? == 9;
     client.receive(ANNOUNCED.as_bytes())?;
-    let is_wanting = firms.answer(&mut client) == Some(Answered::Wanting);
+    let is_wanting = firms.answer_client(&mut client) == Some(Answered::Wanting);
     let is_due = client.announced_length() == Some(132) && client.reserve_due(9)? == 5;
     if client.may_answer() && client.is_announced() {
         client.give_up();
@@ -209,7 +211,7 @@ const ALL: usize = 1_000_000;
 
 // Whether the next message is answered by a whole reply, which is heard.
 fn hears_a_reply(firms: &mut Firms, talker: &mut Talker) -> Result<bool, AllocError> {
-    let is_replied = firms.answer(&mut talker.client) == Some(Answered::Replied);
+    let is_replied = firms.answer_client(&mut talker.client) == Some(Answered::Replied);
     let is_whole = talker.client.rest() == None && !talker.client.is_written();
     talker.hear(ALL)?;
     let is_next = talker.client.is_written() && talker.client.may_answer();
@@ -222,7 +224,7 @@ fn hears_a_part(firms: &mut Firms, talker: &mut Talker) -> Result<bool, Fail> {
     let has_some = !talker.client.unsent().is_empty();
     talker.hear(ALL)?;
     let is_heard = talker.client.unsent().is_empty() && !talker.client.is_written();
-    let waits = !talker.client.may_answer() && firms.answer(&mut talker.client) == None;
+    let waits = !talker.client.may_answer() && firms.answer_client(&mut talker.client) == None;
     let rest = talker.client.rest().ok_or("nothing is left")?;
     let part = firms.part(&rest).map_err(|_| "no part")?;
     talker.client.put_part(part);
@@ -232,8 +234,8 @@ fn hears_a_part(firms: &mut Firms, talker: &mut Talker) -> Result<bool, Fail> {
 
 // Whether another client has a message answered.
 fn another_is_answered(alloc: Global, firms: &mut Firms) -> Result<bool, Fail> {
-    let more = transfers(alloc, 2001, 2101)?;
-    let mut other = Talker::new(alloc, more.as_bytes());
+    let more = transfers(alloc, 2000, 100)?;
+    let mut other = Talker::new(alloc, &more);
     other.send(ALL)?;
     Ok(hears_a_reply(firms, &mut other)?)
 }
@@ -249,7 +251,7 @@ fn hears_all(
 ) -> Result<bool, Fail> {
     talker.send(ALL)?;
     let mut is_right = hears_a_reply(firms, talker)? && hears_a_reply(firms, talker)?;
-    is_right = is_right && firms.answer(&mut talker.client) == Some(Answered::Replied);
+    is_right = is_right && firms.answer_client(&mut talker.client) == Some(Answered::Replied);
     for _ in 1..parts {
         let is_heard = hears_a_part(firms, talker)? && another_is_answered(alloc, firms)?;
         is_right = is_right && is_heard;
@@ -261,11 +263,11 @@ fn hears_all(
 }
 
 // Whether a client hears a statement of so many entries in so many parts.
-fn hears_a_statement(alloc: Global, entries: u32, parts: u32) -> Result<bool, Fail> {
+fn hears_a_statement(alloc: Global, entries: u64, parts: u32) -> Result<bool, Fail> {
     let sends = with_statement(alloc, entries)?;
-    let want = Firms::with(alloc, &[FIRST])?.serve(sends.as_bytes());
+    let want = Firms::with(alloc, &[FIRST])?.serve_alone(&sends);
     let mut firms = Firms::with(alloc, &[FIRST])?;
-    let mut talker = Talker::new(alloc, sends.as_bytes());
+    let mut talker = Talker::new(alloc, &sends);
     hears_all(alloc, &mut firms, &mut talker, parts, &want)
 }
 

@@ -1,7 +1,7 @@
 //! What everybody is told, whatever its key.
-use super::asserting::same;
-use super::firms::Firms;
 use super::scripts::{Answers, base};
+use crate::tests::asserting::same;
+use crate::tests::firms::Firms;
 use std::alloc::Global;
 use std::process::Abort;
 use std::test::Fail;

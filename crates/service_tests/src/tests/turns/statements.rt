@@ -1,7 +1,7 @@
 //! Statements, which are told in parts of 500 entries.
-use super::booked::{ASKS, CHUNKED, LAST, chunk, firms_with, statement, transfers};
-use super::messages::{FIRST, OF_SECOND, SECOND, TO_SECOND};
 use super::scripted::{Peer, Scripted};
+use crate::tests::booked::{ASKS, CHUNKED, LAST, chunk, firms_with, statement, transfers};
+use crate::tests::messages::{FIRST, OF_SECOND, SECOND, TO_SECOND};
 use std::alloc::Global;
 use std::test::Fail;
 
@@ -56,7 +56,7 @@ fn a_statement_is_whole_whatever_the_pieces(rt: HostRuntime) -> Result<(), Fail>
     for (count, places) in cases {
         let told = statement(alloc, places)?;
         let mut firms = firms_with(alloc, &KEYS, count)?;
-        let alone = firms.serve(ASKS.as_bytes());
+        let alone = firms.serve_alone(ASKS.as_bytes());
         assert!(rt; alone == told);
         for piece in [97, 1000] {
             let mut peers = clients(alloc, &[ASKS.as_bytes()], piece, false)?;

@@ -1,8 +1,8 @@
 //! Messages of several firms in one round: each is told what it is told alone.
-use super::asserting::same;
-use super::firms::Firms;
-use super::messages::{FIRST, SECOND};
 use super::scripts::{are_told, messages, play_all};
+use crate::tests::asserting::same;
+use crate::tests::firms::Firms;
+use crate::tests::messages::{FIRST, SECOND};
 use ledger_http::Reply;
 use service::Message;
 use std::alloc::Global;
@@ -26,15 +26,9 @@ North@20 transfers => clock 20:";
 const TWO: &str = "North joins
 South joins";
 
-fn two(alloc: Global) -> Result<Firms, &'static str> {
-    let mut firms = Firms::with(alloc, FIRST)?;
-    firms.add(SECOND)?;
-    Ok(firms)
-}
-
 /// Their replies to the messages of one round, which is sent again where memory runs out.
 fn in_a_round(alloc: Global, messages: &[Message]) -> Option<Vec<Reply>> {
-    let mut firms = two(alloc).ok()?;
+    let mut firms = Firms::with(alloc, &[FIRST, SECOND]).ok()?;
     match firms.round(messages) {
         Ok(replies) => Some(replies),
         Err(_) => firms.round(messages).ok(),
@@ -56,7 +50,7 @@ fn tells_a_round_what_each_is_told_alone(rt: HostRuntime) -> Result<(), Fail> {
 
 #[test]
 fn answers_a_round_of_none(rt: HostRuntime) -> Result<(), Fail> {
-    let replies = Firms::with(rt.alloc(), FIRST)?.round(&[])?;
+    let replies = Firms::with(rt.alloc(), &[FIRST])?.round(&[])?;
     same(&rt, "the replies", replies.len(), 0);
     Ok(())
 }
