@@ -1,7 +1,7 @@
-//! What callers are told.
+//! What callers of an operator's socket are told.
 
 mod answers;
-mod copies;
+mod copy_orders;
 mod done;
 mod ends;
 mod lists;

@@ -1,6 +1,6 @@
 //! Copies of files of this machine.
 
-use crate::{CopyFault, Copying, Progress, copy_whole};
+use copies::{CopyFault, Copying, Progress, copy_whole};
 use std::fs;
 use std::os::unix::fs::MetadataExt;
 use std::test::Fail;
