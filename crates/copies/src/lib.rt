@@ -10,6 +10,3 @@ mod places;
 
 pub use copying::{Copying, Progress, copy_whole};
 pub use fault::CopyFault;
-
-#[cfg(test)]
-mod tests;

@@ -1,4 +1,4 @@
-//! Tests of `amount`, `tenants`, `records`, `engine`, `rows` and `running`.
+//! Tests of `amount`, `tenants`, `records`, `engine`, `plain`, `rows`, `running` and `audit`.
 #![tactic(auto)]
 
 #[cfg(test)]

@@ -1,23 +1,10 @@
+//! What messages of several firms are told over ledgers in memory: each by itself, over a connection,
+//! and those of many clients in turn.
+
+mod answers;
 mod asserting;
-mod begun;
-mod chunks;
-mod connections;
-mod events;
-mod everybody;
-mod examples;
-mod exchanges;
-mod failing;
+mod booked;
 mod firms;
-mod health;
-mod looked_at;
-mod memory;
 mod messages;
-mod page;
-mod queries;
-mod reads;
-mod refusals;
-mod rounds;
-mod scarce;
-mod scripts;
-mod sockets;
-mod statements;
+mod talking;
+mod turns;

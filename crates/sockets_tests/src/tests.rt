@@ -1,9 +1,5 @@
-mod exchanging;
-mod leaving;
-mod limits;
-mod operator;
-mod other_end;
-mod pouring;
-mod scene;
-mod steps;
-mod stopping;
+//! Clients of a service, callers of its operator, and copies of its files, in one thread.
+
+mod copied;
+mod desk;
+mod served;

@@ -16,8 +16,6 @@ mod line_kind;
 mod names;
 mod period;
 mod statement;
-#[cfg(test)]
-mod tests;
 mod wide_line;
 mod writer;
 mod writing;

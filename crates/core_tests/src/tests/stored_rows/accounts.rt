@@ -1,7 +1,7 @@
 ghost use Rattle.std.specs.Prelude.{◌≡◌};
 
-use super::column;
 use crate::tests::asserting::same;
+use crate::tests::cells::column;
 use records::{Account, AccountFlags};
 use rows::AccountCells;
 

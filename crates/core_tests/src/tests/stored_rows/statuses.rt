@@ -1,5 +1,5 @@
-use super::column;
 use crate::tests::asserting::same;
+use crate::tests::cells::column;
 use records::PendingState;
 use rows::{StatusCells, StatusRow};
 

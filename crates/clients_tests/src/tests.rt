@@ -1,3 +1,0 @@
-mod firms;
-mod messages;
-mod talking;

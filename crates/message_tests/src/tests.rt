@@ -1,0 +1,6 @@
+//! Messages and replies, their bodies, statements, and the words of commands.
+
+mod bodies;
+mod messages;
+mod statements;
+mod words;

@@ -1,9 +1,0 @@
-mod booked;
-mod failing;
-mod firms;
-mod frail;
-mod messages;
-mod rounds;
-mod scripted;
-mod serving;
-mod statements;

@@ -1,0 +1,182 @@
+//! Firms that serve clients, each of whom has a turn.
+ghost use Rattle.std.specs.Prelude.{⊤};
+
+use super::{Always, Firms};
+use crate::tests::turns::frail::{Fate, Frail, Opens};
+use crate::tests::turns::scripted::{Peer, Scripted};
+use parts::{Part, Rest};
+use plain::Book;
+use polling::{Seats, Steward, serve_ready, write_rest};
+use std::alloc::Global;
+use std::cell::Cell;
+use std::test::Fail;
+
+/// Ledgers in memory do not fail.
+#[derive(Drop)]
+struct Never;
+
+impl Steward<Book> for Never {
+    ghost renews = { λ old new. ⊤ };
+
+    fn is_settled(_ledgers: &Book) {}
+
+    fn attend(&mut self, _ledgers: &mut Book) {}
+
+    fn reads(alloc: Global, ledgers: &mut Book, rest: &Rest) -> Option<Part> {
+        rest.part(alloc, ledgers, b"").ok()
+    }
+}
+
+/// Cannot read what is left of statements.
+#[derive(Drop)]
+struct Blind;
+
+impl Steward<Book> for Blind {
+    ghost renews = { λ old new. ⊤ };
+
+    fn is_settled(_ledgers: &Book) {}
+
+    fn attend(&mut self, _ledgers: &mut Book) {}
+
+    fn reads(_alloc: Global, _ledgers: &mut Book, _rest: &Rest) -> Option<Part> {
+        None
+    }
+}
+
+/// Puts off batches of more than so many bytes, so many times.
+#[derive(Drop)]
+struct PutsOff {
+    most: usize,
+    left: Cell<u64>,
+}
+
+impl Steward<Book> for PutsOff {
+    ghost renews = { λ old new. ⊤ };
+
+    // Nothing is known of these.
+    ghost waits = { λ message. ⊤ };
+
+    fn is_settled(_ledgers: &Book) {}
+
+    fn attend(&mut self, _ledgers: &mut Book) {}
+
+    fn reads(alloc: Global, ledgers: &mut Book, rest: &Rest) -> Option<Part> {
+        rest.part(alloc, ledgers, b"").ok()
+    }
+
+    fn puts_off(&self, message: &[u8]) -> bool {
+        let left = self.left.get();
+        if left == 0 || message.len() <= self.most {
+            return false;
+        }
+        self.left.set(left - 1);
+        true
+    }
+}
+
+impl Firms {
+    /// Serves clients until nothing more happens, or so many messages were replied to.
+    pub(crate) fn serve_ready(&mut self, peers: &mut Scripted, most: u64) -> u64 {
+        let mut seats = Seats::new(self.alloc);
+        self.serve_seated(peers, &mut seats, most)
+    }
+
+    /// Serves clients until so many messages were replied to. Then another one comes, and what is
+    /// left of the replies is written.
+    pub(crate) fn serve_and_finish<'a>(
+        &mut self,
+        peers: &mut Scripted<'a>,
+        most: u64,
+        another: Peer<'a>,
+    ) -> Result<u64, Fail> {
+        let mut seats = Seats::new(self.alloc);
+        let replies = self.serve_seated(peers, &mut seats, most);
+        peers.joins(another)?;
+        write_rest::<Book, Never, Always, Scripted<'a>>(
+            self.alloc,
+            peers,
+            &mut seats,
+            &mut self.book,
+        );
+        Ok(replies)
+    }
+
+    /// Serves clients, none of whom hears more than the first part of a statement, until so many
+    /// messages were replied to. Then what is left of the replies is written.
+    pub(crate) fn serve_blind(&mut self, peers: &mut Scripted, most: u64) -> u64 {
+        let mut seats = Seats::new(self.alloc);
+        let mut piece = [0; 100];
+        let replies = serve_ready(
+            self.alloc,
+            peers,
+            &mut seats,
+            &mut self.book,
+            &mut Blind,
+            &mut Always(1000),
+            &mut piece,
+            most,
+        );
+        write_rest::<Book, Blind, Always, Scripted>(self.alloc, peers, &mut seats, &mut self.book);
+        replies
+    }
+
+    /// Serves clients over ledgers of which the first round has a fate. Says how many messages were
+    /// replied to, and how many rounds were begun.
+    pub(crate) fn serve_frail(self, peers: &mut Scripted, fate: Fate) -> (u64, u64) {
+        let Firms { alloc, book } = self;
+        let mut seats = Seats::new(alloc);
+        let mut ledgers = Frail::new(book, fate);
+        let mut piece = [0; 100];
+        let replies = serve_ready(
+            alloc,
+            peers,
+            &mut seats,
+            &mut ledgers,
+            &mut Opens,
+            &mut Always(1000),
+            &mut piece,
+            99,
+        );
+        (replies, ledgers.rounds())
+    }
+
+    /// Serves clients while batches of more than so many bytes are put off, so many times. Says how many
+    /// messages were replied to.
+    pub(crate) fn serve_putting_off(
+        &mut self,
+        peers: &mut Scripted,
+        most: usize,
+        times: u64,
+    ) -> u64 {
+        let mut seats = Seats::new(self.alloc);
+        let mut piece = [0; 100];
+        let mut steward = PutsOff {
+            most,
+            left: Cell::new(times),
+        };
+        serve_ready(
+            self.alloc,
+            peers,
+            &mut seats,
+            &mut self.book,
+            &mut steward,
+            &mut Always(1000),
+            &mut piece,
+            99,
+        )
+    }
+
+    fn serve_seated(&mut self, peers: &mut Scripted, seats: &mut Seats, most: u64) -> u64 {
+        let mut piece = [0; 100];
+        serve_ready(
+            self.alloc,
+            peers,
+            seats,
+            &mut self.book,
+            &mut Never,
+            &mut Always(1000),
+            &mut piece,
+            most,
+        )
+    }
+}

@@ -1,0 +1,109 @@
+use super::scripted::{Peer, Scripted};
+use crate::tests::firms::Firms;
+use crate::tests::messages::{FIRST, OF_FIRST, OF_SECOND, SECOND, TO_SECOND};
+use std::test::Fail;
+
+const KEYS: [&str; 2] = [FIRST, SECOND];
+
+// Two clients whose messages come and whose replies are taken in pieces of so many bytes.
+fn two(rt: &impl AllocGlobal, piece: usize, takes: usize) -> Result<Scripted<'static>, Fail> {
+    let mut peers = Vec::new(rt.alloc());
+    peers.push(Peer::new(rt.alloc(), OF_FIRST.as_bytes(), takes))?;
+    peers.push(Peer::new(rt.alloc(), OF_SECOND.as_bytes(), 10000))?;
+    Ok(Scripted::new(peers, piece))
+}
+
+fn has_heard(peers: &Scripted, number: usize, text: &[u8]) -> bool {
+    match peers.peer(number) {
+        Some(peer) => peer.heard() == text && !peer.is_open(),
+        None => false,
+    }
+}
+
+// What a client was written that was not let go.
+fn has_heard_so_far(peers: &Scripted, number: usize, text: &[u8]) -> bool {
+    match peers.peer(number) {
+        Some(peer) => peer.heard() == text && peer.is_open(),
+        None => false,
+    }
+}
+
+#[test]
+fn each_client_hears_its_own_whatever_the_pieces(rt: HostRuntime) -> Result<(), Fail> {
+    let to_first = Firms::with(rt.alloc(), &KEYS)?.serve_alone(OF_FIRST.as_bytes());
+    for piece in [1, 7, 100] {
+        let mut firms = Firms::with(rt.alloc(), &KEYS)?;
+        let mut peers = two(&rt, piece, 10000)?;
+        let replies = firms.serve_ready(&mut peers, 99);
+        assert!(rt; replies == 6);
+        assert!(rt; has_heard(&peers, 0, to_first.as_slice()));
+        assert!(rt; has_heard(&peers, 1, TO_SECOND.as_bytes()));
+    }
+    Ok(())
+}
+
+#[test]
+fn a_client_that_breaks_is_let_go_and_the_other_served(rt: HostRuntime) -> Result<(), Fail> {
+    let to_first = Firms::with(rt.alloc(), &KEYS)?.serve_alone(OF_FIRST.as_bytes());
+    let mut firms = Firms::with(rt.alloc(), &KEYS)?;
+    let mut peers = two(&rt, 7, 10)?;
+    let replies = firms.serve_ready(&mut peers, 99);
+    assert!(rt; replies == 4);
+    assert!(rt; has_heard(&peers, 0, to_first.get(..10).unwrap_or(&[])));
+    assert!(rt; has_heard(&peers, 1, TO_SECOND.as_bytes()));
+    Ok(())
+}
+
+#[test]
+fn stops_behind_so_many_replies(rt: HostRuntime) -> Result<(), Fail> {
+    let mut firms = Firms::with(rt.alloc(), &KEYS)?;
+    let mut peers = two(&rt, 100, 10000)?;
+    let replies = firms.serve_ready(&mut peers, 2);
+    assert!(rt; replies == 2);
+    Ok(())
+}
+
+#[test]
+fn a_client_that_is_late_is_let_go_and_the_other_served(rt: HostRuntime) -> Result<(), Fail> {
+    let mut firms = Firms::with(rt.alloc(), &KEYS)?;
+    let mut peers = two(&rt, 100, 10000)?;
+    peers.is_late(0);
+    let replies = firms.serve_ready(&mut peers, 99);
+    assert!(rt; replies == 3);
+    assert!(rt; has_heard(&peers, 0, &[]));
+    assert!(rt; has_heard(&peers, 1, TO_SECOND.as_bytes()));
+    Ok(())
+}
+
+#[test]
+fn what_is_left_of_replies_is_written_and_who_comes_is_let_go(rt: HostRuntime) -> Result<(), Fail> {
+    let first = OF_FIRST.as_bytes().get(..190).unwrap_or(&[]);
+    let to_first = Firms::with(rt.alloc(), &KEYS)?.serve_alone(first);
+    let mut firms = Firms::with(rt.alloc(), &KEYS)?;
+    let mut peers = two(&rt, 64, 10000)?;
+    let another = Peer::new(rt.alloc(), first, 10000);
+    let replies = firms.serve_and_finish(&mut peers, 2, another)?;
+    assert!(rt; replies == 2);
+    assert!(rt; has_heard_so_far(&peers, 0, to_first.as_slice()));
+    assert!(rt; has_heard_so_far(&peers, 1, TO_SECOND.as_bytes().get(..100).unwrap_or(&[])));
+    assert!(rt; has_heard(&peers, 2, &[]));
+    Ok(())
+}
+
+// The first message has 190 bytes, the second one 129. Of the third the head is all.
+#[test]
+fn tells_how_long_a_message_is_once_its_head_has_come(rt: HostRuntime) -> Result<(), Fail> {
+    let mut firms = Firms::with(rt.alloc(), &KEYS)?;
+    let mut peers = two(&rt, 1, 10000)?;
+    let _ = firms.serve_ready(&mut peers, 99);
+    assert!(rt; is_told(&peers, 0, &[0, 190, 0, 129, 0]));
+    Ok(())
+}
+
+// Which lengths were told of a client's messages.
+fn is_told(peers: &Scripted, number: usize, lengths: &[u64]) -> bool {
+    match peers.peer(number) {
+        Some(peer) => peer.wanted() == lengths,
+        None => false,
+    }
+}

@@ -1,4 +1,0 @@
-mod deep;
-mod pages;
-mod reading;
-mod writing;
