@@ -6,8 +6,8 @@ ghost use Rattle.records.specs.Queries.{queried_transfers};
 ghost use Rattle.records.specs.Reads.{history_answer, history_balances_answer, statement_answer};
 ghost use Rattle.chain.specs.Ledgers.{LedgersMeaning, AreValid, KeepsAll, IsRun, Finds};
 ghost use Rattle.chain.specs.Ledgers.{IsAnswered, LeadsBy, LeadsNowhere};
-ghost use Rattle.chain.specs.LedgerReads.{seen_in, IsListOf, IsPageOf, HandsOut, is_refused, ReadsOnly};
-ghost use Rattle.chain.specs.LedgerReads.{IsTold, ReadsTenant};
+ghost use Rattle.chain.specs.LedgerReads.{seen_in, IsListOf, IsPageOf, HandsOut, is_refused};
+ghost use Rattle.chain.specs.LedgerReads.{ReadsOnly, ReadsTenant, IsTold};
 ghost use Rattle.chain.specs.declared.ledgers.BatchFault.TheVariants as batch_fault;
 ghost use Rattle.chain.specs.declared.reads.ReadFault.TheVariants as read_fault;
 
@@ -154,8 +154,8 @@ pub trait Ledgers {
         asked: &QueryFilter,
     ) -> Result<QueryPage<AccountWithBalances>, ReadFault>
         requires { means.is_usable self.old }
-        ensures { ReadsTenant means digest.now (IsPageOf (λ m. Found (queried_accounts m asked.now)))
-            self.old self.new result }
+        ensures { ReadsTenant means digest.now
+            (IsPageOf (λ m. Found (queried_accounts m asked.now))) self.old self.new result }
     {
         let query = AccountQuery { asked: *asked };
         read_answer(self.in_batch(digest, PageOf { alloc, query }))
@@ -169,8 +169,8 @@ pub trait Ledgers {
         asked: &QueryFilter,
     ) -> Result<QueryPage<Transfer>, ReadFault>
         requires { means.is_usable self.old }
-        ensures { ReadsTenant means digest.now (IsPageOf (λ m. Found (queried_transfers m asked.now)))
-            self.old self.new result }
+        ensures { ReadsTenant means digest.now
+            (IsPageOf (λ m. Found (queried_transfers m asked.now))) self.old self.new result }
     {
         let query = TransferQuery { asked: *asked };
         read_answer(self.in_batch(digest, PageOf { alloc, query }))

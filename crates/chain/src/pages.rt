@@ -95,8 +95,8 @@ pub(crate) fn first_shown<T: Tables, Q: Query>(
 ) -> Result<Vec<Q::Shown>, Unavailable>
     requires { T.means.is_usable tables.old }
     ensures { Searches T.means (λ m shown. shown.items
-        ≡ first_shown Q.time_of (Q.shown_in query.now m) (Q.asks query.now) (Q.records_in query.now m))
-        tables.old tables.new result }
+        ≡ first_shown Q.time_of (Q.shown_in query.now m) (Q.asks query.now)
+        (Q.records_in query.now m)) tables.old tables.new result }
 {
     let asked = query.page();
     let mut draft = Draft {
@@ -131,9 +131,9 @@ fn look_within<T: Tables, Q: Query>(
     requires usable { T.means.is_usable tables.old }
     requires order { span.now.order ≡ page_order (Q.asks query.now) }
     requires some { 0 < span.now.most }
-    ensures { Searches T.means (λ m. LooksWithin Q.time_of (Q.shown_in query.now m) (Q.asks query.now)
-        (Q.records_in query.now m) span.now (page_of draft.old) (page_of draft.new))
-        tables.old tables.new result }
+    ensures { Searches T.means (λ m. LooksWithin Q.time_of (Q.shown_in query.now m)
+        (Q.asks query.now) (Q.records_in query.now m) span.now (page_of draft.old)
+        (page_of draft.new)) tables.old tables.new result }
 {
     let records = query.within(alloc, tables, span)?;
     look_through(tables, query, &records, draft)?;
