@@ -6,8 +6,8 @@ ghost use Rattle.records.specs.Queries.{queried_transfers};
 ghost use Rattle.records.specs.Reads.{history_answer, history_balances_answer, statement_answer};
 ghost use Rattle.chain.specs.Ledgers.{LedgersMeaning, AreValid, KeepsAll, IsRun, Finds};
 ghost use Rattle.chain.specs.Ledgers.{IsAnswered, LeadsBy, LeadsNowhere};
-ghost use Rattle.chain.specs.LedgerReads.{seen_in, IsListOf, IsPageOf, HandsOut, is_refused, ReadsOnly};
-ghost use Rattle.chain.specs.LedgerReads.{IsTold, ReadsTenant};
+ghost use Rattle.chain.specs.LedgerReads.{seen_in, IsListOf, IsPageOf, HandsOut, is_refused};
+ghost use Rattle.chain.specs.LedgerReads.{ReadsOnly, ReadsTenant, IsTold};
 ghost use Rattle.chain.specs.declared.ledgers.BatchFault.TheVariants as batch_fault;
 ghost use Rattle.chain.specs.declared.reads.ReadFault.TheVariants as read_fault;
 
@@ -155,8 +155,7 @@ pub trait Ledgers {
     ) -> Result<QueryPage<AccountWithBalances>, ReadFault>
         requires { means.is_usable self.old }
         ensures { ReadsTenant means digest.now
-            (IsPageOf (λ m. Found (queried_accounts m asked.now)))
-            self.old self.new result }
+            (IsPageOf (λ m. Found (queried_accounts m asked.now))) self.old self.new result }
     {
         let query = AccountQuery { asked: *asked };
         read_answer(self.in_batch(digest, PageOf { alloc, query }))
@@ -171,8 +170,7 @@ pub trait Ledgers {
     ) -> Result<QueryPage<Transfer>, ReadFault>
         requires { means.is_usable self.old }
         ensures { ReadsTenant means digest.now
-            (IsPageOf (λ m. Found (queried_transfers m asked.now)))
-            self.old self.new result }
+            (IsPageOf (λ m. Found (queried_transfers m asked.now))) self.old self.new result }
     {
         let query = TransferQuery { asked: *asked };
         read_answer(self.in_batch(digest, PageOf { alloc, query }))
@@ -208,9 +206,9 @@ pub trait Ledgers {
         account_answer(self.in_batch(digest, BalancesOf { alloc, asked }))
     }
 
-    /// Hands the account's statement to a sink, row by row, in this order, in pieces that are each
-    /// a batch. After `Unavailable` the sink has got a beginning of it; after `Sink` too, and it
-    /// refused the next row with that fault.
+    /// Hands the account's statement to a sink, row by row, in this order, in pieces that are each a
+    /// batch. After `Unavailable` the sink has got a beginning of it; after `Sink` too, and it refused
+    /// the next row with that fault.
     fn each_statement_row<S: RowSink>(
         &mut self,
         alloc: Global,

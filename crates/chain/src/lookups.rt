@@ -26,8 +26,8 @@ pub(crate) trait ById {
     /// What there is under an id.
     fn find<T: Tables>(&self, tables: &mut T, id: u128) -> Result<Option<Self::Found>, Unavailable>
         requires { T.means.is_usable tables.old }
-        ensures { Searches T.means (λ m found. found ≡ found_in m id) tables.old
-            tables.new result };
+        ensures { Searches T.means (λ m found. found ≡ found_in m id)
+            tables.old tables.new result };
 }
 
 /// Accounts by id, with their balances at the clock.

@@ -25,8 +25,7 @@ impl<Q: Query + Drop> Work for PageOf<Q> {
     type Output = QueryPage<Q::Shown>;
 
     ghost gives = { λ work. Shows seen_of_page (λ m.
-        page_in Q.time_of (Q.shown_in work.query m) (Q.asks work.query)
-        (Q.records_in work.query m)) };
+        page_in Q.time_of (Q.shown_in work.query m) (Q.asks work.query) (Q.records_in work.query m)) };
 
     fn run<T: Tables>(self, tables: &mut T) -> Result<QueryPage<Q::Shown>, Unavailable> {
         let clock = tables.clock()?;
@@ -97,8 +96,7 @@ pub(crate) fn first_shown<T: Tables, Q: Query>(
     requires { T.means.is_usable tables.old }
     ensures { Searches T.means (λ m shown. shown.items
         ≡ first_shown Q.time_of (Q.shown_in query.now m) (Q.asks query.now)
-        (Q.records_in query.now m))
-        tables.old tables.new result }
+        (Q.records_in query.now m)) tables.old tables.new result }
 {
     let asked = query.page();
     let mut draft = Draft {
@@ -133,10 +131,9 @@ fn look_within<T: Tables, Q: Query>(
     requires usable { T.means.is_usable tables.old }
     requires order { span.now.order ≡ page_order (Q.asks query.now) }
     requires some { 0 < span.now.most }
-    ensures { Searches T.means
-        (λ m. LooksWithin Q.time_of (Q.shown_in query.now m) (Q.asks query.now)
-        (Q.records_in query.now m) span.now (page_of draft.old) (page_of draft.new))
-        tables.old tables.new result }
+    ensures { Searches T.means (λ m. LooksWithin Q.time_of (Q.shown_in query.now m)
+        (Q.asks query.now) (Q.records_in query.now m) span.now (page_of draft.old)
+        (page_of draft.new)) tables.old tables.new result }
 {
     let records = query.within(alloc, tables, span)?;
     look_through(tables, query, &records, draft)?;
