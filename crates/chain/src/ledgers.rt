@@ -206,9 +206,9 @@ pub trait Ledgers {
         account_answer(self.in_batch(digest, BalancesOf { alloc, asked }))
     }
 
-    /// Hands the account's statement to a sink, row by row, in this order, in pieces that are each a
-    /// batch. After `Unavailable` the sink has got a beginning of it; after `Sink` too, and it refused
-    /// the next row with that fault.
+    /// Hands the account's statement to a sink, row by row, in this order, in pieces that are each
+    /// a batch. After `Unavailable` the sink has got a beginning of it; after `Sink` too, and it
+    /// refused the next row with that fault.
     fn each_statement_row<S: RowSink>(
         &mut self,
         alloc: Global,

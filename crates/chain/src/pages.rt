@@ -25,7 +25,8 @@ impl<Q: Query + Drop> Work for PageOf<Q> {
     type Output = QueryPage<Q::Shown>;
 
     ghost gives = { λ work. Shows seen_of_page (λ m.
-        page_in Q.time_of (Q.shown_in work.query m) (Q.asks work.query) (Q.records_in work.query m)) };
+        page_in Q.time_of (Q.shown_in work.query m) (Q.asks work.query)
+        (Q.records_in work.query m)) };
 
     fn run<T: Tables>(self, tables: &mut T) -> Result<QueryPage<Q::Shown>, Unavailable> {
         let clock = tables.clock()?;
