@@ -7,7 +7,7 @@ use Rattle.polling.specs.Ending.{Ends, Quiet, Long, most_turns}
 use Rattle.polling.specs.Ending as ending
 use Rattle.polling.specs.Laws.{EachIsServed, empty_hall}
 use Rattle.polling.specs.Seating.{Held, HoldsHall, replies_in}
-use Rattle.polling.specs.Serving.{Hall, Terms, Passes, tellings}
+use Rattle.polling.specs.Serving.{Hall, Terms, Proceeds, tellings}
 use Rattle.command_texts.specs.declared.fault.Fault.{Fault}
 use Rattle.commands.specs.Serving.{ServesClients}
 use Rattle.commands.specs.declared.serving.Served.{Served}
@@ -27,7 +27,7 @@ module _ {S C P : Type 0} (r : Terms S C P) where
       EachIsServed r → IsCourse r → CoursesServeEachAlone r →
       (ledgers : S) (moments : C) (peers : P) → IsSettled (run_meaning r.means) ledgers →
       (last : Hall S C P) (deeds : List Act)
-      (served : Passes S C P r (empty_hall ledgers moments peers) deeds last) (now : Held S C P) →
+      (served : Proceeds S C P r (empty_hall ledgers moments peers) deeds last) (now : Held S C P) →
       HoldsHall now last → (most : ℕ) (result : Result Served Fault) →
       (result ≡ Ok Enough → replies_in deeds ≡ most) →
       (result ≢ Ok Enough → replies_in deeds < most) → OnErr result (most_turns ≤ tellings served) →

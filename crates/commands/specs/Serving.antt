@@ -14,7 +14,7 @@ use Rattle.polling.specs.Ending.{most_turns}
 use Rattle.polling.specs.Laws.{ReadsThrough, empty_hall, machines_in}
 use Rattle.polling.specs.Peers.{Doing}
 use Rattle.polling.specs.Seating.{replies_in}
-use Rattle.polling.specs.Serving.{Hall, Terms, Passes, rules, tellings}
+use Rattle.polling.specs.Serving.{Hall, Terms, Proceeds, rules, tellings}
 use Rattle.store.specs.StoreLaws.{store_meaning}
 use Rattle.store.specs.declared.store.Store.{Store}
 use Rattle.commands.specs.Behind.{MayWait}
@@ -35,7 +35,7 @@ pub record ServesClients {S C P : Type 0} (r : Terms S C P) (ledgers : S) (momen
     Type 0 where
   pub deeds : List Act
   pub last : Hall S C P
-  pub served : Passes S C P r (empty_hall ledgers moments peers) deeds last
+  pub served : Proceeds S C P r (empty_hall ledgers moments peers) deeds last
   pub ledgers_left : last.room.ledgers ≡ ledgers_now
   pub moments_left : last.room.moments ≡ moments_now
   pub peers_left : last.peers ≡ peers_now
