@@ -2,6 +2,7 @@ pub mod Texts
 pub mod BatchGives
 pub mod ShownReads
 pub mod BegunLemmas
+pub mod CallLemmas
 mod StatementLemmas
 mod FinishLemmas
 pub mod ServedReads

@@ -1,17 +1,20 @@
 -- What reads tell.
 use Rattle.std.specs.Result.{IsErrAnd}
-use Rattle.std.proofs.Common.{subst, ◌≡◌, ℕ, Option, Some, None, Result, Ok, Err, refl, sym}
+use Rattle.std.proofs.Common.{subst, ◌≡◌, ℕ, List, Option, Some, None, Result, Ok, Err, refl, sym}
 use Rattle.std.proofs.Common.{ap, ◌∙◌}
+use Rattle.records.specs.declared.unavailable.Unavailable.TheVariants.{Disk}
 use Rattle.records.specs.Machine.{Machine}
 use Rattle.records.specs.Reads.{AccountAnswer, NoAccount, NoHistory, Found}
 use Rattle.chain.specs.declared.reads.ReadFault.{ReadFault}
 use Rattle.chain.specs.declared.reads.ReadFault.TheVariants as fault
-use Rattle.chain.specs.LedgerReads.{Seen, seen_by, seen_in, IsShown}
+use Rattle.chain.specs.Ledgers.{LedgersMeaning}
+use Rattle.chain.specs.LedgerReads.{ReadsTenant, Seen, seen_by, seen_in, IsShown}
 use Rattle.wire.specs.declared.outcome.Outcome.{Outcome}
 use Rattle.wire.specs.declared.outcome.Outcome.TheVariants.{Refused}
 use Rattle.wire.specs.declared.request.Request.{Request}
 use Rattle.service.specs.Served.{told_by, answer_told, served_to}
-use Rattle.service.specs.Reading.{ShowsOutcome, refusal_of}
+use Rattle.service.specs.Reading.{ShowsOutcome, ShowsTo, refusal_of}
+use Rattle.service.proofs.FindingLemmas as finding
 
 -- how a request for a read is answered: what is asked of the machine, and how that is shown
 pub record IsRead {A : Type 0} (request : Request) (moment : ℕ)
@@ -71,3 +74,43 @@ pub told_on :
 told_on told (Ok outcome) why is shows = absurd is
 told_on told (Err fault) why is shows =
     subst (λ (f : ReadFault). ShowsOutcome told (Err f)) (sym is) shows
+
+failed_on :
+    {A : Type 0} (result : Result A ReadFault) (why other : ReadFault) →
+    IsErrAnd result (λ fault. fault ≡ why) → why ≡ other → result ≡ Err other
+failed_on (Ok outcome) why other is same = absurd is
+failed_on (Err f) why other is same = ap (λ (f : ReadFault). Err f) (is ∙ same)
+
+abbrev refused : (X : Type 0) → ReadFault → Result X ReadFault
+refused X why = Err why
+
+same_fault : {X : Type 0} (why other : ReadFault) → refused X why ≡ refused X other → why ≡ other
+same_fault why other is = cc
+
+-- a read of a tenant's machine, as one that shows it what it is told
+module _ {S A X : Type 0} (request : Request) (answers : Machine → AccountAnswer A)
+    (shows : ℕ → A → Outcome) (sees : X → Seen A) (t : LedgersMeaning S) (digest : List ℕ) (old new : S) where
+  pub fault_read :
+      (result : Result Outcome ReadFault) (why : ReadFault) → ((moment : ℕ) → IsRead request moment answers shows) →
+      IsErrAnd result (λ fault. fault ≡ why) →
+      ReadsTenant t digest (λ tenant. IsShown sees (seen_in answers tenant)) old new (Err why) →
+      ReadsTenant t digest (ShowsTo request) old new result
+  fault_read result why is_read is read = record {
+    told = λ live moment.
+        told_on _ result why is (told_as_fault request moment answers shows sees _ why (is_read moment) (read.told live));
+    failed = λ has. failed_on result why (fault.Unavailable Disk) is (same_fault why (fault.Unavailable Disk) (read.failed has));
+    finds = finding.finds_on t _ _ _ _ _ _ (finding.told_on X result why is) (λ was now nowhere. nowhere) read.finds;
+    reads = read.reads;
+  }
+
+  pub shown_read :
+      (outcome : Outcome) (found : X) → ((moment : ℕ) → IsRead request moment answers shows) →
+      told_seen shows (Ok (sees found)) ≡ outcome →
+      ReadsTenant t digest (λ tenant. IsShown sees (seen_in answers tenant)) old new (Ok found) →
+      ReadsTenant t digest (ShowsTo request) old new (Ok outcome)
+  shown_read outcome found is_read is read = record {
+    told = λ live moment. told_as_seen request moment answers shows _ _ (is_read moment) (read.told live) ∙ is;
+    failed = λ has. absurd (let e = read.failed has in cc);
+    finds = read.finds;
+    reads = read.reads;
+  }

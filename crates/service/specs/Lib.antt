@@ -19,3 +19,4 @@ pub mod Turns
 pub mod TurnLaws
 pub mod Retries
 pub mod Following
+pub mod Calls

@@ -26,6 +26,6 @@ ShowsOutcome told (Ok outcome) = told ≡ outcome
 ShowsOutcome told (Err why) = refusal_of why ≢ Unavailable → told ≡ Refused (refusal_of why)
 
 -- a read shows a tenant what it is told, whatever the moment
-abbrev pub ShowsTo : Option Machine → Request → Result Outcome ReadFault → Type 0
-ShowsTo tenant request result =
+abbrev pub ShowsTo : Request → Option Machine → Result Outcome ReadFault → Type 0
+ShowsTo request tenant result =
     (moment : ℕ) → ShowsOutcome (served_to tenant (Ok request) moment).told result

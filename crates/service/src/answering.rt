@@ -1,14 +1,12 @@
 //! Answers one tenant's request.
-ghost use Rattle.std.specs.Prelude.{◌≡◌, ◌≢◌, ◌≤◌, ℕ, true, List, Result, Ok, Err, IfSome, length};
+ghost use Rattle.std.specs.Prelude.{◌≡◌, ◌≢◌, ◌≤◌, ℕ, true, Result, Ok, Err, length};
 ghost use Rattle.chain.specs.Ledgers.{Finds, LeadsNowhere};
 ghost use Rattle.sha2.specs.Sha256.{sha256};
 ghost use Rattle.ledger_http.specs.declared.refusal.Refusal.{Refusal};
 ghost use Rattle.wire.specs.declared.request.Request.{Request};
 ghost use Rattle.wire.specs.Meaning.{meaning_of, HasFew};
 ghost use Rattle.wire.specs.declared.request.Request.TheVariants.{Accounts, Transfers};
-ghost use Rattle.service.specs.Deeds as deed;
-ghost use Rattle.service.specs.Deeds.{IsDeedDone};
-ghost use Rattle.service.specs.Begun.{IsLeftOf, reply_of, whole};
+ghost use Rattle.service.specs.Calls.{BeginsOver, ServesOver, StaysInUse};
 ghost use Rattle.service.specs.Replies.{Serves, batch_reply, unavailable};
 
 use crate::batches::{AccountBatch, TransferBatch};
@@ -46,13 +44,8 @@ fn accounts<L: Ledgers>(
 ) -> Reply
     requires usable { L.means.is_usable ledgers.old }
     requires few { length events ≤ 1000 }
-    ensures serves { L.means.is_live ledgers.new → Serves (L.means.tenants ledgers.old)
-        (L.means.tenants ledgers.new) digest.now (Ok (Accounts events)) moment result }
-    ensures failed { L.means.has_failed ledgers.old ≡ true → result ≡ unavailable }
-    ensures finds { Finds L.means (result ≢ unavailable)
-        (IsDeedDone (deed.Asked digest.now (Ok (Accounts events)) moment)) ledgers.old ledgers.new }
-    ensures usable { L.means.is_usable ledgers.new }
-    ensures follows { L.means.follows ledgers.old ledgers.new }
+    ensures { ServesOver L.means digest.now (Ok (Accounts events)) moment
+        ledgers.old ledgers.new result }
 {
     let work = AccountBatch {
         alloc,
@@ -71,13 +64,8 @@ fn transfers<L: Ledgers>(
 ) -> Reply
     requires usable { L.means.is_usable ledgers.old }
     requires few { length events ≤ 1000 }
-    ensures serves { L.means.is_live ledgers.new → Serves (L.means.tenants ledgers.old)
-        (L.means.tenants ledgers.new) digest.now (Ok (Transfers events)) moment result }
-    ensures failed { L.means.has_failed ledgers.old ≡ true → result ≡ unavailable }
-    ensures finds { Finds L.means (result ≢ unavailable)
-        (IsDeedDone (deed.Asked digest.now (Ok (Transfers events)) moment)) ledgers.old ledgers.new }
-    ensures usable { L.means.is_usable ledgers.new }
-    ensures follows { L.means.follows ledgers.old ledgers.new }
+    ensures { ServesOver L.means digest.now (Ok (Transfers events)) moment
+        ledgers.old ledgers.new result }
 {
     let work = TransferBatch {
         alloc,
@@ -97,16 +85,8 @@ fn serve_request<L: Ledgers>(
 ) -> Begun
     requires usable { L.means.is_usable ledgers.old }
     requires few { HasFew request }
-    ensures serves { L.means.is_live ledgers.new → Serves (L.means.tenants ledgers.old)
-        (L.means.tenants ledgers.new) digest.now (Ok request) moment
-        (reply_of (L.means.tenants ledgers.new) result) }
-    ensures failed { L.means.has_failed ledgers.old ≡ true → result ≡ whole unavailable }
-    ensures finds { Finds L.means (reply_of (L.means.tenants ledgers.new) result ≢ unavailable)
-        (IsDeedDone (deed.Asked digest.now (Ok request) moment)) ledgers.old ledgers.new }
-    ensures left { IfSome result.rest (λ rest. L.means.is_live ledgers.new
-        → IsLeftOf (L.means.tenants ledgers.old) (L.means.tenants ledgers.new) rest) }
-    ensures usable { L.means.is_usable ledgers.new }
-    ensures follows { L.means.follows ledgers.old ledgers.new }
+    ensures { BeginsOver L.means digest.now (Ok request) moment
+        ledgers.old ledgers.new result }
 {
     match request {
         Request::Accounts(events) => {
@@ -152,8 +132,7 @@ fn refuse<L: Ledgers>(ledgers: &mut L, digest: &[u8; 32], refusal: Refusal) -> R
         moment result }
     ensures failed { L.means.has_failed ledgers.old ≡ true → result ≡ unavailable }
     ensures finds { Finds L.means (result ≢ unavailable) LeadsNowhere ledgers.old ledgers.new }
-    ensures usable { L.means.is_usable ledgers.new }
-    ensures follows { L.means.follows ledgers.old ledgers.new }
+    ensures stays { StaysInUse L.means ledgers.old ledgers.new }
 {
     let Ok(known) = ledgers.knows(digest) else {
         return Reply::Fixed(Refusal::Unavailable);
@@ -173,19 +152,9 @@ pub(crate) fn answer<L: Ledgers>(
     moment: u64,
 ) -> Begun
     requires { L.means.is_usable ledgers.old }
-    ensures serves { L.means.is_live ledgers.new → Serves (L.means.tenants ledgers.old)
-        (L.means.tenants ledgers.new) (sha256 asked.now.key)
+    ensures { BeginsOver L.means (sha256 asked.now.key)
         (meaning_of asked.now.route asked.now.account.now asked.now.body.now) moment
-        (reply_of (L.means.tenants ledgers.new) result) }
-    ensures failed { L.means.has_failed ledgers.old ≡ true → result ≡ whole unavailable }
-    ensures finds { Finds L.means (reply_of (L.means.tenants ledgers.new) result ≢ unavailable)
-        (IsDeedDone (deed.Asked (sha256 asked.now.key)
-        (meaning_of asked.now.route asked.now.account.now asked.now.body.now) moment)) ledgers.old
-        ledgers.new }
-    ensures left { IfSome result.rest (λ rest. L.means.is_live ledgers.new
-        → IsLeftOf (L.means.tenants ledgers.old) (L.means.tenants ledgers.new) rest) }
-    ensures usable { L.means.is_usable ledgers.new }
-    ensures follows { L.means.follows ledgers.old ledgers.new }
+        ledgers.old ledgers.new result }
 {
     let digest = digest(&asked.key);
     match meaning(alloc, asked) {

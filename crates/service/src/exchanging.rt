@@ -4,6 +4,7 @@ ghost use Rattle.std.specs.Io.KnownBytes.{Appends};
 ghost use Rattle.records.specs.Streams.{AppendsFront};
 ghost use Rattle.ledger_http.specs.First.{IsBrokenOff};
 ghost use Rattle.ledger_http.specs.ReplyText.{reply_text};
+ghost use Rattle.service.specs.Calls.{StaysInUse};
 ghost use Rattle.service.specs.Connections.{connection, Exchanges};
 
 use crate::moments::Moments;
@@ -62,8 +63,7 @@ pub(crate) fn exchange<L: Ledgers, R: Source, C: Moments>(
     ensures broken { OnErr result ((unread : List ℕ) → R.left reader.old ≡ Some unread
         → IsBrokenOff unread (R.left reader.new)) }
     ensures failed { R.failed reader.new ≡ is_err result }
-    ensures usable { L.means.is_usable ledgers.new }
-    ensures follows { L.means.follows ledgers.old ledgers.new }
+    ensures stays { StaysInUse L.means ledgers.old ledgers.new }
 {
     match read_message(alloc, reader)? {
         Message::Whole(message) => {

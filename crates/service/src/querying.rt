@@ -1,11 +1,7 @@
 //! Queries of one tenant's ledger, as the pages that replies show.
-ghost use Rattle.std.specs.Prelude.{◌≡◌, true, Err};
-ghost use Rattle.records.specs.declared.unavailable.Unavailable.TheVariants.{Disk};
-ghost use Rattle.chain.specs.declared.reads.ReadFault.TheVariants.{Unavailable};
 ghost use Rattle.wire.specs.declared.request.Query.TheVariants.{Accounts, Transfers, OpenPending};
 ghost use Rattle.wire.specs.declared.request.Request.TheVariants as asks;
-ghost use Rattle.chain.specs.Ledgers.{Finds, KeepsAll};
-ghost use Rattle.chain.specs.LedgerReads.{ReadsOnly, IsTold};
+ghost use Rattle.chain.specs.LedgerReads.{ReadsTenant};
 ghost use Rattle.service.specs.Reading.{ShowsTo};
 
 use chain::{Ledgers, ReadFault};
@@ -20,11 +16,8 @@ fn accounts<L: Ledgers>(
     asked: &QueryFilter,
 ) -> Result<Outcome, ReadFault>
     requires { L.means.is_usable ledgers.old }
-    ensures told { L.means.is_live ledgers.new → ShowsTo (L.means.tenants ledgers.old digest.now)
-        (asks.Query (Accounts asked.now)) result }
-    ensures failed { L.means.has_failed ledgers.old ≡ true → result ≡ Err (Unavailable Disk) }
-    ensures finds { Finds L.means (IsTold result) KeepsAll ledgers.old ledgers.new }
-    ensures reads { ReadsOnly L.means ledgers.old ledgers.new }
+    ensures { ReadsTenant L.means digest.now (ShowsTo (asks.Query (Accounts asked.now)))
+        ledgers.old ledgers.new result }
 {
     let page = ledgers.query_accounts(alloc, digest, asked)?;
     Ok(Outcome::Page {
@@ -41,11 +34,8 @@ fn transfers<L: Ledgers>(
     asked: &QueryFilter,
 ) -> Result<Outcome, ReadFault>
     requires { L.means.is_usable ledgers.old }
-    ensures told { L.means.is_live ledgers.new → ShowsTo (L.means.tenants ledgers.old digest.now)
-        (asks.Query (Transfers asked.now)) result }
-    ensures failed { L.means.has_failed ledgers.old ≡ true → result ≡ Err (Unavailable Disk) }
-    ensures finds { Finds L.means (IsTold result) KeepsAll ledgers.old ledgers.new }
-    ensures reads { ReadsOnly L.means ledgers.old ledgers.new }
+    ensures { ReadsTenant L.means digest.now (ShowsTo (asks.Query (Transfers asked.now)))
+        ledgers.old ledgers.new result }
 {
     let page = ledgers.query_transfers(alloc, digest, asked)?;
     Ok(Outcome::Page {
@@ -62,11 +52,8 @@ fn open_holds<L: Ledgers>(
     asked: &PageFilter,
 ) -> Result<Outcome, ReadFault>
     requires { L.means.is_usable ledgers.old }
-    ensures told { L.means.is_live ledgers.new → ShowsTo (L.means.tenants ledgers.old digest.now)
-        (asks.Query (OpenPending asked.now)) result }
-    ensures failed { L.means.has_failed ledgers.old ≡ true → result ≡ Err (Unavailable Disk) }
-    ensures finds { Finds L.means (IsTold result) KeepsAll ledgers.old ledgers.new }
-    ensures reads { ReadsOnly L.means ledgers.old ledgers.new }
+    ensures { ReadsTenant L.means digest.now (ShowsTo (asks.Query (OpenPending asked.now)))
+        ledgers.old ledgers.new result }
 {
     let page = ledgers.open_pending(alloc, digest, asked)?;
     Ok(Outcome::Page {
@@ -84,11 +71,8 @@ pub(crate) fn queried<L: Ledgers>(
     query: &Query,
 ) -> Result<Outcome, ReadFault>
     requires { L.means.is_usable ledgers.old }
-    ensures told { L.means.is_live ledgers.new
-        → ShowsTo (L.means.tenants ledgers.old digest.now) (asks.Query query.now) result }
-    ensures failed { L.means.has_failed ledgers.old ≡ true → result ≡ Err (Unavailable Disk) }
-    ensures finds { Finds L.means (IsTold result) KeepsAll ledgers.old ledgers.new }
-    ensures reads { ReadsOnly L.means ledgers.old ledgers.new }
+    ensures { ReadsTenant L.means digest.now (ShowsTo (asks.Query query.now))
+        ledgers.old ledgers.new result }
 {
     match query {
         Query::Accounts(asked) => accounts(alloc, ledgers, digest, asked),

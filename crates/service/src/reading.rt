@@ -1,13 +1,9 @@
 //! Reads of one tenant's ledger, as the outcomes that replies show.
-ghost use Rattle.std.specs.Prelude.{◌≡◌, true, Err};
-ghost use Rattle.records.specs.declared.unavailable.Unavailable.TheVariants.{Disk};
-ghost use Rattle.chain.specs.declared.reads.ReadFault.TheVariants.{Unavailable};
 ghost use Rattle.wire.specs.declared.request.Request.TheVariants.{LookupAccounts, LookupTransfers};
 ghost use Rattle.wire.specs.declared.request.Request.TheVariants.{LookupPending};
 ghost use Rattle.wire.specs.declared.request.Request.TheVariants.{HistoryTransfers};
 ghost use Rattle.wire.specs.declared.request.Request.TheVariants.{HistoryBalances};
-ghost use Rattle.chain.specs.Ledgers.{Finds, KeepsAll};
-ghost use Rattle.chain.specs.LedgerReads.{ReadsOnly, IsTold};
+ghost use Rattle.chain.specs.LedgerReads.{ReadsTenant};
 ghost use Rattle.service.specs.Reading.{ShowsTo};
 
 use chain::{Ledgers, ReadFault};
@@ -22,11 +18,8 @@ pub(crate) fn looked_up_accounts<L: Ledgers>(
     ids: &[u128],
 ) -> Result<Outcome, ReadFault>
     requires { L.means.is_usable ledgers.old }
-    ensures told { L.means.is_live ledgers.new
-        → ShowsTo (L.means.tenants ledgers.old digest.now) (LookupAccounts ids.now) result }
-    ensures failed { L.means.has_failed ledgers.old ≡ true → result ≡ Err (Unavailable Disk) }
-    ensures finds { Finds L.means (IsTold result) KeepsAll ledgers.old ledgers.new }
-    ensures reads { ReadsOnly L.means ledgers.old ledgers.new }
+    ensures { ReadsTenant L.means digest.now (ShowsTo (LookupAccounts ids.now))
+        ledgers.old ledgers.new result }
 {
     let found = ledgers.lookup_accounts(alloc, digest, ids)?;
     Ok(Outcome::Accounts {
@@ -42,11 +35,8 @@ pub(crate) fn looked_up_transfers<L: Ledgers>(
     ids: &[u128],
 ) -> Result<Outcome, ReadFault>
     requires { L.means.is_usable ledgers.old }
-    ensures told { L.means.is_live ledgers.new
-        → ShowsTo (L.means.tenants ledgers.old digest.now) (LookupTransfers ids.now) result }
-    ensures failed { L.means.has_failed ledgers.old ≡ true → result ≡ Err (Unavailable Disk) }
-    ensures finds { Finds L.means (IsTold result) KeepsAll ledgers.old ledgers.new }
-    ensures reads { ReadsOnly L.means ledgers.old ledgers.new }
+    ensures { ReadsTenant L.means digest.now (ShowsTo (LookupTransfers ids.now))
+        ledgers.old ledgers.new result }
 {
     let found = ledgers.lookup_transfers(alloc, digest, ids)?;
     Ok(Outcome::Transfers {
@@ -62,11 +52,8 @@ pub(crate) fn looked_up_holds<L: Ledgers>(
     ids: &[u128],
 ) -> Result<Outcome, ReadFault>
     requires { L.means.is_usable ledgers.old }
-    ensures told { L.means.is_live ledgers.new
-        → ShowsTo (L.means.tenants ledgers.old digest.now) (LookupPending ids.now) result }
-    ensures failed { L.means.has_failed ledgers.old ≡ true → result ≡ Err (Unavailable Disk) }
-    ensures finds { Finds L.means (IsTold result) KeepsAll ledgers.old ledgers.new }
-    ensures reads { ReadsOnly L.means ledgers.old ledgers.new }
+    ensures { ReadsTenant L.means digest.now (ShowsTo (LookupPending ids.now))
+        ledgers.old ledgers.new result }
 {
     let found = ledgers.lookup_pending(alloc, digest, ids)?;
     Ok(Outcome::Holds {
@@ -82,11 +69,8 @@ pub(crate) fn history_of_transfers<L: Ledgers>(
     asked: &AccountFilter,
 ) -> Result<Outcome, ReadFault>
     requires { L.means.is_usable ledgers.old }
-    ensures told { L.means.is_live ledgers.new
-        → ShowsTo (L.means.tenants ledgers.old digest.now) (HistoryTransfers asked.now) result }
-    ensures failed { L.means.has_failed ledgers.old ≡ true → result ≡ Err (Unavailable Disk) }
-    ensures finds { Finds L.means (IsTold result) KeepsAll ledgers.old ledgers.new }
-    ensures reads { ReadsOnly L.means ledgers.old ledgers.new }
+    ensures { ReadsTenant L.means digest.now (ShowsTo (HistoryTransfers asked.now))
+        ledgers.old ledgers.new result }
 {
     let found = ledgers.history_transfers(alloc, digest, asked)?;
     Ok(Outcome::Transfers {
@@ -102,11 +86,8 @@ pub(crate) fn history_of_balances<L: Ledgers>(
     asked: &AccountFilter,
 ) -> Result<Outcome, ReadFault>
     requires { L.means.is_usable ledgers.old }
-    ensures told { L.means.is_live ledgers.new
-        → ShowsTo (L.means.tenants ledgers.old digest.now) (HistoryBalances asked.now) result }
-    ensures failed { L.means.has_failed ledgers.old ≡ true → result ≡ Err (Unavailable Disk) }
-    ensures finds { Finds L.means (IsTold result) KeepsAll ledgers.old ledgers.new }
-    ensures reads { ReadsOnly L.means ledgers.old ledgers.new }
+    ensures { ReadsTenant L.means digest.now (ShowsTo (HistoryBalances asked.now))
+        ledgers.old ledgers.new result }
 {
     let found = ledgers.history_balances(alloc, digest, asked)?;
     Ok(Outcome::Balances {

@@ -1,7 +1,6 @@
 ghost use Rattle.std.specs.Prelude.{◌≡◌, IfSome};
-ghost use Rattle.chain.specs.Ledgers.{Finds};
-ghost use Rattle.service.specs.Responds.{Responds, RefusesEarly, TellsPage, IsQuestion, IsLeftSame};
-ghost use Rattle.service.specs.Responds.{IsQuestionAnswered, IsLeftBy, TellsHealth, TellsFailure};
+ghost use Rattle.service.specs.Calls.{RespondsOver};
+ghost use Rattle.service.specs.Responds.{IsQuestion, IsLeftSame};
 ghost use Rattle.service.specs.Begun.{reply_of};
 ghost use Rattle.service.specs.Replies.{health_by, told_early};
 
@@ -44,20 +43,8 @@ pub fn begin<L: Ledgers>(alloc: Global, ledgers: &mut L, bytes: &[u8], moment: u
     ensures left { IfSome result.rest (λ rest. L.means.is_live ledgers.new
         → IsLeftSame bytes.now moment (L.means.tenants ledgers.old)
         (L.means.tenants ledgers.new) rest) }
-    ensures responds { L.means.is_live ledgers.new → Responds (L.means.tenants ledgers.old)
-        (L.means.tenants ledgers.new) bytes.now moment
+    ensures replies { RespondsOver L.means bytes.now moment ledgers.old ledgers.new
         (reply_of (L.means.tenants ledgers.new) result) }
-    ensures early { RefusesEarly bytes.now (reply_of (L.means.tenants ledgers.new) result) }
-    ensures page { TellsPage bytes.now (reply_of (L.means.tenants ledgers.new) result) }
-    ensures health { TellsHealth (L.means.has_failed ledgers.old) bytes.now
-        (reply_of (L.means.tenants ledgers.new) result) }
-    ensures failed { TellsFailure (L.means.has_failed ledgers.old) bytes.now
-        (reply_of (L.means.tenants ledgers.new) result) }
-    ensures finds { Finds L.means
-        (IsQuestionAnswered bytes.now (reply_of (L.means.tenants ledgers.new) result))
-        (IsLeftBy bytes.now moment) ledgers.old ledgers.new }
-    ensures usable { L.means.is_usable ledgers.new }
-    ensures follows { L.means.follows ledgers.old ledgers.new }
 {
     match asked(alloc, bytes) {
         Ok(asked) => answer(alloc, ledgers, &asked, moment),
@@ -69,16 +56,7 @@ pub fn begin<L: Ledgers>(alloc: Global, ledgers: &mut L, bytes: &[u8], moment: u
 /// to its end.
 pub fn respond<L: Ledgers>(alloc: Global, ledgers: &mut L, bytes: &[u8], moment: u64) -> Reply
     requires { L.means.is_usable ledgers.old }
-    ensures responds { L.means.is_live ledgers.new → Responds (L.means.tenants ledgers.old)
-        (L.means.tenants ledgers.new) bytes.now moment result }
-    ensures early { RefusesEarly bytes.now result }
-    ensures page { TellsPage bytes.now result }
-    ensures health { TellsHealth (L.means.has_failed ledgers.old) bytes.now result }
-    ensures failed { TellsFailure (L.means.has_failed ledgers.old) bytes.now result }
-    ensures finds { Finds L.means (IsQuestionAnswered bytes.now result) (IsLeftBy bytes.now moment)
-        ledgers.old ledgers.new }
-    ensures usable { L.means.is_usable ledgers.new }
-    ensures follows { L.means.follows ledgers.old ledgers.new }
+    ensures { RespondsOver L.means bytes.now moment ledgers.old ledgers.new result }
 {
     let Begun { front, rest } = begin(alloc, ledgers, bytes, moment);
     match rest {

@@ -1,5 +1,6 @@
 //! Messages of many clients, answered in one round.
 ghost use Rattle.std.specs.Prelude.{◌≡◌, ◌≤◌, [], IfOk, OnErr, length, vec_len, vec_capacity};
+ghost use Rattle.service.specs.Calls.{StaysInUse};
 ghost use Rattle.service.specs.Openings.{run_meaning};
 ghost use Rattle.service.specs.Turns.{MovesInRound, MovesEach};
 
@@ -24,8 +25,7 @@ fn respond_each<L: Ledgers, H: Settles<L>>(
     requires room { length messages.now ≤ vec_capacity replies }
     ensures moves { MovesEach (run_meaning L.means) ledgers.old messages.now result.items
         ledgers.new }
-    ensures usable { L.means.is_usable ledgers.new }
-    ensures follows { L.means.follows ledgers.old ledgers.new }
+    ensures stays { StaysInUse L.means ledgers.old ledgers.new }
 {
     responses_move::<L>();
     for message in messages {

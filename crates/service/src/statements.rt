@@ -5,6 +5,7 @@ ghost use Rattle.chain.specs.LedgerReads.{ReadsOnly};
 ghost use Rattle.ledger_http.specs.ReplyText.{reply_text};
 ghost use Rattle.wire.specs.declared.request.Request.TheVariants.{Statement};
 ghost use Rattle.service.specs.Begun.{IsLeftOf, reply_of, reply_with, whole};
+ghost use Rattle.service.specs.Calls.{StaysInUse};
 ghost use Rattle.service.specs.Deeds as deed;
 ghost use Rattle.service.specs.Deeds.{IsDeedDone};
 ghost use Rattle.service.specs.Replies.{Serves, unavailable};
@@ -36,8 +37,7 @@ pub(crate) fn begin_statement<L: Ledgers>(
         ledgers.old ledgers.new }
     ensures left { IfSome result.rest (λ rest. L.means.is_live ledgers.new
         → IsLeftOf (L.means.tenants ledgers.old) (L.means.tenants ledgers.new) rest) }
-    ensures usable { L.means.is_usable ledgers.new }
-    ensures follows { L.means.follows ledgers.old ledgers.new }
+    ensures stays { StaysInUse L.means ledgers.old ledgers.new }
 {
     let rest = Rest::whole(*digest, account);
     match rest.part(alloc, ledgers, header_line()) {

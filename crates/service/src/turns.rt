@@ -1,9 +1,8 @@
 //! Messages that are answered together, as the work of one round.
 ghost use Rattle.std.specs.Prelude.{◌≡◌};
-ghost use Rattle.chain.specs.Ledgers.{Finds};
+ghost use Rattle.service.specs.Calls.{RespondsOver};
 ghost use Rattle.service.specs.Courses.{is_unavailable};
-ghost use Rattle.service.specs.Responds.{RefusesEarly, IsQuestionAnswered, IsLeftBy};
-ghost use Rattle.service.specs.Turns.{RespondsTo, TakeTurns};
+ghost use Rattle.service.specs.Turns.{TakeTurns};
 
 use crate::responding::respond;
 use chain::{Ledgers, RoundWork};
@@ -22,13 +21,8 @@ impl Message {
     /// The reply to it, as `respond` gives it.
     pub(crate) fn respond<L: Ledgers>(&self, alloc: Global, ledgers: &mut L) -> Reply
         requires { L.means.is_usable ledgers.old }
-        ensures responds { L.means.is_live ledgers.new →
-            RespondsTo (L.means.tenants ledgers.old) self.now result (L.means.tenants ledgers.new) }
-        ensures early { RefusesEarly self.now.bytes.items result }
-        ensures finds { Finds L.means (IsQuestionAnswered self.now.bytes.items result)
-            (IsLeftBy self.now.bytes.items self.now.moment) ledgers.old ledgers.new }
-        ensures usable { L.means.is_usable ledgers.new }
-        ensures follows { L.means.follows ledgers.old ledgers.new }
+        ensures { RespondsOver L.means self.now.bytes.items self.now.moment
+            ledgers.old ledgers.new result }
     {
         respond(alloc, ledgers, self.bytes.as_slice(), self.moment)
     }

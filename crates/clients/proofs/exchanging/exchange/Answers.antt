@@ -10,8 +10,8 @@ returns-in-Whole-clause-exchanges g c =
     (reply_of (g.L.Ledgers.means.tenants c.begin-begun.new.ledgers) c.begin-begun.result)
     c.later_bytes_change_nothing.ensures.begins c.next.ensures.same
     c.take.ensures c.front.ensures (rw c.in-Whole.is at c.next.ensures.next) c.moment-moment.ensures
-    c.begin-begun.ensures.responds c.begin-begun.ensures.early c.begin-begun.ensures.finds
-    c.begin-begun.ensures.follows in (
+    c.begin-begun.ensures.replies.responds c.begin-begun.ensures.replies.early c.begin-begun.ensures.replies.finds
+    c.begin-begun.ensures.replies.follows in (
       whole.0,
       whole.1,
       held_so g.L.Ledgers.means c.front.result.now c.moment-moment.result

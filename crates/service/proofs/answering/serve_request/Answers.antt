@@ -1,120 +1,67 @@
-use Rattle.std.proofs.Common.{◌≢◌, Ok, refl, ◌∙◌, ap, subst, sym}
-use Rattle.chain.specs.Ledgers.{Finds}
+use Rattle.std.proofs.Common.{Ok, refl, ◌∙◌, ap, subst, sym}
 use Rattle.wire.specs.declared.request.Request.{Request}
-use Rattle.wire.specs.declared.request.Request.TheVariants.{LookupAccounts, LookupTransfers}
-use Rattle.wire.specs.declared.request.Request.TheVariants.{LookupPending}
-use Rattle.service.specs.Begun.{reply_of}
-use Rattle.service.specs.Deeds.{Asked, IsDeedDone}
-use Rattle.service.specs.Replies.{Serves, unavailable}
-use Rattle.service.proofs.BegunLemmas.{finds_whole, serves_whole}
-use Rattle.service.proofs.FindingLemmas.{finds_by_read}
-use Rattle.service.proofs.ServedReads.{serves_by_read}
+use Rattle.wire.specs.declared.request.Request.TheVariants.{Accounts, Transfers}
+use Rattle.wire.specs.declared.request.Request.TheVariants.{LookupAccounts, LookupTransfers, LookupPending}
+use Rattle.service.specs.Calls.{BeginsOver}
+use Rattle.service.proofs.CallLemmas.{begins_read, begins_served}
 use Rattle.service.proofs.answering.serve_request.Goals as goal
 
-pub returns-in-LookupAccounts-clause-serves : goal.returns-in-LookupAccounts-clause-serves
-returns-in-LookupAccounts-clause-serves g c live =
-    serves_whole _ _ _ _ _ _ _ c.whole-in-LookupAccounts.ensures (
-    serves_by_read _ _ _ _ _ _ _ (c.in-LookupAccounts.is ∙ ap LookupAccounts
-    (sym c.as_slice.ensures)) (λ m. refl) (c.looked_up_accounts-found.ensures.reads.same live)
-    (λ ne. c.reply_to_read.ensures.shows _ (c.looked_up_accounts-found.ensures.told live _) ne))
+pub returns-in-Accounts : goal.returns-in-Accounts
+returns-in-Accounts g c =
+    begins_served g.L.Ledgers.means c.args.digest.now _ _ c.args.moment c.args.ledgers.now _ _ _
+    (ap (λ (r : Request). Ok r) c.in-Accounts.is) c.whole.ensures c.accounts.ensures
 
-pub returns-in-LookupTransfers-clause-serves : goal.returns-in-LookupTransfers-clause-serves
-returns-in-LookupTransfers-clause-serves g c live =
-    serves_whole _ _ _ _ _ _ _ c.whole-in-LookupTransfers.ensures (
-    serves_by_read _ _ _ _ _ _ _ (c.in-LookupTransfers.is ∙ ap LookupTransfers
-    (sym c.as_slice-in-LookupTransfers.ensures)) (λ m. refl)
-    (c.looked_up_transfers-found.ensures.reads.same live)
-    (λ ne. c.reply_to_read-in-LookupTransfers.ensures.shows _
-    (c.looked_up_transfers-found.ensures.told live _) ne))
+pub returns-in-Transfers : goal.returns-in-Transfers
+returns-in-Transfers g c =
+    begins_served g.L.Ledgers.means c.args.digest.now _ _ c.args.moment c.args.ledgers.now _ _ _
+    (ap (λ (r : Request). Ok r) c.in-Transfers.is) c.whole-in-Transfers.ensures c.transfers.ensures
 
-pub returns-in-HistoryTransfers-clause-serves : goal.returns-in-HistoryTransfers-clause-serves
-returns-in-HistoryTransfers-clause-serves g c live =
-    serves_whole _ _ _ _ _ _ _ c.whole-in-HistoryTransfers.ensures (
-    serves_by_read _ _ _ _ _ _ _ c.in-HistoryTransfers.is (λ m. refl)
-    (c.history_of_transfers-found.ensures.reads.same live)
-    (λ ne. c.reply_to_read-in-HistoryTransfers.ensures.shows _
-    (c.history_of_transfers-found.ensures.told live _) ne))
+pub returns-in-LookupAccounts : goal.returns-in-LookupAccounts
+returns-in-LookupAccounts g c =
+    begins_read g.L.Ledgers.means c.args.digest.now _ _ c.args.moment c.args.ledgers.now _ _ _ _
+    (c.in-LookupAccounts.is ∙ ap LookupAccounts (sym c.as_slice.ensures)) (λ m. refl) c.whole-in-LookupAccounts.ensures c.looked_up_accounts-found.ensures
+    c.reply_to_read.ensures.shows c.reply_to_read.ensures.told c.reply_to_read.ensures.failed
 
-pub returns-in-HistoryBalances-clause-serves : goal.returns-in-HistoryBalances-clause-serves
-returns-in-HistoryBalances-clause-serves g c live =
-    serves_whole _ _ _ _ _ _ _ c.whole-in-HistoryBalances.ensures (
-    serves_by_read _ _ _ _ _ _ _ c.in-HistoryBalances.is (λ m. refl)
-    (c.history_of_balances-found.ensures.reads.same live)
-    (λ ne. c.reply_to_read-in-HistoryBalances.ensures.shows _
-    (c.history_of_balances-found.ensures.told live _) ne))
+pub returns-in-LookupTransfers : goal.returns-in-LookupTransfers
+returns-in-LookupTransfers g c =
+    begins_read g.L.Ledgers.means c.args.digest.now _ _ c.args.moment c.args.ledgers.now _ _ _ _
+    (c.in-LookupTransfers.is ∙ ap LookupTransfers (sym c.as_slice-in-LookupTransfers.ensures)) (λ m. refl) c.whole-in-LookupTransfers.ensures c.looked_up_transfers-found.ensures
+    c.reply_to_read-in-LookupTransfers.ensures.shows c.reply_to_read-in-LookupTransfers.ensures.told c.reply_to_read-in-LookupTransfers.ensures.failed
 
-pub returns-in-Query-clause-serves : goal.returns-in-Query-clause-serves
-returns-in-Query-clause-serves g c live =
-    serves_whole _ _ _ _ _ _ _ c.whole-in-Query.ensures (
-    serves_by_read _ _ _ _ _ _ _ c.in-Query.is (λ m. refl) (c.queried.ensures.reads.same live)
-    (λ ne. c.reply_to_read-in-Query.ensures.shows _ (c.queried.ensures.told live _) ne))
+pub returns-in-HistoryTransfers : goal.returns-in-HistoryTransfers
+returns-in-HistoryTransfers g c =
+    begins_read g.L.Ledgers.means c.args.digest.now _ _ c.args.moment c.args.ledgers.now _ _ _ _
+    c.in-HistoryTransfers.is (λ m. refl) c.whole-in-HistoryTransfers.ensures c.history_of_transfers-found.ensures
+    c.reply_to_read-in-HistoryTransfers.ensures.shows c.reply_to_read-in-HistoryTransfers.ensures.told c.reply_to_read-in-HistoryTransfers.ensures.failed
 
-pub returns-in-LookupPending-clause-serves : goal.returns-in-LookupPending-clause-serves
-returns-in-LookupPending-clause-serves g c live =
-    serves_whole _ _ _ _ _ _ _ c.whole-in-LookupPending.ensures (
-    serves_by_read _ _ _ _ _ _ _ (c.in-LookupPending.is ∙ ap LookupPending
-    (sym c.as_slice-in-LookupPending.ensures)) (λ m. refl)
-    (c.looked_up_holds-found.ensures.reads.same live)
-    (λ ne. c.reply_to_read-in-LookupPending.ensures.shows _
-    (c.looked_up_holds-found.ensures.told live _) ne))
+pub returns-in-HistoryBalances : goal.returns-in-HistoryBalances
+returns-in-HistoryBalances g c =
+    begins_read g.L.Ledgers.means c.args.digest.now _ _ c.args.moment c.args.ledgers.now _ _ _ _
+    c.in-HistoryBalances.is (λ m. refl) c.whole-in-HistoryBalances.ensures c.history_of_balances-found.ensures
+    c.reply_to_read-in-HistoryBalances.ensures.shows c.reply_to_read-in-HistoryBalances.ensures.told c.reply_to_read-in-HistoryBalances.ensures.failed
 
-pub returns-in-Statement-clause-serves : goal.returns-in-Statement-clause-serves
-returns-in-Statement-clause-serves g c live =
+pub returns-in-Query : goal.returns-in-Query
+returns-in-Query g c =
+    begins_read g.L.Ledgers.means c.args.digest.now _ _ c.args.moment c.args.ledgers.now _ _ _ _
+    c.in-Query.is (λ m. refl) c.whole-in-Query.ensures c.queried.ensures
+    c.reply_to_read-in-Query.ensures.shows c.reply_to_read-in-Query.ensures.told c.reply_to_read-in-Query.ensures.failed
+
+pub returns-in-LookupPending : goal.returns-in-LookupPending
+returns-in-LookupPending g c =
+    begins_read g.L.Ledgers.means c.args.digest.now _ _ c.args.moment c.args.ledgers.now _ _ _ _
+    (c.in-LookupPending.is ∙ ap LookupPending (sym c.as_slice-in-LookupPending.ensures)) (λ m. refl) c.whole-in-LookupPending.ensures c.looked_up_holds-found.ensures
+    c.reply_to_read-in-LookupPending.ensures.shows c.reply_to_read-in-LookupPending.ensures.told c.reply_to_read-in-LookupPending.ensures.failed
+
+pub returns-in-Statement : goal.returns-in-Statement
+returns-in-Statement g c =
     subst
-    (λ (request : Request). Serves (g.L.Ledgers.means.tenants c.args.ledgers.now)
-    (g.L.Ledgers.means.tenants c.begin_statement.new.ledgers) c.args.digest.now (Ok request) c.args.moment
-    (reply_of (g.L.Ledgers.means.tenants c.begin_statement.new.ledgers) c.begin_statement.result))
-    (sym c.in-Statement.is) (c.begin_statement.ensures.serves live c.args.moment)
-
-pub returns-in-LookupAccounts-clause-finds : goal.returns-in-LookupAccounts-clause-finds
-returns-in-LookupAccounts-clause-finds g c =
-    finds_whole g.L.Ledgers.means _ _ _ _ _ c.whole-in-LookupAccounts.ensures (
-    finds_by_read g.L.Ledgers.means _ _ _ _ _ _ _ _
-    (c.in-LookupAccounts.is ∙ ap LookupAccounts (sym c.as_slice.ensures))
-    (λ m. refl) c.reply_to_read.ensures.told c.looked_up_accounts-found.ensures.finds)
-
-pub returns-in-LookupTransfers-clause-finds : goal.returns-in-LookupTransfers-clause-finds
-returns-in-LookupTransfers-clause-finds g c =
-    finds_whole g.L.Ledgers.means _ _ _ _ _ c.whole-in-LookupTransfers.ensures (
-    finds_by_read g.L.Ledgers.means _ _ _ _ _ _ _ _
-    (c.in-LookupTransfers.is
-    ∙ ap LookupTransfers (sym c.as_slice-in-LookupTransfers.ensures))
-    (λ m. refl) c.reply_to_read-in-LookupTransfers.ensures.told c.looked_up_transfers-found.ensures.finds)
-
-pub returns-in-HistoryTransfers-clause-finds : goal.returns-in-HistoryTransfers-clause-finds
-returns-in-HistoryTransfers-clause-finds g c =
-    finds_whole g.L.Ledgers.means _ _ _ _ _ c.whole-in-HistoryTransfers.ensures (
-    finds_by_read g.L.Ledgers.means _ _ _ _ _ _ _ _
-    c.in-HistoryTransfers.is
-    (λ m. refl) c.reply_to_read-in-HistoryTransfers.ensures.told
-    c.history_of_transfers-found.ensures.finds)
-
-pub returns-in-HistoryBalances-clause-finds : goal.returns-in-HistoryBalances-clause-finds
-returns-in-HistoryBalances-clause-finds g c =
-    finds_whole g.L.Ledgers.means _ _ _ _ _ c.whole-in-HistoryBalances.ensures (
-    finds_by_read g.L.Ledgers.means _ _ _ _ _ _ _ _
-    c.in-HistoryBalances.is
-    (λ m. refl) c.reply_to_read-in-HistoryBalances.ensures.told c.history_of_balances-found.ensures.finds)
-
-pub returns-in-Query-clause-finds : goal.returns-in-Query-clause-finds
-returns-in-Query-clause-finds g c =
-    finds_whole g.L.Ledgers.means _ _ _ _ _ c.whole-in-Query.ensures (
-    finds_by_read g.L.Ledgers.means _ _ _ _ _ _ _ _
-    c.in-Query.is
-    (λ m. refl) c.reply_to_read-in-Query.ensures.told c.queried.ensures.finds)
-
-pub returns-in-LookupPending-clause-finds : goal.returns-in-LookupPending-clause-finds
-returns-in-LookupPending-clause-finds g c =
-    finds_whole g.L.Ledgers.means _ _ _ _ _ c.whole-in-LookupPending.ensures (
-    finds_by_read g.L.Ledgers.means _ _ _ _ _ _ _ _
-    (c.in-LookupPending.is ∙ ap LookupPending (sym c.as_slice-in-LookupPending.ensures))
-    (λ m. refl) c.reply_to_read-in-LookupPending.ensures.told c.looked_up_holds-found.ensures.finds)
-
-pub returns-in-Statement-clause-finds : goal.returns-in-Statement-clause-finds
-returns-in-Statement-clause-finds g c =
-    subst
-    (λ (request : Request). Finds g.L.Ledgers.means
-    (reply_of (g.L.Ledgers.means.tenants c.begin_statement.new.ledgers) c.begin_statement.result ≢ unavailable)
-    (IsDeedDone (Asked c.args.digest.now (Ok request) c.args.moment)) c.args.ledgers.now
-    c.begin_statement.new.ledgers)
-    (sym c.in-Statement.is) (c.begin_statement.ensures.finds c.args.moment)
+    (λ (request : Request). BeginsOver g.L.Ledgers.means c.args.digest.now (Ok request) c.args.moment
+    c.args.ledgers.now c.begin_statement.new.ledgers c.begin_statement.result)
+    (sym c.in-Statement.is) (record {
+      serves = λ live. c.begin_statement.ensures.serves live c.args.moment;
+      failed = c.begin_statement.ensures.failed;
+      finds = c.begin_statement.ensures.finds c.args.moment;
+      left = c.begin_statement.ensures.left;
+      usable = c.begin_statement.ensures.stays.usable;
+      follows = c.begin_statement.ensures.stays.follows;
+    })

@@ -1,31 +1,20 @@
-use Rattle.std.proofs.Common.{refl, sym, ap, ◌∙◌}
-use Rattle.records.specs.declared.transfer.Transfer.{Transfer}
+use Rattle.std.proofs.Common.{refl, sym, ap}
 use Rattle.records.specs.Reads.{history_answer}
-use Rattle.chain.specs.declared.reads.Listed.{Listed}
 use Rattle.chain.specs.LedgerReads.{seen_of_list}
 use Rattle.wire.specs.declared.outcome.Outcome.TheVariants as told
 use Rattle.wire.specs.declared.request.Request.TheVariants.{HistoryTransfers}
-use Rattle.service.proofs.FindingLemmas as finding
-use Rattle.service.proofs.ShownReads.{told_as_seen, told_as_fault, told_on}
+use Rattle.service.proofs.ShownReads.{fault_read, shown_read}
 use Rattle.service.proofs.reading.history_of_transfers.Goals as goal
 
-pub returns-in_err-found-clause-told : goal.returns-in_err-found-clause-told
-returns-in_err-found-clause-told g c live moment =
-    told_on _ c.from_residual.result _ c.from_residual.ensures.1
-    (told_as_fault (HistoryTransfers c.args.asked.now) moment
-    (λ m. history_answer m c.args.asked.now)
-    told.Transfers seen_of_list _ _ (record { tells = λ m. refl })
-    (c.in_err-found.ensures.told live))
+pub returns-in_err-found : goal.returns-in_err-found
+returns-in_err-found g c =
+    fault_read (HistoryTransfers c.args.asked.now) (λ m. history_answer m c.args.asked.now)
+    told.Transfers seen_of_list g.L.Ledgers.means c.args.digest.now _ _ c.from_residual.result _
+    (λ moment. record { tells = λ m. refl }) c.from_residual.ensures.1 c.in_err-found.ensures
 
-pub returns-clause-told : goal.returns-clause-told
-returns-clause-told g c live moment =
-    told_as_seen (HistoryTransfers c.args.asked.now) moment (λ m. history_answer m c.args.asked.now)
-    told.Transfers _ _ (record { tells = λ m. refl })
-    (c.in_ok-found.ensures.told live)
-    ∙ ap (told.Transfers c.in_ok-found.found.clock) (sym c.into.ensures)
-
-pub returns-in_err-found-clause-finds : goal.returns-in_err-found-clause-finds
-returns-in_err-found-clause-finds g c =
-    finding.finds_on g.L.Ledgers.means _ _ _ _ _ _
-    (finding.told_on (Listed Transfer) c.from_residual.result _ c.from_residual.ensures.1)
-    (λ was now nowhere. nowhere) c.in_err-found.ensures.finds
+pub returns : goal.returns
+returns g c =
+    shown_read (HistoryTransfers c.args.asked.now) (λ m. history_answer m c.args.asked.now)
+    told.Transfers seen_of_list g.L.Ledgers.means c.args.digest.now _ _ _ c.in_ok-found.found
+    (λ moment. record { tells = λ m. refl })
+    (ap (told.Transfers c.in_ok-found.found.clock) (sym c.into.ensures)) c.in_ok-found.ensures

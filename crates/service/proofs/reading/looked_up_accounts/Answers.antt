@@ -1,33 +1,20 @@
-use Rattle.std.proofs.Common.{refl, sym, ap, ◌∙◌}
-use Rattle.records.specs.declared.facts.AccountWithBalances.{AccountWithBalances}
+use Rattle.std.proofs.Common.{refl, sym, ap}
 use Rattle.records.specs.Reads.{Found, found_accounts}
-use Rattle.chain.specs.declared.reads.Listed.{Listed}
 use Rattle.chain.specs.LedgerReads.{seen_of_list}
 use Rattle.wire.specs.declared.outcome.Outcome.TheVariants as told
 use Rattle.wire.specs.declared.request.Request.TheVariants.{LookupAccounts}
-use Rattle.service.proofs.FindingLemmas as finding
-use Rattle.service.proofs.ShownReads.{told_as_seen, told_as_fault, told_on}
+use Rattle.service.proofs.ShownReads.{fault_read, shown_read}
 use Rattle.service.proofs.reading.looked_up_accounts.Goals as goal
 
-pub returns-in_err-found-clause-told : goal.returns-in_err-found-clause-told
-returns-in_err-found-clause-told g c live moment =
-    told_on _ c.from_residual.result _ c.from_residual.ensures.1
-    (told_as_fault (LookupAccounts c.args.ids.now) moment
-    (λ m. Found (found_accounts m c.args.ids.now))
-    told.Accounts seen_of_list _ _ (record { tells = λ m. refl })
-    (c.in_err-found.ensures.told live))
+pub returns-in_err-found : goal.returns-in_err-found
+returns-in_err-found g c =
+    fault_read (LookupAccounts c.args.ids.now) (λ m. Found (found_accounts m c.args.ids.now))
+    told.Accounts seen_of_list g.L.Ledgers.means c.args.digest.now _ _ c.from_residual.result _
+    (λ moment. record { tells = λ m. refl }) c.from_residual.ensures.1 c.in_err-found.ensures
 
-pub returns-clause-told : goal.returns-clause-told
-returns-clause-told g c live moment =
-    told_as_seen (LookupAccounts c.args.ids.now) moment
-    (λ m. Found (found_accounts m c.args.ids.now))
-    told.Accounts _ _ (record { tells = λ m. refl })
-    (c.in_ok-found.ensures.told live)
-    ∙ ap (told.Accounts c.in_ok-found.found.clock) (sym c.into.ensures)
-
-pub returns-in_err-found-clause-finds : goal.returns-in_err-found-clause-finds
-returns-in_err-found-clause-finds g c =
-    finding.finds_on g.L.Ledgers.means _ _ _ _ _ _
-    (finding.told_on (Listed AccountWithBalances) c.from_residual.result _
-    c.from_residual.ensures.1)
-    (λ was now nowhere. nowhere) c.in_err-found.ensures.finds
+pub returns : goal.returns
+returns g c =
+    shown_read (LookupAccounts c.args.ids.now) (λ m. Found (found_accounts m c.args.ids.now))
+    told.Accounts seen_of_list g.L.Ledgers.means c.args.digest.now _ _ _ c.in_ok-found.found
+    (λ moment. record { tells = λ m. refl })
+    (ap (told.Accounts c.in_ok-found.found.clock) (sym c.into.ensures)) c.in_ok-found.ensures

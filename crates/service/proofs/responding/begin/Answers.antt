@@ -15,89 +15,77 @@ use Rattle.service.proofs.Responses.{responds_told, telling_told, page_telling}
 use Rattle.service.proofs.Responses.{health_telling, failure_telling}
 use Rattle.service.proofs.responding.begin.Goals as goal
 
-pub returns-in-Ok-clause-responds : goal.returns-in-Ok-clause-responds
-returns-in-Ok-clause-responds g c live =
-    let a = c.in-Ok.ensures in
-    responds_to _ _ _ a.head (question_of c.in-Ok.asked) _ _ a.has a.told
-    (c.answer.ensures.serves live)
+pub returns-in-Ok-clause-replies : goal.returns-in-Ok-clause-replies
+returns-in-Ok-clause-replies g c = record {
+  responds = λ live.
+      let a = c.in-Ok.ensures in
+      responds_to _ _ _ a.head (question_of c.in-Ok.asked) _ _ a.has a.told
+      (c.answer.ensures.serves live);
+  early =
+      let a = c.in-Ok.ensures in
+      early_of _ a.head (question_of c.in-Ok.asked) _ a.has a.told;
+  page =
+      let a = c.in-Ok.ensures in
+      no_page _ a.head (question_of c.in-Ok.asked) _ a.has a.told;
+  health =
+      let a = c.in-Ok.ensures in
+      no_health _ _ a.head (question_of c.in-Ok.asked) _ a.has a.told;
+  failed =
+      let a = c.in-Ok.ensures in record {
+        head = a.head;
+        has = a.has;
+        failure = λ failed ok. so_whole (λ (r : Reply). r ≡ unavailable) _ unavailable _ (c.answer.ensures.failed failed) refl;
+      };
+  finds =
+      let a = c.in-Ok.ensures in
+      finds_on g.L.Ledgers.means _ _ _ _ _ _ (λ answered. answered.available)
+      (λ was now left. (
+        a.head,
+        a.has,
+        subst (λ (asked : Result Question Early). IsLeftByAsked asked c.args.moment was now)
+            (sym a.told) left,
+      ))
+      c.answer.ensures.finds;
+  usable = c.answer.ensures.usable;
+  follows = c.answer.ensures.follows;
+}
 
-pub returns-in-Ok-clause-early : goal.returns-in-Ok-clause-early
-returns-in-Ok-clause-early g c =
-    let a = c.in-Ok.ensures in
-    early_of _ a.head (question_of c.in-Ok.asked) _ a.has a.told
-
-pub returns-in-Ok-clause-page : goal.returns-in-Ok-clause-page
-returns-in-Ok-clause-page g c =
-    let a = c.in-Ok.ensures in
-    no_page _ a.head (question_of c.in-Ok.asked) _ a.has a.told
-
-pub returns-in-Err-clause-responds : goal.returns-in-Err-clause-responds
-returns-in-Err-clause-responds g c live =
-    let a = c.in-Err.ensures in
-    so_whole (λ (r : Reply). Responds (g.L.Ledgers.means.tenants c.args.ledgers.now) (g.L.Ledgers.means.tenants c.args.ledgers.now) c.args.bytes.now c.args.moment r) _ _ _ c.whole.ensures (
-    rw c.told_early.ensures
-    (responds_told _ _ _ a.head c.in-Err.early _ a.has a.told (λ is. a.unavailable (ap Err is))))
-
-pub returns-in-Err-clause-early : goal.returns-in-Err-clause-early
-returns-in-Err-clause-early g c =
-    let a = c.in-Err.ensures in
-    so_whole (λ (r : Reply). RefusesEarly c.args.bytes.now r) _ _ _ c.whole.ensures (
-    rw c.told_early.ensures
-    (telling_told _ _ a.head c.in-Err.early a.has a.told (λ is. a.unavailable (ap Err is))))
-
-pub returns-in-Err-clause-page : goal.returns-in-Err-clause-page
-returns-in-Err-clause-page g c =
-    let a = c.in-Err.ensures in
-    so_whole (λ (r : Reply). TellsPage c.args.bytes.now r) _ _ _ c.whole.ensures (
-    rw c.told_early.ensures (page_telling _ _ a.head c.in-Err.early _ a.has refl a.page))
-
-pub returns-in-Ok-clause-health : goal.returns-in-Ok-clause-health
-returns-in-Ok-clause-health g c =
-    let a = c.in-Ok.ensures in
-    no_health _ _ a.head (question_of c.in-Ok.asked) _ a.has a.told
-
-pub returns-in-Err-clause-health : goal.returns-in-Err-clause-health
-returns-in-Err-clause-health g c =
-    let a = c.in-Err.ensures in
-    so_whole (λ (r : Reply). TellsHealth (g.L.Ledgers.means.has_failed c.args.ledgers.now) c.args.bytes.now r) _ _ _ c.whole.ensures (
-    rw c.told_early.ensures (health_telling _ _ a.head c.in-Err.early _ a.has refl a.health))
-
-pub returns-in-Ok-clause-failed : goal.returns-in-Ok-clause-failed
-returns-in-Ok-clause-failed g c =
-    let a = c.in-Ok.ensures in record {
-      head = a.head;
-      has = a.has;
-      failure = λ failed ok. so_whole (λ (r : Reply). r ≡ unavailable) _ unavailable _ (c.answer.ensures.failed failed) refl;
-    }
-
-pub returns-in-Err-clause-failed : goal.returns-in-Err-clause-failed
-returns-in-Err-clause-failed g c =
-    let a = c.in-Err.ensures in
-    so_whole (λ (r : Reply). TellsFailure (g.L.Ledgers.means.has_failed c.args.ledgers.now) c.args.bytes.now r) _ _ _ c.whole.ensures (
-    rw c.told_early.ensures (failure_telling _ _ a.head c.in-Err.early a.has a.told))
-
-pub returns-in-Ok-clause-finds : goal.returns-in-Ok-clause-finds
-returns-in-Ok-clause-finds g c =
-    let a = c.in-Ok.ensures in
-    finds_on g.L.Ledgers.means _ _ _ _ _ _ (λ answered. answered.available)
-    (λ was now left. (
-      a.head,
-      a.has,
-      subst (λ (asked : Result Question Early). IsLeftByAsked asked c.args.moment was now)
-          (sym a.told) left,
-    ))
-    c.answer.ensures.finds
-
-pub returns-in-Err-clause-finds : goal.returns-in-Err-clause-finds
-returns-in-Err-clause-finds g c =
-    let a = c.in-Err.ensures in
-    so_whole (λ (r : Reply). Finds g.L.Ledgers.means (IsQuestionAnswered c.args.bytes.now r) (IsLeftBy c.args.bytes.now c.args.moment) c.args.ledgers.now c.args.ledgers.now) _ _ _ c.whole.ensures (
-    finds_same g.L.Ledgers.means _ _ _
-    (λ answered.
-    let asks =
-    subst (λ (asked : Result Question Early). IsOk asked)
-    (a.told (λ is. answered.available (c.told_early.ensures ∙ ap (told_early _) is))) (answered.asks a.head a.has) in
-    cc))
+pub returns-in-Err-clause-replies : goal.returns-in-Err-clause-replies
+returns-in-Err-clause-replies g c = record {
+  responds = λ live.
+      let a = c.in-Err.ensures in
+      so_whole (λ (r : Reply). Responds (g.L.Ledgers.means.tenants c.args.ledgers.now) (g.L.Ledgers.means.tenants c.args.ledgers.now) c.args.bytes.now c.args.moment r) _ _ _ c.whole.ensures (
+      rw c.told_early.ensures
+      (responds_told _ _ _ a.head c.in-Err.early _ a.has a.told (λ is. a.unavailable (ap Err is))));
+  early =
+      let a = c.in-Err.ensures in
+      so_whole (λ (r : Reply). RefusesEarly c.args.bytes.now r) _ _ _ c.whole.ensures (
+      rw c.told_early.ensures
+      (telling_told _ _ a.head c.in-Err.early a.has a.told (λ is. a.unavailable (ap Err is))));
+  page =
+      let a = c.in-Err.ensures in
+      so_whole (λ (r : Reply). TellsPage c.args.bytes.now r) _ _ _ c.whole.ensures (
+      rw c.told_early.ensures (page_telling _ _ a.head c.in-Err.early _ a.has refl a.page));
+  health =
+      let a = c.in-Err.ensures in
+      so_whole (λ (r : Reply). TellsHealth (g.L.Ledgers.means.has_failed c.args.ledgers.now) c.args.bytes.now r) _ _ _ c.whole.ensures (
+      rw c.told_early.ensures (health_telling _ _ a.head c.in-Err.early _ a.has refl a.health));
+  failed =
+      let a = c.in-Err.ensures in
+      so_whole (λ (r : Reply). TellsFailure (g.L.Ledgers.means.has_failed c.args.ledgers.now) c.args.bytes.now r) _ _ _ c.whole.ensures (
+      rw c.told_early.ensures (failure_telling _ _ a.head c.in-Err.early a.has a.told));
+  finds =
+      let a = c.in-Err.ensures in
+      so_whole (λ (r : Reply). Finds g.L.Ledgers.means (IsQuestionAnswered c.args.bytes.now r) (IsLeftBy c.args.bytes.now c.args.moment) c.args.ledgers.now c.args.ledgers.now) _ _ _ c.whole.ensures (
+      finds_same g.L.Ledgers.means _ _ _
+      (λ answered.
+      let asks =
+      subst (λ (asked : Result Question Early). IsOk asked)
+      (a.told (λ is. answered.available (c.told_early.ensures ∙ ap (told_early _) is))) (answered.asks a.head a.has) in
+      cc));
+  usable = c.requires;
+  follows = g.met.L.Ledgers.stays c.args.ledgers.now;
+}
 
 pub returns-in-Ok-clause-asks : goal.returns-in-Ok-clause-asks
 returns-in-Ok-clause-asks g c =

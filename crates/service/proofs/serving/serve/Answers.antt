@@ -95,9 +95,9 @@ loop-replies-preserved g c =
           c.write.ensures.ok);
       reads = c.in-Ok-Some.ensures.failed;
       writes = c.write.ensures.failed ∙ (sym c.is_err.ensures.value ∙ c.if-is_err.false);
-      usable = c.exchange.ensures.usable;
+      usable = c.exchange.ensures.stays.usable;
       follows = g.met.L.Ledgers.then _ _ _ c.loop-replies.invariant.follows
-          c.exchange.ensures.follows;
+          c.exchange.ensures.stays.follows;
       few = omega arith;
     }
 

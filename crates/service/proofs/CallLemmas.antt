@@ -1,0 +1,93 @@
+-- Requests that are served over the ledgers, by batches and by reads.
+use Rattle.std.proofs.Common.{◌≡◌, ◌≢◌, ◌∙◌, true, ℕ, List, Result, Ok, Err, IfSome, sym, ap, subst}
+use Rattle.records.specs.Machine.{Machine}
+use Rattle.records.specs.declared.unavailable.Unavailable.{Unavailable}
+use Rattle.records.specs.declared.unavailable.Unavailable.TheVariants.{Disk}
+use Rattle.chain.specs.declared.ledgers.BatchFault.{BatchFault}
+use Rattle.chain.specs.declared.ledgers.BatchFault.TheVariants as batch
+use Rattle.chain.specs.declared.reads.ReadFault.{ReadFault}
+use Rattle.chain.specs.declared.reads.ReadFault.TheVariants as fault
+use Rattle.chain.specs.Ledgers.{LedgersMeaning, IsRun, Finds, IsAnswered, LeadsBy}
+use Rattle.chain.specs.LedgerReads.{IsTold, ReadsTenant}
+use Rattle.ledger_http.specs.declared.refusal.Refusal.{Refusal}
+use Rattle.ledger_http.specs.declared.reply.Reply.{Reply}
+use Rattle.ledger_http.specs.ReplyText.{reply_text}
+use Rattle.wire.specs.declared.outcome.Outcome.{Outcome}
+use Rattle.wire.specs.declared.request.Request.{Request}
+use Rattle.wire.specs.Told.{outcome_text}
+use Rattle.service.specs.declared.begun.Begun.{Begun}
+use Rattle.service.specs.Begun.{IsLeftOf, whole}
+use Rattle.service.specs.Calls.{BeginsOver, ServesOver}
+use Rattle.service.specs.Reading.{ShowsOutcome, ShowsTo}
+use Rattle.service.specs.Replies.{Gives, Serves, batch_reply, unavailable}
+use Rattle.service.specs.Served.{left_by}
+use Rattle.service.proofs.BatchGives.{serves_by_batch}
+use Rattle.service.proofs.BegunLemmas.{finds_whole, serves_whole}
+use Rattle.service.proofs.FindingLemmas.{finds_by_batch, finds_by_read}
+use Rattle.service.proofs.ServedReads.{serves_by_read}
+
+-- a batch
+pub batch_serves :
+    {S : Type 0} (t : LedgersMeaning S) (request : Request) (moment : ℕ) (digest : List ℕ) (old new : S)
+    (result : Result Reply BatchFault) (reply : Reply) → reply ≡ batch_reply result →
+    (t.is_live new → IsRun (Gives request moment) digest (t.tenants old) (t.tenants new) result) →
+    (t.has_failed old ≡ true → result ≡ Err (batch.Unavailable Disk)) →
+    Finds t (IsAnswered result) (LeadsBy (Gives request moment) digest) old new →
+    t.is_usable new → t.follows old new → ServesOver t digest (Ok request) moment old new reply
+batch_serves t request moment digest old new result reply is run failed finds usable follows = record {
+  serves = λ live.
+      subst (λ (r : Reply). Serves (t.tenants old) (t.tenants new) digest (Ok request) moment r) (sym is)
+      (serves_by_batch request moment digest (t.tenants old) (t.tenants new) result (run live));
+  failed = λ has. is ∙ ap batch_reply (failed has);
+  finds = finds_by_batch t old new request moment digest result reply is finds;
+  usable = usable;
+  follows = follows;
+}
+
+-- nothing is left of a reply that is whole
+none_left :
+    {S : Type 0} (t : LedgersMeaning S) (old new : S) (reply : Reply) (begun : Begun) → begun ≡ whole reply →
+    IfSome begun.rest (λ rest. t.is_live new → IsLeftOf (t.tenants old) (t.tenants new) rest)
+none_left t old new reply begun is =
+    subst (λ (b : Begun). IfSome b.rest (λ rest. t.is_live new → IsLeftOf (t.tenants old) (t.tenants new) rest))
+    (sym is) tt
+
+-- what is served at once, as a reply that is begun
+pub begins_served :
+    {S : Type 0} (t : LedgersMeaning S) (digest : List ℕ) (asked meaning : Result Request Refusal) (moment : ℕ)
+    (old new : S) (reply : Reply) (begun : Begun) → asked ≡ meaning → begun ≡ whole reply →
+    ServesOver t digest meaning moment old new reply → BeginsOver t digest asked moment old new begun
+begins_served t digest asked meaning moment old new reply begun is whole_is over =
+    subst (λ (m : Result Request Refusal). BeginsOver t digest m moment old new begun) (sym is) (record {
+      serves = λ live.
+          serves_whole (t.tenants old) (t.tenants new) digest meaning moment reply begun whole_is (over.serves live);
+      failed = λ has. whole_is ∙ ap whole (over.failed has);
+      finds = finds_whole t old new _ reply begun whole_is over.finds;
+      left = none_left t old new reply begun whole_is;
+      usable = over.usable;
+      follows = over.follows;
+    })
+
+-- a read, as a reply that is begun
+pub begins_read :
+    {S : Type 0} (t : LedgersMeaning S) (digest : List ℕ) (asked request : Request) (moment : ℕ) (old new : S)
+    (read : Result Outcome ReadFault) (reply : Reply) (begun : Begun) → asked ≡ request →
+    ((m : Machine) → left_by m moment request ≡ m) → begun ≡ whole reply →
+    ReadsTenant t digest (ShowsTo request) old new read →
+    ((told : Outcome) → ShowsOutcome told read → reply ≢ unavailable → reply_text reply ≡ outcome_text told) →
+    (reply ≢ unavailable → IsTold read) →
+    ((why : Unavailable) → read ≡ Err (fault.Unavailable why) → reply ≡ unavailable) →
+    BeginsOver t digest (Ok asked) moment old new begun
+begins_read t digest asked request moment old new read reply begun is same whole_is reads shows told failed =
+    record {
+      serves = λ live.
+          serves_whole (t.tenants old) (t.tenants new) digest (Ok asked) moment reply begun whole_is
+          (serves_by_read (t.tenants old) (t.tenants new) digest asked request moment reply is same
+          (reads.reads.same live) (λ ne. shows _ (reads.told live moment) ne));
+      failed = λ has. whole_is ∙ ap whole (failed Disk (reads.failed has));
+      finds = finds_whole t old new _ reply begun whole_is
+          (finds_by_read t old new asked request moment digest _ _ is same told reads.finds);
+      left = none_left t old new reply begun whole_is;
+      usable = reads.reads.usable;
+      follows = reads.reads.follows;
+    }
