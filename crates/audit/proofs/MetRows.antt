@@ -1,5 +1,5 @@
 -- Rows that were met one by one are all the rows that are there.
-use Rattle.std.proofs.Common.{◌≡◌, ◌≢◌, ◌<◌, ◌≤◌, ◌+◌, ◌-◌, ◌*◌, ◌^◌, ℕ, zero, suc, Bool, true, false, cond, List, [], ◌∷◌, ◌++◌, map, take, length, get_or, slice_get, Option, Some, None, IfSome, inl, inr, ◌⊎◌, refl, sym, ap, ◌∙◌, subst, arith, IsPermutation}
+use Rattle.std.proofs.Common.{◌≡◌, ◌≢◌, ◌<◌, ◌≤◌, ◌+◌, ℕ, zero, suc, Bool, true, false, List, [], ◌∷◌, ◌++◌, map, length, get_or, slice_get, Option, Some, None, IfSome, refl, sym, ap, ◌∙◌, subst, arith, IsPermutation}
 use Rattle.std.specs.Bool.{OnTrue}
 use Rattle.std.specs.List.{All}
 use Rattle.std.specs.Option.{is_some}
@@ -16,7 +16,7 @@ use Rattle.rows.specs.Tables.{HasDistinctKeys, IsAscendingBy, history_key}
 use Rattle.rows.specs.TypedRows.{FileRows}
 use Rattle.rows.specs.Widths.{IsStorableHistory}
 use Rattle.audit.specs.declared.meeting.Meeting.{Meeting}
-use Rattle.audit.specs.Meeting.{AreAmong, AreAscending, IsAmong, IsToldOf, Met}
+use Rattle.audit.specs.Meeting.{AreAscending, IsAmong, IsToldOf, Met}
 use Rattle.audit.specs.Order.{in_order}
 use Rattle.audit.proofs.DerivedRows.{ascending_is_sorted, has_derived}
 use Rattle.audit.proofs.ShapedRows.{as_long, there}

@@ -1,5 +1,5 @@
 -- The history that a replay tells is that of the machine at each clock.
-use Rattle.std.proofs.Common.{◌≡◌, ◌<◌, ◌≤◌, ℕ, Bool, true, false, leb, ◌&&◌, cond, List, [], ◌++◌, slice_get, append-nil, None, refl, sym, ap, ◌∙◌, subst, arith}
+use Rattle.std.proofs.Common.{◌≡◌, ℕ, Bool, true, false, leb, ◌&&◌, cond, List, [], ◌++◌, slice_get, append-nil, None, refl, sym, ap, ◌∙◌, subst, arith}
 use Rattle.records.specs.Machine.{Machine}
 use Rattle.records.specs.Step.{at_clock, max_clock}
 use Rattle.rows.specs.declared.history_row.HistoryRow.{HistoryRow}
@@ -14,7 +14,7 @@ use Rattle.audit.specs.declared.replayed.Replayed.TheVariants.{Accepted}
 use Rattle.audit.specs.Meeting.{HasMet, IsToldOf, Met}
 use Rattle.audit.specs.Replayed.{IfAllAccepted}
 use Rattle.audit.specs.declared.damage.DamageKind.TheVariants as kind
-use Rattle.audit.specs.Order.{IsFirstPlace, Differ, in_order}
+use Rattle.audit.specs.Order.{IsFirstPlace, Differ}
 use Rattle.audit.specs.Stages.{IsClearBelow}
 use Rattle.audit.specs.Table.{IsBadTime, IsRefusedRow}
 use Rattle.audit.specs.Told.{TellsRows, entries_told, machine_told}

@@ -1,29 +1,24 @@
 //! The rows of a newer version of the schema.
 
-ghost use Rattle.std.specs.Prelude.{◌≡◌, ◌<◌, List, All, map, IfOk};
+ghost use Rattle.std.specs.Prelude.{◌≡◌, ◌<◌, List, IfOk};
 ghost use Rattle.records.specs.Machine.{Machine, new_machine};
 ghost use Rattle.records.specs.Valid.{IsValid};
-ghost use Rattle.rows.specs.Cells.{balance_cells, status_cells, history_cells};
-ghost use Rattle.rows.specs.Prescribed.{history_rows, rows_for};
-ghost use Rattle.rows.specs.Tables.{history_key};
+ghost use Rattle.rows.specs.Prescribed.{history_rows};
 ghost use Rattle.rows.specs.TypedRows.{lists_of};
-ghost use Rattle.rows.specs.Widths.{IsStorableStatus, IsStorableHistory};
 ghost use Rattle.running.specs.declared.entry.Entry.{Entry};
 ghost use Rattle.running.specs.Entries.{AreNext, machine_of};
 ghost use Rattle.running.specs.Running.{IsRunning};
 ghost use Rattle.audit.specs.Held.{AreEntriesIn};
 ghost use Rattle.audit.specs.Newer.{none_failed};
-ghost use Rattle.audit.specs.Order.{in_order};
 ghost use Rattle.audit.specs.Sound.{AreRowsOf, AreSound};
 
+use crate::cells::in_cells;
 use crate::derived::{balance_rows, history_rows, status_rows};
 use crate::entries::places;
 use crate::in_time::InTime;
 use crate::sound_law::sound_rows_lead;
 use crate::told::Told;
-use rows::{
-    BalanceCells, BalanceRow, HistoryCells, HistoryRow, StatusCells, StatusRow, TenantRows,
-};
+use rows::{HistoryRow, TenantRows};
 use running::{ReplayFault, Running, replay_from};
 use std::alloc::{AllocError, Global};
 
@@ -45,9 +40,9 @@ pub fn rows_in_version(
 {
     sound_rows_lead();
     let (running, told) = sound_machine(alloc, version, &rows)?;
-    let balances = balance_list(alloc, to, &running)?;
-    let statuses = status_list(alloc, to, &running)?;
-    let history = history_list(alloc, to, told)?;
+    let balances = in_cells(alloc, &balance_rows(alloc, to, &running)?)?;
+    let statuses = in_cells(alloc, &status_rows(alloc, to, &running)?)?;
+    let history = in_cells(alloc, &history_rows(alloc, to, told)?)?;
     Ok(TenantRows {
         balances,
         statuses,
@@ -93,68 +88,4 @@ fn replay_sound(alloc: Global, source: &InTime) -> Result<(Running, Vec<HistoryR
         Err(ReplayFault::Refused(_)) => unreachable!(),
         Err(ReplayFault::Memory) => Err(AllocError),
     }
-}
-
-fn balance_list(alloc: Global, to: u32, running: &Running) -> Result<Vec<BalanceCells>, AllocError>
-    requires { (m : Machine) × IsRunning m running.now }
-    ensures { IfOk result (λ list. (m : Machine) →
-        IsRunning m running.now →
-        list.items ≡ map balance_cells (in_order (λ row. row.account) (rows_for to m).balances)) }
-{
-    let rows = balance_rows(alloc, to, running)?;
-    balances_in_cells(alloc, &rows)
-}
-
-fn balances_in_cells(alloc: Global, rows: &[BalanceRow]) -> Result<Vec<BalanceCells>, AllocError>
-    ensures { IfOk result (λ list. list.items ≡ map balance_cells rows.now) }
-{
-    rows.iter()
-        .map(|row| BalanceCells::from_row(row))
-        .collect(alloc)
-}
-
-fn status_list(alloc: Global, to: u32, running: &Running) -> Result<Vec<StatusCells>, AllocError>
-    requires { (m : Machine) × IsRunning m running.now }
-    ensures { IfOk result (λ list. (m : Machine) →
-        IsRunning m running.now →
-        list.items ≡ map status_cells (in_order (λ row. row.transfer) (rows_for to m).statuses)) }
-{
-    let rows = status_rows(alloc, to, running)?;
-    statuses_in_cells(alloc, &rows)
-}
-
-fn statuses_in_cells(alloc: Global, rows: &[StatusRow]) -> Result<Vec<StatusCells>, AllocError>
-    requires { All IsStorableStatus rows.now }
-    ensures { IfOk result (λ list. list.items ≡ map status_cells rows.now) }
-{
-    let mut list = Vec::new(alloc);
-    for row in rows {
-        list.push(StatusCells::from_row(row))?;
-    }
-    Ok(list)
-}
-
-fn history_list(
-    alloc: Global,
-    to: u32,
-    told: Vec<HistoryRow>,
-) -> Result<Vec<HistoryCells>, AllocError>
-    requires { (m : Machine) × IsValid m × (told.items ≡ history_rows m) }
-    ensures { IfOk result (λ list. (m : Machine) →
-        IsValid m → told.items ≡ history_rows m →
-        list.items ≡ map history_cells (in_order history_key (rows_for to m).history)) }
-{
-    let rows = history_rows(alloc, to, told)?;
-    history_in_cells(alloc, &rows)
-}
-
-fn history_in_cells(alloc: Global, rows: &[HistoryRow]) -> Result<Vec<HistoryCells>, AllocError>
-    requires { All IsStorableHistory rows.now }
-    ensures { IfOk result (λ list. list.items ≡ map history_cells rows.now) }
-{
-    let mut list = Vec::new(alloc);
-    for row in rows {
-        list.push(HistoryCells::from_row(row))?;
-    }
-    Ok(list)
 }

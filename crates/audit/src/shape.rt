@@ -1,63 +1,12 @@
 //! Rows with cells that cannot be read.
 
-ghost use Rattle.std.specs.Prelude.{◌≡◌, ℕ, ℤ, List, All, IsTrue, IfNone};
-ghost use Rattle.std.specs.Bool.{Decides};
+ghost use Rattle.std.specs.Prelude.{◌≡◌, All, IfNone};
 ghost use Rattle.rows.specs.TypedRows.{lists_of};
 ghost use Rattle.audit.specs.Order.{IsBadRow, IsFirstPlace, lesser_place};
 ghost use Rattle.audit.specs.Shapes.{HasOneClock, IsMisshapen, AreShaped};
 
-use rows::{AccountCells, HistoryCells, StatusCells, TenantRows, TransferCells};
-
-/// A row whose cells may be out of shape.
-trait Shaped {
-    ghost use Rattle.std.specs.Bool.{Decides};
-
-    ghost IsShaped: { Self → Type 0 };
-
-    // Whether all cells can be read.
-    fn is_shaped(&self) -> bool
-        ensures { Decides result (IsShaped self.now) };
-}
-
-impl Shaped for AccountCells {
-    ghost use Rattle.audit.specs.Shapes.{IsAccountRow};
-
-    ghost IsShaped = { IsAccountRow };
-
-    fn is_shaped(&self) -> bool {
-        self.to_account().is_some()
-    }
-}
-
-impl Shaped for TransferCells {
-    ghost use Rattle.audit.specs.Shapes.{IsTransferRow};
-
-    ghost IsShaped = { IsTransferRow };
-
-    fn is_shaped(&self) -> bool {
-        self.to_transfer().is_some()
-    }
-}
-
-impl Shaped for StatusCells {
-    ghost use Rattle.audit.specs.Shapes.{IsStatusRow};
-
-    ghost IsShaped = { IsStatusRow };
-
-    fn is_shaped(&self) -> bool {
-        0 <= self.state && 0 <= self.due
-    }
-}
-
-impl Shaped for HistoryCells {
-    ghost use Rattle.audit.specs.Shapes.{IsHistoryRow};
-
-    ghost IsShaped = { IsHistoryRow };
-
-    fn is_shaped(&self) -> bool {
-        0 <= self.timestamp
-    }
-}
+use crate::cells::Cells;
+use rows::TenantRows;
 
 /// The first place at which a row cannot be read.
 pub(crate) fn first_misshapen(rows: &TenantRows) -> Option<usize>
@@ -72,9 +21,9 @@ pub(crate) fn first_misshapen(rows: &TenantRows) -> Option<usize>
     first(first_without_clock(&rows.clocks), first(entries, derived))
 }
 
-fn first_bad_row<R: Shaped>(rows: &[R]) -> Option<usize>
-    ensures first { IsFirstPlace (IsBadRow R.IsShaped rows.now) result }
-    ensures shaped { IfNone result (All R.IsShaped rows.now) }
+fn first_bad_row<C: Cells>(rows: &[C]) -> Option<usize>
+    ensures first { IsFirstPlace (IsBadRow C.IsShaped rows.now) result }
+    ensures shaped { IfNone result (All C.IsShaped rows.now) }
 {
     for (place, row) in rows.iter().enumerate() {
         if !row.is_shaped() {

@@ -12,12 +12,13 @@ ghost use Rattle.audit.specs.Stages.{IsClearBelow, FindsBelow};
 ghost use Rattle.audit.specs.Told.{TellsRows, entries_told, machine_told};
 
 use crate::DamageKind;
-use crate::derived::settle_if_it_can;
+use crate::cells::first_difference;
+use crate::derived::{balance_rows, settle_if_it_can, status_rows};
 use crate::failed::first_bad_failed;
+use crate::history::first_bad_history;
 use crate::meeting::Meeting;
 use crate::replayed::{Replayed, replay_told};
 use crate::shape::first_misshapen;
-use crate::tables::{first_bad_balance, first_bad_history, first_bad_status};
 use crate::times::first_bad_time;
 use crate::told::Told;
 use rows::{TenantRows, cells_tell_rows, keys_are_distinct};
@@ -154,11 +155,12 @@ fn find_in_sums(
     requires clear { IsClearBelow version (lists_of rows.now) 4 }
     ensures { IfOk result (FindsBelow version (lists_of rows.now) 6) }
 {
-    let balance = first_bad_balance(alloc, version, rows, &running)?;
+    cells_tell_rows();
+    let balance = first_difference(&rows.balances, &balance_rows(alloc, version, &running)?);
     if let Some(place) = balance {
         return Ok(damage_at(DamageKind::Balance, place));
     }
-    let status = first_bad_status(alloc, version, rows, &running)?;
+    let status = first_difference(&rows.statuses, &status_rows(alloc, version, &running)?);
     match status {
         Some(place) => Ok(damage_at(DamageKind::Status, place)),
         None => Ok(None),

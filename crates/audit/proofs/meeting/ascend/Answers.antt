@@ -1,7 +1,7 @@
 use Rattle.std.proofs.Common.{List, take, sym, subst}
 use Rattle.std.proofs.lemmas.List.{take_more}
 use Rattle.rows.specs.declared.history_cells.HistoryCells.{HistoryCells}
-use Rattle.audit.proofs.MetRows.{HasRead, read_on, ascending}
+use Rattle.audit.proofs.MetRows.{HasRead, read_on}
 use Rattle.audit.proofs.meeting.ascend.Goals as goal
 
 pub loop-cells-preserved : goal.loop-cells-preserved

@@ -1,4 +1,4 @@
-use Rattle.std.proofs.Common.{◌≡◌, ◌<◌, ℕ, List, map, sym, subst}
+use Rattle.std.proofs.Common.{◌≡◌, ◌<◌, ℕ, List, map, sym, ap, ◌∙◌, subst}
 use Rattle.records.specs.Machine.{Machine}
 use Rattle.records.specs.Valid.{IsValid}
 use Rattle.rows.specs.declared.balance_cells.BalanceCells.{BalanceCells}
@@ -24,12 +24,17 @@ module _ (theirs : DerivedRowsAreTheirs) (version to : ℕ) (rows : FileRows) (l
       λ i. record rows { balances = sym b i; statuses = sym s i; history = sym h i } in
       subst (AreRowsOf to (none_failed m)) is (theirs version to rows m less valid are)
 
+stored : {V C : Type 0} (cells : V → C) (list : List C) (read made wanted : List V) → list ≡ map cells read → read ≡ made → made ≡ wanted → list ≡ map cells wanted
+stored cells list read made wanted is same all = is ∙ ap (map cells) (same ∙ all)
+
 pub returns-clause-same : goal.returns-clause-same
 returns-clause-same c m valid are =
     let made = c.in_ok-running.ensures m valid are in
     let running = made.0 in
     theirs_too c.sound_rows_lead.ensures.derived c.args.version c.args.to (lists_of c.args.rows) c.requires.older m valid are c.in_ok-balances.balances.items c.in_ok-statuses.statuses.items c.in_ok-history.history.items
-    (c.in_ok-balances.ensures (none_failed m) running) (c.in_ok-statuses.ensures (none_failed m) running) (c.in_ok-history.ensures (none_failed m) running.valid made.1)
+    (stored balance_cells _ _ _ _ c.in_ok-balances.ensures c.deref.ensures.value (c.in_ok-balance_rows.ensures.all (none_failed m) running))
+    (stored status_cells _ _ _ _ c.in_ok-statuses.ensures c.deref-2.ensures.value (c.in_ok-status_rows.ensures.all (none_failed m) running))
+    (stored history_cells _ _ _ _ c.in_ok-history.ensures c.deref-3.ensures.value (c.in_ok-history_rows.ensures.all (none_failed m) running.valid made.1))
 
 pub returns-clause-sound : goal.returns-clause-sound
 returns-clause-sound c =
@@ -41,11 +46,13 @@ returns-clause-sound c =
       none_failed m,
       c.sound_rows_lead.ensures.valid m valid,
       theirs_too c.sound_rows_lead.ensures.derived c.args.version c.args.to (lists_of c.args.rows) c.requires.older m valid are c.in_ok-balances.balances.items c.in_ok-statuses.statuses.items c.in_ok-history.history.items
-          (c.in_ok-balances.ensures (none_failed m) running) (c.in_ok-statuses.ensures (none_failed m) running) (c.in_ok-history.ensures (none_failed m) running.valid made.1),
+          (stored balance_cells _ _ _ _ c.in_ok-balances.ensures c.deref.ensures.value (c.in_ok-balance_rows.ensures.all (none_failed m) running))
+          (stored status_cells _ _ _ _ c.in_ok-statuses.ensures c.deref-2.ensures.value (c.in_ok-status_rows.ensures.all (none_failed m) running))
+          (stored history_cells _ _ _ _ c.in_ok-history.ensures c.deref-3.ensures.value (c.in_ok-history_rows.ensures.all (none_failed m) running.valid made.1)),
     )
 
-pub history_list-requires : goal.history_list-requires
-history_list-requires c =
+pub history_rows-requires : goal.history_rows-requires
+history_rows-requires c =
     let r = c.requires.sound in
     let made = c.in_ok-running.ensures r.0 r.1 r.2 in
     (none_failed r.0, made.0.valid, made.1)

@@ -12,13 +12,13 @@ loop-place-preserved g c =
     let place = c.loop-place.place in
     let row = c.index-rows-place.result in
     let within = c.loop-place-test.true in
-    let here = subst g.R.Shaped.IsShaped c.index-rows-place.is (c.is_shaped.ensures.0 c.if-not-is_shaped.false) in (
-      one_more (IsBadRow g.R.Shaped.IsShaped rows) place c.loop-place.invariant.0 (good_at g.R.Shaped.IsShaped rows place row within here),
-      subst (All g.R.Shaped.IsShaped) (sym (take_more rows place row within)) (All-push g.R.Shaped.IsShaped (take place rows) (get_or rows place row) c.loop-place.invariant.1 here),
+    let here = subst g.C.Cells.IsShaped c.index-rows-place.is (c.is_shaped.ensures.0 c.if-not-is_shaped.false) in (
+      one_more (IsBadRow g.C.Cells.IsShaped rows) place c.loop-place.invariant.0 (good_at g.C.Cells.IsShaped rows place row within here),
+      subst (All g.C.Cells.IsShaped) (sym (take_more rows place row within)) (All-push g.C.Cells.IsShaped (take place rows) (get_or rows place row) c.loop-place.invariant.1 here),
     )
 
 pub returns-clause-first : goal.returns-clause-first
-returns-clause-first g c = none_past g.R.Shaped.IsShaped c.args.rows.now c.loop-place.place c.loop-place-test.false c.loop-place.invariant.0
+returns-clause-first g c = none_past g.C.Cells.IsShaped c.args.rows.now c.loop-place.place c.loop-place-test.false c.loop-place.invariant.0
 
 pub returns-clause-shaped : goal.returns-clause-shaped
-returns-clause-shaped g c = subst (All g.R.Shaped.IsShaped) (take_all c.loop-place.place c.args.rows.now c.loop-place-test.false) c.loop-place.invariant.1
+returns-clause-shaped g c = subst (All g.C.Cells.IsShaped) (take_all c.loop-place.place c.args.rows.now c.loop-place-test.false) c.loop-place.invariant.1

@@ -5,5 +5,5 @@ use Rattle.audit.proofs.shape.first_bad_row.Given as goal
 
 abbrev pub invariant-loop-place : goal.invariant-loop-place
 invariant-loop-place g l =
-    ((place : ℕ) → place < l.place → IsBadRow g.R.Shaped.IsShaped l.rows place → ⊥)
-    × All g.R.Shaped.IsShaped (take l.place l.rows)
+    ((place : ℕ) → place < l.place → IsBadRow g.C.Cells.IsShaped l.rows place → ⊥)
+    × All g.C.Cells.IsShaped (take l.place l.rows)

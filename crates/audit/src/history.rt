@@ -1,4 +1,4 @@
-//! The tables of a tenant beside the rows that its machine prescribes.
+//! A tenant's history beside the one that its machine prescribes.
 
 ghost use Rattle.std.specs.Prelude.{◌≡◌, IfOk, map};
 ghost use Rattle.std.specs.Bool.{OnTrue};
@@ -8,7 +8,6 @@ ghost use Rattle.rows.specs.Cells.{history_cells};
 ghost use Rattle.rows.specs.Prescribed.{history_rows, rows_for};
 ghost use Rattle.rows.specs.Tables.{HasDistinctKeys, history_key};
 ghost use Rattle.rows.specs.TypedRows.{TypedRows, FileRows, lists_of};
-ghost use Rattle.running.specs.Running.{IsRunning};
 ghost use Rattle.audit.specs.declared.damage.DamageKind.TheVariants as kind;
 ghost use Rattle.audit.specs.Held.{Holds};
 ghost use Rattle.audit.specs.Meeting.{HasMet, IsToldOf};
@@ -18,47 +17,12 @@ ghost use Rattle.audit.specs.Table.{IsWrong};
 ghost use Rattle.audit.specs.Told.{TellsRows, machine_told};
 
 use crate::cells::first_difference;
-use crate::derived::{balance_rows, history_rows, status_rows};
+use crate::derived::history_rows;
 use crate::meeting::Meeting;
 use crate::replayed::history_told;
 use crate::told::Told;
 use rows::{TenantRows, cells_tell_rows, keys_are_distinct};
-use running::Running;
 use std::alloc::{AllocError, Global};
-
-/// The first place at which the balance rows are others.
-pub(crate) fn first_bad_balance(
-    alloc: Global,
-    version: u32,
-    rows: &TenantRows,
-    running: &Running,
-) -> Result<Option<usize>, AllocError>
-    requires { (typed : TypedRows)
-        × TellsRows (lists_of rows.now) typed × IsRunning (machine_told typed) running.now }
-    ensures { IfOk result
-        (IsFirstPlace (IsWrong version (lists_of rows.now) kind.Balance)) }
-{
-    cells_tell_rows();
-    let wanted = balance_rows(alloc, version, running)?;
-    Ok(first_difference(&rows.balances, &wanted))
-}
-
-/// The first place at which the status rows are others.
-pub(crate) fn first_bad_status(
-    alloc: Global,
-    version: u32,
-    rows: &TenantRows,
-    running: &Running,
-) -> Result<Option<usize>, AllocError>
-    requires { (typed : TypedRows)
-        × TellsRows (lists_of rows.now) typed × IsRunning (machine_told typed) running.now }
-    ensures { IfOk result
-        (IsFirstPlace (IsWrong version (lists_of rows.now) kind.Status)) }
-{
-    cells_tell_rows();
-    let wanted = status_rows(alloc, version, running)?;
-    Ok(first_difference(&rows.statuses, &wanted))
-}
 
 /// The first place at which the history rows are others. Only where a meeting has not met them all
 /// they are told once more, to a list.

@@ -1,14 +1,13 @@
-use Rattle.std.proofs.Common.{◌∙◌, None, sym, ap}
+use Rattle.std.proofs.Common.{◌∙◌, None, sym}
 use Rattle.rows.specs.Cells.{history_cells}
 use Rattle.rows.specs.Prescribed.{rows_for}
 use Rattle.rows.specs.TypedRows.{lists_of}
-use Rattle.running.specs.Entries.{machine_of}
 use Rattle.audit.specs.declared.damage.DamageKind.TheVariants as kind
-use Rattle.audit.specs.Told.{entries_told, machine_told}
+use Rattle.audit.specs.Told.{machine_told}
 use Rattle.audit.proofs.DerivedRows.{themselves}
 use Rattle.audit.proofs.Stages.{first_of_told, same_difference}
 use Rattle.audit.proofs.ToldRows.{good_times, none_refused, nowhere, told_history, history_apart, told_to_clock}
-use Rattle.audit.proofs.tables.first_bad_history.Goals as goal
+use Rattle.audit.proofs.history.first_bad_history.Goals as goal
 
 pub returns-then-is_met : goal.returns-then-is_met
 returns-then-is_met c =
