@@ -1,3 +1,4 @@
+pub mod Answered
 pub mod BodyLines
 pub mod Dates
 pub mod Faults

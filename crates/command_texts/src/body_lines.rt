@@ -1,17 +1,15 @@
 //! Why a body is refused, and where, as `lint` tells it.
-ghost use Rattle.std.specs.Prelude.{◌≡◌, IfOk, IfErr};
+ghost use Rattle.std.specs.Prelude.{◌≡◌, IfOk};
 ghost use Rattle.std.specs.String.{string_bytes};
 ghost use Rattle.command_texts.specs.BodyLines.{body_line, field_text, noun, place_text};
 ghost use Rattle.command_texts.specs.BodyLines.{wanted_text};
 
-use crate::Fault;
-use std::alloc::Global;
+use std::alloc::{AllocError, Global};
 use wire::{BodyFault, Wanted};
 
 /// The line that tells why a body is refused, and where. Events and ids are counted from 1.
-pub(crate) fn body_line(alloc: Global, fault: &BodyFault) -> Result<String, Fault>
-    ensures ok { IfOk result (λ line. string_bytes line ≡ body_line fault.now) }
-    ensures fault { IfErr result (λ fault. fault ≡ Fault.Unavailable) }
+pub(crate) fn body_line(alloc: Global, fault: &BodyFault) -> Result<String, AllocError>
+    ensures { IfOk result (λ line. string_bytes line ≡ body_line fault.now) }
 {
     let place = place_text(alloc, fault)?;
     let field = field_text(alloc, fault)?;
@@ -29,33 +27,30 @@ fn noun(fault: &BodyFault) -> &'static str
     }
 }
 
-fn place_text(alloc: Global, fault: &BodyFault) -> Result<String, Fault>
-    ensures ok { IfOk result (λ text. string_bytes text ≡ place_text fault.now) }
-    ensures fault { IfErr result (λ fault. fault ≡ Fault.Unavailable) }
+fn place_text(alloc: Global, fault: &BodyFault) -> Result<String, AllocError>
+    ensures { IfOk result (λ text. string_bytes text ≡ place_text fault.now) }
 {
     match fault.item {
         Some(before) => {
             let noun = noun(fault);
             let number = u128::from(before as u64) + 1;
-            Ok(format!(in alloc; "{noun} {number}: ")?)
+            format!(in alloc; "{noun} {number}: ")
         }
         None => Ok(String::new(alloc)),
     }
 }
 
-fn field_text(alloc: Global, fault: &BodyFault) -> Result<String, Fault>
-    ensures ok { IfOk result (λ text. string_bytes text ≡ field_text fault.now) }
-    ensures fault { IfErr result (λ fault. fault ≡ Fault.Unavailable) }
+fn field_text(alloc: Global, fault: &BodyFault) -> Result<String, AllocError>
+    ensures { IfOk result (λ text. string_bytes text ≡ field_text fault.now) }
 {
     match &fault.field {
-        Some(name) => Ok(format!(in alloc; "{name}: ")?),
+        Some(name) => format!(in alloc; "{name}: "),
         None => Ok(String::new(alloc)),
     }
 }
 
-fn wanted_text(alloc: Global, wanted: Wanted) -> Result<String, Fault>
-    ensures ok { IfOk result (λ text. string_bytes text ≡ wanted_text wanted) }
-    ensures fault { IfErr result (λ fault. fault ≡ Fault.Unavailable) }
+fn wanted_text(alloc: Global, wanted: Wanted) -> Result<String, AllocError>
+    ensures { IfOk result (λ text. string_bytes text ≡ wanted_text wanted) }
 {
     let text = match wanted {
         Wanted::Json => "not JSON",
@@ -67,8 +62,8 @@ fn wanted_text(alloc: Global, wanted: Wanted) -> Result<String, Fault>
         Wanted::Digits64 => "not a string of decimal digits, with no zero in front, below 2^64",
         Wanted::Limit => "not a whole number from 1 to 1,000",
         Wanted::WholeBelow(bound) => {
-            return Ok(format!(in alloc; "not a whole number below {bound}")?);
+            return format!(in alloc; "not a whole number below {bound}");
         }
     };
-    Ok(String::from_str(alloc, text)?)
+    String::from_str(alloc, text)
 }

@@ -1,7 +1,8 @@
 //! What commands write.
-ghost use Rattle.std.specs.Prelude.{◌≡◌, ◌∷◌, ◌++◌, [], false, is_err, IfOk, IfErr, OnOk};
+ghost use Rattle.std.specs.Prelude.{◌≡◌, ◌∷◌, ◌++◌, [], false};
 ghost use Rattle.std.specs.String.{string_bytes};
 ghost use Rattle.std.specs.Io.KnownBytes.{Appends};
+ghost use Rattle.command_texts.specs.Answered.{PutsText, TellsIfAvailable};
 ghost use Rattle.command_texts.specs.Faults.{status_of};
 ghost use Rattle.command_texts.specs.Lines.{IsFaultWritten, IsWritten, added_line, changed_line, copied_line};
 ghost use Rattle.command_texts.specs.Lines.{count_line, damage_line, fault_line, key_line};
@@ -45,9 +46,7 @@ pub fn tell_fault_for<E: Drain>(alloc: Global, err: &mut E, fault: Fault, reason
 /// Writes a text to standard output.
 pub fn put_text<O: Drain>(out: &mut O, text: &str) -> Result<(), Fault>
     requires { O.failed out.old ≡ false }
-    ensures ok { OnOk result (Appends (O.written out.old) (O.written out.new) text.now) }
-    ensures fault { IfErr result (λ fault. fault ≡ Fault.Output) }
-    ensures failed { O.failed out.new ≡ is_err result }
+    ensures { PutsText text.now O.written O.failed out.old out.new result }
 {
     put_all(out, text.as_bytes()).map_err(|_| Fault::Output)
 }
@@ -55,10 +54,7 @@ pub fn put_text<O: Drain>(out: &mut O, text: &str) -> Result<(), Fault>
 // A line of a word and a text.
 fn put_line<O: Drain>(out: &mut O, word: &str, text: &str) -> Result<(), Fault>
     requires { O.failed out.old ≡ false }
-    ensures ok { OnOk result (Appends (O.written out.old) (O.written out.new)
-        (word.now ++ text.now ++ 10 ∷ [])) }
-    ensures fault { IfErr result (λ fault. fault ≡ Fault.Output) }
-    ensures failed { O.failed out.new ≡ is_err result }
+    ensures { PutsText (word.now ++ text.now ++ 10 ∷ []) O.written O.failed out.old out.new result }
 {
     put_text(out, word)?;
     put_text(out, text)?;
@@ -68,10 +64,7 @@ fn put_line<O: Drain>(out: &mut O, word: &str, text: &str) -> Result<(), Fault>
 /// Tells a new tenant.
 pub fn put_added<O: Drain>(out: &mut O, name: &TenantName) -> Result<(), Fault>
     requires { O.failed out.old ≡ false }
-    ensures ok { OnOk result (Appends (O.written out.old) (O.written out.new)
-        (added_line name.now)) }
-    ensures fault { IfErr result (λ fault. fault ≡ Fault.Output) }
-    ensures failed { O.failed out.new ≡ is_err result }
+    ensures { PutsText (added_line name.now) O.written O.failed out.old out.new result }
 {
     put_line(out, "added ", name.as_str())
 }
@@ -79,10 +72,7 @@ pub fn put_added<O: Drain>(out: &mut O, name: &TenantName) -> Result<(), Fault>
 /// Tells that a tenant has another key.
 pub fn put_changed<O: Drain>(out: &mut O, name: &TenantName) -> Result<(), Fault>
     requires { O.failed out.old ≡ false }
-    ensures ok { OnOk result (Appends (O.written out.old) (O.written out.new)
-        (changed_line name.now)) }
-    ensures fault { IfErr result (λ fault. fault ≡ Fault.Output) }
-    ensures failed { O.failed out.new ≡ is_err result }
+    ensures { PutsText (changed_line name.now) O.written O.failed out.old out.new result }
 {
     put_line(out, "changed ", name.as_str())
 }
@@ -90,10 +80,7 @@ pub fn put_changed<O: Drain>(out: &mut O, name: &TenantName) -> Result<(), Fault
 /// Tells a key that was drawn, in hexadecimal digits.
 pub fn put_key<O: Drain>(out: &mut O, key: &str) -> Result<(), Fault>
     requires { O.failed out.old ≡ false }
-    ensures ok { OnOk result (Appends (O.written out.old) (O.written out.new)
-        (key_line key.now)) }
-    ensures fault { IfErr result (λ fault. fault ≡ Fault.Output) }
-    ensures failed { O.failed out.new ≡ is_err result }
+    ensures { PutsText (key_line key.now) O.written O.failed out.old out.new result }
 {
     put_line(out, "key ", key)
 }
@@ -101,10 +88,7 @@ pub fn put_key<O: Drain>(out: &mut O, key: &str) -> Result<(), Fault>
 /// Tells how many bytes a copy has.
 pub fn put_copied<O: Drain>(out: &mut O, bytes: &str) -> Result<(), Fault>
     requires { O.failed out.old ≡ false }
-    ensures ok { OnOk result (Appends (O.written out.old) (O.written out.new)
-        (copied_line bytes.now)) }
-    ensures fault { IfErr result (λ fault. fault ≡ Fault.Output) }
-    ensures failed { O.failed out.new ≡ is_err result }
+    ensures { PutsText (copied_line bytes.now) O.written O.failed out.old out.new result }
 {
     put_line(out, "copied ", bytes)
 }
@@ -112,10 +96,7 @@ pub fn put_copied<O: Drain>(out: &mut O, bytes: &str) -> Result<(), Fault>
 /// Tells that the service of a file has ended.
 pub fn put_stopped<O: Drain>(out: &mut O) -> Result<(), Fault>
     requires { O.failed out.old ≡ false }
-    ensures ok { OnOk result (Appends (O.written out.old) (O.written out.new)
-        stopped_line) }
-    ensures fault { IfErr result (λ fault. fault ≡ Fault.Output) }
-    ensures failed { O.failed out.new ≡ is_err result }
+    ensures { PutsText stopped_line O.written O.failed out.old out.new result }
 {
     put_text(out, "stopped\n")
 }
@@ -123,10 +104,7 @@ pub fn put_stopped<O: Drain>(out: &mut O) -> Result<(), Fault>
 /// Begins a list of tenants, as CSV.
 pub fn put_tenants<O: Drain>(out: &mut O) -> Result<(), Fault>
     requires { O.failed out.old ≡ false }
-    ensures ok { OnOk result (Appends (O.written out.old) (O.written out.new)
-        tenants_line) }
-    ensures fault { IfErr result (λ fault. fault ≡ Fault.Output) }
-    ensures failed { O.failed out.new ≡ is_err result }
+    ensures { PutsText tenants_line O.written O.failed out.old out.new result }
 {
     put_text(out, "name,digest,clock\n")
 }
@@ -135,10 +113,8 @@ pub fn put_tenants<O: Drain>(out: &mut O) -> Result<(), Fault>
 /// timestamp so far, in decimal. None of them has a comma or a quote, so nothing is quoted.
 pub fn put_tenant<O: Drain>(out: &mut O, name: &str, digest: &str, clock: &str) -> Result<(), Fault>
     requires { O.failed out.old ≡ false }
-    ensures ok { OnOk result (Appends (O.written out.old) (O.written out.new)
-        (tenant_line name.now digest.now clock.now)) }
-    ensures fault { IfErr result (λ fault. fault ≡ Fault.Output) }
-    ensures failed { O.failed out.new ≡ is_err result }
+    ensures { PutsText (tenant_line name.now digest.now clock.now)
+        O.written O.failed out.old out.new result }
 {
     put_text(out, name)?;
     put_text(out, ",")?;
@@ -149,10 +125,7 @@ pub fn put_tenant<O: Drain>(out: &mut O, name: &str, digest: &str, clock: &str) 
 /// Tells a count of a service, in decimal.
 pub fn put_count<O: Drain>(out: &mut O, name: &str, count: &str) -> Result<(), Fault>
     requires { O.failed out.old ≡ false }
-    ensures ok { OnOk result (Appends (O.written out.old) (O.written out.new)
-        (count_line name.now count.now)) }
-    ensures fault { IfErr result (λ fault. fault ≡ Fault.Output) }
-    ensures failed { O.failed out.new ≡ is_err result }
+    ensures { PutsText (count_line name.now count.now) O.written O.failed out.old out.new result }
 {
     put_text(out, name)?;
     put_line(out, " ", count)
@@ -161,10 +134,7 @@ pub fn put_count<O: Drain>(out: &mut O, name: &str, count: &str) -> Result<(), F
 /// Tells a count of a service as Prometheus reads it.
 pub fn put_metric<O: Drain>(out: &mut O, name: &str, count: &str) -> Result<(), Fault>
     requires { O.failed out.old ≡ false }
-    ensures ok { OnOk result (Appends (O.written out.old) (O.written out.new)
-        (metric_line name.now count.now)) }
-    ensures fault { IfErr result (λ fault. fault ≡ Fault.Output) }
-    ensures failed { O.failed out.new ≡ is_err result }
+    ensures { PutsText (metric_line name.now count.now) O.written O.failed out.old out.new result }
 {
     put_text(out, "ledgerd_")?;
     put_count(out, name, count)
@@ -173,10 +143,7 @@ pub fn put_metric<O: Drain>(out: &mut O, name: &str, count: &str) -> Result<(), 
 /// Tells the version that a file has come to, as it was written.
 pub fn put_schema<O: Drain>(out: &mut O, version: &str) -> Result<(), Fault>
     requires { O.failed out.old ≡ false }
-    ensures ok { OnOk result (Appends (O.written out.old) (O.written out.new)
-        (schema_line version.now)) }
-    ensures fault { IfErr result (λ fault. fault ≡ Fault.Output) }
-    ensures failed { O.failed out.new ≡ is_err result }
+    ensures { PutsText (schema_line version.now) O.written O.failed out.old out.new result }
 {
     put_line(out, "schema ", version)
 }
@@ -192,8 +159,7 @@ pub fn tell_new_ledger<E: Drain>(err: &mut E, path: &str)
 
 /// The line that tells where a file is damaged.
 pub fn damage_line(alloc: Global, damage: &Damage) -> Result<String, Fault>
-    ensures ok { IfOk result (λ line. string_bytes line ≡ damage_line damage.now) }
-    ensures fault { IfErr result (λ fault. fault ≡ Fault.Unavailable) }
+    ensures { TellsIfAvailable result (λ line. string_bytes line ≡ damage_line damage.now) }
 {
     let kind = damage.kind.number();
     let place = damage.place;

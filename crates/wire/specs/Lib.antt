@@ -9,3 +9,4 @@ pub mod Meaning
 pub mod Faults
 pub mod Reply
 pub mod Told
+pub mod Writing

@@ -1,9 +1,10 @@
-ghost use Rattle.std.specs.Prelude.{◌≡◌, ◌∷◌, ◌++◌, IfOk, OnOk};
+ghost use Rattle.std.specs.Prelude.{◌≡◌, ◌∷◌, IfOk};
 ghost use Rattle.json.specs.Token.{key};
 ghost use Rattle.json.specs.Tree.{json_tokens};
 ghost use Rattle.serde_json.specs.Written.{compact_text, outline};
 ghost use Rattle.wire.specs.Reply.{list_data, clock_and_list, list_and_clock};
 ghost use Rattle.wire.specs.Reply.{next_and_list, list_and_next};
+ghost use Rattle.wire.specs.Writing.{AddsTokens};
 
 use crate::members::write_u64;
 use crate::shown::{Form, Plain, Shown};
@@ -88,9 +89,8 @@ pub(crate) fn list_then_next<S: Shown>(
 }
 
 fn write_list<T, F: Form<T>>(writer: &mut Writer, name: &str, list: &[T]) -> Result<(), AllocError>
-    ensures ok { OnOk result (writer.new.tokens ≡ writer.old.tokens
-        ++ key name.now ∷ json_tokens (outline (list_data F.shows list.now))) }
-    ensures before { writer.new.before ≡ writer.old.before }
+    ensures { AddsTokens (key name.now ∷ json_tokens (outline (list_data F.shows list.now)))
+        writer.old writer.new result }
 {
     writer.key(name)?;
     writer.begin_array()?;

@@ -1,8 +1,7 @@
-ghost use Rattle.std.specs.Prelude.{◌≡◌, ◌++◌, OnOk};
-ghost use Rattle.json.specs.Tree.{json_tokens};
+ghost use Rattle.std.specs.Prelude.{◌≡◌};
 ghost use Rattle.serde_json.specs.Data.{Data};
-ghost use Rattle.serde_json.specs.Written.{outline};
 ghost use Rattle.wire.specs.Reply.{state_name};
+ghost use Rattle.wire.specs.Writing.{AddsData};
 
 use crate::members::{write_text, write_u64, write_u128, write_whole};
 use crate::reply_result::ReplyResult;
@@ -15,9 +14,7 @@ pub(crate) trait Shown {
     ghost shows: { Self → Data };
 
     fn write(&self, writer: &mut Writer) -> Result<(), AllocError>
-        ensures ok { OnOk result (writer.new.tokens
-            ≡ writer.old.tokens ++ json_tokens (outline (shows self.now))) }
-        ensures before { writer.new.before ≡ writer.old.before };
+        ensures { AddsData (shows self.now) writer.old writer.new result };
 }
 
 /// A form in which a reply's list shows values as objects.
@@ -25,9 +22,7 @@ pub(crate) trait Form<T> {
     ghost shows: { T → Data };
 
     fn write(value: &T, writer: &mut Writer) -> Result<(), AllocError>
-        ensures ok { OnOk result (writer.new.tokens
-            ≡ writer.old.tokens ++ json_tokens (outline (shows value.now))) }
-        ensures before { writer.new.before ≡ writer.old.before };
+        ensures { AddsData (shows value.now) writer.old writer.new result };
 }
 
 /// Values as they show themselves.
