@@ -5,8 +5,6 @@ mod files;
 mod meter;
 mod metered;
 mod reading;
-#[cfg(test)]
-mod tests;
 
 pub use files::measured;
 pub use meter::Meter;

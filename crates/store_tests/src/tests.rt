@@ -1,25 +1,7 @@
-//! Stores on disks in memory and at a path. What is expected is of `docs/MODEL.md`.
+//! Ledgers on disks in memory that may stop or fail, and in files.
 
-mod at_path;
-mod bench;
-mod commands;
 mod disks;
-mod driven;
-mod events;
-mod examples;
-mod faults;
-mod keys;
-mod memory;
-mod on_files;
-mod opened_files;
-mod overdue;
-mod playing;
-mod read_answers;
-mod reads;
-mod released;
-mod rounds;
-mod scarce_reads;
-mod stops;
-mod tables;
-mod taken_rows;
+mod metered;
+mod migrations;
+mod stores;
 mod works;

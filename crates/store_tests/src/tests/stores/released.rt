@@ -1,10 +1,10 @@
 //! Holds of more accounts than are kept at once, which come due together.
 
-use super::disks::{Faulty, InMemory};
 use super::driven::Driven;
 use super::events::{accounts, transfer};
 use super::overdue::{NORTH, made, settle};
-use super::works::{Looking, Opening};
+use crate::tests::disks::{Faulty, InMemory};
+use crate::tests::works::{Looking, Opening};
 use amount::Amount;
 use records::{AccountEvent, TransferEvent};
 use sqlite_disk::Disk;

@@ -1,16 +1,9 @@
 //! The database in some files, by texts of SQL.
 
-use sqlite::{Alter, Connection, Error, ErrorCode, FileStore, Files, Options};
+use crate::tests::disks::WIDE;
+use sqlite::{Alter, Connection, Error, ErrorCode, FileStore, Files};
 use sqlite_disk::Disk;
 use std::alloc::Global;
-
-/// Few pages, since each opening makes room for all of them.
-pub const SMALL: Options = Options {
-    cache_pages: 50,
-    spill_pages: 50,
-    checkpoint_frames: 100,
-    seed: 7,
-};
 
 /// A connection to the database in some files.
 pub fn connected<D: Disk + Drop>(
@@ -20,7 +13,7 @@ pub fn connected<D: Disk + Drop>(
     if !files.may_be_used() {
         return Err(Error::SqliteFailure(ErrorCode::CannotOpen));
     }
-    match Connection::open_files(alloc, files, SMALL) {
+    match Connection::open_files(alloc, files, WIDE) {
         Ok(conn) => Ok(conn),
         Err((error, _)) => Err(error),
     }

@@ -1,9 +1,9 @@
 //! A ledger in a file.
 
 use super::bench::fault_shown;
-use super::disks::WIDE;
 use super::driven::Driven;
 use super::playing::play_on;
+use crate::tests::disks::WIDE;
 use sqlite_disk::{Disk, Start, Unknown};
 use std::alloc::Global;
 use std::fs;

@@ -4,9 +4,10 @@ ghost use Rattle.std.specs.Prelude.{IfOk};
 ghost use Rattle.migrate.specs.Ledgers.{IsMigratable};
 ghost use Rattle.store.specs.Stores.{IsUsable};
 
-use super::database::{SMALL, executed};
+use super::database::executed;
 use super::fixture::LEDGER;
 use super::stored::{Migrated, brought, refusal, used};
+use crate::tests::disks::WIDE;
 use migrate::LedgerOfVersion;
 use sqlite::{Connection, Error, File, FileStore, Unknown};
 use std::fs;
@@ -28,7 +29,7 @@ fn connected(rt: &HostRuntime) -> Result<Connection<FileStore<File>>, Error> {
 fn opened(rt: &HostRuntime) -> Result<LedgerOfVersion<File>, OpenFault>
     ensures { IfOk result IsMigratable }
 {
-    match LedgerOfVersion::open_for_migration_at(rt, PATH, Unknown, SMALL, &FullAudit) {
+    match LedgerOfVersion::open_for_migration_at(rt, PATH, Unknown, WIDE, &FullAudit) {
         Ok(ledger) => Ok(ledger),
         Err((fault, _files)) => Err(fault),
     }
@@ -37,7 +38,7 @@ fn opened(rt: &HostRuntime) -> Result<LedgerOfVersion<File>, OpenFault>
 fn usable(rt: &HostRuntime) -> Result<Store<File>, OpenFault>
     ensures { IfOk result IsUsable }
 {
-    match Store::open_at(rt, PATH, Unknown, SMALL, &FullAudit) {
+    match Store::open_at(rt, PATH, Unknown, WIDE, &FullAudit) {
         Ok(store) => Ok(store),
         Err((fault, _files)) => Err(fault),
     }

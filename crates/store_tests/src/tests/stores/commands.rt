@@ -5,7 +5,7 @@ use super::events::{accounts, number, ones, transfers};
 use super::reads::read;
 use super::rounds::send_both;
 use super::tables::{directory, table};
-use super::works::{Failing, Looking, Opening, Sending};
+use crate::tests::works::{Failing, Looking, Opening, Sending};
 use audit::AuditFault;
 use chain::{BatchFault, BatchReply};
 use records::{AccountFilter, AccountResult, EventResult, FilterFlags, TransferResult};

@@ -4,7 +4,7 @@ use super::commands::{Command, Text, put_word, said, shown, told};
 use super::driven::Driven;
 use super::events::transfers;
 use super::playing::play_from_base;
-use super::works::Sending;
+use crate::tests::works::Sending;
 use chain::{BatchFault, BatchReply, Ledgers, RoundWork};
 use records::{TransferResult, Unavailable};
 use sqlite_disk::Disk;

@@ -1,9 +1,9 @@
 //! Which tenants have holds that are due.
 
-use super::disks::{Calls, Faulty, InMemory, WIDE};
 use super::driven::Driven;
 use super::events::{accounts, transfer};
-use super::works::{Opening, Sending};
+use crate::tests::disks::{Calls, Faulty, InMemory, WIDE};
+use crate::tests::works::{Opening, Sending};
 use records::TransferEvent;
 use sqlite::Files;
 use sqlite_disk::Disk;

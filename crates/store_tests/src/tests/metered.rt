@@ -1,4 +1,6 @@
-use crate::{Meter, Reading, measured};
+//! Syncs that are counted and timed, and calls that fail.
+
+use metered_disk::{Meter, Reading, measured};
 use sqlite_disk::{Disk, Files, Fuse, Memory};
 use std::cell::Cell;
 use std::io;

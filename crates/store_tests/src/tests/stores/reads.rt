@@ -2,7 +2,7 @@
 
 use super::commands::{Command, Text, put_word, shown};
 use super::driven::Driven;
-use super::works::sums;
+use crate::tests::works::sums;
 use chain::{Listed, ReadFault};
 use records::{AccountWithBalances, BalanceAt, Order, Side, StatementRow, Transfer};
 use sqlite_disk::Disk;

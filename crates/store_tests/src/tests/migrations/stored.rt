@@ -4,8 +4,8 @@ ghost use Rattle.std.specs.Prelude.{◌≤◌, IfOk};
 ghost use Rattle.migrate.specs.Ledgers.{IsMigratable};
 ghost use Rattle.store.specs.Stores.{IsUsable};
 
-use super::database::SMALL;
 use super::work::goes_on;
+use crate::tests::disks::WIDE;
 use migrate::{LedgerOfVersion, MigrateFault, migrate};
 use records::Unavailable;
 use sqlite::Files;
@@ -28,7 +28,7 @@ pub fn opened<D: Disk + Drop>(alloc: Global, files: Files<D>) -> Opened<D>
     if !files.may_be_used() {
         return Err((OpenFault::Unavailable(Unavailable::Disk), files));
     }
-    LedgerOfVersion::open_for_migration(alloc, files, SMALL, &FullAudit)
+    LedgerOfVersion::open_for_migration(alloc, files, WIDE, &FullAudit)
 }
 
 /// The ledger in some files, to be used.
@@ -41,7 +41,7 @@ pub fn usable<D: Disk + Drop>(
     if !files.may_be_used() {
         return Err((OpenFault::Unavailable(Unavailable::Disk), files));
     }
-    Store::open(alloc, files, SMALL, &FullAudit)
+    Store::open(alloc, files, WIDE, &FullAudit)
 }
 
 /// What a migration to a version answers.
@@ -67,7 +67,7 @@ pub fn served<D: Disk + Drop>(
     migrated(alloc, &mut ledger, to)?;
     match ledger.into_served() {
         Ok((conn, due)) => {
-            let store = Store::over(alloc, conn, due, SMALL);
+            let store = Store::over(alloc, conn, due, WIDE);
             Ok((true, used(rt, alloc, store)?))
         }
         Err(ledger) => Ok((false, ledger.close())),

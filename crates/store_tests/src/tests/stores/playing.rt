@@ -2,8 +2,8 @@
 
 use super::bench::Bench;
 use super::commands::{Command, Text, answer};
-use super::disks::{Calls, Faulty, InMemory, WIDE};
 use super::driven::Driven;
+use crate::tests::disks::{Calls, Faulty, InMemory, WIDE};
 use sqlite_disk::Disk;
 use std::alloc::Global;
 use std::process::Abort;

@@ -3,11 +3,11 @@
 //! files are opened again, and hold the whole request or nothing of it.
 
 use super::commands::Numbered;
-use super::disks::{Calls, Faulty, InMemory, WIDE};
 use super::driven::Driven;
 use super::events::{accounts, ones, transfer};
 use super::scarce_reads::{ENTRIES, reads};
-use super::works::{Looking, Opening, Sending};
+use crate::tests::disks::{Calls, Faulty, InMemory, WIDE};
+use crate::tests::works::{Looking, Opening, Sending};
 use chain::{BatchFault, BatchReply, Tables, Work};
 use records::{AccountEvent, TransferEvent, Unavailable};
 use sqlite::Files;

@@ -1,6 +1,6 @@
 //! What tests do to files that no store has.
 
-use super::disks::{Calls, Faulty, WIDE};
+use crate::tests::disks::{Calls, Faulty, WIDE};
 use sqlite::{Connection, Error, ErrorCode, FileStore, Files};
 use sqlite_disk::Disk;
 use std::alloc::Global;

@@ -2,9 +2,9 @@
 //! the request, or those after it.
 
 use super::bench::Bench;
-use super::disks::{Calls, Faulty, InMemory, SMALL};
 use super::faults::NOTHING;
 use super::playing::{BASE, other_answer, play};
+use crate::tests::disks::{Calls, Faulty, InMemory, SMALL};
 use std::alloc::Global;
 use std::process::Abort;
 

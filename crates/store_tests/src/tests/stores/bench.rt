@@ -1,9 +1,9 @@
 //! A ledger in two files, and what is done to both in words.
 
 use super::commands::{Command, NoMemory, Text, answer, said, shown};
-use super::disks::{Calls, Faulty};
 use super::driven::Driven;
 use super::on_files::{changed, noise};
+use crate::tests::disks::{Calls, Faulty};
 use sqlite::{Files, Options};
 use sqlite_disk::Disk;
 use std::alloc::Global;

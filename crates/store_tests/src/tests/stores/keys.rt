@@ -1,9 +1,9 @@
 //! Another key for a tenant: its machine stands under the new one, and nobody under the old one.
 
 use super::bench::Bench;
-use super::disks::{Calls, Faulty, InMemory, WIDE};
 use super::faults::NOTHING;
 use super::playing::{BASE, other_answer, play, play_from_base};
+use crate::tests::disks::{Calls, Faulty, InMemory, WIDE};
 use std::alloc::Global;
 use std::process::Abort;
 

@@ -1,8 +1,8 @@
 //! Disks that fail while a ledger is made, gets a tenant, and runs batches.
 
 use super::bench::Bench;
-use super::disks::{Calls, Faulty, InMemory, WIDE};
 use super::playing::{BASE, other_answer, play};
+use crate::tests::disks::{Calls, Faulty, InMemory, WIDE};
 use std::alloc::Global;
 use std::process::Abort;
 
