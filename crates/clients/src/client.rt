@@ -5,6 +5,7 @@ ghost use Rattle.ledger_http.specs.Message.{IsAnnounced};
 ghost use Rattle.ledger_http.specs.Progress.{HasLength};
 ghost use Rattle.clients.specs.Talk.{new_talk, received, input_ended, written, may_answer, given_up};
 ghost use Rattle.clients.specs.Talk.{continued, is_written};
+ghost use Rattle.clients.specs.Calls.{MayBeAnswered, AnswersOn, TellsSize, TellsLength, MakesRoom};
 ghost use Rattle.clients.specs.Answering.{HasAnswered};
 ghost use Rattle.clients.specs.Within.{replied_to};
 ghost use Rattle.ledger_http.specs.Unread.{IsWhole};
@@ -116,12 +117,10 @@ impl Client {
         ledgers: &mut L,
         moments: &mut C,
     ) -> Answered
-        requires usable { L.means.is_usable ledgers.old }
-        requires open { may_answer self.old ≡ true }
-        ensures answers { HasAnswered L.means C.gives ledgers.old moments.old self.old
-            ledgers.new moments.new self.new result }
-        ensures usable { L.means.is_usable ledgers.new }
-        ensures follows { L.means.follows ledgers.old ledgers.new }
+        requires { MayBeAnswered L.means ledgers.old self.old }
+        ensures { AnswersOn L.means ledgers.old ledgers.new
+            (HasAnswered L.means C.gives ledgers.old moments.old self.old
+            ledgers.new moments.new self.new result) }
     {
         match exchange(alloc, ledgers, moments, &mut self.inbox) {
             Exchanged::Answered(begun) => {
@@ -142,8 +141,7 @@ impl Client {
 
     /// How many bytes its next message has, where all of it has come.
     pub fn next_size(&mut self) -> Option<usize>
-        ensures whole { IfSome result (IsWhole self.old.unread.bytes) }
-        ensures same { self.new ≡ self.old }
+        ensures { TellsSize self.old self.new result }
     {
         match self.inbox.next() {
             Next::Whole(size) => Some(size),
@@ -196,8 +194,7 @@ impl Client {
     /// How long its next message is with its head, where a good head was found and a body of allowed
     /// length is due behind it.
     pub fn announced_length(&self) -> Option<usize>
-        ensures length { IfSome result (HasLength self.now.unread.bytes) }
-        ensures few { IfSome result (λ length. length ≤ longest_message) }
+        ensures { TellsLength self.now result }
     {
         self.inbox.announced_length()
     }
@@ -205,9 +202,7 @@ impl Client {
     /// Where a body is due, makes room for what is wanting of it, up to so many bytes. Says how many
     /// bytes to receive. It fails only where a body is due.
     pub fn reserve_due(&mut self, most: usize) -> Result<usize, AllocError>
-        ensures same { self.new ≡ self.old }
-        ensures few { IfOk result (λ count. count ≤ most) }
-        ensures due { OnErr result (IsAnnounced self.old.unread.bytes) }
+        ensures { MakesRoom self.old self.new most result }
     {
         self.inbox.reserve_due(most)
     }

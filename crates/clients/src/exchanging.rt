@@ -1,4 +1,5 @@
 //! One message of what has come from a client, and its reply.
+ghost use Rattle.clients.specs.Calls.{AnswersOn};
 ghost use Rattle.clients.specs.Answering.{ExchangesFirst};
 
 use chain::Ledgers;
@@ -27,10 +28,9 @@ pub(crate) fn exchange<L: Ledgers, C: Moments>(
     inbox: &mut Inbox,
 ) -> Exchanged
     requires { L.means.is_usable ledgers.old }
-    ensures exchanges { ExchangesFirst L.means C.gives ledgers.old moments.old inbox.old
-        ledgers.new moments.new inbox.new result }
-    ensures usable { L.means.is_usable ledgers.new }
-    ensures follows { L.means.follows ledgers.old ledgers.new }
+    ensures { AnswersOn L.means ledgers.old ledgers.new
+        (ExchangesFirst L.means C.gives ledgers.old moments.old inbox.old
+        ledgers.new moments.new inbox.new result) }
 {
     later_bytes_change_nothing();
     match inbox.next() {

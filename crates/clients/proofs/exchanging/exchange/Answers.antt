@@ -3,35 +3,51 @@ use Rattle.service.specs.Begun.{reply_of}
 use Rattle.clients.proofs.ExchangeLemmas.{answers_whole, answers_refused, held_so}
 use Rattle.clients.proofs.exchanging.exchange.Goals as goal
 
-pub returns-in-Whole-clause-exchanges : goal.returns-in-Whole-clause-exchanges
-returns-in-Whole-clause-exchanges g c =
-    let whole =
-    answers_whole g.L.Ledgers.means g.C.Moments.gives _ _ _ _ c.args.inbox.now _ _ _ c.in-Whole.size _
-    (reply_of (g.L.Ledgers.means.tenants c.begin-begun.new.ledgers) c.begin-begun.result)
-    c.later_bytes_change_nothing.ensures.begins c.next.ensures.same
-    c.take.ensures c.front.ensures (rw c.in-Whole.is at c.next.ensures.next) c.moment-moment.ensures
-    c.begin-begun.ensures.replies.responds c.begin-begun.ensures.replies.early c.begin-begun.ensures.replies.finds
-    c.begin-begun.ensures.replies.follows in (
-      whole.0,
-      whole.1,
-      held_so g.L.Ledgers.means c.front.result.now c.moment-moment.result
-          (g.L.Ledgers.means.tenants c.args.ledgers.now) c.begin-begun.new.ledgers c.begin-begun.result.rest c.begin-begun.ensures.left,
-    )
+pub returns-in-Whole : goal.returns-in-Whole
+returns-in-Whole g c = record {
+  answers =
+      let whole =
+      answers_whole g.L.Ledgers.means g.C.Moments.gives _ _ _ _ c.args.inbox.now _ _ _ c.in-Whole.size _
+      (reply_of (g.L.Ledgers.means.tenants c.begin-begun.new.ledgers) c.begin-begun.result)
+      c.later_bytes_change_nothing.ensures.begins c.next.ensures.same
+      c.take.ensures c.front.ensures (rw c.in-Whole.is at c.next.ensures.next) c.moment-moment.ensures
+      c.begin-begun.ensures.replies.responds c.begin-begun.ensures.replies.early c.begin-begun.ensures.replies.finds
+      c.begin-begun.ensures.replies.follows in (
+        whole.0,
+        whole.1,
+        held_so g.L.Ledgers.means c.front.result.now c.moment-moment.result
+            (g.L.Ledgers.means.tenants c.args.ledgers.now) c.begin-begun.new.ledgers c.begin-begun.result.rest c.begin-begun.ensures.left,
+      );
+  usable = c.begin-begun.ensures.replies.usable;
+  follows = c.begin-begun.ensures.replies.follows;
+}
 
-pub returns-in-Refused-clause-exchanges : goal.returns-in-Refused-clause-exchanges
-returns-in-Refused-clause-exchanges g c =
-    answers_refused g.L.Ledgers.means g.C.Moments.gives c.args.ledgers.now c.args.moments.now
-    c.args.inbox.now _ c.in-Refused.refusal c.later_bytes_change_nothing.ensures.refused
-    c.next.ensures.same (rw c.in-Refused.is at c.next.ensures.next)
+pub returns-in-Refused : goal.returns-in-Refused
+returns-in-Refused g c = record {
+  answers =
+      answers_refused g.L.Ledgers.means g.C.Moments.gives c.args.ledgers.now c.args.moments.now
+      c.args.inbox.now _ c.in-Refused.refusal c.later_bytes_change_nothing.ensures.refused
+      c.next.ensures.same (rw c.in-Refused.is at c.next.ensures.next);
+  usable = c.requires;
+  follows = g.met.L.Ledgers.stays c.args.ledgers.now;
+}
 
-pub returns-in-Wanting-clause-exchanges : goal.returns-in-Wanting-clause-exchanges
-returns-in-Wanting-clause-exchanges g c = (
-  record { ledgers_same = refl; moments_same = refl; same = c.next.ensures.same },
-  rw c.in-Wanting.is at c.next.ensures.next,
-)
+pub returns-in-Wanting : goal.returns-in-Wanting
+returns-in-Wanting g c = record {
+  answers = (
+    record { ledgers_same = refl; moments_same = refl; same = c.next.ensures.same },
+    rw c.in-Wanting.is at c.next.ensures.next,
+  );
+  usable = c.requires;
+  follows = g.met.L.Ledgers.stays c.args.ledgers.now;
+}
 
-pub returns-in-End-clause-exchanges : goal.returns-in-End-clause-exchanges
-returns-in-End-clause-exchanges g c = (
-  record { ledgers_same = refl; moments_same = refl; same = c.next.ensures.same },
-  rw c.in-End.is at c.next.ensures.next,
-)
+pub returns-in-End : goal.returns-in-End
+returns-in-End g c = record {
+  answers = (
+    record { ledgers_same = refl; moments_same = refl; same = c.next.ensures.same },
+    rw c.in-End.is at c.next.ensures.next,
+  );
+  usable = c.requires;
+  follows = g.met.L.Ledgers.stays c.args.ledgers.now;
+}

@@ -4,42 +4,58 @@ use Rattle.clients.specs.Answering.{IsExchange, IsWanting, IsAllAnswered}
 use Rattle.clients.proofs.ExchangeLemmas.{has_replied, goes_on_still, is_unmoved, put_whole}
 use Rattle.clients.proofs.client.Client.answer.Goals as goal
 
-pub returns-in-Answered-clause-answers : goal.returns-in-Answered-clause-answers
-returns-in-Answered-clause-answers g c =
-    let exchanged = rw c.in-Answered.is at c.exchange.ensures.exchanges in
-    let goes_on =
-    goes_on_still c.args.self.now c.self.inside.inbox c.self.inside.outbox c.self.inside.rest
-    c.self.inside.goes_on c.self.view_is c.requires.open in
-    let tenants = g.L.Ledgers.means.tenants c.exchange.new.ledgers in
-    let reply = reply_of tenants c.in-Answered.begun in (
-      reply,
-      has_replied g.L.Ledgers.means g.C.Moments.gives _ _ _ _ c.args.self.now _ _
-          c.self.inside.outbox _ c.self.inside.rest c.in-Answered.begun.rest c.self.inside.goes_on reply c.self.inside.goes_on
-          c.self.view_is (put_whole tenants c.in-Answered.begun _ c.put.ensures) exchanged.2 (
-            subst
-                (λ (goes : Bool).
-                IsExchange g.L.Ledgers.means g.C.Moments.gives c.args.ledgers.now
-                c.args.moments.now c.self.inside.inbox reply c.exchange.new.ledgers
-                c.exchange.new.moments c.exchange.new.inbox goes)
-                goes_on exchanged.0,
-            exchanged.1,
-          ),
-    )
+pub returns-in-Answered : goal.returns-in-Answered
+returns-in-Answered g c = record {
+  answers =
+      let exchanged = rw c.in-Answered.is at c.exchange.ensures.answers in
+      let goes_on =
+      goes_on_still c.args.self.now c.self.inside.inbox c.self.inside.outbox c.self.inside.rest
+      c.self.inside.goes_on c.self.view_is c.requires.may in
+      let tenants = g.L.Ledgers.means.tenants c.exchange.new.ledgers in
+      let reply = reply_of tenants c.in-Answered.begun in (
+        reply,
+        has_replied g.L.Ledgers.means g.C.Moments.gives _ _ _ _ c.args.self.now _ _
+            c.self.inside.outbox _ c.self.inside.rest c.in-Answered.begun.rest c.self.inside.goes_on reply c.self.inside.goes_on
+            c.self.view_is (put_whole tenants c.in-Answered.begun _ c.put.ensures) exchanged.2 (
+              subst
+                  (λ (goes : Bool).
+                  IsExchange g.L.Ledgers.means g.C.Moments.gives c.args.ledgers.now
+                  c.args.moments.now c.self.inside.inbox reply c.exchange.new.ledgers
+                  c.exchange.new.moments c.exchange.new.inbox goes)
+                  goes_on exchanged.0,
+              exchanged.1,
+            ),
+      );
+  usable = c.exchange.ensures.usable;
+  follows = c.exchange.ensures.follows;
+}
 
-pub returns-in-Refused-clause-answers : goal.returns-in-Refused-clause-answers
-returns-in-Refused-clause-answers g c = (
-  _,
-  has_replied g.L.Ledgers.means g.C.Moments.gives _ _ _ _ c.args.self.now _ _ c.self.inside.outbox _
-      c.self.inside.rest _ c.self.inside.goes_on _ _ c.self.view_is (append-nil _ ∙ c.put-in-Refused.ensures) tt
-      (rw c.in-Refused.is at c.exchange.ensures.exchanges),
-)
+pub returns-in-Refused : goal.returns-in-Refused
+returns-in-Refused g c = record {
+  answers = (
+    _,
+    has_replied g.L.Ledgers.means g.C.Moments.gives _ _ _ _ c.args.self.now _ _ c.self.inside.outbox _
+        c.self.inside.rest _ c.self.inside.goes_on _ _ c.self.view_is (append-nil _ ∙ c.put-in-Refused.ensures) tt
+        (rw c.in-Refused.is at c.exchange.ensures.answers),
+  );
+  usable = c.exchange.ensures.usable;
+  follows = c.exchange.ensures.follows;
+}
 
-pub returns-in-Wanting-clause-answers : goal.returns-in-Wanting-clause-answers
-returns-in-Wanting-clause-answers g c =
-    is_unmoved IsWanting _ _ _ _ c.args.self.now _ _ c.self.inside.outbox c.self.inside.rest c.self.inside.goes_on
-    c.self.view_is (rw c.in-Wanting.is at c.exchange.ensures.exchanges)
+pub returns-in-Wanting : goal.returns-in-Wanting
+returns-in-Wanting g c = record {
+  answers =
+      is_unmoved IsWanting _ _ _ _ c.args.self.now _ _ c.self.inside.outbox c.self.inside.rest c.self.inside.goes_on
+      c.self.view_is (rw c.in-Wanting.is at c.exchange.ensures.answers);
+  usable = c.exchange.ensures.usable;
+  follows = c.exchange.ensures.follows;
+}
 
-pub returns-in-Over-clause-answers : goal.returns-in-Over-clause-answers
-returns-in-Over-clause-answers g c =
-    is_unmoved IsAllAnswered _ _ _ _ c.args.self.now _ _ c.self.inside.outbox c.self.inside.rest c.self.inside.goes_on
-    c.self.view_is (rw c.in-Over.is at c.exchange.ensures.exchanges)
+pub returns-in-Over : goal.returns-in-Over
+returns-in-Over g c = record {
+  answers =
+      is_unmoved IsAllAnswered _ _ _ _ c.args.self.now _ _ c.self.inside.outbox c.self.inside.rest c.self.inside.goes_on
+      c.self.view_is (rw c.in-Over.is at c.exchange.ensures.answers);
+  usable = c.exchange.ensures.usable;
+  follows = c.exchange.ensures.follows;
+}
