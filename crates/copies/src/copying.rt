@@ -27,12 +27,12 @@ enum Stage {
     Name(u64),
 }
 
-/// A copy of a ledger's two files, the database and its log. Until it is whole it stands under names
-/// that end in `.part`.
+/// A copy of a ledger's two files, the database and its log. Until it is whole it stands under
+/// names that end in `.part`.
 ///
 /// Two passes copy the database piece by piece, whatever is written meanwhile, so that they may mix
-/// moments. Then one turn makes all of it what both files are at that moment. What is written to them
-/// behind that turn is no matter: the copy is synced and gets its names.
+/// moments. Then one turn makes all of it what both files are at that moment. What is written to
+/// them behind that turn is no matter: the copy is synced and gets its names.
 #[derive(Drop)]
 pub struct Copying {
     files: Files,
@@ -70,8 +70,8 @@ impl Copying {
         }
     }
 
-    /// Takes one more turn, during which nothing may be written to the ledger's files. Where it fails
-    /// nothing of the copy is left.
+    /// Takes one more turn, during which nothing may be written to the ledger's files. Where it
+    /// fails nothing of the copy is left.
     pub fn go_on(mut self, rt: &HostRuntime) -> Result<Progress, CopyFault> {
         match self.take_turn(rt) {
             Ok(None) => Ok(Progress::More(self)),

@@ -65,8 +65,9 @@ impl Names {
         Ok(())
     }
 
-    /// Takes away what is left of a copy that was cut short, and looks whether a name is free of those
-    /// that the copy is to have, and that of a journal, which another program would take for its own.
+    /// Takes away what is left of a copy that was cut short, and looks whether a name is free of
+    /// those that the copy is to have, and that of a journal, which another program would take for
+    /// its own.
     pub(crate) fn are_free(&self, rt: &HostRuntime) -> Result<bool, CopyFault> {
         self.clear_log(rt)?;
         self.clear(rt);

@@ -185,8 +185,8 @@ impl Inbox {
         }
     }
 
-    /// Where a body is due, makes room for what is wanting of it, up to so many bytes. Says how many
-    /// bytes to receive. It fails only where a body is due.
+    /// Where a body is due, makes room for what is wanting of it, up to so many bytes. Says how
+    /// many bytes to receive. It fails only where a body is due.
     pub fn reserve_due(&mut self, most: usize) -> Result<usize, AllocError>
         ensures same { self.new ≡ self.old }
         ensures few { IfOk result (λ count. count ≤ most) }

@@ -26,8 +26,8 @@ pub enum Message {
     /// No message that is taken. Its head is read, or as many bytes as one may have, or all of a
     /// message that is cut short; what the reader has left is of no use.
     Refused(Refusal),
-    /// A good head, behind which a body of allowed length is due; memory for it ran out, and nothing
-    /// of it is read.
+    /// A good head, behind which a body of allowed length is due; memory for it ran out, and
+    /// nothing of it is read.
     NoMemory,
 }
 

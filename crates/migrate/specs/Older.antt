@@ -19,7 +19,8 @@ use Rattle.migrate.specs.Upgrading.{IsOlder, older_schema}
 
 -- a file is refused unless it is so: as no ledger exactly where other tables are named, as
 -- unreadable where it is not so
-pub record RefusesUnless (Is : Type 0) (names_other : Bool) (result : Option OpenFault) : Type 0 where
+pub record RefusesUnless (Is : Type 0) (names_other : Bool) (result : Option OpenFault) :
+    Type 0 where
   pub is : result ≡ None → Is
   pub named : (result ≡ Some NotALedger) ↔ IsTrue names_other
   pub lacks : IfSome result (λ fault. LacksOlder fault Is names_other)

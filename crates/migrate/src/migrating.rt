@@ -21,8 +21,9 @@ use stored_ledgers::batches::DueSets;
 
 /// Brings a ledger to this version of the schema, in one transaction: each tenant's machine stays,
 /// and its rows are those that it prescribes there, with no id failed. The version that the ledger
-/// has is no change. After a fault the ledger is as it was; after a fault of the disk, or a crash at
-/// any moment, it or the new one is there, whole. From a fault of the disk on it is not answered.
+/// has is no change. After a fault the ledger is as it was; after a fault of the disk, or a crash
+/// at any moment, it or the new one is there, whole. From a fault of the disk on it is not
+/// answered.
 pub fn migrate<D: Disk + Drop>(
     alloc: Global,
     ledger: &mut LedgerOfVersion<D>,

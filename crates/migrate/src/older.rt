@@ -47,9 +47,9 @@ fn audit_older<A: Audit>(alloc: Global, rows: &AllRows, audit: &A) -> Result<(),
     Ok(())
 }
 
-/// Why a file of an older version cannot be migrated: by name a table of that version is missing, or
-/// one that only newer versions have is there; or the tables are made otherwise; or there are others
-/// than those, behind which no more of a ledger's can be made.
+/// Why a file of an older version cannot be migrated: by name a table of that version is missing,
+/// or one that only newer versions have is there; or the tables are made otherwise; or there are
+/// others than those, behind which no more of a ledger's can be made.
 fn older_refusal(version: u32, schema: &Schema) -> Option<OpenFault>
     requires { version < 3 }
     ensures { RefusesUnless (schema.now ≡ older_schema version)

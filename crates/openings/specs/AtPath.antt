@@ -18,8 +18,8 @@ module _ {D : Type 0} (g : disk.Ghosts D) (image : Image) where
   abbrev pub OfSuchFiles : (Files D → Type 0) → Type 0
   OfSuchFiles P = (files : Files D) × HoldHonestly files × P files
 
-  -- what is left of a path that was refused: nothing, for no reason that speaks of a ledger; or what
-  -- the refusal of the files left of them
+  -- what is left of a path that was refused: nothing, for no reason that speaks of a ledger; or
+  -- what the refusal of the files left of them
   abbrev pub LeavesPath :
       (Files D → OpenFault × Files D → Type 0) → OpenFault → Option (Files D) → Type 0
   LeavesPath Refuses fault None = ¬ IsOfLedger fault

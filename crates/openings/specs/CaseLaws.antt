@@ -24,7 +24,8 @@ no_case_7 (fault.Damaged damage) is = omega (arith, is)
 no_case_7 (fault.Unavailable why) is = omega (arith, is)
 
 -- what is told of nothing but what is unavailable
-pub unless_available : (Told : OpenFault → Type 0) → ((told : OpenFault) → ¬ IsUnavailable told → Told told → ⊥)
+pub unless_available : (Told : OpenFault → Type 0) →
+    ((told : OpenFault) → ¬ IsUnavailable told → Told told → ⊥)
     → IsNoneTold Told
 unless_available Told none fault.InUse told = absurd (none fault.InUse (λ is. let e = is.1 in cc) told)
 unless_available Told none fault.Unreadable told = absurd (none fault.Unreadable (λ is. let e = is.1 in cc) told)

@@ -45,7 +45,8 @@ pub record IsDamagedIn (version : ℕ) (damage : Damage) (trees : Trees) : Type 
   pub damaged : HasFirstDamage version damage trees
 
 -- the files were honest, and what an opening finds in them is such a database
-pub record Hold {D : Type 0} (g : disk.Ghosts D) (files : Files D) (P : Trees → Type 0) : Type 0 where
+pub record Hold {D : Type 0} (g : disk.Ghosts D) (files : Files D) (P : Trees → Type 0) :
+    Type 0 where
   pub honest : AreClean g files.log files.db
   pub trees : Trees
   pub reads : AreFoundIn (image_of g files) trees

@@ -75,8 +75,8 @@ pub record FilesStay {D : Type 0} (g : disk.Ghosts D) (files left : Files D) : T
 abbrev pub LeavesRefused : {D : Type 0} → (g : disk.Ghosts D) → Files D → Files D → Type 0
 LeavesRefused g files left = LeavesUnopened g files left ⊎ FilesStay g files left
 
--- the fault speaks of the ledger that is there, or is not, and the database's own opening tells none
--- such
+-- the fault speaks of the ledger that is there, or is not, and the database's own opening tells
+-- none such
 abbrev pub IsOfLedger : OpenFault → Type 0
 IsOfLedger fault.InUse = ⊥
 IsOfLedger fault.Unreadable = ⊥

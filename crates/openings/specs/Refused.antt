@@ -8,8 +8,8 @@ use Rattle.openings.specs.Told.{IsToldOfMaking}
 use Rattle.openings.specs.declared.opening.OpenFault.{OpenFault}
 use Rattle.openings.specs.declared.refused.Refused.{Refused}
 
--- where it is told that they stand, they hold what they held, and so it is told of each fault of the
--- ledger that is there; else the database's own opening refused them
+-- where it is told that they stand, they hold what they held, and so it is told of each fault of
+-- the ledger that is there; else the database's own opening refused them
 pub record LeavesAsTold {D : Type 0} (g : disk.Ghosts D) (files : Files D) (refused : Refused)
     (left : Files D) : Type 0 where
   pub stand : IsTrue refused.stands → FilesStay g files left

@@ -91,7 +91,8 @@ pub data IsNoLedger (db : Database) : Type 0 where
   No_table : IsCurrent db → LacksTables fault.NotALedger db.schema → IsNoLedger db
   No_name : IsCurrent db → IsLedger db.schema → ¬ HasGoodNames db.trees → IsNoLedger db
 
--- the tables are a ledger's of the current version, tenants have names, and this is the first damage
+-- the tables are a ledger's of the current version, tenants have names, and this is the first
+-- damage
 pub record IsDamagedLedger (damage : Damage) (db : Database) : Type 0 where
   pub current : IsCurrent db
   pub ledger : IsLedger db.schema

@@ -41,8 +41,8 @@ pub trait Inspection {
         ensures examines { Examines finds refuses S.Store conn.old conn.new result };
 }
 
-/// Opens the database in two files, and looks at it. They are given back where it is refused, and it
-/// is told whether they hold what they held.
+/// Opens the database in two files, and looks at it. They are given back where it is refused, and
+/// it is told whether they hold what they held.
 pub fn open_telling<D: Disk + Drop, I: Inspection>(
     alloc: Global,
     files: Files<D>,

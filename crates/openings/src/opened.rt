@@ -20,8 +20,8 @@ use stored_ledgers::batches::DueSets;
 use stored_tables::held_machines;
 use tenants::TenantName;
 
-/// Looks at all that a file of the current version holds, and gives the due times of its tenants. It
-/// only reads.
+/// Looks at all that a file of the current version holds, and gives the due times of its tenants.
+/// It only reads.
 pub fn examine<S: Alter, A: Audit>(
     alloc: Global,
     conn: &mut Connection<S>,

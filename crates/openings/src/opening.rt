@@ -108,8 +108,8 @@ pub(crate) fn open_on<D: Disk + Drop>(
     }
 }
 
-/// The two files at a path, made where they are missing. `:memory:` and a URI are refused, and files
-/// that another process has are `InUse`. `St` stands for what they hold.
+/// The two files at a path, made where they are missing. `:memory:` and a URI are refused, and
+/// files that another process has are `InUse`. `St` stands for what they hold.
 pub fn files_at<St: Start>(
     rt: &HostRuntime,
     path: &str,

@@ -87,8 +87,8 @@ abbrev pub IsLeftBehind : Machine → Rest → Option Rest → Type 0
 IsLeftBehind m rest None = Unit {0}
 IsLeftBehind m rest (Some behind) = IsBehind m rest behind
 
--- a part of what is left, in a tenant's machine: with what is left behind it, it is all of that, and
--- less is left than before, since it has bytes
+-- a part of what is left, in a tenant's machine: with what is left behind it, it is all of that,
+-- and less is left than before, since it has bytes
 pub record IsPart (before : List ℕ) (tenant : Option Machine) (rest : Rest) (part : Part) :
     Type 0 where
   pub machine : Machine
@@ -102,7 +102,8 @@ pub record IsPart (before : List ℕ) (tenant : Option Machine) (rest : Rest) (p
 abbrev pub IsRestHeld : Tenants → Rest → Type 0
 IsRestHeld tenants rest = (m : Machine) × (tenants rest.digest ≡ Some m) × (rest.last ≤ m.clock)
 
--- so is what is told of it; that there is no such tenant, or no such account, is told where it is so
+-- so is what is told of it; that there is no such tenant, or no such account, is told where it is
+-- so
 abbrev pub IsPartTold :
     List ℕ → Option Machine → Rest → Result Part ReadFault → Type 0
 IsPartTold before tenant rest (Ok part) = IsPart before tenant rest part

@@ -1,8 +1,8 @@
 //! Laws of statements in parts. The functions do nothing; their contracts are the laws.
 ghost use Rattle.parts.specs.Parts.{BeginsWhole, RestsStay};
 
-/// What is left of a statement is the same in each later ledger of its tenant: entries never change,
-/// and those that come are later than the clock at which the statement was asked for.
+/// What is left of a statement is the same in each later ledger of its tenant: entries never
+/// change, and those that come are later than the clock at which the statement was asked for.
 pub fn rests_stay()
     ensures { RestsStay }
 {}

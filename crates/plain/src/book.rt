@@ -87,8 +87,8 @@ impl Book {
         place_of(&self.tenants, digest).is_some()
     }
 
-    /// Gives whoever is known by one digest another one, by which nobody else is known. Where nobody
-    /// is known by the first, nothing changes.
+    /// Gives whoever is known by one digest another one, by which nobody else is known. Where
+    /// nobody is known by the first, nothing changes.
     pub fn rekey(&mut self, was: &[u8; 32], digest: &[u8; 32])
         requires { was.now ≢ digest.now → IsNone (state_with digest.now self.old) }
         ensures rekeyed { IsRekeyed was.now digest.now self.old self.new }

@@ -11,8 +11,8 @@ pub struct Counts {
     pub most_connected: u64,
     /// Who was taken in so far.
     pub accepted: u64,
-    /// Who was let go so far because they had had their time, or were silent for longest where there
-    /// were as many as there may be.
+    /// Who was let go so far because they had had their time, or were silent for longest where
+    /// there were as many as there may be.
     pub late: u64,
 }
 

@@ -12,7 +12,8 @@ use polling::{Read, Written};
 use std::time::Duration;
 
 impl Guests {
-    // How much may be read of a client now: nothing while it waits for room. With `None` it is gone.
+    // How much may be read of a client now: nothing while it waits for room. With `None` it is
+    // gone.
     fn room_for(&self, number: u64, wanted: usize) -> Option<usize>
         ensures few { IfSome result (λ room. room ≤ wanted) }
         ensures room { result ≡ room_of (get nat_cmp self.now.peers number) wanted }

@@ -87,8 +87,8 @@ impl Guests {
         }
     }
 
-    /// Something has come of a client, or may be taken by it, or its input ends. Where all is closing
-    /// only those are woken who have not taken all of a reply, and nobody to be read.
+    /// Something has come of a client, or may be taken by it, or its input ends. Where all is
+    /// closing only those are woken who have not taken all of a reply, and nobody to be read.
     pub(crate) fn wake(&mut self, number: u64, is_ending: bool) {
         if let Some(peer) = self.peers.get_mut(&number) {
             if self.is_closing && !peer.is_written_to() {

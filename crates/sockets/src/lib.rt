@@ -1,5 +1,5 @@
-//! Clients over sockets of the machine, by readiness: who is connected, what came and what was taken,
-//! and how long and how much each may wait.
+//! Clients over sockets of the machine, by readiness: who is connected, what came and what was
+//! taken, and how long and how much each may wait.
 #![tactic(auto)]
 
 mod closing;

@@ -13,8 +13,8 @@ const BYTES_A_SECOND: usize = 65_536;
 pub struct Limits {
     /// The most clients at once.
     pub clients: usize,
-    /// How many bytes all messages of more than 64 kB may have together that are read at once. Of one
-    /// that is longer only so many are read, and its client is let go in time.
+    /// How many bytes all messages of more than 64 kB may have together that are read at once. Of
+    /// one that is longer only so many are read, and its client is let go in time.
     pub room: usize,
     /// How long a client may be silent between messages.
     pub idle: Duration,

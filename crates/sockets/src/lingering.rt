@@ -1,5 +1,5 @@
-//! Clients that were written their last reply. A connection that is closed while something is unread
-//! may lose what was written, so what they still send is read for a moment, and dropped.
+//! Clients that were written their last reply. A connection that is closed while something is
+//! unread may lose what was written, so what they still send is read for a moment, and dropped.
 use crate::line::Line;
 use crate::peer::read_from;
 use mio::net::TcpStream;
@@ -126,8 +126,8 @@ impl Lingering {
         }
     }
 
-    /// Reads a piece of one of them, where it is one of them, and drops it. Says whether it is to be
-    /// queued again.
+    /// Reads a piece of one of them, where it is one of them, and drops it. Says whether it is to
+    /// be queued again.
     pub(crate) fn drain(&mut self, number: u64) -> bool {
         let more = match self.leaving.get_mut(&number) {
             Some(leaving) => match read_from(&mut leaving.stream, &mut self.piece) {

@@ -65,8 +65,8 @@ impl Peer {
         !self.is_over && matches!(self.stage, Stage::Reply(_))
     }
 
-    /// Reads what has come, where something may have. A piece that is not filled took all of it, and
-    /// what comes later is told of anew, as is an end that comes later.
+    /// Reads what has come, where something may have. A piece that is not filled took all of it,
+    /// and what comes later is told of anew, as is an end that comes later.
     pub(crate) fn receive(&mut self, piece: &mut [u8]) -> polling::Read
         ensures count { IsReadOf result piece.new }
         ensures size { length piece.new ≡ length piece.old }

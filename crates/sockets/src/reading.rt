@@ -46,8 +46,8 @@ impl Reading {
         wanted.min(self.room.max(SMALL_MESSAGE).saturating_sub(self.read))
     }
 
-    /// For how many bytes room is lacking, where a message is so long: for all of them, once, if it is
-    /// long.
+    /// For how many bytes room is lacking, where a message is so long: for all of them, once, if it
+    /// is long.
     pub(crate) fn lacks(self, bytes: usize) -> usize
         ensures { result ≡ lacking self bytes }
     {

@@ -72,8 +72,8 @@ impl Room {
         }
     }
 
-    /// Whoever has waited for longest takes its room, where there is as much. Says who, and how much.
-    /// Where all room is free nobody is left to wait.
+    /// Whoever has waited for longest takes its room, where there is as much. Says who, and how
+    /// much. Where all room is free nobody is left to wait.
     pub(crate) fn admit(&mut self) -> Option<Asked>
         ensures first { IfSome result (IsLetIn self.old self.new) }
         ensures none { IfNone result (IsTooLong self.old) }

@@ -22,9 +22,10 @@ pub(crate) const EVENTS: usize = 1_024;
 /// Where descriptors or memory are wanting nobody is accepted for a moment, which is told once, and
 /// once when all who waited are accepted again.
 ///
-/// From when the operator asks to stop nobody is accepted, and nobody is late. Who had sent something
-/// by then is told as ready until nothing is left to be done for it, and so is who has not taken all
-/// of a reply; for a second at most. Behind that `told` tells `Nothing` at once, for ever.
+/// From when the operator asks to stop nobody is accepted, and nobody is late. Who had sent
+/// something by then is told as ready until nothing is left to be done for it, and so is who has
+/// not taken all of a reply; for a second at most. Behind that `told` tells `Nothing` at once, for
+/// ever.
 #[derive(Drop)]
 pub struct Sockets<'a, K: Clock, O: Operator> {
     pub(crate) clock: &'a K,

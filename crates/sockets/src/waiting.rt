@@ -21,8 +21,8 @@ const BUSY: u64 = 10;
 /// For how many milliseconds it is waited where waiting for all fails.
 const PAUSE: u64 = 100;
 
-/// How often all who are ready have their turn, behind a waiting, before it is waited again. A client
-/// is read in one of these turns and may share a round from the next one on.
+/// How often all who are ready have their turn, behind a waiting, before it is waited again. A
+/// client is read in one of these turns and may share a round from the next one on.
 const LOOKS: u8 = 2;
 
 // Registers a client's connection.
@@ -123,8 +123,8 @@ impl<K: Clock, O: Operator> Sockets<'_, K, O> {
         true
     }
 
-    // Somebody new, where there is one. Where there are as many as there may be, who has been silent
-    // for longest is late.
+    // Somebody new, where there is one. Where there are as many as there may be, who has been
+    // silent for longest is late.
     fn greeted(&mut self, fresh: u64) -> Told {
         if !self.door.is_anybody_there(self.time.now) {
             return Told::Nothing;
@@ -252,8 +252,8 @@ impl<K: Clock, O: Operator> Peers for Sockets<'_, K, O> {
         self.told_now(fresh)
     }
 
-    // Who asks for another turn is told behind the next look, and is waited for by nobody once it was
-    // looked often enough.
+    // Who asks for another turn is told behind the next look, and is waited for by nobody once it
+    // was looked often enough.
     fn has_more(&self) -> bool {
         self.guests.has_turns() || self.looks_again()
     }

@@ -4,9 +4,9 @@ use mio::event::Source;
 use mio::{Interest, Registry};
 use std::io;
 
-/// Has a source of the operator's own watched beside the clients' sockets, such as a listener. Where
-/// something may be read of it, `Operator::rings` is called. It is told at a change, so the operator
-/// goes on until it would wait. There is one such source at most.
+/// Has a source of the operator's own watched beside the clients' sockets, such as a listener.
+/// Where something may be read of it, `Operator::rings` is called. It is told at a change, so the
+/// operator goes on until it would wait. There is one such source at most.
 #[derive(Drop)]
 pub struct Watcher {
     registry: Registry,

@@ -34,7 +34,8 @@ pub record TakesRow {W : Type 0} (written : W → Option (List ℕ)) (s : Statem
   pub begun : has_begun t ≡ true
   pub line : Appends (written (drain_of s)) (written (drain_of t)) (header_left s ++ line_of row)
 
--- it refuses a row: a beginning of what taking it writes has gone out; nothing, where memory ran out
+-- it refuses a row: a beginning of what taking it writes has gone out; nothing, where memory ran
+-- out
 pub record RefusesRow {W : Type 0} (written : W → Option (List ℕ)) (s : StatementWriter W)
     (row : StatementRow) (why : SinkFault) (t : StatementWriter W) : Type 0 where
   pub front : AppendsFront (written (drain_of s)) (written (drain_of t))

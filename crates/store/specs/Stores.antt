@@ -135,8 +135,8 @@ module _ {D : Type 0} {g : disk.Ghosts D} where
   abbrev pub StaysFound : Store D g → Trees → Trees → Type 0
   StaysFound old was db = (db ≡ was) ⊎ (IsLive old × AreKeptAt old.place was db)
 
-  -- what every run of batches and reads keeps: that, the schema, the number, name and digest of each
-  -- tenant, and the tables of strangers, also in whatever an opening may find
+  -- what every run of batches and reads keeps: that, the schema, the number, name and digest of
+  -- each tenant, and the tables of strangers, also in whatever an opening may find
   pub record Continues (old new : Store D g) : Type 0 where
     pub follows : StoreFollows old new
     pub tables : IsLive new → OfDatabases KeepsTables old new
@@ -171,8 +171,8 @@ module _ {D : Type 0} {g : disk.Ghosts D} where
   abbrev pub RefusesUnready : {T E : Type 0} → E → Store D g → Store D g → Result T E → Type 0
   RefusesUnready fault old new result = old.ready ≡ false → (result ≡ Err fault) × (new ≡ old)
 
-  -- where a call is answered with this fault, that the disk failed, no call is answered from then on;
-  -- otherwise the store is open, if the disk was honest
+  -- where a call is answered with this fault, that the disk failed, no call is answered from then
+  -- on; otherwise the store is open, if the disk was honest
   pub record AnswersUnless {T E : Type 0} (fault : E) (old new : Store D g) (result : Result T E)
       : Type 0 where
     pub usable : IsUsable new
@@ -212,8 +212,8 @@ module _ {D : Type 0} {g : disk.Ghosts D} where
     pub place : new.place ≡ at.Shut left
     pub unopened : LeavesUnopened g files left
 
-  -- an opening refused the files that the old store gives back, in this fault's case, and the new one
-  -- has them as that left them
+  -- an opening refused the files that the old store gives back, in this fault's case, and the new
+  -- one has them as that left them
   pub record IsRefusedFor (fault : OpenFault) (old new : Store D g) : Type 0 where
     pub files : Files D
     pub back : GivesBack old files
@@ -221,9 +221,9 @@ module _ {D : Type 0} {g : disk.Ghosts D} where
     pub place : new.place ≡ at.Shut left
     pub told : AreClean g left.log left.db → IsFaultTold g files fault left
 
-  -- what a reopening that was refused leaves, as it tells: where it is told that the files stand, an
-  -- opening finds what it might have found before, and so it is told of each fault of the ledger that
-  -- is there; else the database's own opening refused them
+  -- what a reopening that was refused leaves, as it tells: where it is told that the files stand,
+  -- an opening finds what it might have found before, and so it is told of each fault of the ledger
+  -- that is there; else the database's own opening refused them
   pub record LeavesStore (refused : Refused) (old new : Store D g) : Type 0 where
     pub stand : IsTrue refused.stands → KeepsFound old new
     pub unopened : refused.stands ≡ false → IsLeftUnopened old new

@@ -8,8 +8,8 @@ use crate::place::Place;
 use sqlite_disk::Disk;
 
 impl<D: Disk + Drop> Store<D> {
-    /// A law: while the store is open, each name goes together with the digest of a tenant, and each
-    /// tenant's digest with one name.
+    /// A law: while the store is open, each name goes together with the digest of a tenant, and
+    /// each tenant's digest with one name.
     pub fn are_named(&self)
         requires { IsUsable self.now }
         ensures { IsLive self.now → AreNamed (names_of self.now) (tenants_of self.now) }

@@ -25,7 +25,8 @@ pub data AreNamesAfter (first : Names) : List Step → List Answer → Names →
   As_found :
       (steps : List Step) (answers : List Answer) (refused : Refused) (names : Names) →
       refused.stands ≡ false →
-      AreNamesAfter first (steps ++ step.Reopen ∷ []) (answers ++ answer.Reopened (Err refused) ∷ [])
+      AreNamesAfter first (steps ++ step.Reopen ∷ [])
+      (answers ++ answer.Reopened (Err refused) ∷ [])
       names
   As_step :
       (steps : List Step) (answers : List Answer) (was : Names) (step : Step) (answer : Answer)

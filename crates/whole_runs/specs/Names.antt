@@ -11,8 +11,8 @@ use Rattle.stored_ledgers.specs.declared.keying.ChangeKey.TheVariants as key
 use Rattle.stored_ledgers.specs.Names.{Names, KeepsNames, GivesName}
 use Rattle.store.specs.Deeds.{ending_of, key_ending}
 
--- what ledgers say of names: the digest of the tenant with each name, and which names an opening may
--- find
+-- what ledgers say of names: the digest of the tenant with each name, and which names an opening
+-- may find
 pub record NamesMeaning (S : Type 0) : Type 1 where
   pub named : S → Names
   pub may_find : S → Names → Type 0
@@ -29,7 +29,8 @@ pub record LeavesNames {S : Type 0} (t : RunMeaning S) (n : NamesMeaning S) (old
     pub same : t.is_live new → KeepsNames (n.named old) (n.named new)
     pub found : (found : Names) → n.may_find new found → ∥ n.may_find old found ∥₁
 
--- the ledgers are opened again: the names are those that were to be found, and an opening finds them
+-- the ledgers are opened again: the names are those that were to be found, and an opening finds
+-- them
 pub record OpensNames {S : Type 0} (t : RunMeaning S) (n : NamesMeaning S) (old new : S) : Type 0
   where
     pub member : t.is_live new → ∥ n.may_find old (n.named new) ∥₁

@@ -52,7 +52,8 @@ TellsTaken t old digest Told new = t.is_live new → Told → t.tenants old dige
 
 -- what a step makes of the ledgers, whose tenants have names
 abbrev pub StepMakes :
-    {S : Type 0} → RunMeaning S → NamesMeaning S → (Refused → S → S → Type 0) → S → Step → Answer → S
+    {S : Type 0} → RunMeaning S → NamesMeaning S → (Refused → S → S → Type 0) → S →
+    Step → Answer → S
     → Type 0
 StepMakes t n Refuses old (step.Request bytes moment) (answer.Replied reply) new =
     Replies t old bytes.items moment reply new × LeavesNames t n old new
@@ -81,8 +82,8 @@ pub record HasNamed {S : Type 0} (t : RunMeaning S) (n : NamesMeaning S) (old : 
   pub found : (found : Names) → n.may_find new found
       → ∥ AreNamesAfter (n.named old) steps answers found ∥₁
 
--- while the ledgers are live, an opening finds what is there, machines and names, and each tenant has
--- one name
+-- while the ledgers are live, an opening finds what is there, machines and names, and each tenant
+-- has one name
 pub record IsInOrder {S : Type 0} (t : RunMeaning S) (n : NamesMeaning S) (ledgers : S) : Type 0
   where
     pub machines : IsSettled t ledgers

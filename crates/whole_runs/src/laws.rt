@@ -29,7 +29,8 @@ pub fn runs_serve_each_alone()
 /// included. So it is whether the batch was answered, or answered `unavailable` and found done.
 pub fn retries_add_nothing()
     ensures accounts { RetriesAddNothing HasAskedInRun account_rules for_account.Exists Accounts }
-    ensures transfers { RetriesAddNothing HasAskedInRun transfer_rules for_transfer.Exists Transfers }
+    ensures transfers { RetriesAddNothing HasAskedInRun transfer_rules
+        for_transfer.Exists Transfers }
 {
     retried_in_course_adds_nothing();
 }
@@ -44,9 +45,9 @@ pub fn stays_failed<L: Reopening>()
     failed_in_course_stays_failed();
 }
 
-/// What a tenant was told in the course of a run up to a clock stays, whatever any tenant did since,
-/// stops and reopenings included: its entries are kept in place, those that came since are later
-/// than the clock that it was told, and what lies in a span of time up to it is told again.
+/// What a tenant was told in the course of a run up to a clock stays, whatever any tenant did
+/// since, stops and reopenings included: its entries are kept in place, those that came since are
+/// later than the clock that it was told, and what lies in a span of time up to it is told again.
 pub fn told_stays()
     ensures { ToldStays HasAskedInRun }
 {

@@ -21,9 +21,9 @@ use wire::NoMemory;
 
 /// The ledgers of many tenants, which can be closed and opened again.
 ///
-/// A fault of what they stand on ends them until they are opened again. The request that came to the
-/// fault, or the round, may be found done then, all of it, or not: no other may. So it is with the
-/// name of a tenant, and its digest.
+/// A fault of what they stand on ends them until they are opened again. The request that came to
+/// the fault, or the round, may be found done then, all of it, or not: no other may. So it is with
+/// the name of a tenant, and its digest.
 pub trait Reopening {
     // The machine of each tenant; whether calls are allowed; whether the ledgers are live; and
     // which machines an opening may find.
@@ -66,7 +66,8 @@ pub trait Reopening {
     /// Adds a tenant, whose machine is a new one. The name is looked up before the digest.
     fn join(&mut self, name: &TenantName, digest: &[u8; 32]) -> Result<(), AddTenant>
         requires { means.is_usable self.old }
-        ensures moves { Moves means self.old (Tried (Joined digest.now) (ending_of result)) self.new }
+        ensures moves { Moves means self.old
+            (Tried (Joined digest.now) (ending_of result)) self.new }
         ensures taken { TellsTaken means self.old digest.now (result ≡ Err AddTenant.DigestTaken)
             self.new }
         ensures named { IsJoinTried means names self.old name.now digest.now result self.new }

@@ -31,8 +31,8 @@ impl Orders for Silent {
     }
 }
 
-/// An operator who asks for these, one at each turn, and then that it ends. What came of each is noted
-/// as a line.
+/// An operator who asks for these, one at each turn, and then that it ends. What came of each is
+/// noted as a line.
 #[derive(Drop)]
 struct Asking<'a> {
     alloc: Global,

@@ -42,8 +42,8 @@ impl Clock for Still<'_> {
     }
 }
 
-/// A message of the firm: so many holds of 1 from account 1 to account 2, each for a second, with the
-/// ids from 1000 on.
+/// A message of the firm: so many holds of 1 from account 1 to account 2, each for a second, with
+/// the ids from 1000 on.
 fn holds(alloc: Global, many: u64) -> Result<String, AllocError> {
     let mut body = String::new(alloc);
     for place in 0..many {
@@ -78,8 +78,8 @@ fn with_holds<D: Disk + Drop, F: Firms<D>>(alloc: Global, firms: &F, many: u64) 
     Some(store)
 }
 
-/// What clients hear who send these messages, so many times each, where so many holds are there. With
-/// each turn a second passes.
+/// What clients hear who send these messages, so many times each, where so many holds are there.
+/// With each turn a second passes.
 fn heard_with<D: Disk + Drop, F: Firms<D>, K: Clock>(
     alloc: Global,
     firms: &F,

@@ -72,7 +72,8 @@ pub fn number_of<S: Unclaimed>(
     Ok(number_in(finding::find_tenant_by_name(conn, name)?))
 }
 
-/// Whether the row of the tenant with this number has this name; where there is none, no name is right.
+/// Whether the row of the tenant with this number has this name; where there is none, no name is
+/// right.
 pub fn is_named<S: Unclaimed>(
     conn: &mut Connection<S>,
     number: i64,

@@ -22,8 +22,8 @@ const OVER_FEW: &[Act] = &[Does(BASE), AddMany(100), Does(COMMIT)];
 
 const OVER_MANY: &[Act] = &[Does(BASE), AddMany(1000), Does(COMMIT)];
 
-/// Each text by a whole key takes few steps, as does one for all rows of a tenant that has few. A scan
-/// is refused.
+/// Each text by a whole key takes few steps, as does one for all rows of a tenant that has few. A
+/// scan is refused.
 const BY_KEY: &[Act] = &[
     LimitSteps(8),
     Fails("SELECT count(*) FROM account WHERE code = 10"),

@@ -1,6 +1,6 @@
 //! Where the tables of a test are: in memory, and in a file. Disks are named only where files are
-//! made, and what opens and closes a connection is generic over them, since each function that holds
-//! one of a named disk takes long to prove.
+//! made, and what opens and closes a connection is generic over them, since each function that
+//! holds one of a named disk takes long to prove.
 
 ghost use Rattle.std.specs.Prelude.{IsTrue};
 

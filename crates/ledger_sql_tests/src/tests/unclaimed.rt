@@ -1,4 +1,5 @@
-//! Stores of which nothing is claimed, so that a test may make any call on one and see what happens.
+//! Stores of which nothing is claimed, so that a test may make any call on one and see what
+//! happens.
 
 ghost use Rattle.std.specs.Prelude.{◌≡◌};
 ghost use Rattle.sqlite.specs.State.{HasCleanDisk};

@@ -42,8 +42,8 @@ open = opened
   "clock":"3000000002"}
 "#;
 
-/// A tenant whose key is changed between a batch and its retry, which is told under the new key what
-/// any retry is told. The old key is nobody's then, and may be another tenant's.
+/// A tenant whose key is changed between a batch and its retry, which is told under the new key
+/// what any retry is told. The old key is nobody's then, and may be another tenant's.
 const KEYED: &str = r#"tenant 0 = added
 0@0 base = 0@1 0@2 0@3 0@4
 0@0 transfers 100 1 2 10; 101 9 2 5 = 0@5 44@6
