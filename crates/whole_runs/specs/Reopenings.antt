@@ -1,7 +1,7 @@
 -- What each step of a run promises of ledgers that can be opened again, and what a run does.
 use Rattle.std.specs.Prelude.{◌≡◌, ◌≢◌, ℕ, List, [], ◌∷◌, ◌++◌, None, Result, Ok, Err, Vec}
 use Rattle.std.specs.Prelude.{IsTrue}
-use Rattle.chain.specs.Ledgers.{Tenants}
+use Rattle.chain.specs.Ledgers.{AreValid, Tenants}
 use Rattle.ledger_http.specs.declared.reply.Reply.{Reply}
 use Rattle.service.specs.declared.turns.Message.{Message}
 use Rattle.service.specs.Deeds.{Joined}
@@ -89,6 +89,13 @@ pub record IsInOrder {S : Type 0} (t : RunMeaning S) (n : NamesMeaning S) (ledge
     pub machines : IsSettled t ledgers
     pub names : AreNamesSettled t n ledgers
     pub named : t.is_live ledgers → AreNamed (n.named ledgers) (t.tenants ledgers)
+
+-- where a run ends they are in order, of valid machines as long as they are live, and can be called
+pub record EndsInOrder {S : Type 0} (t : RunMeaning S) (n : NamesMeaning S) (ledgers : S) : Type 0
+  where
+    pub settled : IsInOrder t n ledgers
+    pub valid : t.is_live ledgers → AreValid (t.tenants ledgers)
+    pub usable : t.is_usable ledgers
 
 -- a run step by step: each step makes its ledgers of those before it, and the steps up to there
 -- have run. At each moment the ledgers are in order.

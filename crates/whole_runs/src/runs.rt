@@ -1,8 +1,7 @@
 //! Runs a list of steps.
 ghost use Rattle.std.specs.Prelude.{◌≡◌, ◌<◌, ◌++◌, ◌∷◌, [], IfOk, OnErr, vec_len, vec_capacity};
 ghost use Rattle.std.specs.List.{AllZip};
-ghost use Rattle.chain.specs.Ledgers.{AreValid};
-ghost use Rattle.whole_runs.specs.Reopenings.{StepMakes, HasNamed, HasRun, RunsThrough, IsInOrder};
+ghost use Rattle.whole_runs.specs.Reopenings.{StepMakes, HasNamed, HasRun, RunsThrough, EndsInOrder};
 ghost use Rattle.whole_runs.specs.Reopenings.{IsAnswerTo};
 
 use crate::reopening::Reopening;
@@ -54,9 +53,7 @@ pub fn run_all<L: Reopening>(
         HasNamed L.means L.names ledgers.old steps.now answers.items ledgers.new) }
     ensures answered { IfOk result (λ answers. AllZip IsAnswerTo steps.now answers.items) }
     ensures unrun { OnErr result (ledgers.new ≡ ledgers.old) }
-    ensures settled { IsInOrder L.means L.names ledgers.new }
-    ensures valid { L.means.is_live ledgers.new → AreValid (L.means.tenants ledgers.new) }
-    ensures usable { L.means.is_usable ledgers.new }
+    ensures ends { EndsInOrder L.means L.names ledgers.new }
 {
     ledgers.is_settled();
     let mut answers = Vec::with_capacity(alloc, steps.len())?;

@@ -44,5 +44,9 @@ loop-step-preserved g c = record {
   settled = c.is_settled-in-loop-step.ensures;
 }
 
-pub returns-clause-valid : goal.returns-clause-valid
-returns-clause-valid g c live = g.met.L.Reopening.valid _ live c.loop-step.invariant.usable
+pub returns-clause-ends : goal.returns-clause-ends
+returns-clause-ends g c = record {
+  settled = c.loop-step.invariant.settled;
+  valid = λ live. g.met.L.Reopening.valid _ live c.loop-step.invariant.usable;
+  usable = c.loop-step.invariant.usable;
+}
