@@ -1,6 +1,5 @@
 use Rattle.std.proofs.Common.{Ok, refl, ◌∙◌, ap, subst, sym}
 use Rattle.wire.specs.declared.request.Request.{Request}
-use Rattle.wire.specs.declared.request.Request.TheVariants.{Accounts, Transfers}
 use Rattle.wire.specs.declared.request.Request.TheVariants.{LookupAccounts, LookupTransfers, LookupPending}
 use Rattle.service.specs.Calls.{BeginsOver}
 use Rattle.service.proofs.CallLemmas.{begins_read, begins_served}
