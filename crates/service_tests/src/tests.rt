@@ -1,5 +1,5 @@
-//! What messages of several firms are told over ledgers in memory: each by itself, over a connection,
-//! and those of many clients in turn.
+//! What messages of several firms are told over ledgers in memory: each by itself, over a
+//! connection, and those of many clients in turn.
 
 mod answers;
 mod asserting;

@@ -1,5 +1,5 @@
-//! What bodies mean, and what replies spell. That the one is read and the other is written is proved;
-//! here stand bodies and replies as they are sent.
+//! What bodies mean, and what replies spell. That the one is read and the other is written is
+//! proved; here stand bodies and replies as they are sent.
 
 mod deep;
 mod pages;

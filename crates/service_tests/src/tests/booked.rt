@@ -31,8 +31,8 @@ pub(crate) const LAST: &str = "0\r\n\r\n";
 /// How many transfers one message has at most.
 const MOST_EVENTS: u64 = 1000;
 
-/// A message of the first firm that books so many transfers of 7 from account 1 to account 2, behind
-/// so many others.
+/// A message of the first firm that books so many transfers of 7 from account 1 to account 2,
+/// behind so many others.
 pub(crate) fn transfers(alloc: Global, before: u64, count: u64) -> Result<Vec<u8>, AllocError> {
     let mut body = Vec::new(alloc);
     for number in before..before.saturating_add(count) {

@@ -218,8 +218,8 @@ fn hears_a_reply(firms: &mut Firms, talker: &mut Talker) -> Result<bool, AllocEr
     Ok(is_replied && is_whole && is_next)
 }
 
-// Hears what is unsent of a statement, and has it go on by the part that is left. Whether no message
-// may be answered meanwhile.
+// Hears what is unsent of a statement, and has it go on by the part that is left. Whether no
+// message may be answered meanwhile.
 fn hears_a_part(firms: &mut Firms, talker: &mut Talker) -> Result<bool, Fail> {
     let has_some = !talker.client.unsent().is_empty();
     talker.hear(ALL)?;

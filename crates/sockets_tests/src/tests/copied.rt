@@ -145,8 +145,8 @@ fn leaves_what_has_a_name_alone(rt: HostRuntime) -> Result<(), Fail> {
     clear(&rt, "f.db")
 }
 
-// Nothing is left of a copy that is given up, or cannot be made; what one that was cut short has left
-// is no hindrance.
+// Nothing is left of a copy that is given up, or cannot be made; what one that was cut short has
+// left is no hindrance.
 #[test]
 fn leaves_nothing_where_it_fails(rt: HostRuntime) -> Result<(), Fail> {
     clear(&rt, "g.db")?;

@@ -315,8 +315,8 @@ static REFUSED: [Refused; 66] = [
     ("GET /Health", "", "", Refusal::NoRoute),
 ];
 
-/// Messages that are refused. The table is named here alone, as each function that names it takes long
-/// to prove.
+/// Messages that are refused. The table is named here alone, as each function that names it takes
+/// long to prove.
 pub(crate) fn refused() -> &'static [Refused] {
     &REFUSED
 }

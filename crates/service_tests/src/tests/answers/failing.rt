@@ -13,8 +13,8 @@ use service::{Begun, begin, respond};
 use std::alloc::Global;
 use std::marker::Model;
 
-/// The ledgers of several firms, of which a batch may be refused. Where that is for their disk, each
-/// call is told so from then on.
+/// The ledgers of several firms, of which a batch may be refused. Where that is for their disk,
+/// each call is told so from then on.
 #[derive(Drop)]
 struct Failing {
     book: Book,

@@ -140,8 +140,8 @@ impl Firms {
         (replies, ledgers.rounds())
     }
 
-    /// Serves clients while batches of more than so many bytes are put off, so many times. Says how many
-    /// messages were replied to.
+    /// Serves clients while batches of more than so many bytes are put off, so many times. Says how
+    /// many messages were replied to.
     pub(crate) fn serve_putting_off(
         &mut self,
         peers: &mut Scripted,

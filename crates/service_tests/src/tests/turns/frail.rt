@@ -50,8 +50,8 @@ fn take_back<W: RoundWork + Drop>(book: &mut Book, work: W)
     }
 }
 
-/// The ledgers of several firms, of which the next round has a fate. Where their disk has failed each
-/// call is told so, until they are opened again.
+/// The ledgers of several firms, of which the next round has a fate. Where their disk has failed
+/// each call is told so, until they are opened again.
 #[derive(Drop)]
 pub(crate) struct Frail {
     book: Book,

@@ -122,8 +122,8 @@ fn what_is_no_batch_waits_for_no_round(rt: HostRuntime) -> Result<(), Fail> {
     Ok(())
 }
 
-// All have joined when three were told, and each was read twice when nine were. The tenth gathers the
-// first client, and then that one has had its time.
+// All have joined when three were told, and each was read twice when nine were. The tenth gathers
+// the first client, and then that one has had its time.
 #[test]
 fn who_goes_while_it_is_gathered_is_left_out(rt: HostRuntime) -> Result<(), Fail> {
     let mut firms = Firms::with(rt.alloc(), &KEYS)?;
@@ -156,8 +156,9 @@ fn a_round_stops_behind_so_many_replies(rt: HostRuntime) -> Result<(), Fail> {
     Ok(())
 }
 
-// The first batch of all has 190 bytes, and is put off ten times. The two of the other firm are answered
-// meanwhile, and what is no batch is not put off. Then the first firm hears what it hears alone.
+// The first batch of all has 190 bytes, and is put off ten times. The two of the other firm are
+// answered meanwhile, and what is no batch is not put off. Then the first firm hears what it hears
+// alone.
 #[test]
 fn who_is_put_off_is_answered_behind_the_others(rt: HostRuntime) -> Result<(), Fail> {
     let to_first = Firms::with(rt.alloc(), &KEYS)?.serve_alone(OF_FIRST.as_bytes());

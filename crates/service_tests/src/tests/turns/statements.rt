@@ -172,8 +172,8 @@ fn a_statement_that_cannot_be_read_on_is_cut_short(rt: HostRuntime) -> Result<()
     Ok(())
 }
 
-// Once as many replies as are wanted are begun no message is answered, and what is left of them is read
-// and written.
+// Once as many replies as are wanted are begun no message is answered, and what is left of them is
+// read and written.
 #[test]
 fn the_rest_of_a_statement_is_written_at_the_end(rt: HostRuntime) -> Result<(), Fail> {
     let alloc = rt.alloc();

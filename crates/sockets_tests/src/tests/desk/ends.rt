@@ -25,8 +25,8 @@ fn removes_its_socket(rt: HostRuntime) -> Result<(), Fail> {
     Ok(())
 }
 
-// Who asks for the end is told of it once it has come, who comes last too; what else is asked then is
-// refused, and who has not sent all of a message is let go. Then nobody is there any more.
+// Who asks for the end is told of it once it has come, who comes last too; what else is asked then
+// is refused, and who has not sent all of a message is let go. Then nobody is there any more.
 const STOPS: [Step; 9] = [
     Calls(Call::Stop),
     Sends("GET"),

@@ -7,8 +7,8 @@ use std::net::Shutdown;
 use std::os::unix::net::UnixStream;
 use std::test::Fail;
 
-/// A step. Callers have the places at which they connected, and a moment is so many seconds behind the
-/// beginning.
+/// A step. Callers have the places at which they connected, and a moment is so many seconds behind
+/// the beginning.
 #[derive(Clone, Copy, Debug)]
 pub(super) enum Step {
     /// Somebody calls.

@@ -83,7 +83,8 @@ fn reads_as_many_long_messages_as_there_is_room_for(rt: HostRuntime) -> Result<(
     take_steps(&rt, 0, Allowed(9, 170_000, LONG, LONG, LONG), &THREE_LONG)
 }
 
-// Behind one that waits for room nobody is let in before it, though there is room for a shorter one.
+// Behind one that waits for room nobody is let in before it, though there is room for a shorter
+// one.
 const SHORTER_BEHIND: [Step; 19] = [
     Connects(70_000),
     Connects(90_000),

@@ -112,8 +112,8 @@ fn takes_so_many_clients(rt: HostRuntime) -> Result<(), Fail> {
     take_steps(&rt, 0, Allowed(2, 9, LONG, LONG, LONG), &steps)
 }
 
-// Who cannot be taken in is dropped: here since there is no number for it. However many are, that is
-// told once, and once that all who waited are accepted again.
+// Who cannot be taken in is dropped: here since there is no number for it. However many are, that
+// is told once, and once that all who waited are accepted again.
 const CANNOT_JOIN: [Step; 11] = [
     Connects(0),
     Connects(0),

@@ -12,9 +12,9 @@ const LONG: u64 = 60_000;
 
 const SHORT: u64 = 200;
 
-// What is told and how often it has rung while somebody comes to a listener twice, who is no client:
-// where the client has come, where it is ready, behind each that comes, and where both were taken and
-// the client sends again. And what is read of it before.
+// What is told and how often it has rung while somebody comes to a listener twice, who is no
+// client: where the client has come, where it is ready, behind each that comes, and where both were
+// taken and the client sends again. And what is read of it before.
 fn told_of_comers(
     rt: &HostRuntime,
     scene: &mut Scene<'_>,
@@ -120,8 +120,8 @@ fn counts_who_makes_room(rt: HostRuntime) -> Result<(), Fail> {
     take_steps(&rt, 0, Allowed(1, 9, LONG, LONG, LONG), &steps)
 }
 
-// What is told, and the longest turn so far, where 700 milliseconds pass behind the first thing that is
-// told, and 300 behind the second.
+// What is told, and the longest turn so far, where 700 milliseconds pass behind the first thing
+// that is told, and 300 behind the second.
 fn turn_of_one(
     rt: &HostRuntime,
     scene: &mut Scene<'_>,
@@ -184,8 +184,8 @@ fn notes_replies(rt: HostRuntime) -> Result<(), Fail> {
 
 const IN_PARTS: &[u8] = b"HTTP/1.1 200 OK\r\ntransfer-encoding: chunked\r\n\r\n2\r\na\n\r\n";
 
-// What is written to client 0 of a reply in parts, and of the next one its first, and how many replies
-// were told behind each; whether all was taken.
+// What is written to client 0 of a reply in parts, and of the next one its first, and how many
+// replies were told behind each; whether all was taken.
 fn replies_told(scene: &mut Scene<'_>, notes: &Notes) -> ([u64; 5], bool) {
     let parts: [&[u8]; 5] = [
         IN_PARTS,
@@ -203,8 +203,8 @@ fn replies_told(scene: &mut Scene<'_>, notes: &Notes) -> ([u64; 5], bool) {
     (replies, are_taken)
 }
 
-// The first part is the beginning of the reply. Those behind it begin with the size of a chunk, as the
-// last one does, and the next reply is told again.
+// The first part is the beginning of the reply. Those behind it begin with the size of a chunk, as
+// the last one does, and the next reply is told again.
 #[test]
 fn notes_a_reply_in_parts_once(rt: HostRuntime) -> Result<(), Fail> {
     let clock = Ticking::new(0);

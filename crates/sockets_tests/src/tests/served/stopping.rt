@@ -7,8 +7,8 @@ use std::test::Fail;
 
 const LONG: u64 = 60_000;
 
-// Who had sent something is told, and has another turn where it asks for one. Nobody is accepted, and
-// what is sent later is not looked at.
+// Who had sent something is told, and has another turn where it asks for one. Nobody is accepted,
+// and what is sent later is not looked at.
 const SENT_BEFORE: [Step; 20] = [
     Connects(0),
     Connects(0),
@@ -56,8 +56,8 @@ fn serves_nobody_behind_the_end(rt: HostRuntime) -> Result<(), Fail> {
     take_steps(&rt, 0, Allowed(9, 9, LONG, LONG, LONG), &ENDED)
 }
 
-// How many turns a client has that comes before the end, asks for another in each and sends on, until
-// nothing is told.
+// How many turns a client has that comes before the end, asks for another in each and sends on,
+// until nothing is told.
 fn turns_of_one(rt: &HostRuntime, scene: &mut Scene<'_>, notes: &Notes) -> Result<usize, Fail> {
     scene.connect(rt, 10)?;
     if scene.told(0, 3) != Told::Joined {
@@ -75,7 +75,8 @@ fn turns_of_one(rt: &HostRuntime, scene: &mut Scene<'_>, notes: &Notes) -> Resul
     Ok(100)
 }
 
-// The clock goes on by 150 milliseconds where it is asked: in less than seven turns a second passes.
+// The clock goes on by 150 milliseconds where it is asked: in less than seven turns a second
+// passes.
 #[test]
 fn ends_behind_a_second_though_one_sends_on(rt: HostRuntime) -> Result<(), Fail> {
     let clock = Ticking::new(150);
@@ -113,8 +114,8 @@ fn begin_reply(rt: &HostRuntime, scene: &mut Scene<'_>, reply: &[u8]) -> Result<
     Ok(fill(scene, reply))
 }
 
-// Writes on while client 0 is told to be ready, and says how much is taken of a reply in all. It reads
-// what has come, or does not.
+// Writes on while client 0 is told to be ready, and says how much is taken of a reply in all. It
+// reads what has come, or does not.
 fn write_on(scene: &mut Scene<'_>, reply: &[u8], taken: usize, reads: bool) -> Result<usize, Fail> {
     let mut sent = taken;
     for _ in 0..1000 {

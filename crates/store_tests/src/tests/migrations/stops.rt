@@ -1,5 +1,5 @@
-//! Migrations that are cut off, by a disk that stops or by want of memory: the old ledger is left or
-//! the new one, whole, as the audit of the next opening finds.
+//! Migrations that are cut off, by a disk that stops or by want of memory: the old ledger is left
+//! or the new one, whole, as the audit of the next opening finds.
 
 use super::fixture::in_memory;
 use super::stored::{Migrated, Opened, brought, opened};

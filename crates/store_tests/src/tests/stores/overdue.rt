@@ -44,8 +44,8 @@ pub fn made<D: Faulty>(alloc: Global) -> Result<Driven<D>, Fail> {
     Ok(store)
 }
 
-/// So many holds of a tenant for a second, made at the moment 0 behind its two accounts: the first is
-/// due 3 nanoseconds behind the first second, and each later one a nanosecond later.
+/// So many holds of a tenant for a second, made at the moment 0 behind its two accounts: the first
+/// is due 3 nanoseconds behind the first second, and each later one a nanosecond later.
 fn hold<D: Disk + Drop>(
     alloc: Global,
     store: &mut Driven<D>,
@@ -92,8 +92,8 @@ fn found(number: i64, digest: [u8; 32], behind: u32, has_more: bool) -> Option<O
     })
 }
 
-/// What is found of 450 holds of North and one of South, while whoever is found is settled. The last
-/// piece is found twice, since the batch that releases it leaves it in memory.
+/// What is found of 450 holds of North and one of South, while whoever is found is settled. The
+/// last piece is found twice, since the batch that releases it leaves it in memory.
 fn finds<D: Faulty>(rt: &impl Abort, alloc: Global) -> Result<(), Fail> {
     let mut store = made::<D>(alloc)?;
     hold(alloc, &mut store, &NORTH, 450)?;

@@ -33,8 +33,8 @@ fn all_accounts(alloc: Global) -> Result<Vec<AccountEvent>, AllocError> {
     Ok(all)
 }
 
-/// A hold for a second of each account up to the 150th, of as much as its id, for the one that is 150
-/// further. Before them stands one of 7 from account 1 to 2 that ends nowhere.
+/// A hold for a second of each account up to the 150th, of as much as its id, for the one that is
+/// 150 further. Before them stands one of 7 from account 1 to 2 that ends nowhere.
 fn all_holds(alloc: Global) -> Result<Vec<TransferEvent>, AllocError> {
     let mut all = Vec::new(alloc);
     all.push(transfer("999: 1>2 7 pending"))?;
