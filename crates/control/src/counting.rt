@@ -1,11 +1,12 @@
 //! The counts of a service, as a body and as lines.
-ghost use Rattle.std.specs.Prelude.{◌≡◌, ◌⊎◌, ◌++◌, List, ℕ, Some, Err, IfOk, IfErr, OnOk, false, map};
+ghost use Rattle.std.specs.Prelude.{◌≡◌, ◌⊎◌, List, ℕ, Some, Err, IfOk, IfErr, OnOk, false, map};
 ghost use Rattle.std.specs.Io.KnownBytes.{Appends};
 ghost use Rattle.std.specs.String.{string_bytes};
 ghost use Rattle.serde_json.specs.View.{members_view, view};
-ghost use Rattle.json.specs.Tree.{json_tokens};
-ghost use Rattle.serde_json.specs.Written.{compact_text, outline};
+ghost use Rattle.serde_json.specs.Written.{compact_text};
 ghost use Rattle.wire.specs.Reply.{object_with};
+ghost use Rattle.wire.specs.Writing.{AddsData};
+ghost use Rattle.command_texts.specs.Answered.{TellsIfAvailable};
 ghost use Rattle.control.specs.Counting.{IsCounted, count_member, counts_data, line_in, lines_in, line_of};
 
 use crate::numbers::write_number;
@@ -34,9 +35,7 @@ pub enum CountForm {
 
 /// Writes an object that has counts as its members.
 pub(crate) fn write_counts(writer: &mut Writer, counts: &[Count<'_>]) -> Result<(), AllocError>
-    ensures ok { OnOk result (writer.new.tokens
-        ≡ writer.old.tokens ++ json_tokens (outline (object_with (map count_member counts.now)))) }
-    ensures before { writer.new.before ≡ writer.old.before }
+    ensures { AddsData (object_with (map count_member counts.now)) writer.old writer.new result }
 {
     writer.begin_object()?;
     for count in counts {
@@ -69,8 +68,8 @@ fn line_of(alloc: Global, form: CountForm, name: &str, value: &str) -> Result<St
 
 // The line of a member.
 fn line_in(alloc: Global, form: CountForm, name: &str, value: &Value) -> Result<String, Fault>
-    ensures ok { IfOk result (λ line. line_in form name.now (view value.now) ≡ Some (string_bytes line)) }
-    ensures fault { IfErr result (λ fault. fault ≡ Fault.Unavailable) }
+    ensures { TellsIfAvailable result (λ line.
+        line_in form name.now (view value.now) ≡ Some (string_bytes line)) }
 {
     match value.as_str() {
         Some(value) => Ok(line_of(alloc, form, name, value)?),
@@ -80,9 +79,8 @@ fn line_in(alloc: Global, form: CountForm, name: &str, value: &Value) -> Result<
 
 // The lines of all members.
 fn lines_in(alloc: Global, form: CountForm, counts: &Map<String, Value>) -> Result<String, Fault>
-    ensures ok { IfOk result (λ lines.
+    ensures { TellsIfAvailable result (λ lines.
         lines_in form (members_view counts.now.entries) ≡ Some (string_bytes lines)) }
-    ensures fault { IfErr result (λ fault. fault ≡ Fault.Unavailable) }
 {
     let mut lines = String::new(alloc);
     for (name, value) in counts.iter() {
@@ -93,8 +91,7 @@ fn lines_in(alloc: Global, form: CountForm, counts: &Map<String, Value>) -> Resu
 
 // The same of a body.
 fn lines_of(alloc: Global, form: CountForm, body: &[u8]) -> Result<String, Fault>
-    ensures ok { IfOk result (λ lines. IsCounted form body.now (string_bytes lines)) }
-    ensures fault { IfErr result (λ fault. fault ≡ Fault.Unavailable) }
+    ensures { TellsIfAvailable result (λ lines. IsCounted form body.now (string_bytes lines)) }
 {
     let value = value_in(alloc, body)?.ok_or(Fault::Unavailable)?;
     match value.get("status").and_then(Value::as_object) {

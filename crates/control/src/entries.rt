@@ -1,9 +1,10 @@
 //! The entries of a piece of a statement, as a body.
-ghost use Rattle.std.specs.Prelude.{◌≡◌, ◌++◌, IfErr, IfOk, OnOk, map};
-ghost use Rattle.json.specs.Tree.{json_tokens};
+ghost use Rattle.std.specs.Prelude.{◌≡◌, IfOk, map};
 ghost use Rattle.serde_json.specs.View.{items_view, view};
-ghost use Rattle.serde_json.specs.Written.{compact_text, outline};
+ghost use Rattle.serde_json.specs.Written.{compact_text};
 ghost use Rattle.wire.specs.Reply.{list_data};
+ghost use Rattle.wire.specs.Writing.{AddsData};
+ghost use Rattle.command_texts.specs.Answered.{TellsIfAvailable};
 ghost use Rattle.control.specs.Counting.{count_member};
 ghost use Rattle.control.specs.Entries.{balances_in, entry_in, transfer_in};
 ghost use Rattle.control.specs.Entries.{AreEntriesTold, entries_data, entries_of, entry_data, entry_members};
@@ -55,17 +56,13 @@ fn counts_of(entry: &AccountEntry) -> [Count<'static>; 18]
 }
 
 fn write_entry(writer: &mut Writer, entry: &AccountEntry) -> Result<(), AllocError>
-    ensures ok { OnOk result (writer.new.tokens
-        ≡ writer.old.tokens ++ json_tokens (outline (entry_data entry.now))) }
-    ensures before { writer.new.before ≡ writer.old.before }
+    ensures { AddsData (entry_data entry.now) writer.old writer.new result }
 {
     write_counts(writer, counts_of(entry).as_slice())
 }
 
 fn write_entries(writer: &mut Writer, entries: &[AccountEntry]) -> Result<(), AllocError>
-    ensures ok { OnOk result (writer.new.tokens
-        ≡ writer.old.tokens ++ json_tokens (outline (list_data entry_data entries.now))) }
-    ensures before { writer.new.before ≡ writer.old.before }
+    ensures { AddsData (list_data entry_data entries.now) writer.old writer.new result }
 {
     writer.begin_array()?;
     for entry in entries {
@@ -143,9 +140,8 @@ fn entry_in(value: &Value) -> Option<AccountEntry>
 
 // The entries of a list.
 fn entries_of(alloc: Global, rows: &[Value]) -> Result<Vec<AccountEntry>, Fault>
-    ensures ok { IfOk result (λ entries.
+    ensures { TellsIfAvailable result (λ entries.
         entries_of (items_view rows.now) ≡ Some entries.items) }
-    ensures fault { IfErr result (λ fault. fault ≡ Fault.Unavailable) }
 {
     let mut entries = Vec::new(alloc);
     for row in rows {
@@ -159,8 +155,7 @@ fn entries_of(alloc: Global, rows: &[Value]) -> Result<Vec<AccountEntry>, Fault>
 
 /// The entries that a body tells, and the clock. Where it tells none it is `Unavailable`.
 pub fn entries_in(alloc: Global, body: &[u8]) -> Result<Entries, Fault>
-    ensures told { IfOk result (AreEntriesTold body.now) }
-    ensures fault { IfErr result (λ fault. fault ≡ Fault.Unavailable) }
+    ensures { TellsIfAvailable result (AreEntriesTold body.now) }
 {
     let value = value_in(alloc, body)?.ok_or(Fault::Unavailable)?;
     let clock = number_64_at(&value, "clock").ok_or(Fault::Unavailable)?;

@@ -2,10 +2,11 @@
 ghost use Rattle.std.specs.Prelude.{◌≡◌, ◌⊎◌, ◌++◌, List, ℕ, Some, Err, IfOk, IfErr, OnOk, false};
 ghost use Rattle.std.specs.Io.KnownBytes.{Appends};
 ghost use Rattle.std.specs.String.{string_bytes};
-ghost use Rattle.json.specs.Tree.{json_tokens};
 ghost use Rattle.serde_json.specs.View.{items_view, view};
-ghost use Rattle.serde_json.specs.Written.{compact_text, outline};
+ghost use Rattle.serde_json.specs.Written.{compact_text};
 ghost use Rattle.wire.specs.Reply.{list_data};
+ghost use Rattle.wire.specs.Writing.{AddsData};
+ghost use Rattle.command_texts.specs.Answered.{TellsIfAvailable};
 ghost use Rattle.command_texts.specs.Lines.{tenants_line};
 ghost use Rattle.control.specs.Listing.{HasLines, row_data, row_line, row_lines, rows_data};
 
@@ -29,9 +30,7 @@ pub struct TenantRow {
 }
 
 fn write_row(alloc: Global, writer: &mut Writer, row: &TenantRow) -> Result<(), AllocError>
-    ensures ok { OnOk result (writer.new.tokens
-        ≡ writer.old.tokens ++ json_tokens (outline (row_data row.now))) }
-    ensures before { writer.new.before ≡ writer.old.before }
+    ensures { AddsData (row_data row.now) writer.old writer.new result }
 {
     let digest = hex::encode(alloc, row.digest.as_slice())?;
     writer.begin_object()?;
@@ -45,9 +44,7 @@ fn write_row(alloc: Global, writer: &mut Writer, row: &TenantRow) -> Result<(), 
 }
 
 fn write_rows(alloc: Global, writer: &mut Writer, rows: &[TenantRow]) -> Result<(), AllocError>
-    ensures ok { OnOk result (writer.new.tokens
-        ≡ writer.old.tokens ++ json_tokens (outline (list_data row_data rows.now))) }
-    ensures before { writer.new.before ≡ writer.old.before }
+    ensures { AddsData (list_data row_data rows.now) writer.old writer.new result }
 {
     writer.begin_array()?;
     for row in rows {
@@ -70,8 +67,7 @@ pub fn tenants_body(alloc: Global, rows: &[TenantRow]) -> Result<Vec<u8>, AllocE
 
 // The line of a tenant in such a body.
 fn row_line(alloc: Global, row: &Value) -> Result<String, Fault>
-    ensures ok { IfOk result (λ line. row_line (view row.now) ≡ Some (string_bytes line)) }
-    ensures fault { IfErr result (λ fault. fault ≡ Fault.Unavailable) }
+    ensures { TellsIfAvailable result (λ line. row_line (view row.now) ≡ Some (string_bytes line)) }
 {
     let name = text(row, "name").ok_or(Fault::Unavailable)?;
     let digest = text(row, "digest").ok_or(Fault::Unavailable)?;
@@ -81,8 +77,8 @@ fn row_line(alloc: Global, row: &Value) -> Result<String, Fault>
 
 // The lines of all of them.
 fn row_lines(alloc: Global, rows: &[Value]) -> Result<String, Fault>
-    ensures ok { IfOk result (λ lines. row_lines (items_view rows.now) ≡ Some (string_bytes lines)) }
-    ensures fault { IfErr result (λ fault. fault ≡ Fault.Unavailable) }
+    ensures { TellsIfAvailable result (λ lines.
+        row_lines (items_view rows.now) ≡ Some (string_bytes lines)) }
 {
     let mut lines = String::new(alloc);
     for row in rows {
@@ -93,8 +89,7 @@ fn row_lines(alloc: Global, rows: &[Value]) -> Result<String, Fault>
 
 // The same of a body.
 fn lines_in(alloc: Global, body: &[u8]) -> Result<String, Fault>
-    ensures ok { IfOk result (λ lines. HasLines body.now (string_bytes lines)) }
-    ensures fault { IfErr result (λ fault. fault ≡ Fault.Unavailable) }
+    ensures { TellsIfAvailable result (λ lines. HasLines body.now (string_bytes lines)) }
 {
     let value = value_in(alloc, body)?.ok_or(Fault::Unavailable)?;
     match value.get("tenants").and_then(Value::as_array) {

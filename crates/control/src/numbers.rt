@@ -1,7 +1,8 @@
 //! Numbers in the members of an object, each a text in canonical decimal.
-ghost use Rattle.std.specs.Prelude.{◌≡◌, ◌++◌, ◌∷◌, [], ◌^◌, OnOk, IfErr, decimal};
+ghost use Rattle.std.specs.Prelude.{◌≡◌, ◌∷◌, [], ◌^◌, decimal};
 ghost use Rattle.json.specs.Token.{key, string};
 ghost use Rattle.serde_json.specs.View.{view};
+ghost use Rattle.wire.specs.Writing.{AddsTokens};
 ghost use Rattle.control.specs.Numbers.{number_at, number_in};
 
 use crate::members::text;
@@ -13,9 +14,8 @@ use wire::numbers_are_canonical;
 
 /// Writes a member whose text is a number's decimal.
 pub(crate) fn write_number(writer: &mut Writer, name: &str, number: u128) -> Result<(), AllocError>
-    ensures ok { OnOk result (writer.new.tokens
-        ≡ writer.old.tokens ++ key name.now ∷ string (decimal number) ∷ []) }
-    ensures before { writer.new.before ≡ writer.old.before }
+    ensures { AddsTokens (key name.now ∷ string (decimal number) ∷ [])
+        writer.old writer.new result }
 {
     let mut digits = [0; MAX_DIGITS];
     let len = Amount::new(number).write_decimal(&mut digits);

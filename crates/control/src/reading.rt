@@ -1,6 +1,7 @@
 //! JSON in a body.
-ghost use Rattle.std.specs.Prelude.{◌≡◌, IfErr, IfOk, option_map};
+ghost use Rattle.std.specs.Prelude.{◌≡◌, option_map};
 ghost use Rattle.serde_json.specs.View.{view};
+ghost use Rattle.command_texts.specs.Answered.{TellsIfAvailable};
 ghost use Rattle.wire.specs.Body.{json_of};
 
 use command_texts::Fault;
@@ -9,8 +10,7 @@ use std::alloc::Global;
 
 /// The value that a body is, if it is JSON.
 pub(crate) fn value_in(alloc: Global, body: &[u8]) -> Result<Option<Value>, Fault>
-    ensures value { IfOk result (λ value. option_map view value ≡ json_of body.now) }
-    ensures fault { IfErr result (λ fault. fault ≡ Fault.Unavailable) }
+    ensures { TellsIfAvailable result (λ value. option_map view value ≡ json_of body.now) }
 {
     match Value::from_slice(alloc, body) {
         Ok(value) => Ok(Some(value)),

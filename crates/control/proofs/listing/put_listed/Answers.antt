@@ -10,7 +10,7 @@ returns-clause-listed g c =
     on_ok_weaker c.put_text.result
     (λ written. (
       string_bytes c.in_ok-lines.lines,
-      c.in_ok-lines.ensures.ok,
+      c.in_ok-lines.ensures.told,
       appends_both _ _ _ tenants_line _ c.in_ok-put_tenants.ensures.ok
           (subst (Appends _ _) c.as_str.ensures.value written),
     ))

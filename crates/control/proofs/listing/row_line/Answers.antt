@@ -4,11 +4,14 @@ use Rattle.command_texts.specs.Lines.{tenant_line}
 use Rattle.control.specs.Members.{text_at}
 use Rattle.control.proofs.listing.row_line.Goals as goal
 
-pub returns-clause-ok : goal.returns-clause-ok
-returns-clause-ok c =
-    let name : text_at (codes "name") (view c.args.row.now) ≡ Some c.in_ok-name.name.now = search rules in
-    let digest : text_at (codes "digest") (view c.args.row.now) ≡ Some c.in_ok-digest.digest.now = search rules in
-    let clock : text_at (codes "clock") (view c.args.row.now) ≡ Some c.in_ok-clock.clock.now = search rules in
-    let line : string_bytes c.in_ok-format.field-0 ≡ tenant_line c.in_ok-name.name.now c.in_ok-digest.digest.now c.in_ok-clock.clock.now =
-    simp append_assoc c.in_ok-format.ensures.ok in
-    rw (name, digest, clock) (ap (λ t. Some t) (sym line))
+pub returns : goal.returns
+returns c = record {
+  told =
+      let name : text_at (codes "name") (view c.args.row.now) ≡ Some c.in_ok-name.name.now = search rules in
+      let digest : text_at (codes "digest") (view c.args.row.now) ≡ Some c.in_ok-digest.digest.now = search rules in
+      let clock : text_at (codes "clock") (view c.args.row.now) ≡ Some c.in_ok-clock.clock.now = search rules in
+      let line : string_bytes c.in_ok-format.field-0 ≡ tenant_line c.in_ok-name.name.now c.in_ok-digest.digest.now c.in_ok-clock.clock.now =
+      simp append_assoc c.in_ok-format.ensures.ok in
+      rw (name, digest, clock) (ap (λ t. Some t) (sym line));
+  fault = tt;
+}
