@@ -6,7 +6,7 @@ use Rattle.clients.specs.Talk.{Talk}
 use Rattle.polling.specs.Peers.{Closed}
 use Rattle.polling.specs.Standing.{Standing, Away, Kept, leaving, with_standing, stands_after, has_seat, StandsIn}
 use Rattle.polling.specs.Standing.{Debt, A_turn, An_end, owing, MayClose, Told_late}
-use Rattle.polling.specs.Serving.{Hall, hall, Terms, gone_with, Occurs, Stirs, Goes, Passes, Then}
+use Rattle.polling.specs.Serving.{Hall, hall, Terms, gone_with, Occurs, Stirs, Goes, Proceeds, Then}
 use Rattle.polling.specs.Seating.{with_talk, stands_by, replies_in, ServesOne, SeatsNow, held, HoldsHall, LeadsOwed, ServesOwed, ServesTold}
 use Rattle.polling.specs.declared.peers.Told.TheVariants.{Late}
 use Rattle.polling.specs.declared.step.Step.TheVariants as step
@@ -23,7 +23,7 @@ module _ {S C P : Type 0} where
       (seats seats_then seats_now : ℕ → Option Talk) (next : ℕ) (talk talk_now : Talk)
       (replies : ℕ) (first : Hall S C P) (deeds : List Act) → seats client ≡ Some talk →
       SeatsNow client (Some talk_now) seats seats_then → SeatsNow client None seats_then seats_now →
-      Passes S C P r
+      Proceeds S C P r
       (hall ledgers moments peers (with_talk client talk first.room.talks) first.gone first.stands)
       deeds
       (hall ledgers_now moments_now peers_then (with_talk client talk_now first.room.talks)
@@ -54,7 +54,7 @@ module _ {S C P : Type 0} where
         deeds ++ [],
         after,
         Then deeds then_hall [] after
-            (subst (λ (from : Hall S C P). Passes S C P r from deeds then_hall)
+            (subst (λ (from : Hall S C P). Proceeds S C P r from deeds then_hall)
             (same_hall ledgers moments peers client talk first keeps.ledgers keeps.moments
             keeps.peers (keeps.seated client talk was))
             served)

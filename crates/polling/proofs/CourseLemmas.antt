@@ -19,7 +19,7 @@ use Rattle.service.specs.Replies.{unavailable}
 use Rattle.service.specs.OwnDeeds.{EachSeesItself}
 use Rattle.clients.specs.Deeds.{Room, Act, Came, Ended, Replied, Continued, Wrote, IsActed, Lives}
 use Rattle.clients.specs.Deeds as life
-use Rattle.polling.specs.Serving.{Hall, Terms, Occurs, Did, Tells, Stirs, Puts_off, Joins, Goes, Again, Rests, Passes, Fails, Passes, Begin, Then}
+use Rattle.polling.specs.Serving.{Hall, Terms, Occurs, Did, Tells, Stirs, Puts_off, Joins, Goes, Again, Rests, Passes, Fails, Proceeds, Begin, Then}
 use Rattle.polling.specs.Serving.{AreAsBefore, HasFailed, IsToldUnavailable, AreToldUnavailable}
 use Rattle.polling.specs.Serving.{events_by, events_of}
 use Rattle.polling.specs.Courses.{Renewed, Stayed, Opened, Anew, Refused, Tried, Rested, IsAtRest, AreOfOpening, IsAnew}
@@ -231,7 +231,7 @@ module _ {S C P : Type 0} (r : Terms S C P) (move : ResponsesMove r.means) (rene
       (on (events_of lives) refl) led
 
   all_led :
-      (first last : Hall S C P) (deeds : List Act) (serves : Passes S C P r first deeds last) →
+      (first last : Hall S C P) (deeds : List Act) (serves : Proceeds S C P r first deeds last) →
       r.means.is_live first.room.ledgers →
       IsSettled (run_meaning r.means) first.room.ledgers →
       HasLed (run_meaning r.means) (IsSince renewals first deeds last serves) last.room.ledgers

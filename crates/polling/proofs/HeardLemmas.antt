@@ -12,7 +12,7 @@ use Rattle.clients.specs.Answering.{MayCome}
 use Rattle.clients.specs.Turns.{Sent, ToldReply, if_told, told_to, Hears, Nothing_yet, One_more, HearTheirOwn}
 use Rattle.clients.specs.Deeds.{Room, Act, IsActed, Lives, if_own, come_from, written_in, written_to, told_in, all_told, came_in, sent_with, clients_of, MightCome, AreExchanges, AreWritten}
 use Rattle.clients.specs.Deeds as life
-use Rattle.polling.specs.Serving.{Hall, Terms, Occurs, Did, Tells, Stirs, Puts_off, Joins, Goes, Again, Rests, Passes, Fails, Passes, Begin, Then}
+use Rattle.polling.specs.Serving.{Hall, Terms, Occurs, Did, Tells, Stirs, Puts_off, Joins, Goes, Again, Rests, Passes, Fails, Proceeds, Begin, Then}
 use Rattle.polling.specs.Laws.{EachIsServed, ReadsBy, ReadsThrough, machines_by, machines_in}
 
 -- what is heard behind what was heard
@@ -161,7 +161,7 @@ module _ {S C P : Type 0} (r : Terms S C P) where
 
   all_heard :
       MightCome r.means r.gives → HearTheirOwn r.means r.gives → AreExchanges r.means r.gives →
-      (first last : Hall S C P) (deeds : List Act) → Passes S C P r first deeds last →
+      (first last : Hall S C P) (deeds : List Act) → Proceeds S C P r first deeds last →
       (client : ℕ) (later : List ℕ) → MayCome (last.room.talks client).unread later →
       HearsBy first.room deeds last.room client later
   all_heard might hear exchanges first last deeds Begin client later may = Nothing_yet
@@ -225,7 +225,7 @@ module _ {S C P : Type 0} (r : Terms S C P) where
 
   all_written :
       AreWritten r.means r.gives → (first last : Hall S C P) (deeds : List Act)
-      (serves : Passes S C P r first deeds last) (before : Tenants) (client : ℕ) →
+      (serves : Proceeds S C P r first deeds last) (before : Tenants) (client : ℕ) →
       ReadsThrough before client serves →
       WritesBy before first.room deeds (machines_in before serves client) last.room client
   all_written written first last deeds Begin before client goes =

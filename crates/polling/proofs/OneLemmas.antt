@@ -13,7 +13,7 @@ use Rattle.service.specs.Seen.{Whole}
 use Rattle.polling.specs.Peers.{Gave, Gave_none, Ended, Took, Took_none, Stirred, Hands}
 use Rattle.polling.specs.Standing.{Standing, Owed, begun, rested, leaving, with_standing, stands_after, MayGo, Lost_piece}
 use Rattle.service.specs.Openings.{run_meaning, IsSettled}
-use Rattle.polling.specs.Serving.{Hall, hall, Terms, Settles, IsDueOf, gone_with, Occurs, Did, Stirs, Goes, Again, Passes, Begin, Then}
+use Rattle.polling.specs.Serving.{Hall, hall, Terms, Settles, IsDueOf, gone_with, Occurs, Did, Stirs, Goes, Again, Proceeds, Begin, Then}
 use Rattle.polling.specs.Seating.{with_talk, ServesOne, replies_in}
 use Rattle.polling.specs.declared.step.Step.TheVariants as step
 use Rattle.polling.proofs.StandLemmas.{standing-own, begun_unowed}
@@ -21,12 +21,12 @@ use Rattle.polling.proofs.StandLemmas.{standing-own, begun_unowed}
 -- what follows is done behind what was done
 pub serves_on :
     {S C P : Type 0} (r : Terms S C P) (first mid last : Hall S C P) (before more : List Act) →
-    Passes S C P r first before mid → Passes S C P r mid more last →
-    Passes S C P r first (before ++ more) last
+    Proceeds S C P r first before mid → Proceeds S C P r mid more last →
+    Proceeds S C P r first (before ++ more) last
 serves_on {S} {C} {P} r first mid last before more did Begin =
-    subst (λ (all : List Act). Passes S C P r first all mid) (sym (append-nil before)) did
+    subst (λ (all : List Act). Proceeds S C P r first all mid) (sym (append-nil before)) did
 serves_on {S} {C} {P} r first mid last before more did (Then deeds then_hall next_deeds next rest happens) =
-    subst (λ (all : List Act). Passes S C P r first all next) (append_assoc before deeds next_deeds)
+    subst (λ (all : List Act). Proceeds S C P r first all next) (append_assoc before deeds next_deeds)
     (Then (before ++ deeds) then_hall next_deeds next
     (serves_on r first mid then_hall before deeds did rest) happens)
 
@@ -43,7 +43,7 @@ replies_both before more first second all of_first of_second sum =
 
 pub once :
     {S C P : Type 0} (r : Terms S C P) (first last : Hall S C P) (deeds : List Act) →
-    Occurs S C P r first deeds last → Passes S C P r first deeds last
+    Occurs S C P r first deeds last → Proceeds S C P r first deeds last
 once r first last deeds happens = Then [] first deeds last Begin happens
 
 pub with_talk-own : (client : ℕ) (talk : Talk) (talks : ℕ → Talk) → with_talk client talk talks client ≡ talk
@@ -63,7 +63,7 @@ pub did_one :
     (stands : ℕ → Standing) → gone (client_of deed) ≡ false → IsDueOf deed talk →
     Does r.means r.gives deed ledgers moments talk ledgers_now moments_now talk_now →
     Settles r.means deed ledgers_now → Hands r.does deed peers peers_now →
-    Passes S C P r (hall ledgers moments peers (with_talk (client_of deed) talk talks) gone stands) (deed ∷ [])
+    Proceeds S C P r (hall ledgers moments peers (with_talk (client_of deed) talk talks) gone stands) (deed ∷ [])
     (hall ledgers_now moments_now peers_now (with_talk (client_of deed) talk_now talks) gone
     (stands_after (deed ∷ []) stands))
 did_one {S} {C} {P} r deed ledgers ledgers_now moments moments_now peers peers_now talk talk_now talks

@@ -6,7 +6,7 @@ use Rattle.polling.specs.Peers.{Said}
 use Rattle.polling.specs.Standing.{owing, stands_behind, KeepsOnly}
 use Rattle.polling.specs.declared.peers.Told.{Told}
 use Rattle.polling.specs.declared.peers.Told.TheVariants as told
-use Rattle.polling.specs.Serving.{Hall, Terms, Tells, Passes, Begin, Then, tellings, tellings_of}
+use Rattle.polling.specs.Serving.{Hall, Terms, Tells, Proceeds, Begin, Then, tellings, tellings_of}
 use Rattle.polling.specs.Seating.{Held, HoldsHall, ServesAll, replies_in}
 use Rattle.polling.specs.Ending.{HasTurn, IsIdleNow, Turns, Start, Turn, most_turns, GivesTurns, Ends, Enough, Quiet, Long}
 use Rattle.polling.specs.Laws.{ServedOn, OwesNobody}
@@ -20,25 +20,25 @@ use Rattle.polling.proofs.TurnLemmas.{turns_serve}
 module _ {S C P : Type 0} (r : Terms S C P) where
   -- what follows, behind what was done
   both_told :
-      (first mid last : Hall S C P) (before more : List Act) (did : Passes S C P r first before mid)
-      (does : Passes S C P r mid more last) →
-      (all : Passes S C P r first (before ++ more) last) × (tellings all ≡ tellings did + tellings does)
+      (first mid last : Hall S C P) (before more : List Act) (did : Proceeds S C P r first before mid)
+      (does : Proceeds S C P r mid more last) →
+      (all : Proceeds S C P r first (before ++ more) last) × (tellings all ≡ tellings did + tellings does)
   both_told first mid last before more did Begin =
       subst
       (λ (deeds : List Act).
-      (all : Passes S C P r first deeds mid) × (tellings all ≡ tellings did + 0))
+      (all : Proceeds S C P r first deeds mid) × (tellings all ≡ tellings did + 0))
       (sym (append-nil before)) (did, omega arith)
   both_told first mid last before more did (Then deeds between behind next rest happens) =
       let so_far = both_told first mid between before deeds did rest in
       subst
       (λ (each : List Act).
-      (all : Passes S C P r first each next)
+      (all : Proceeds S C P r first each next)
       × (tellings all ≡ tellings did + (tellings rest + tellings_of happens)))
       (append_assoc before deeds behind)
       (Then (before ++ deeds) between behind next so_far.0 happens, omega (arith, so_far.1))
 
   pub served_on :
-      (first mid : Hall S C P) (before : List Act) (served : Passes S C P r first before mid)
+      (first mid : Hall S C P) (before : List Act) (served : Proceeds S C P r first before mid)
       (old new : Held S C P) (replies : ℕ) → HoldsHall old mid → ServesAll r old new replies →
       ServedOn served new replies 0
   served_on first mid before served old new replies keeps serves =
@@ -57,7 +57,7 @@ module _ {S C P : Type 0} (r : Terms S C P) where
 
   -- nobody is owed anything behind turns that are given
   pub gives_on :
-      (first mid : Hall S C P) (before : List Act) (served : Passes S C P r first before mid)
+      (first mid : Hall S C P) (before : List Act) (served : Proceeds S C P r first before mid)
       (old new : Held S C P) (replies most : ℕ) → HoldsHall old mid → OwesNobody mid →
       GivesTurns S C P r most old new replies →
       ((on : ServedOn served new replies 0)
@@ -89,7 +89,7 @@ module _ {S C P : Type 0} (r : Terms S C P) where
 
   -- one after the other
   then_on :
-      (first mid : Hall S C P) (before : List Act) (served : Passes S C P r first before mid)
+      (first mid : Hall S C P) (before : List Act) (served : Proceeds S C P r first before mid)
       (between new : Held S C P) (some more all : ℕ) (times others sum : ℕ) → some + more ≡ all →
       sum ≤ times + others → (one : ServedOn served between some times) →
       ServedOn one.all new more others → ServedOn served new all sum
@@ -105,7 +105,7 @@ module _ {S C P : Type 0} (r : Terms S C P) where
 
   -- peers tell something
   tells_on :
-      (first mid : Hall S C P) (before : List Act) (served : Passes S C P r first before mid)
+      (first mid : Hall S C P) (before : List Act) (served : Proceeds S C P r first before mid)
       (old : Held S C P) (told : Told) (peers : P) → HoldsHall old mid →
       r.does old.peers (Said old.next told) peers →
       ServedOn served (record old { peers = peers }) 0 1
@@ -125,7 +125,7 @@ module _ {S C P : Type 0} (r : Terms S C P) where
   }
 
   quiet_on :
-      (first mid : Hall S C P) (before : List Act) (served : Passes S C P r first before mid)
+      (first mid : Hall S C P) (before : List Act) (served : Proceeds S C P r first before mid)
       (old new : Held S C P) (replies : ℕ) → HoldsHall old mid → IsIdleNow r old new replies →
       ServedOn served new replies 1
   quiet_on first mid before served old new replies keeps quiet =
@@ -138,7 +138,7 @@ module _ {S C P : Type 0} (r : Terms S C P) where
       replies 0 replies 0 1 1 (omega arith) (omega arith) one two)
 
   turn_on :
-      (first mid : Hall S C P) (before : List Act) (served : Passes S C P r first before mid)
+      (first mid : Hall S C P) (before : List Act) (served : Proceeds S C P r first before mid)
       (old new : Held S C P) (replies : ℕ) → HoldsHall old mid → HasTurn r old new replies →
       ServedOn served new replies 1
   turn_on first mid before served old new replies keeps turn =
@@ -146,7 +146,7 @@ module _ {S C P : Type 0} (r : Terms S C P) where
       let fresh = turn.before.next in
       let told = turn.told in
       let after = hall_told r fresh told turn.peers one.last in
-      let said : Passes S C P r first (one.deeds ++ []) after =
+      let said : Proceeds S C P r first (one.deeds ++ []) after =
       Then one.deeds one.last [] after one.all
       (Tells fresh told turn.peers (next_free turn.before one.last one.keeps)
       (subst (λ (p : P). r.does p (Said fresh told) turn.peers) (sym one.keeps.peers) turn.said)) in
@@ -169,7 +169,7 @@ module _ {S C P : Type 0} (r : Terms S C P) where
       }
 
   turns_on :
-      (first mid : Hall S C P) (before : List Act) (served : Passes S C P r first before mid)
+      (first mid : Hall S C P) (before : List Act) (served : Proceeds S C P r first before mid)
       (old new : Held S C P) (turns replies : ℕ) → 0 < turns → HoldsHall old mid →
       Turns S C P r old turns replies new → ServedOn served new replies 1
   turns_on first mid before served old new turns replies some keeps Start = absurd (omega arith)
@@ -183,7 +183,7 @@ module _ {S C P : Type 0} (r : Terms S C P) where
       (turn_on first one.last one.deeds one.all between next more one.keeps turn)
 
   pub ends_told :
-      (first mid : Hall S C P) (before : List Act) (served : Passes S C P r first before mid)
+      (first mid : Hall S C P) (before : List Act) (served : Proceeds S C P r first before mid)
       (old new : Held S C P) (replies : ℕ) → HoldsHall old mid → Ends S C P r ⊥ old new replies →
       ServedOn served new replies 1
   ends_told first mid before served old new replies keeps (Enough never) = absurd never

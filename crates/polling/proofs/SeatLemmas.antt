@@ -5,7 +5,7 @@ use Rattle.clients.specs.Talk.{Talk, new_talk}
 use Rattle.polling.specs.Peers.{Asked, Closed}
 use Rattle.polling.specs.Standing.{Standing, Awaited, Owed, Kept, rested, asked, with_standing, stands_after, has_seat, StandsIn}
 use Rattle.polling.specs.Standing.{A_seat, A_turn, owing}
-use Rattle.polling.specs.Serving.{Hall, hall, Terms, Stirs, Joins, Passes, Then}
+use Rattle.polling.specs.Serving.{Hall, hall, Terms, Stirs, Joins, Proceeds, Then}
 use Rattle.polling.specs.Seating.{with_talk, ServesOne, SeatsNow, HadTurn, IsFollowed, held, HoldsHall, ServesAll, ServesOwed, ServesEach}
 use Rattle.polling.specs.Ending.{IsToldAs}
 use Rattle.polling.specs.declared.step.Step.{Step}
@@ -175,7 +175,7 @@ module _ {S C P : Type 0} where
       hall ledgers_now moments_now peers_now (with_talk client talk_now talks) first.gone stands in (
         did.0,
         after,
-        subst (λ (from : Hall S C P). Passes S C P r from did.0 after)
+        subst (λ (from : Hall S C P). Proceeds S C P r from did.0 after)
             (same_hall ledgers moments peers client talk first keeps.ledgers keeps.moments
             keeps.peers (keeps.seated client talk was))
             did.1,
@@ -219,7 +219,7 @@ module _ {S C P : Type 0} where
         did.0 ++ [],
         after,
         Then did.0 then_hall [] after
-            (subst (λ (from : Hall S C P). Passes S C P r from did.0 then_hall)
+            (subst (λ (from : Hall S C P). Proceeds S C P r from did.0 then_hall)
             (same_hall ledgers moments peers client talk first keeps.ledgers keeps.moments
             keeps.peers (keeps.seated client talk was))
             did.1)
@@ -270,7 +270,7 @@ module _ {S C P : Type 0} where
       hall ledgers_now moments_now peers_now (with_talk client talk_now talks) first.gone stands in (
         did.0,
         after,
-        subst (λ (from : Hall S C P). Passes S C P r from did.0 after)
+        subst (λ (from : Hall S C P). Proceeds S C P r from did.0 after)
             (same_hall ledgers moments peers client talk first keeps.ledgers keeps.moments
             keeps.peers (keeps.seated client talk was))
             did.1,

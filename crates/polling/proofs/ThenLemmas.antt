@@ -4,7 +4,7 @@ use Rattle.std.proofs.lemmas.Bool.{true≢false}
 use Rattle.clients.specs.Talk.{Talk}
 use Rattle.clients.specs.Deeds.{Act, client_of}
 use Rattle.polling.specs.Standing.{Standing, Owed, begun, rested, leaving, with_standing, stands_after}
-use Rattle.polling.specs.Serving.{hall, Terms, Passes}
+use Rattle.polling.specs.Serving.{hall, Terms, Proceeds}
 use Rattle.polling.specs.Seating.{with_talk, ServesOne, HasMoved, gone_by, stands_by}
 use Rattle.polling.specs.declared.step.Step.{Step}
 use Rattle.polling.specs.declared.step.Step.TheVariants as step
@@ -75,7 +75,7 @@ module _ {S C P : Type 0} (r : Terms S C P) (client : ℕ) where
         did.0 ++ does.0,
         subst
             (λ (now : ℕ → Standing).
-            Passes S C P r (hall ledgers moments peers (with_talk client talk talks) gone stands)
+            Proceeds S C P r (hall ledgers moments peers (with_talk client talk talks) gone stands)
             (did.0 ++ does.0)
             (hall ledgers_now moments_now peers_now (with_talk client talk_now talks)
             (gone_by last client gone) now))

@@ -11,7 +11,7 @@ use Rattle.service.specs.Openings.{CourseSince, HasLed}
 use Rattle.service.specs.OwnDeeds.{SeesItself}
 use Rattle.service.specs.Seen.{Whole, seen}
 use Rattle.clients.specs.Deeds.{Act}
-use Rattle.polling.specs.Serving.{Hall, Terms, Occurs, Did, Again, Fails, Passes, Begin, Then}
+use Rattle.polling.specs.Serving.{Hall, Terms, Occurs, Did, Again, Fails, Proceeds, Begin, Then}
 use Rattle.polling.specs.Serving.{events_by, events_of}
 
 -- ledgers of the same machines, of which an opening finds what it might have found before, or what
@@ -113,19 +113,19 @@ module _ {S C P : Type 0} {r : Terms S C P} (renewals : AreRenewals r) where
 
   -- the events since ledgers were last opened anew, or since the beginning, and the machines then
   pub data IsSince (first : Hall S C P) :
-      (deeds : List Act) (last : Hall S C P) → Passes S C P r first deeds last → List Event
+      (deeds : List Act) (last : Hall S C P) → Proceeds S C P r first deeds last → List Event
       → Tenants → Type 0 where
     Start : IsSince first [] first Begin [] (r.means.tenants first.room.ledgers)
     Onward :
         (deeds : List Act) (last : Hall S C P) (more : List Act) (next : Hall S C P)
-        (serves : Passes S C P r first deeds last) (happens : Occurs S C P r last more next)
+        (serves : Proceeds S C P r first deeds last) (happens : Occurs S C P r last more next)
         (events behind : List Event) (began : Tenants) →
         IsSince first deeds last serves events began → AreOf happens behind →
         IsSince first (deeds ++ more) next (Then deeds last more next serves happens)
         (events ++ behind) began
     From :
         (deeds : List Act) (last : Hall S C P) (more : List Act) (next : Hall S C P)
-        (serves : Passes S C P r first deeds last) (happens : Occurs S C P r last more next)
+        (serves : Proceeds S C P r first deeds last) (happens : Occurs S C P r last more next)
         (began : Tenants) → BeginsWith happens began →
         IsSince first (deeds ++ more) next (Then deeds last more next serves happens) [] began
 
@@ -134,7 +134,7 @@ module _ {S C P : Type 0} {r : Terms S C P} (renewals : AreRenewals r) where
 abbrev pub IsCourse : {S C P : Type 0} → Terms S C P → Type 0
 IsCourse {S} {C} {P} r =
     (renewals : AreRenewals r) (first last : Hall S C P) (deeds : List Act)
-    (serves : Passes S C P r first deeds last)
+    (serves : Proceeds S C P r first deeds last)
     → r.means.is_live first.room.ledgers
     → IsSettled (run_meaning r.means) first.room.ledgers
     → HasLed (run_meaning r.means) (IsSince renewals first deeds last serves) last.room.ledgers
@@ -143,6 +143,6 @@ IsCourse {S} {C} {P} r =
 abbrev pub CoursesServeEachAlone : {S C P : Type 0} → Terms S C P → Type 0
 CoursesServeEachAlone {S} {C} {P} r =
     (renewals : AreRenewals r) (first last : Hall S C P) (deeds : List Act)
-    (serves : Passes S C P r first deeds last) (events : List Event) (began now : Tenants)
+    (serves : Proceeds S C P r first deeds last) (events : List Event) (began now : Tenants)
     → CourseSince (IsSince renewals first deeds last serves) events began now
     → (digest : List ℕ) → SeesItself began events now digest

@@ -8,7 +8,7 @@ use Rattle.clients.specs.Deeds.{HasYet, ReadsOn, machines_after, machines_then}
 use Rattle.polling.specs.Ending.{Ends, GivesTurns, Turns, most_turns}
 use Rattle.service.specs.Seen.{Whole}
 use Rattle.polling.specs.Standing.{Away, Debt, IsOwed, KeepsOnly}
-use Rattle.polling.specs.Serving.{Hall, hall, Terms, Occurs, Did, Fails, Passes, Begin, Then, tellings, rounds_in}
+use Rattle.polling.specs.Serving.{Hall, hall, Terms, Occurs, Did, Fails, Proceeds, Begin, Then, tellings, rounds_in}
 use Rattle.polling.specs.Seating.{AreEmpty, Held, held_by, HoldsHall, ServesAll, replies_in}
 use Rattle.polling.specs.declared.seats.Seats.{Seats}
 
@@ -25,7 +25,7 @@ module _ {S C P : Type 0} {r : Terms S C P} where
   machines_by before happens client = before
 
   abbrev pub machines_in :
-      {first last : Hall S C P} {deeds : List Act} → Tenants → Passes S C P r first deeds last → ℕ
+      {first last : Hall S C P} {deeds : List Act} → Tenants → Proceeds S C P r first deeds last → ℕ
       → Tenants
   machines_in before Begin client = before
   machines_in before (Then deeds last more next serves happens) client =
@@ -43,7 +43,7 @@ module _ {S C P : Type 0} {r : Terms S C P} where
   ReadsBy before client happens = Unit {0}
 
   abbrev pub ReadsThrough :
-      {first last : Hall S C P} {deeds : List Act} → Tenants → ℕ → Passes S C P r first deeds last
+      {first last : Hall S C P} {deeds : List Act} → Tenants → ℕ → Proceeds S C P r first deeds last
       → Type 0
   ReadsThrough before client Begin = Unit {0}
   ReadsThrough before client (Then deeds last more next serves happens) =
@@ -54,7 +54,7 @@ module _ {S C P : Type 0} {r : Terms S C P} where
 -- they were begun
 abbrev pub EachIsServed : {S C P : Type 0} → Terms S C P → Type 0
 EachIsServed {S} {C} {P} r =
-    (first last : Hall S C P) (deeds : List Act) (serves : Passes S C P r first deeds last)
+    (first last : Hall S C P) (deeds : List Act) (serves : Proceeds S C P r first deeds last)
     (before : Tenants) (client : ℕ)
     → ReadsThrough before client serves
     → first.room.talks client ≡ new_talk
@@ -69,7 +69,7 @@ abbrev pub AreLives : {S C P : Type 0} → Terms S C P → Type 0
 AreLives {S} {C} {P} r =
     ((old new : S) → r.renews old new → new ≡ old)
     → (first last : Hall S C P) (deeds : List Act)
-    → (serves : Passes S C P r first deeds last)
+    → (serves : Proceeds S C P r first deeds last)
     → rounds_in serves ≡ 0
     → Lives S C r.means r.gives first.room deeds last.room
 
@@ -87,11 +87,11 @@ BeginsEmpty S C P =
 
 -- behind what was done clients were served, and in that peers told something so often at least
 pub record ServedOn {S C P : Type 0} {r : Terms S C P} {first mid : Hall S C P}
-    {before : List Act} (served : Passes S C P r first before mid) (new : Held S C P)
+    {before : List Act} (served : Proceeds S C P r first before mid) (new : Held S C P)
     (replies times : ℕ) : Type 0 where
   pub deeds : List Act
   pub last : Hall S C P
-  pub all : Passes S C P r first deeds last
+  pub all : Proceeds S C P r first deeds last
   pub keeps : HoldsHall new last
   pub count : replies_in deeds ≡ replies_in before + replies
   pub told : tellings served + times ≤ tellings all
@@ -99,7 +99,7 @@ pub record ServedOn {S C P : Type 0} {r : Terms S C P} {first mid : Hall S C P}
 -- what is done behind what was done leads on from the same hall
 abbrev pub ServingGoesOn : {S C P : Type 0} → Terms S C P → Type 0
 ServingGoesOn {S} {C} {P} r =
-    (first mid : Hall S C P) (before : List Act) (served : Passes S C P r first before mid)
+    (first mid : Hall S C P) (before : List Act) (served : Proceeds S C P r first before mid)
     (old new : Held S C P) (replies : ℕ)
     → HoldsHall old mid
     → ServesAll r old new replies
@@ -113,7 +113,7 @@ OwesNobody all = (client : ℕ) (debt : Debt) → IsOwed (all.stands client) deb
 -- unless so many replies were wanted; or no more turns are made
 abbrev pub GivesOn : {S C P : Type 0} → Terms S C P → Type 0
 GivesOn {S} {C} {P} r =
-    (first mid : Hall S C P) (before : List Act) (served : Passes S C P r first before mid)
+    (first mid : Hall S C P) (before : List Act) (served : Proceeds S C P r first before mid)
     (old new : Held S C P) (replies most : ℕ)
     → HoldsHall old mid
     → OwesNobody mid
@@ -126,7 +126,7 @@ GivesOn {S} {C} {P} r =
 -- where it ended though not enough was done, peers told something in it
 abbrev pub EndsTold : {S C P : Type 0} → Terms S C P → Type 0
 EndsTold {S} {C} {P} r =
-    (first mid : Hall S C P) (before : List Act) (served : Passes S C P r first before mid)
+    (first mid : Hall S C P) (before : List Act) (served : Proceeds S C P r first before mid)
     (old new : Held S C P) (replies : ℕ)
     → HoldsHall old mid
     → Ends S C P r ⊥ old new replies

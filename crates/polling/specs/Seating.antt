@@ -7,7 +7,7 @@ use Rattle.service.specs.Seen.{SeenAt, Whole}
 use Rattle.clients.specs.Deeds.{Act, all_told}
 use Rattle.polling.specs.Standing.{Standing, Owed, rested, leaving, with_standing, stands_after, StandsIn, StandTold}
 use Rattle.polling.specs.Standing.{Owing, owing, A_turn, OwesOnly, KeepsOnly}
-use Rattle.polling.specs.Serving.{Hall, hall, Terms, Passes, gone_with}
+use Rattle.polling.specs.Serving.{Hall, hall, Terms, Proceeds, gone_with}
 use Rattle.polling.specs.declared.peers.Told.{Told}
 use Rattle.polling.specs.declared.seats.Seats.{Seats}
 use Rattle.polling.specs.declared.step.Step.{Step}
@@ -64,7 +64,7 @@ ServesOne {S} {C} {P} r client ledgers moments peers talk ledgers_now moments_no
     (talks : ℕ → Talk) (gone : ℕ → Bool) (stands : ℕ → Standing)
     → gone client ≡ false
     → (deeds : List Act)
-    × Passes S C P r (hall ledgers moments peers (with_talk client talk talks) gone stands) deeds
+    × Proceeds S C P r (hall ledgers moments peers (with_talk client talk talks) gone stands) deeds
     (hall ledgers_now moments_now peers_now (with_talk client talk_now talks)
     (gone_by step client gone) (stands_by step client deeds stands))
     × (replies_in deeds ≡ replies)
@@ -157,7 +157,7 @@ abbrev pub LeadsAll : {S C P : Type 0} → Terms S C P → Hall S C P → Held S
 LeadsAll {S} {C} {P} r first new replies =
     (deeds : List Act)
     × (last : Hall S C P)
-    × Passes S C P r first deeds last
+    × Proceeds S C P r first deeds last
     × HoldsHall new last
     × (replies_in deeds ≡ replies)
 
@@ -169,7 +169,7 @@ abbrev pub LeadsOwed :
 LeadsOwed {S} {C} {P} r why from to first new replies =
     (deeds : List Act)
     × (last : Hall S C P)
-    × Passes S C P r first deeds last
+    × Proceeds S C P r first deeds last
     × HoldsHall new last
     × (replies_in deeds ≡ replies)
     × OwesOnly from to first.stands last.stands

@@ -214,13 +214,13 @@ pub data Occurs (S C P : Type 0) (r : Terms S C P) (old : Hall S C P) :
       (record old { room = record room { ledgers = ledgers }; stands = stands })
 
 -- all that happens, one after the other, and the deeds among it
-pub data Passes (S C P : Type 0) (r : Terms S C P) (first : Hall S C P) :
+pub data Proceeds (S C P : Type 0) (r : Terms S C P) (first : Hall S C P) :
     List Act → Hall S C P → Type 0 where
-  Begin : Passes S C P r first [] first
+  Begin : Proceeds S C P r first [] first
   Then :
       (deeds : List Act) (last : Hall S C P) (more : List Act) (next : Hall S C P) →
-      Passes S C P r first deeds last → Occurs S C P r last more next →
-      Passes S C P r first (deeds ++ more) next
+      Proceeds S C P r first deeds last → Occurs S C P r last more next →
+      Proceeds S C P r first (deeds ++ more) next
 
 module _ {S C P : Type 0} {r : Terms S C P} where
   -- how often peers told something: in what happens, and in all that happened
@@ -230,7 +230,7 @@ module _ {S C P : Type 0} {r : Terms S C P} where
   tellings_of happens = 0
 
   abbrev pub tellings :
-      {first last : Hall S C P} {deeds : List Act} → Passes S C P r first deeds last → ℕ
+      {first last : Hall S C P} {deeds : List Act} → Proceeds S C P r first deeds last → ℕ
   tellings Begin = 0
   tellings (Then deeds last more next serves happens) = tellings serves + tellings_of happens
 
@@ -243,6 +243,6 @@ module _ {S C P : Type 0} {r : Terms S C P} where
   rounds_of happens = 0
 
   abbrev pub rounds_in :
-      {first last : Hall S C P} {deeds : List Act} → Passes S C P r first deeds last → ℕ
+      {first last : Hall S C P} {deeds : List Act} → Proceeds S C P r first deeds last → ℕ
   rounds_in Begin = 0
   rounds_in (Then deeds last more next serves happens) = rounds_in serves + rounds_of happens
