@@ -1,14 +1,11 @@
 //! One client.
-ghost use Rattle.std.specs.Prelude.{◌≡◌, ◌≤◌, true, false, length, take, IfOk, IfSome, OnOk, OnErr, IsTrue};
-ghost use Rattle.ledger_http.specs.Limits.{longest_message};
+ghost use Rattle.std.specs.Prelude.{◌≡◌, ◌≤◌, true, false, length, take, OnOk, OnErr, IsTrue};
 ghost use Rattle.ledger_http.specs.Message.{IsAnnounced};
-ghost use Rattle.ledger_http.specs.Progress.{HasLength};
 ghost use Rattle.clients.specs.Talk.{new_talk, received, input_ended, written, may_answer, given_up};
 ghost use Rattle.clients.specs.Talk.{continued, is_written};
 ghost use Rattle.clients.specs.Calls.{MayBeAnswered, AnswersOn, TellsSize, TellsLength, MakesRoom};
 ghost use Rattle.clients.specs.Answering.{HasAnswered};
 ghost use Rattle.clients.specs.Within.{replied_to};
-ghost use Rattle.ledger_http.specs.Unread.{IsWhole};
 
 use crate::exchanging::{Exchanged, exchange};
 use crate::outbox::Outbox;

@@ -1,5 +1,5 @@
 -- Behind a round its clients are finished.
-use Rattle.std.proofs.Common.{◌≡◌, sym, subst, ℕ, Bool, true, false, not, nat_lt, [], ◌∷◌, arith}
+use Rattle.std.proofs.Common.{◌≡◌, ◌≤◌, sym, subst, ℕ, Bool, true, false, not, nat_lt, [], ◌∷◌, arith}
 use Rattle.std.proofs.lemmas.Bool.Decides.{nat_tests}
 use Rattle.polling.specs.Serving.{Terms}
 use Rattle.polling.specs.Seating.{Held, ServesOwed, count_of}
@@ -12,6 +12,18 @@ none_wanted most none = grind (arith, nat_tests)
 
 not_answered : (most : ℕ) → most ≡ 0 → nat_lt 0 most ≡ false
 not_answered most none = grind (arith, nat_tests)
+
+few_of : (replied : Bool) (most : ℕ) → (nat_lt 0 most ≡ false → replied ≡ false) →
+    count_of replied ≤ most
+few_of false most few = omega arith
+few_of true most few = grind (arith, nat_tests, few)
+
+-- where a message was replied to, one was wanted
+pub few_finished :
+    (replied is : Bool) (most : ℕ) → replied ≡ is → (nat_lt 0 most ≡ false → replied ≡ false) →
+    count_of is ≤ most
+few_finished replied is most same few =
+    subst (λ (b : Bool). count_of b ≤ most) same (few_of replied most few)
 
 -- a client keeps its place alone only where as many were replied to as there were to be
 pub finished :

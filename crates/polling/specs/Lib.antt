@@ -7,3 +7,4 @@ pub mod Ending
 pub mod Laws
 pub mod Courses
 pub mod Round
+pub mod Steps

@@ -1,10 +1,11 @@
 //! Writing what is left of replies, where no further message is answered.
-ghost use Rattle.std.specs.Prelude.{◌≡◌, Bool, false, [], ◌∷◌, IsTrue, IfSome, IfNone};
-ghost use Rattle.service.specs.Seen.{SeenAt, Whole};
+ghost use Rattle.std.specs.Prelude.{◌≡◌, Bool, false, [], ◌∷◌, IsTrue};
+ghost use Rattle.service.specs.Seen.{Whole};
 ghost use Rattle.polling.specs.Serving.{rules};
 ghost use Rattle.polling.specs.Standing.{A_seat, owing};
 ghost use Rattle.polling.specs.Seating.{HadTurn, HadNone, ServesOne, ServesAll, ServesOwed, seats_in, held_by};
-ghost use Rattle.polling.specs.Ending.{IsToldAs, HasTurn, IsIdleNow, NothingIsLeft, Ends};
+ghost use Rattle.polling.specs.Ending.{IsToldAs, HasTurn, IsIdleNow, NothingIsLeft};
+ghost use Rattle.polling.specs.Steps.{LeavesUsable, ServesIfSeated, WritesRest};
 
 use crate::seats::Seats;
 use crate::serving::{follow, let_go};
@@ -33,11 +34,11 @@ fn write_left<L: Ledgers, H: Steward<L>, C: Moments, P: Peers>(
     ledgers: &mut L,
 ) -> Step
     requires { L.means.is_usable ledgers.old }
-    ensures serves { (done : Step) × ((idle : Bool) × IsToldAs done idle result × ((moments : C) →
+    ensures { LeavesUsable L.means ledgers.new
+        ((done : Step) × ((idle : Bool) × IsToldAs done idle result × ((moments : C) →
         ServesOne (rules L.means C.gives H.renews H.waits P.does) number
         (Whole ledgers.old) moments peers.old client.old
-        (Whole ledgers.new) moments peers.new client.new done idle 0)) }
-    ensures usable { L.means.is_usable ledgers.new }
+        (Whole ledgers.new) moments peers.new client.new done idle 0))) }
 {
     match write_on::<L, H, C, P>(alloc, peers, number, client, ledgers) {
         Step::More => {
@@ -60,15 +61,15 @@ fn write_in<L: Ledgers, H: Steward<L>, C: Moments, P: Peers>(
     ledgers: &mut L,
 ) -> Option<Step>
     requires { L.means.is_usable ledgers.old }
-    ensures written { IfSome result (λ step. (done : Step) × ((idle : Bool) ×
+    ensures { ServesIfSeated result L.means ledgers.new
+        (λ step. (done : Step) × ((idle : Bool) ×
         IsToldAs done idle step × ((moments : C) →
         HadTurn (rules L.means C.gives H.renews H.waits P.does) number
         (Whole ledgers.old) moments peers.old (seats_in clients.old)
-        (Whole ledgers.new) moments peers.new (seats_in clients.new) done idle 0))) }
-    ensures none { IfNone result ((moments : C) → HadNone number
+        (Whole ledgers.new) moments peers.new (seats_in clients.new) done idle 0)))
+        ((moments : C) → HadNone number
         (Whole ledgers.old) moments peers.old (seats_in clients.old)
         (Whole ledgers.new) moments peers.new (seats_in clients.new)) }
-    ensures usable { L.means.is_usable ledgers.new }
 {
     match clients.get_mut(&number) {
         Some(client) => { Some(write_left::<L, H, C, P>(alloc, peers, number, client, ledgers)) }
@@ -85,11 +86,11 @@ fn write_one<L: Ledgers, H: Steward<L>, C: Moments, P: Peers>(
     ledgers: &mut L,
 )
     requires { L.means.is_usable ledgers.old }
-    ensures serves { (moments : C) →
+    ensures { LeavesUsable L.means ledgers.new
+        ((moments : C) →
         ServesAll (rules L.means C.gives H.renews H.waits P.does)
         (held_by ledgers.old moments peers.old seats.old)
-        (held_by ledgers.new moments peers.new seats.new) 0 }
-    ensures usable { L.means.is_usable ledgers.new }
+        (held_by ledgers.new moments peers.new seats.new) 0) }
 {
     match write_in::<L, H, C, P>(alloc, peers, &mut seats.clients, number, ledgers) {
         Some(step) => follow::<L, H, C, P>(peers, &mut seats.clients, number, step),
@@ -126,11 +127,11 @@ fn write_next<L: Ledgers, H: Steward<L>, C: Moments, P: Peers>(
         HasTurn (rules L.means C.gives H.renews H.waits P.does)
         (held_by ledgers.old moments peers.old seats.old)
         (held_by ledgers.new moments peers.new seats.new) 0 }
-    ensures quiet { result ≡ false → (moments : C) →
+    ensures quiet { LeavesUsable L.means ledgers.new
+        (result ≡ false → (moments : C) →
         IsIdleNow (rules L.means C.gives H.renews H.waits P.does)
         (held_by ledgers.old moments peers.old seats.old)
-        (held_by ledgers.new moments peers.new seats.new) 0 }
-    ensures usable { L.means.is_usable ledgers.new }
+        (held_by ledgers.new moments peers.new seats.new) 0) }
 {
     match peers.told(seats.next) {
         Told::Joined => {
@@ -158,16 +159,10 @@ pub fn write_rest<L: Ledgers, H: Steward<L>, C: Moments, P: Peers>(
     ledgers: &mut L,
 )
     requires { L.means.is_usable ledgers.old }
-    ensures serves { (moments : C) →
-        ServesAll (rules L.means C.gives H.renews H.waits P.does)
-        (held_by ledgers.old moments peers.old seats.old)
-        (held_by ledgers.new moments peers.new seats.new) 0 }
-    ensures ends { (moments : C) →
-        Ends (SeenAt L) C P (rules L.means C.gives H.renews H.waits P.does)
-        (NothingIsLeft seats.new.clients)
-        (held_by ledgers.old moments peers.old seats.old)
-        (held_by ledgers.new moments peers.new seats.new) 0 }
-    ensures usable { L.means.is_usable ledgers.new }
+    ensures { WritesRest L.means (rules L.means C.gives H.renews H.waits P.does)
+        seats.new.clients ledgers.new
+        (λ moments. held_by ledgers.old moments peers.old seats.old)
+        (λ moments. held_by ledgers.new moments peers.new seats.new) }
 {
     for _ in 0..u64::MAX {
         if are_written(&seats.clients) {

@@ -1,9 +1,10 @@
 //! Serving those who are gathered.
-ghost use Rattle.std.specs.Prelude.{◌≡◌, ◌≤◌, ℕ, false, not, [], ◌∷◌, IfSome, IfNone};
+ghost use Rattle.std.specs.Prelude.{◌≡◌, ℕ, false, not, [], ◌∷◌, IfSome};
 ghost use Rattle.service.specs.Seen.{Whole};
 ghost use Rattle.polling.specs.Serving.{rules};
 ghost use Rattle.polling.specs.Standing.{A_turn, owing, turns_of};
 ghost use Rattle.polling.specs.Seating.{HadTurn, HadNone, ServesOwed, ServesEach, count_of, held, held_by, seats_in};
+ghost use Rattle.polling.specs.Steps.{RepliesUpTo, ServesIfSeated};
 
 use crate::gathering::Gathered;
 use crate::seats::Seats;
@@ -30,15 +31,15 @@ fn finish_in<L: Rounds, H: Steward<L>, C: Moments, P: Peers>(
     answers: bool,
 ) -> Option<Turned>
     requires usable { L.means.is_usable ledgers.old }
-    ensures turn { IfSome result (λ turned. HadTurn (rules L.means C.gives H.renews H.waits P.does) number
+    ensures found { ServesIfSeated result L.means ledgers.new
+        (λ turned. HadTurn (rules L.means C.gives H.renews H.waits P.does) number
         (Whole ledgers.old) moments.old peers.old (seats_in clients.old)
         (Whole ledgers.new) moments.new peers.new (seats_in clients.new)
-        turned.step (not answers) (count_of turned.replied)) }
-    ensures few { IfSome result (λ turned. answers ≡ false → turned.replied ≡ false) }
-    ensures none { IfNone result (HadNone number
+        turned.step (not answers) (count_of turned.replied))
+        (HadNone number
         (Whole ledgers.old) moments.old peers.old (seats_in clients.old)
         (Whole ledgers.new) moments.new peers.new (seats_in clients.new)) }
-    ensures usable { L.means.is_usable ledgers.new }
+    ensures few { IfSome result (λ turned. answers ≡ false → turned.replied ≡ false) }
 {
     match clients.get_mut(&number) {
         Some(client) => Some(finish::<L, H, C, P>(
@@ -61,12 +62,11 @@ fn finish_one<L: Rounds, H: Steward<L>, C: Moments, P: Peers>(
     most: u64,
 ) -> u64
     requires { L.means.is_usable ledgers.old }
-    ensures serves { ServesOwed (rules L.means C.gives H.renews H.waits P.does) (result ≡ most)
+    ensures { RepliesUpTo most result L.means ledgers.new
+        (ServesOwed (rules L.means C.gives H.renews H.waits P.does) (result ≡ most)
         (owing A_turn number ∷ []) []
         (held_by ledgers.old moments.old peers.old seats.old)
-        (held_by ledgers.new moments.new peers.new seats.new) result }
-    ensures few { result ≤ most }
-    ensures usable { L.means.is_usable ledgers.new }
+        (held_by ledgers.new moments.new peers.new seats.new) result) }
 {
     match finish_in::<L, H, C, P>(
         alloc,
@@ -98,12 +98,11 @@ fn finish_each<L: Rounds, H: Steward<L>, C: Moments, P: Peers>(
     most: u64,
 ) -> u64
     requires { L.means.is_usable ledgers.old }
-    ensures serves { ServesOwed (rules L.means C.gives H.renews H.waits P.does) (result ≡ most)
+    ensures { RepliesUpTo most result L.means ledgers.new
+        (ServesOwed (rules L.means C.gives H.renews H.waits P.does) (result ≡ most)
         (turns_of numbers.now) []
         (held_by ledgers.old moments.old peers.old seats.old)
-        (held_by ledgers.new moments.new peers.new seats.new) result }
-    ensures few { result ≤ most }
-    ensures usable { L.means.is_usable ledgers.new }
+        (held_by ledgers.new moments.new peers.new seats.new) result) }
 {
     let mut replies = 0;
     for number in numbers {
@@ -134,13 +133,12 @@ fn share<L: Rounds, H: Steward<L>, C: Moments, P: Peers>(
     most: u64,
 ) -> u64
     requires { L.means.is_usable ledgers.old }
-    ensures serves { (peers : P) → (next : ℕ) →
+    ensures replies { RepliesUpTo most result L.means ledgers.new
+        ((peers : P) → (next : ℕ) →
         ServesEach (rules L.means C.gives H.renews H.waits P.does)
         (held (Whole ledgers.old) moments.old peers (seats_in clients.old) next)
-        (held (Whole ledgers.new) moments.new peers (seats_in clients.new) next) result }
-    ensures few { result ≤ most }
+        (held (Whole ledgers.new) moments.new peers (seats_in clients.new) next) result) }
     ensures same { gathered.new.numbers ≡ gathered.old.numbers }
-    ensures usable { L.means.is_usable ledgers.new }
 {
     if numbers.len() < 2 {
         return 0;
@@ -165,13 +163,12 @@ pub(crate) fn serve_due<L: Rounds, H: Steward<L>, C: Moments, P: Peers>(
     most: u64,
 ) -> u64
     requires { L.means.is_usable ledgers.old }
-    ensures serves { ServesOwed (rules L.means C.gives H.renews H.waits P.does) (result ≡ most)
+    ensures replies { RepliesUpTo most result L.means ledgers.new
+        (ServesOwed (rules L.means C.gives H.renews H.waits P.does) (result ≡ most)
         (turns_of gathered.old.numbers.items) (turns_of gathered.new.numbers.items)
         (held_by ledgers.old moments.old peers.old seats.old)
-        (held_by ledgers.new moments.new peers.new seats.new) result }
-    ensures few { result ≤ most }
+        (held_by ledgers.new moments.new peers.new seats.new) result) }
     ensures all { result ≡ most → gathered.new.numbers.items ≡ [] }
-    ensures usable { L.means.is_usable ledgers.new }
 {
     let has_more = peers.has_more();
     if !has_more {

@@ -1,8 +1,8 @@
 //! Clients who are to share a round.
-ghost use Rattle.std.specs.Prelude.{◌≡◌, ◌⊎◌, ◌<◌, ◌≤◌, ◌+◌, [], false, Contains, IsTrue, length};
-ghost use Rattle.polling.specs.Kinds.{IsKind, IsNextKind, IsPlaced, most_questions};
+ghost use Rattle.std.specs.Prelude.{◌≡◌, ◌⊎◌, ◌<◌, ◌≤◌, ◌+◌, [], false, true, Contains, IsTrue, length};
+ghost use Rattle.polling.specs.Kinds.{IsKind, IsPlaced, most_questions};
 ghost use Rattle.polling.specs.Seating.{AreSame, seats_in};
-ghost use Rattle.polling.specs.Standing.{AreSomeOf};
+ghost use Rattle.polling.specs.Steps.{GathersNext, TellsKind};
 
 use crate::{Batch, Steward};
 use chain::Ledgers;
@@ -77,8 +77,7 @@ fn kind_of(front: &[u8]) -> Kind
 
 /// What a client's next message is. A batch or a question waits until the last reply is written.
 fn next_kind<L: Ledgers, H: Steward<L>>(client: &mut Client, steward: &H) -> Kind
-    ensures kind { IsNextKind H.waits client.old result }
-    ensures same { client.new ≡ client.old }
+    ensures { TellsKind H.waits client.old client.new result }
 {
     let Some(size) = client.next_size() else {
         return Kind::Other;
@@ -113,8 +112,7 @@ impl Gathered {
 
     /// Nobody more is to be waited for.
     pub(crate) fn close(&mut self)
-        ensures same { self.new.numbers ≡ self.old.numbers }
-        ensures count { self.new.queries ≡ self.old.queries }
+        ensures { self.new ≡ record self.old { is_closed = true } }
     {
         self.is_closed = true;
     }
@@ -133,8 +131,7 @@ impl Gathered {
         steward: &H,
     ) -> Place
         ensures same { AreSame (seats_in clients.old) (seats_in clients.new) }
-        ensures kept { AreSomeOf self.old.numbers.items self.new.numbers.items }
-        ensures gathered { result ≡ Place.Gathered → Contains self.new.numbers.items number }
+        ensures gathers { GathersNext self.old.numbers.items self.new.numbers.items number result }
         ensures placed { IsPlaced H.waits (seats_in clients.old number)
             self.old.queries self.new.queries result }
     {
@@ -171,8 +168,7 @@ impl Gathered {
     }
 
     fn place_of_batch(&mut self, number: u64, size: usize) -> Place
-        ensures kept { AreSomeOf self.old.numbers.items self.new.numbers.items }
-        ensures gathered { result ≡ Place.Gathered → Contains self.new.numbers.items number }
+        ensures gathers { GathersNext self.old.numbers.items self.new.numbers.items number result }
         ensures count { self.new.queries ≡ self.old.queries }
         ensures place { result ≡ Place.Later → ⊥ }
     {
@@ -219,8 +215,7 @@ impl Gathered {
 
     /// The next clients are served alone.
     pub(crate) fn serve_alone(&mut self)
-        ensures same { self.new.numbers ≡ self.old.numbers }
-        ensures count { self.new.queries ≡ self.old.queries }
+        ensures { self.new ≡ record self.old { alone = self.new.alone } }
     {
         self.alone = ALONE;
     }

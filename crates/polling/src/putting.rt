@@ -4,6 +4,7 @@ ghost use Rattle.clients.specs.Talk.{Talk};
 ghost use Rattle.clients.specs.Within.{replied_to};
 ghost use Rattle.polling.specs.Round.{AreCopied, ArePut, AreToldLost};
 ghost use Rattle.polling.specs.Seating.{SeatsNow, seats_in};
+ghost use Rattle.polling.specs.Steps.{PutsUpTo};
 
 use crate::round::{Member, Round};
 use crate::{Peers, Steward};
@@ -34,9 +35,9 @@ pub(crate) fn put_all<L: Ledgers, H: Steward<L>, C: Moments, P: Peers>(
     replies: Vec<Reply>,
 ) -> u64
     requires { AreCopied (seats_in clients.old) round.now.members.items round.now.messages.items }
-    ensures put { ArePut L.means C.gives H.renews H.waits P.does round.now.messages.items replies.items
-        (seats_in clients.old) (seats_in clients.new) result }
-    ensures few { result ≤ length round.now.members.items }
+    ensures { PutsUpTo (length round.now.members.items) result
+        (ArePut L.means C.gives H.renews H.waits P.does round.now.messages.items replies.items
+        (seats_in clients.old) (seats_in clients.new) result) }
 {
     rounds_reply::<L, C>();
     let mut rest = replies.into_iter();
@@ -57,9 +58,9 @@ pub(crate) fn tell_all<L: Ledgers, H: Steward<L>, C: Moments, P: Peers>(
     round: &Round,
 ) -> u64
     requires { AreCopied (seats_in clients.old) round.now.members.items round.now.messages.items }
-    ensures told { AreToldLost L.means C.gives H.renews H.waits P.does round.now.messages.items
-        (seats_in clients.old) (seats_in clients.new) result }
-    ensures few { result ≤ length round.now.members.items }
+    ensures { PutsUpTo (length round.now.members.items) result
+        (AreToldLost L.means C.gives H.renews H.waits P.does round.now.messages.items
+        (seats_in clients.old) (seats_in clients.new) result) }
 {
     rounds_reply::<L, C>();
     meanings_are_unique();

@@ -1,8 +1,9 @@
 //! Messages of clients, copied for a round.
-ghost use Rattle.std.specs.Prelude.{◌≡◌, ◌≤◌, ◌<◌, ◌+◌, ℕ, false, [], Option, length, IfSome, IsTrue, vec_len, vec_capacity};
+ghost use Rattle.std.specs.Prelude.{◌≡◌, ◌≤◌, ◌<◌, ◌+◌, ℕ, false, [], Option, length, IsTrue, vec_len, vec_capacity};
 ghost use Rattle.clients.specs.Talk.{Talk};
 ghost use Rattle.polling.specs.Round.{IsCopyOf, IsNoneOf, AreGathered};
 ghost use Rattle.polling.specs.Seating.{AreSame, seats_in};
+ghost use Rattle.polling.specs.Steps.{CopiesNext, CopiesOne};
 
 use clients::Client;
 use ledger_http::asked;
@@ -46,8 +47,8 @@ impl Round {
 /// A client's next message, if it may be answered, is whole and asks something. There is none where
 /// memory is wanting for it.
 fn next_message(alloc: Global, client: &mut Client) -> Option<Copied>
-    ensures same { client.new ≡ client.old }
-    ensures copied { IfSome result (λ copied. IsCopyOf client.old copied.size copied.bytes.items) }
+    ensures { CopiesOne client.old client.new result
+        (λ copied. IsCopyOf client.old copied.size copied.bytes.items) }
 {
     if !client.may_answer() {
         return None;
@@ -132,10 +133,8 @@ pub(crate) fn copy_all<C: Moments>(
     moments: &mut C,
     most: u64,
 ) -> Round
-    ensures same { AreSame (seats_in clients.old) (seats_in clients.new) }
-    ensures gathered { AreGathered C.gives (seats_in clients.old) moments.old
-        result.members.items result.messages.items moments.new }
-    ensures few { length result.members.items ≤ most }
+    ensures { CopiesNext C.gives (seats_in clients.old) (seats_in clients.new) moments.old
+        result.members.items result.messages.items moments.new most }
 {
     let mut round = Round::new(alloc);
     for number in numbers {

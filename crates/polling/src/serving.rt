@@ -1,11 +1,12 @@
 //! Serving all who are ready.
-ghost use Rattle.std.specs.Prelude.{◌≡◌, false, ◌⊎◌, ◌≤◌, ◌<◌, [], ◌∷◌, ◌++◌, IfSome, IfNone, IsTrue};
-ghost use Rattle.service.specs.Seen.{SeenAt, Whole};
+ghost use Rattle.std.specs.Prelude.{◌≡◌, false, ◌⊎◌, ◌<◌, [], ◌∷◌, ◌++◌, IsTrue};
+ghost use Rattle.service.specs.Seen.{Whole};
 ghost use Rattle.polling.specs.Serving.{rules};
 ghost use Rattle.polling.specs.Standing.{A_seat, A_turn, An_end, owing, told_of, turns_of};
-ghost use Rattle.polling.specs.Seating.{HadTurn, HadNone, IsFollowed, ServesAll, ServesOwed, ServesTold, count_of, seats_in, held_by};
-ghost use Rattle.polling.specs.Ending.{HasDone, Ends, GivesTurns, replies_of};
+ghost use Rattle.polling.specs.Seating.{HadTurn, HadNone, IsFollowed, ServesOwed, ServesTold, count_of, seats_in, held_by};
+ghost use Rattle.polling.specs.Ending.{HasDone, replies_of};
 ghost use Rattle.polling.specs.declared.peers.Told.TheVariants.{Late, Nothing};
+ghost use Rattle.polling.specs.Steps.{LeavesUsable, RepliesUpTo, ServesIfSeated, ServesReady, WantsReplies};
 
 use crate::gathered::serve_due;
 use crate::gathering::{Gathered, Place};
@@ -30,14 +31,14 @@ fn turn_in<L: Ledgers, H: Steward<L>, C: Moments, P: Peers>(
     piece: &mut [u8],
 ) -> Option<Turned>
     requires usable { L.means.is_usable ledgers.old }
-    ensures turn { IfSome result (λ turned. HadTurn (rules L.means C.gives H.renews H.waits P.does) number
+    ensures { ServesIfSeated result L.means ledgers.new
+        (λ turned. HadTurn (rules L.means C.gives H.renews H.waits P.does) number
         (Whole ledgers.old) moments.old peers.old (seats_in clients.old)
         (Whole ledgers.new) moments.new peers.new (seats_in clients.new)
-        turned.step false (count_of turned.replied)) }
-    ensures none { IfNone result (HadNone number
+        turned.step false (count_of turned.replied))
+        (HadNone number
         (Whole ledgers.old) moments.old peers.old (seats_in clients.old)
         (Whole ledgers.new) moments.new peers.new (seats_in clients.new)) }
-    ensures usable { L.means.is_usable ledgers.new }
 {
     match clients.get_mut(&number) {
         Some(client) => Some(turn::<L, H, C, P>(
@@ -79,11 +80,11 @@ fn serve_one<L: Ledgers, H: Steward<L>, C: Moments, P: Peers>(
     piece: &mut [u8],
 ) -> bool
     requires { L.means.is_usable ledgers.old }
-    ensures serves { ServesOwed (rules L.means C.gives H.renews H.waits P.does) ⊥
+    ensures { LeavesUsable L.means ledgers.new
+        (ServesOwed (rules L.means C.gives H.renews H.waits P.does) ⊥
         (owing A_turn number ∷ []) []
         (held_by ledgers.old moments.old peers.old seats.old)
-        (held_by ledgers.new moments.new peers.new seats.new) (count_of result) }
-    ensures usable { L.means.is_usable ledgers.new }
+        (held_by ledgers.new moments.new peers.new seats.new) (count_of result)) }
 {
     match turn_in::<L, H, C, P>(
         alloc,
@@ -167,13 +168,12 @@ fn serve_or_gather<L: Rounds, H: Steward<L>, C: Moments, P: Peers>(
     gathered: &mut Gathered,
 ) -> u64
     requires { L.means.is_usable ledgers.old }
-    ensures serves { ServesOwed (rules L.means C.gives H.renews H.waits P.does) ⊥
+    ensures { RepliesUpTo 1 result L.means ledgers.new
+        (ServesOwed (rules L.means C.gives H.renews H.waits P.does) ⊥
         (owing A_turn number ∷ turns_of gathered.old.numbers.items)
         (turns_of gathered.new.numbers.items)
         (held_by ledgers.old moments.old peers.old seats.old)
-        (held_by ledgers.new moments.new peers.new seats.new) result }
-    ensures few { result ≤ 1 }
-    ensures usable { L.means.is_usable ledgers.new }
+        (held_by ledgers.new moments.new peers.new seats.new) result) }
 {
     match gathered.place::<L, H>(&mut seats.clients, number, steward) {
         Place::Gathered => 0,
@@ -204,13 +204,12 @@ fn serve_told<L: Rounds, H: Steward<L>, C: Moments, P: Peers>(
     told: Told,
 ) -> u64
     requires { L.means.is_usable ledgers.old }
-    ensures serves { ServesTold (rules L.means C.gives H.renews H.waits P.does) told
+    ensures { RepliesUpTo 1 result L.means ledgers.new
+        (ServesTold (rules L.means C.gives H.renews H.waits P.does) told
         (told_of seats.old.next told ++ turns_of gathered.old.numbers.items)
         (turns_of gathered.new.numbers.items)
         (held_by ledgers.old moments.old peers.old seats.old)
-        (held_by ledgers.new moments.new peers.new seats.new) result }
-    ensures few { result ≤ 1 }
-    ensures usable { L.means.is_usable ledgers.new }
+        (held_by ledgers.new moments.new peers.new seats.new) result) }
 {
     match told {
         Told::Joined => {
@@ -251,20 +250,18 @@ fn serve_next<L: Rounds, H: Steward<L>, C: Moments, P: Peers>(
     gathered: &mut Gathered,
     most: u64,
 ) -> Done
-    requires usable { L.means.is_usable ledgers.old }
-    requires some { 0 < most }
+    requires { WantsReplies L.means ledgers.old most }
     ensures does { HasDone (rules L.means C.gives H.renews H.waits P.does)
         (held_by ledgers.old moments.old peers.old seats.old)
         (held_by ledgers.new moments.new peers.new seats.new) result }
-    ensures turns { ServesOwed (rules L.means C.gives H.renews H.waits P.does)
+    ensures turns { RepliesUpTo most (replies_of result) L.means ledgers.new
+        (ServesOwed (rules L.means C.gives H.renews H.waits P.does)
         (replies_of result ≡ most)
         (turns_of gathered.old.numbers.items) (turns_of gathered.new.numbers.items)
         (held_by ledgers.old moments.old peers.old seats.old)
-        (held_by ledgers.new moments.new peers.new seats.new) (replies_of result) }
+        (held_by ledgers.new moments.new peers.new seats.new) (replies_of result)) }
     ensures all { (result ≡ Done.Nothing) ⊎ (replies_of result ≡ most) →
         gathered.new.numbers.items ≡ [] }
-    ensures few { replies_of result ≤ most }
-    ensures usable { L.means.is_usable ledgers.new }
 {
     steward.attend(ledgers);
     let told = peers.told(seats.next);
@@ -296,17 +293,9 @@ pub fn serve_ready<L: Rounds, H: Steward<L>, C: Moments, P: Peers>(
     most: u64,
 ) -> u64
     requires { L.means.is_usable ledgers.old }
-    ensures serves { ServesAll (rules L.means C.gives H.renews H.waits P.does)
+    ensures { ServesReady L.means (rules L.means C.gives H.renews H.waits P.does) most ledgers.new
         (held_by ledgers.old moments.old peers.old seats.old)
         (held_by ledgers.new moments.new peers.new seats.new) result }
-    ensures ends { Ends (SeenAt L) C P (rules L.means C.gives H.renews H.waits P.does)
-        (result ≡ most) (held_by ledgers.old moments.old peers.old seats.old)
-        (held_by ledgers.new moments.new peers.new seats.new) result }
-    ensures turns { GivesTurns (SeenAt L) C P (rules L.means C.gives H.renews H.waits P.does) most
-        (held_by ledgers.old moments.old peers.old seats.old)
-        (held_by ledgers.new moments.new peers.new seats.new) result }
-    ensures few { result ≤ most }
-    ensures usable { L.means.is_usable ledgers.new }
 {
     let mut gathered = Gathered::new(alloc);
     let mut replies = 0;

@@ -1,8 +1,9 @@
 //! Messages of several clients, answered in one round.
-ghost use Rattle.std.specs.Prelude.{◌≤◌, ℕ};
+ghost use Rattle.std.specs.Prelude.{ℕ};
 ghost use Rattle.service.specs.Seen.{Whole};
 ghost use Rattle.polling.specs.Serving.{rules};
 ghost use Rattle.polling.specs.Seating.{ServesEach, held, seats_in};
+ghost use Rattle.polling.specs.Steps.{RepliesUpTo};
 
 use crate::putting::{put_all, tell_all};
 use crate::round::{Round, copy_all};
@@ -37,12 +38,11 @@ pub(crate) fn share_round<L: Rounds, H: Steward<L>, C: Moments, P: Peers>(
     most: u64,
 ) -> u64
     requires { L.means.is_usable ledgers.old }
-    ensures serves { (peers : P) → (next : ℕ) →
+    ensures { RepliesUpTo most result L.means ledgers.new
+        ((peers : P) → (next : ℕ) →
         ServesEach (rules L.means C.gives H.renews H.waits P.does)
         (held (Whole ledgers.old) moments.old peers (seats_in clients.old) next)
-        (held (Whole ledgers.new) moments.new peers (seats_in clients.new) next) result }
-    ensures few { result ≤ most }
-    ensures usable { L.means.is_usable ledgers.new }
+        (held (Whole ledgers.new) moments.new peers (seats_in clients.new) next) result) }
 {
     let round = copy_all(alloc, clients, numbers, moments, most);
     if round.members.len() < 2 {

@@ -1,10 +1,11 @@
 //! Steps of serving one client.
-ghost use Rattle.std.specs.Prelude.{◌≡◌, ◌≢◌, ◌≤◌, [], false};
+ghost use Rattle.std.specs.Prelude.{◌≢◌, ◌≤◌, [], false};
 ghost use Rattle.clients.specs.Answering.{IsWanting};
 ghost use Rattle.ledger_http.specs.Limits.{longest_message};
 ghost use Rattle.service.specs.Seen.{SeenAt};
 ghost use Rattle.polling.specs.Serving.{rules};
 ghost use Rattle.polling.specs.Seating.{ServesOne};
+ghost use Rattle.polling.specs.Steps.{WritesAlone};
 
 use crate::{Peers, Read, Steward, Written};
 use chain::Ledgers;
@@ -82,10 +83,10 @@ pub(crate) fn write_some<L: Ledgers, H: Steward<L>, C: Moments, P: Peers>(
     client: &mut Client,
 ) -> Step
     requires { client.old.unsent ≢ [] }
-    ensures serves { (ledgers : SeenAt L) → (moments : C) →
+    ensures { WritesAlone client.old client.new
+        ((ledgers : SeenAt L) → (moments : C) →
         ServesOne (rules L.means C.gives H.renews H.waits P.does) number
-        ledgers moments peers.old client.old ledgers moments peers.new client.new result false 0 }
-    ensures rest { client.new.rest ≡ client.old.rest }
+        ledgers moments peers.old client.old ledgers moments peers.new client.new result false 0) }
 {
     match peers.write(number, client.unsent()) {
         Written::Took(count) => {

@@ -1,10 +1,10 @@
 //! A client's turn.
-ghost use Rattle.std.specs.Prelude.{◌≡◌, [], true, false, not, Some};
-ghost use Rattle.clients.specs.Answering.{IsWanting};
-ghost use Rattle.clients.specs.Talk.{may_answer};
+ghost use Rattle.std.specs.Prelude.{◌≡◌, true, false, not, Some};
+ghost use Rattle.clients.specs.Calls.{MayBeAnswered};
 ghost use Rattle.service.specs.Seen.{SeenAt, Whole};
 ghost use Rattle.polling.specs.Serving.{rules};
 ghost use Rattle.polling.specs.Seating.{ServesOne, count_of, has_no_more, has_nothing};
+ghost use Rattle.polling.specs.Steps.{LeavesUsable, WritesAlone, MayReadMore, MayReadPart};
 
 use crate::step::{Step, read_some, write_some};
 use crate::{Batch, Peers, Steward};
@@ -31,11 +31,11 @@ pub(crate) fn write_all<L: Ledgers, H: Steward<L>, C: Moments, P: Peers>(
     number: u64,
     client: &mut Client,
 ) -> Step
-    ensures serves { (ledgers : SeenAt L) → (moments : C) →
+    ensures { WritesAlone client.old client.new
+        ((ledgers : SeenAt L) → (moments : C) →
         ServesOne (rules L.means C.gives H.renews H.waits P.does) number
         ledgers moments peers.old client.old ledgers moments peers.new client.new result
-        (has_nothing client.old client.new) 0 }
-    ensures rest { client.new.rest ≡ client.old.rest }
+        (has_nothing client.old client.new) 0) }
 {
     for _ in 0..MOST_WRITES {
         if client.unsent().is_empty() {
@@ -60,13 +60,11 @@ fn read_part<L: Ledgers, H: Steward<L>, C: Moments, P: Peers>(
     ledgers: &mut L,
     rest: &Rest,
 ) -> Step
-    requires usable { L.means.is_usable ledgers.old }
-    requires written { client.old.unsent ≡ [] }
-    requires left { client.old.rest ≡ Some rest.now }
-    ensures serves { (moments : C) → ServesOne (rules L.means C.gives H.renews H.waits P.does) number
+    requires { MayReadPart L.means ledgers.old client.old rest.now }
+    ensures { LeavesUsable L.means ledgers.new
+        ((moments : C) → ServesOne (rules L.means C.gives H.renews H.waits P.does) number
         (Whole ledgers.old) moments peers.old client.old
-        (Whole ledgers.new) moments peers.new client.new result false 0 }
-    ensures usable { L.means.is_usable ledgers.new }
+        (Whole ledgers.new) moments peers.new client.new result false 0) }
 {
     let Some(part) = H::reads(alloc, ledgers, rest) else {
         return Step::Goes;
@@ -85,11 +83,11 @@ pub(crate) fn write_on<L: Ledgers, H: Steward<L>, C: Moments, P: Peers>(
     ledgers: &mut L,
 ) -> Step
     requires { L.means.is_usable ledgers.old }
-    ensures serves { (moments : C) → ServesOne (rules L.means C.gives H.renews H.waits P.does) number
+    ensures { LeavesUsable L.means ledgers.new
+        ((moments : C) → ServesOne (rules L.means C.gives H.renews H.waits P.does) number
         (Whole ledgers.old) moments peers.old client.old
         (Whole ledgers.new) moments peers.new client.new result
-        (has_no_more client.old client.new) 0 }
-    ensures usable { L.means.is_usable ledgers.new }
+        (has_no_more client.old client.new) 0) }
 {
     match write_all::<L, H, C, P>(peers, number, client) {
         Step::More => {}
@@ -114,9 +112,7 @@ fn read_or_give_up<L: Ledgers, H: Steward<L>, C: Moments, P: Peers>(
     ledgers: &L,
     piece: &mut [u8],
 ) -> Turned
-    requires usable { L.means.is_usable ledgers.now }
-    requires open { may_answer client.old ≡ true }
-    requires more { IsWanting client.old.unread }
+    requires { MayReadMore L.means ledgers.now client.old }
     ensures { (moments : C) → ServesOne (rules L.means C.gives H.renews H.waits P.does) number
         (Whole ledgers.now) moments peers.old client.old
         (Whole ledgers.now) moments peers.new client.new result.step false
@@ -159,13 +155,12 @@ pub(crate) fn answer_or_read<L: Ledgers, H: Steward<L>, C: Moments, P: Peers>(
     piece: &mut [u8],
     batch: Option<Batch>,
 ) -> Turned
-    requires usable { L.means.is_usable ledgers.old }
-    requires open { may_answer client.old ≡ true }
-    ensures serves { ServesOne (rules L.means C.gives H.renews H.waits P.does) number
+    requires { MayBeAnswered L.means ledgers.old client.old }
+    ensures { LeavesUsable L.means ledgers.new
+        (ServesOne (rules L.means C.gives H.renews H.waits P.does) number
         (Whole ledgers.old) moments.old peers.old client.old
         (Whole ledgers.new) moments.new peers.new client.new result.step false
-        (count_of result.replied) }
-    ensures usable { L.means.is_usable ledgers.new }
+        (count_of result.replied)) }
 {
     match client.answer(alloc, ledgers, moments) {
         Answered::Replied => {
@@ -200,12 +195,12 @@ pub(crate) fn finish<L: Ledgers, H: Steward<L>, C: Moments, P: Peers>(
     answers: bool,
 ) -> Turned
     requires usable { L.means.is_usable ledgers.old }
-    ensures serves { ServesOne (rules L.means C.gives H.renews H.waits P.does) number
+    ensures turn { LeavesUsable L.means ledgers.new
+        (ServesOne (rules L.means C.gives H.renews H.waits P.does) number
         (Whole ledgers.old) moments.old peers.old client.old
         (Whole ledgers.new) moments.new peers.new client.new result.step (not answers)
-        (count_of result.replied) }
+        (count_of result.replied)) }
     ensures few { answers ≡ false → result.replied ≡ false }
-    ensures usable { L.means.is_usable ledgers.new }
 {
     if answers && client.is_written() {
         return turn::<L, H, C, P>(alloc, peers, number, client, ledgers, moments, piece);
@@ -229,11 +224,11 @@ pub(crate) fn turn<L: Ledgers, H: Steward<L>, C: Moments, P: Peers>(
     piece: &mut [u8],
 ) -> Turned
     requires usable { L.means.is_usable ledgers.old }
-    ensures serves { ServesOne (rules L.means C.gives H.renews H.waits P.does) number
+    ensures { LeavesUsable L.means ledgers.new
+        (ServesOne (rules L.means C.gives H.renews H.waits P.does) number
         (Whole ledgers.old) moments.old peers.old client.old
         (Whole ledgers.new) moments.new peers.new client.new result.step false
-        (count_of result.replied) }
-    ensures usable { L.means.is_usable ledgers.new }
+        (count_of result.replied)) }
 {
     let is_told_in_parts = client.rest().is_some();
     match write_on::<L, H, C, P>(alloc, peers, number, client, ledgers) {

@@ -57,15 +57,21 @@ loop-number-preserved g c =
       usable = one.ensures.usable;
     }
 
-pub returns-clause-serves : goal.returns-clause-serves
-returns-clause-serves g c =
-    let r = rules g.L.Ledgers.means g.C.Moments.gives g.H.Steward.renews g.H.Steward.waits g.P.Peers.does in
-    subst
-    (λ (left : List ℕ).
-    ServesOwed r (c.loop-number.replies ≡ c.args.most) (turns_of c.args.numbers.now) (turns_of left)
-    (held_by c.args.ledgers.now c.args.moments.now c.args.peers.now c.args.seats.now)
-    (held_by c.loop-number.ledgers c.loop-number.moments c.loop-number.peers c.loop-number.seats)
-    c.loop-number.replies)
-    (at_drop_all (λ (left : List ℕ). left) c.args.numbers.now c.loop-number.number-index
-    c.loop-number-test.false)
-    c.loop-number.invariant.serves
+pub returns : goal.returns
+returns g c = record {
+  serves =
+      let r = rules g.L.Ledgers.means g.C.Moments.gives g.H.Steward.renews g.H.Steward.waits g.P.Peers.does in
+      subst
+      (λ (left : List ℕ).
+      ServesOwed r (c.loop-number.replies ≡ c.args.most) (turns_of c.args.numbers.now) (turns_of left)
+      (held_by c.args.ledgers.now c.args.moments.now c.args.peers.now c.args.seats.now)
+      (held_by c.loop-number.ledgers c.loop-number.moments c.loop-number.peers c.loop-number.seats)
+      c.loop-number.replies)
+      (at_drop_all (λ (left : List ℕ). left) c.args.numbers.now c.loop-number.number-index
+      c.loop-number-test.false)
+      c.loop-number.invariant.serves;
+  few =
+      c.loop-number.invariant.few;
+  usable =
+      c.loop-number.invariant.usable;
+}

@@ -23,18 +23,18 @@ loop-member-init g c = record {
   len = search rules;
 }
 
-pub returns-in_default-clause-put : goal.returns-in_default-clause-put
-returns-in_default-clause-put g c =
-    put_over g.L.Ledgers.means g.C.Moments.gives g.H.Steward.renews g.H.Steward.waits g.P.Peers.does _ _ _ _ _ _ _
-    c.loop-member.invariant.put
-    (inr (nothing_left _ _ c.loop-member.invariant.len c.in_default.ensures.cases.0))
-
-pub returns-in_default-clause-few : goal.returns-in_default-clause-few
-returns-in_default-clause-few g c =
-    let is = c.loop-member.invariant.count in
-    let within = c.loop-member-test.true in
-    let same = ap length c.deref-member-items.ensures.value in
-    omega (arith, is, within, same)
+pub returns-in_default : goal.returns-in_default
+returns-in_default g c = record {
+  put =
+      put_over g.L.Ledgers.means g.C.Moments.gives g.H.Steward.renews g.H.Steward.waits g.P.Peers.does _ _ _ _ _ _ _
+      c.loop-member.invariant.put
+      (inr (nothing_left _ _ c.loop-member.invariant.len c.in_default.ensures.cases.0));
+  few =
+      let is = c.loop-member.invariant.count in
+      let within = c.loop-member-test.true in
+      let same = ap length c.deref-member-items.ensures.value in
+      omega (arith, is, within, same);
+}
 
 pub put_one-requires : goal.put_one-requires
 put_one-requires g c =
@@ -64,21 +64,21 @@ loop-member-preserved g c = record {
       omega (arith, was, gone, short);
 }
 
-pub returns-clause-put : goal.returns-clause-put
-returns-clause-put g c =
-    put_over g.L.Ledgers.means g.C.Moments.gives g.H.Steward.renews g.H.Steward.waits g.P.Peers.does _ _ _ _ _ _ _
-    c.loop-member.invariant.put
-    (inl
-    (none_left (seats_in c.loop-member.clients) _
-    (subst
-    (λ (ms : List Member).
-    AreCopied (seats_in c.loop-member.clients) ms c.loop-member.invariant.put.left)
-    (nobody_here _ _ _ c.deref-member-items.ensures.value c.loop-member-test.false)
-    c.loop-member.invariant.put.copied)))
-
-pub returns-clause-few : goal.returns-clause-few
-returns-clause-few g c =
-    let is = c.loop-member.invariant.count in
-    let within = c.loop-member.auto.member-index-end in
-    let same = ap length c.deref-member-items.ensures.value in
-    omega (arith, is, within, same)
+pub returns : goal.returns
+returns g c = record {
+  put =
+      put_over g.L.Ledgers.means g.C.Moments.gives g.H.Steward.renews g.H.Steward.waits g.P.Peers.does _ _ _ _ _ _ _
+      c.loop-member.invariant.put
+      (inl
+      (none_left (seats_in c.loop-member.clients) _
+      (subst
+      (λ (ms : List Member).
+      AreCopied (seats_in c.loop-member.clients) ms c.loop-member.invariant.put.left)
+      (nobody_here _ _ _ c.deref-member-items.ensures.value c.loop-member-test.false)
+      c.loop-member.invariant.put.copied)));
+  few =
+      let is = c.loop-member.invariant.count in
+      let within = c.loop-member.auto.member-index-end in
+      let same = ap length c.deref-member-items.ensures.value in
+      omega (arith, is, within, same);
+}

@@ -38,20 +38,20 @@ loop-member-preserved g c = record {
   count = ap (λ (n : ℕ). n + 1) c.loop-member.invariant.count;
 }
 
-pub returns-clause-told : goal.returns-clause-told
-returns-clause-told g c =
-    told_over g.L.Ledgers.means g.C.Moments.gives g.H.Steward.renews g.H.Steward.waits g.P.Peers.does _ _ _ _ _
-    c.loop-member.invariant.told
-    (none_left (seats_in c.loop-member.clients) _
-    (subst
-    (λ (ms : List Member).
-    AreCopied (seats_in c.loop-member.clients) ms c.loop-member.invariant.told.left)
-    (nobody_here _ _ _ c.deref-member-items.ensures.value c.loop-member-test.false)
-    c.loop-member.invariant.told.copied))
-
-pub returns-clause-few : goal.returns-clause-few
-returns-clause-few g c =
-    let is = c.loop-member.invariant.count in
-    let within = c.loop-member.auto.member-index-end in
-    let same = ap length c.deref-member-items.ensures.value in
-    omega (arith, is, within, same)
+pub returns : goal.returns
+returns g c = record {
+  put =
+      told_over g.L.Ledgers.means g.C.Moments.gives g.H.Steward.renews g.H.Steward.waits g.P.Peers.does _ _ _ _ _
+      c.loop-member.invariant.told
+      (none_left (seats_in c.loop-member.clients) _
+      (subst
+      (λ (ms : List Member).
+      AreCopied (seats_in c.loop-member.clients) ms c.loop-member.invariant.told.left)
+      (nobody_here _ _ _ c.deref-member-items.ensures.value c.loop-member-test.false)
+      c.loop-member.invariant.told.copied));
+  few =
+      let is = c.loop-member.invariant.count in
+      let within = c.loop-member.auto.member-index-end in
+      let same = ap length c.deref-member-items.ensures.value in
+      omega (arith, is, within, same);
+}

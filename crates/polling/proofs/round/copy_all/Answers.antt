@@ -26,20 +26,22 @@ loop-number-preserved g c = record {
       omega (arith, grown, below, counted, many);
 }
 
-pub returns-then-len-most-clause-same : goal.returns-then-len-most-clause-same
-returns-then-len-most-clause-same g c = c.loop-number.invariant.same
+pub returns-then-len-most : goal.returns-then-len-most
+returns-then-len-most g c = record {
+  same =
+      c.loop-number.invariant.same;
+  gathered =
+      c.loop-number.invariant.gathered;
+  few =
+      c.loop-number.invariant.few;
+}
 
-pub returns-then-len-most-clause-gathered : goal.returns-then-len-most-clause-gathered
-returns-then-len-most-clause-gathered g c = c.loop-number.invariant.gathered
-
-pub returns-then-len-most-clause-few : goal.returns-then-len-most-clause-few
-returns-then-len-most-clause-few g c = c.loop-number.invariant.few
-
-pub returns-clause-same : goal.returns-clause-same
-returns-clause-same g c = c.loop-number.invariant.same
-
-pub returns-clause-gathered : goal.returns-clause-gathered
-returns-clause-gathered g c = c.loop-number.invariant.gathered
-
-pub returns-clause-few : goal.returns-clause-few
-returns-clause-few g c = c.loop-number.invariant.few
+pub returns : goal.returns
+returns g c = record {
+  same =
+      c.loop-number.invariant.same;
+  gathered =
+      c.loop-number.invariant.gathered;
+  few =
+      c.loop-number.invariant.few;
+}

@@ -23,98 +23,105 @@ loop-init g c =
       usable = c.requires;
     }
 
-pub returns-then-replies-most-clause-serves : goal.returns-then-replies-most-clause-serves
-returns-then-replies-most-clause-serves g c =
-    turns_serve (rules g.L.Ledgers.means g.C.Moments.gives g.H.Steward.renews g.H.Steward.waits g.P.Peers.does)
-    (held_by c.args.ledgers.now c.args.moments.now c.args.peers.now c.args.seats.now)
-    (held_by c.loop.ledgers c.loop.moments c.loop.peers c.loop.seats) c.loop.counter
-    c.loop.replies c.loop.invariant.turns
+pub returns-then-replies-most : goal.returns-then-replies-most
+returns-then-replies-most g c = record {
+  serves =
+      turns_serve (rules g.L.Ledgers.means g.C.Moments.gives g.H.Steward.renews g.H.Steward.waits g.P.Peers.does)
+      (held_by c.args.ledgers.now c.args.moments.now c.args.peers.now c.args.seats.now)
+      (held_by c.loop.ledgers c.loop.moments c.loop.peers c.loop.seats) c.loop.counter
+      c.loop.replies c.loop.invariant.turns;
+  ends =
+      Enough c.if-replies-most.true;
+  turns =
+      let r = rules g.L.Ledgers.means g.C.Moments.gives g.H.Steward.renews g.H.Steward.waits g.P.Peers.does in
+      let first = held_by c.args.ledgers.now c.args.moments.now c.args.peers.now c.args.seats.now in
+      let now = held_by c.loop.ledgers c.loop.moments c.loop.peers c.loop.seats in
+      inl
+      (subst
+      (λ (gathered : List ℕ).
+      ServesOwed r (c.loop.replies ≡ c.args.most) [] (turns_of gathered) first now c.loop.replies)
+      (c.loop.invariant.all c.if-replies-most.true) c.loop.invariant.served);
+  few =
+      c.loop.invariant.few;
+  usable =
+      c.loop.invariant.usable;
+}
 
-pub returns-then-replies-most-clause-ends : goal.returns-then-replies-most-clause-ends
-returns-then-replies-most-clause-ends g c = Enough c.if-replies-most.true
+pub returns-in-Nothing : goal.returns-in-Nothing
+returns-in-Nothing g c = record {
+  serves =
+      let r = rules g.L.Ledgers.means g.C.Moments.gives g.H.Steward.renews g.H.Steward.waits g.P.Peers.does in
+      let first = held_by c.args.ledgers.now c.args.moments.now c.args.peers.now c.args.seats.now in
+      let old = held_by c.loop.ledgers c.loop.moments c.loop.peers c.loop.seats in
+      let new =
+      held_by c.serve_next.new.ledgers c.serve_next.new.moments c.serve_next.new.peers
+      c.serve_next.new.seats in
+      quiet_serves r first new c.loop.replies
+      (quiet_then r first old new c.loop.replies
+      (turns_serve r first old c.loop.counter c.loop.replies c.loop.invariant.turns)
+      c.in-Nothing.ensures.does);
+  ends =
+      let r = rules g.L.Ledgers.means g.C.Moments.gives g.H.Steward.renews g.H.Steward.waits g.P.Peers.does in
+      let first = held_by c.args.ledgers.now c.args.moments.now c.args.peers.now c.args.seats.now in
+      let old = held_by c.loop.ledgers c.loop.moments c.loop.peers c.loop.seats in
+      let new =
+      held_by c.serve_next.new.ledgers c.serve_next.new.moments c.serve_next.new.peers
+      c.serve_next.new.seats in
+      Quiet
+      (quiet_then r first old new c.loop.replies
+      (turns_serve r first old c.loop.counter c.loop.replies c.loop.invariant.turns)
+      c.in-Nothing.ensures.does);
+  turns =
+      let r = rules g.L.Ledgers.means g.C.Moments.gives g.H.Steward.renews g.H.Steward.waits g.P.Peers.does in
+      let first = held_by c.args.ledgers.now c.args.moments.now c.args.peers.now c.args.seats.now in
+      let old = held_by c.loop.ledgers c.loop.moments c.loop.peers c.loop.seats in
+      let new =
+      held_by c.serve_next.new.ledgers c.serve_next.new.moments c.serve_next.new.peers
+      c.serve_next.new.seats in
+      inl
+      (subst
+      (λ (gathered : List ℕ).
+      ServesOwed r (c.loop.replies ≡ c.args.most) [] (turns_of gathered) first new c.loop.replies)
+      (c.in-Nothing.ensures.all (inl refl))
+      (then_owed r (c.loop.replies ≡ c.args.most) [] (turns_of c.loop.gathered.numbers.items)
+      (turns_of c.serve_next.new.gathered.numbers.items) first old new c.loop.replies 0 c.loop.replies
+      (omega arith) c.loop.invariant.served
+      (owed_for r (0 ≡ c.args.most - c.loop.replies) (c.loop.replies ≡ c.args.most)
+      (turns_of c.loop.gathered.numbers.items) (turns_of c.serve_next.new.gathered.numbers.items) old new
+      0
+      (λ (all : 0 ≡ c.args.most - c.loop.replies).
+      let few = c.loop.invariant.few in omega (arith, all, few))
+      c.in-Nothing.ensures.turns.serves)));
+  few =
+      c.loop.invariant.few;
+  usable =
+      c.in-Nothing.ensures.turns.usable;
+}
 
-pub returns-then-replies-most-clause-turns : goal.returns-then-replies-most-clause-turns
-returns-then-replies-most-clause-turns g c =
-    let r = rules g.L.Ledgers.means g.C.Moments.gives g.H.Steward.renews g.H.Steward.waits g.P.Peers.does in
-    let first = held_by c.args.ledgers.now c.args.moments.now c.args.peers.now c.args.seats.now in
-    let now = held_by c.loop.ledgers c.loop.moments c.loop.peers c.loop.seats in
-    inl
-    (subst
-    (λ (gathered : List ℕ).
-    ServesOwed r (c.loop.replies ≡ c.args.most) [] (turns_of gathered) first now c.loop.replies)
-    (c.loop.invariant.all c.if-replies-most.true) c.loop.invariant.served)
-
-pub returns-in-Nothing-clause-turns : goal.returns-in-Nothing-clause-turns
-returns-in-Nothing-clause-turns g c =
-    let r = rules g.L.Ledgers.means g.C.Moments.gives g.H.Steward.renews g.H.Steward.waits g.P.Peers.does in
-    let first = held_by c.args.ledgers.now c.args.moments.now c.args.peers.now c.args.seats.now in
-    let old = held_by c.loop.ledgers c.loop.moments c.loop.peers c.loop.seats in
-    let new =
-    held_by c.serve_next.new.ledgers c.serve_next.new.moments c.serve_next.new.peers
-    c.serve_next.new.seats in
-    inl
-    (subst
-    (λ (gathered : List ℕ).
-    ServesOwed r (c.loop.replies ≡ c.args.most) [] (turns_of gathered) first new c.loop.replies)
-    (c.in-Nothing.ensures.all (inl refl))
-    (then_owed r (c.loop.replies ≡ c.args.most) [] (turns_of c.loop.gathered.numbers.items)
-    (turns_of c.serve_next.new.gathered.numbers.items) first old new c.loop.replies 0 c.loop.replies
-    (omega arith) c.loop.invariant.served
-    (owed_for r (0 ≡ c.args.most - c.loop.replies) (c.loop.replies ≡ c.args.most)
-    (turns_of c.loop.gathered.numbers.items) (turns_of c.serve_next.new.gathered.numbers.items) old new
-    0
-    (λ (all : 0 ≡ c.args.most - c.loop.replies).
-    let few = c.loop.invariant.few in omega (arith, all, few))
-    c.in-Nothing.ensures.turns)))
-
-pub returns-clause-turns : goal.returns-clause-turns
-returns-clause-turns g c =
-    inr
-    (all_turns (rules g.L.Ledgers.means g.C.Moments.gives g.H.Steward.renews g.H.Steward.waits g.P.Peers.does)
-    (held_by c.args.ledgers.now c.args.moments.now c.args.peers.now c.args.seats.now)
-    (held_by c.loop.ledgers c.loop.moments c.loop.peers c.loop.seats) c.loop.counter
-    c.loop.replies c.loop.auto.counter-end c.loop-test.false c.loop.invariant.turns)
-
-pub returns-in-Nothing-clause-ends : goal.returns-in-Nothing-clause-ends
-returns-in-Nothing-clause-ends g c =
-    let r = rules g.L.Ledgers.means g.C.Moments.gives g.H.Steward.renews g.H.Steward.waits g.P.Peers.does in
-    let first = held_by c.args.ledgers.now c.args.moments.now c.args.peers.now c.args.seats.now in
-    let old = held_by c.loop.ledgers c.loop.moments c.loop.peers c.loop.seats in
-    let new =
-    held_by c.serve_next.new.ledgers c.serve_next.new.moments c.serve_next.new.peers
-    c.serve_next.new.seats in
-    Quiet
-    (quiet_then r first old new c.loop.replies
-    (turns_serve r first old c.loop.counter c.loop.replies c.loop.invariant.turns)
-    c.in-Nothing.ensures.does)
-
-pub returns-in-Nothing-clause-serves : goal.returns-in-Nothing-clause-serves
-returns-in-Nothing-clause-serves g c =
-    let r = rules g.L.Ledgers.means g.C.Moments.gives g.H.Steward.renews g.H.Steward.waits g.P.Peers.does in
-    let first = held_by c.args.ledgers.now c.args.moments.now c.args.peers.now c.args.seats.now in
-    let old = held_by c.loop.ledgers c.loop.moments c.loop.peers c.loop.seats in
-    let new =
-    held_by c.serve_next.new.ledgers c.serve_next.new.moments c.serve_next.new.peers
-    c.serve_next.new.seats in
-    quiet_serves r first new c.loop.replies
-    (quiet_then r first old new c.loop.replies
-    (turns_serve r first old c.loop.counter c.loop.replies c.loop.invariant.turns)
-    c.in-Nothing.ensures.does)
-
-pub returns-clause-serves : goal.returns-clause-serves
-returns-clause-serves g c =
-    turns_serve (rules g.L.Ledgers.means g.C.Moments.gives g.H.Steward.renews g.H.Steward.waits g.P.Peers.does)
-    (held_by c.args.ledgers.now c.args.moments.now c.args.peers.now c.args.seats.now)
-    (held_by c.loop.ledgers c.loop.moments c.loop.peers c.loop.seats) c.loop.counter
-    c.loop.replies c.loop.invariant.turns
-
-pub returns-clause-ends : goal.returns-clause-ends
-returns-clause-ends g c =
-    too_long (rules g.L.Ledgers.means g.C.Moments.gives g.H.Steward.renews g.H.Steward.waits g.P.Peers.does)
-    (c.loop.replies ≡ c.args.most)
-    (held_by c.args.ledgers.now c.args.moments.now c.args.peers.now c.args.seats.now)
-    (held_by c.loop.ledgers c.loop.moments c.loop.peers c.loop.seats) c.loop.counter
-    c.loop.replies c.loop.auto.counter-end c.loop-test.false c.loop.invariant.turns
+pub returns : goal.returns
+returns g c = record {
+  serves =
+      turns_serve (rules g.L.Ledgers.means g.C.Moments.gives g.H.Steward.renews g.H.Steward.waits g.P.Peers.does)
+      (held_by c.args.ledgers.now c.args.moments.now c.args.peers.now c.args.seats.now)
+      (held_by c.loop.ledgers c.loop.moments c.loop.peers c.loop.seats) c.loop.counter
+      c.loop.replies c.loop.invariant.turns;
+  ends =
+      too_long (rules g.L.Ledgers.means g.C.Moments.gives g.H.Steward.renews g.H.Steward.waits g.P.Peers.does)
+      (c.loop.replies ≡ c.args.most)
+      (held_by c.args.ledgers.now c.args.moments.now c.args.peers.now c.args.seats.now)
+      (held_by c.loop.ledgers c.loop.moments c.loop.peers c.loop.seats) c.loop.counter
+      c.loop.replies c.loop.auto.counter-end c.loop-test.false c.loop.invariant.turns;
+  turns =
+      inr
+      (all_turns (rules g.L.Ledgers.means g.C.Moments.gives g.H.Steward.renews g.H.Steward.waits g.P.Peers.does)
+      (held_by c.args.ledgers.now c.args.moments.now c.args.peers.now c.args.seats.now)
+      (held_by c.loop.ledgers c.loop.moments c.loop.peers c.loop.seats) c.loop.counter
+      c.loop.replies c.loop.auto.counter-end c.loop-test.false c.loop.invariant.turns);
+  few =
+      c.loop.invariant.few;
+  usable =
+      c.loop.invariant.usable;
+}
 
 pub loop-preserved : goal.loop-preserved
 loop-preserved g c =
@@ -134,7 +141,7 @@ loop-preserved g c =
           let before = turns_of c.loop.gathered.numbers.items in
           let behind = turns_of c.serve_next.new.gathered.numbers.items in
           let few = c.loop.invariant.few in
-          let more = c.in-Served.ensures.few in
+          let more = c.in-Served.ensures.turns.few in
           then_owed r (all ≡ c.args.most) [] before behind first old new c.loop.replies
           c.in-Served.more all refl
           (owed_for r (c.loop.replies ≡ c.args.most) (all ≡ c.args.most) [] before first old
@@ -144,13 +151,13 @@ loop-preserved g c =
           (owed_for r (c.in-Served.more ≡ c.args.most - c.loop.replies) (all ≡ c.args.most) before
           behind old new c.in-Served.more
           (λ (is : c.in-Served.more ≡ c.args.most - c.loop.replies). omega (arith, is, few))
-          c.in-Served.ensures.turns);
+          c.in-Served.ensures.turns.serves);
       all = λ all.
           let few = c.loop.invariant.few in
           c.in-Served.ensures.all (inr (omega (arith, few)));
       few =
           let before = c.loop.invariant.few in
-          let more = c.in-Served.ensures.few in
+          let more = c.in-Served.ensures.turns.few in
           omega (arith, before, more);
-      usable = c.serve_next.ensures.usable;
+      usable = c.serve_next.ensures.turns.usable;
     }

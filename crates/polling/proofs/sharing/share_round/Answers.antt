@@ -1,4 +1,4 @@
-use Rattle.std.proofs.Common.{inl, inr, subst, List}
+use Rattle.std.proofs.Common.{arith, inl, inr, subst, List}
 use Rattle.service.specs.declared.turns.Message.{Message}
 use Rattle.service.specs.Turns.{TakeTurns}
 use Rattle.polling.specs.Seating.{seats_in}
@@ -6,103 +6,133 @@ use Rattle.polling.proofs.CopyLemmas.{copied_as_before, only_copied, taken_back,
 use Rattle.polling.proofs.CopyLemmas.{lost_and_told, not_lost, memory_differs, size_differs}
 use Rattle.polling.proofs.sharing.share_round.Goals as goal
 
-pub returns-then-len-lt2-clause-serves : goal.returns-then-len-lt2-clause-serves
-returns-then-len-lt2-clause-serves g c peers next =
-    only_copied g.L.Ledgers.means g.C.Moments.gives g.H.Steward.renews g.H.Steward.waits g.P.Peers.does
-    c.args.ledgers.now c.args.moments.now c.copy_all-round.new.moments peers
-    (seats_in c.args.clients.now) (seats_in c.copy_all-round.new.clients) next
-    c.copy_all-round.result.messages.items c.copy_all-round.ensures.same
-    c.copy_all-round.ensures.gathered.given
+pub returns-then-len-lt2 : goal.returns-then-len-lt2
+returns-then-len-lt2 g c = record {
+  serves =
+      λ peers next. only_copied g.L.Ledgers.means g.C.Moments.gives g.H.Steward.renews g.H.Steward.waits g.P.Peers.does
+      c.args.ledgers.now c.args.moments.now c.copy_all-round.new.moments peers
+      (seats_in c.args.clients.now) (seats_in c.copy_all-round.new.clients) next
+      c.copy_all-round.result.messages.items c.copy_all-round.ensures.same
+      c.copy_all-round.ensures.gathered.given;
+  few =
+      omega arith;
+  usable =
+      c.requires;
+}
 
 pub put_all-count-requires : goal.put_all-count-requires
 put_all-count-requires g c =
     copied_as_before (seats_in c.args.clients.now) (seats_in c.copy_all-round.new.clients) _ _
     c.copy_all-round.ensures.same c.copy_all-round.ensures.gathered.copied
 
-pub returns-in-Ok-clause-serves : goal.returns-in-Ok-clause-serves
-returns-in-Ok-clause-serves g c peers next =
-    kept_and_put g.L.Ledgers.means g.C.Moments.gives g.H.Steward.renews g.H.Steward.waits g.P.Peers.does
-    c.args.ledgers.now c.in_round-replies.new.self c.args.moments.now c.copy_all-round.new.moments
-    peers (seats_in c.args.clients.now) (seats_in c.copy_all-round.new.clients)
-    (seats_in c.put_all-count.new.clients) next c.copy_all-round.result.messages.items
-    c.in-Ok.replies.items c.put_all-count.result c.copy_all-round.ensures.same
-    c.copy_all-round.ensures.gathered.given
-    (g.met.L.Ledgers.lived _ _ c.in_round-replies.ensures.follows)
-    (g.met.L.Ledgers.stays c.in_round-replies.new.self)
-    (λ live.
-    subst
-    (λ (messages : List Message).
-    TakeTurns messages (g.L.Ledgers.means.tenants c.args.ledgers.now) c.in-Ok.replies.items
-    (g.L.Ledgers.means.tenants c.in_round-replies.new.self))
-    c.as_slice-messages.ensures.value (c.in-Ok.ensures.run live))
-    (λ found may.
-    let live = c.in-Ok.ensures.finds.live (λ same. cc) found may in
-    (live, c.is_settled.ensures live found may))
-    c.put_all-count.ensures.put
+pub returns-in-Ok : goal.returns-in-Ok
+returns-in-Ok g c = record {
+  serves =
+      λ peers next. kept_and_put g.L.Ledgers.means g.C.Moments.gives g.H.Steward.renews g.H.Steward.waits g.P.Peers.does
+      c.args.ledgers.now c.in_round-replies.new.self c.args.moments.now c.copy_all-round.new.moments
+      peers (seats_in c.args.clients.now) (seats_in c.copy_all-round.new.clients)
+      (seats_in c.put_all-count.new.clients) next c.copy_all-round.result.messages.items
+      c.in-Ok.replies.items c.put_all-count.result c.copy_all-round.ensures.same
+      c.copy_all-round.ensures.gathered.given
+      (g.met.L.Ledgers.lived _ _ c.in_round-replies.ensures.follows)
+      (g.met.L.Ledgers.stays c.in_round-replies.new.self)
+      (λ live.
+      subst
+      (λ (messages : List Message).
+      TakeTurns messages (g.L.Ledgers.means.tenants c.args.ledgers.now) c.in-Ok.replies.items
+      (g.L.Ledgers.means.tenants c.in_round-replies.new.self))
+      c.as_slice-messages.ensures.value (c.in-Ok.ensures.run live))
+      (λ found may.
+      let live = c.in-Ok.ensures.finds.live (λ same. cc) found may in
+      (live, c.is_settled.ensures live found may))
+      c.put_all-count.ensures.put;
+  few =
+      let put = c.put_all-count.ensures.few in let copied = c.copy_all-round.ensures.few in omega (arith, put, copied);
+  usable =
+      c.in_round-replies.ensures.usable;
+}
 
 pub tell_all-requires : goal.tell_all-requires
 tell_all-requires g c =
     copied_as_before (seats_in c.args.clients.now) (seats_in c.copy_all-round.new.clients) _ _
     c.copy_all-round.ensures.same c.copy_all-round.ensures.gathered.copied
 
-pub returns-in-Disk-clause-serves : goal.returns-in-Disk-clause-serves
-returns-in-Disk-clause-serves g c peers next =
-    lost_and_told g.L.Ledgers.means g.C.Moments.gives g.H.Steward.renews g.H.Steward.waits g.P.Peers.does
-    c.args.ledgers.now c.in_round-replies.new.self c.args.moments.now c.copy_all-round.new.moments
-    peers (seats_in c.args.clients.now) (seats_in c.copy_all-round.new.clients)
-    (seats_in c.tell_all.new.clients) next c.copy_all-round.result.messages.items
-    c.tell_all.result c.copy_all-round.ensures.same c.copy_all-round.ensures.gathered.given
-    (g.met.L.Ledgers.stays c.args.ledgers.now)
-    (record {
-      lived = g.met.L.Ledgers.lived _ _ c.in_round-replies.ensures.follows;
-      same = rw c.in-Err.is at c.in_round-replies.ensures.same;
-      found = λ found may.
-          elim (c.in_round-replies.ensures.finds.found found may) [
-            | inl before ↦ inl before
-            | inr done ↦
-                inr (
-                  done.0,
-                  (
-                    done.1.0.items,
-                    subst
-                        (λ (messages : List Message).
-                        TakeTurns messages (g.L.Ledgers.means.tenants c.args.ledgers.now)
-                        done.1.0.items found)
-                        c.as_slice-messages.ensures.value done.1.1,
-                  ),
-                )
-          ];
-    })
-    c.tell_all.ensures.told
+pub returns-in-Disk : goal.returns-in-Disk
+returns-in-Disk g c = record {
+  serves =
+      λ peers next. lost_and_told g.L.Ledgers.means g.C.Moments.gives g.H.Steward.renews g.H.Steward.waits g.P.Peers.does
+      c.args.ledgers.now c.in_round-replies.new.self c.args.moments.now c.copy_all-round.new.moments
+      peers (seats_in c.args.clients.now) (seats_in c.copy_all-round.new.clients)
+      (seats_in c.tell_all.new.clients) next c.copy_all-round.result.messages.items
+      c.tell_all.result c.copy_all-round.ensures.same c.copy_all-round.ensures.gathered.given
+      (g.met.L.Ledgers.stays c.args.ledgers.now)
+      (record {
+        lived = g.met.L.Ledgers.lived _ _ c.in_round-replies.ensures.follows;
+        same = rw c.in-Err.is at c.in_round-replies.ensures.same;
+        found = λ found may.
+            elim (c.in_round-replies.ensures.finds.found found may) [
+              | inl before ↦ inl before
+              | inr done ↦
+                  inr (
+                    done.0,
+                    (
+                      done.1.0.items,
+                      subst
+                          (λ (messages : List Message).
+                          TakeTurns messages (g.L.Ledgers.means.tenants c.args.ledgers.now)
+                          done.1.0.items found)
+                          c.as_slice-messages.ensures.value done.1.1,
+                    ),
+                  )
+            ];
+      })
+      c.tell_all.ensures.put;
+  few =
+      let put = c.tell_all.ensures.few in let copied = c.copy_all-round.ensures.few in omega (arith, put, copied);
+  usable =
+      c.in_round-replies.ensures.usable;
+}
 
-pub returns-in-Memory-clause-serves : goal.returns-in-Memory-clause-serves
-returns-in-Memory-clause-serves g c peers next =
-    taken_back g.L.Ledgers.means g.C.Moments.gives g.H.Steward.renews g.H.Steward.waits g.P.Peers.does
-    c.args.ledgers.now c.in_round-replies.new.self c.args.moments.now c.copy_all-round.new.moments
-    peers (seats_in c.args.clients.now) (seats_in c.copy_all-round.new.clients) next
-    c.copy_all-round.result.messages.items c.copy_all-round.ensures.same
-    c.copy_all-round.ensures.gathered.given
-    (g.met.L.Ledgers.lived _ _ c.in_round-replies.ensures.follows)
-    (rw c.in-Err.is at c.in_round-replies.ensures.same)
-    (λ found may.
-    let live =
-    c.in_round-replies.ensures.finds.live
-    (not_lost _ _ _ c.in-Err.is c.in-Memory.is memory_differs)
-    found may in
-    (live, c.is_settled.ensures live found may))
+pub returns-in-Memory : goal.returns-in-Memory
+returns-in-Memory g c = record {
+  serves =
+      λ peers next. taken_back g.L.Ledgers.means g.C.Moments.gives g.H.Steward.renews g.H.Steward.waits g.P.Peers.does
+      c.args.ledgers.now c.in_round-replies.new.self c.args.moments.now c.copy_all-round.new.moments
+      peers (seats_in c.args.clients.now) (seats_in c.copy_all-round.new.clients) next
+      c.copy_all-round.result.messages.items c.copy_all-round.ensures.same
+      c.copy_all-round.ensures.gathered.given
+      (g.met.L.Ledgers.lived _ _ c.in_round-replies.ensures.follows)
+      (rw c.in-Err.is at c.in_round-replies.ensures.same)
+      (λ found may.
+      let live =
+      c.in_round-replies.ensures.finds.live
+      (not_lost _ _ _ c.in-Err.is c.in-Memory.is memory_differs)
+      found may in
+      (live, c.is_settled.ensures live found may));
+  few =
+      omega arith;
+  usable =
+      c.in_round-replies.ensures.usable;
+}
 
-pub returns-clause-serves : goal.returns-clause-serves
-returns-clause-serves g c peers next =
-    taken_back g.L.Ledgers.means g.C.Moments.gives g.H.Steward.renews g.H.Steward.waits g.P.Peers.does
-    c.args.ledgers.now c.in_round-replies.new.self c.args.moments.now c.copy_all-round.new.moments
-    peers (seats_in c.args.clients.now) (seats_in c.copy_all-round.new.clients) next
-    c.copy_all-round.result.messages.items c.copy_all-round.ensures.same
-    c.copy_all-round.ensures.gathered.given
-    (g.met.L.Ledgers.lived _ _ c.in_round-replies.ensures.follows)
-    (rw c.in-Err.is at c.in_round-replies.ensures.same)
-    (λ found may.
-    let live =
-    c.in_round-replies.ensures.finds.live
-    (not_lost _ _ _ c.in-Err.is c.in-Size.is size_differs)
-    found may in
-    (live, c.is_settled.ensures live found may))
+pub returns : goal.returns
+returns g c = record {
+  serves =
+      λ peers next. taken_back g.L.Ledgers.means g.C.Moments.gives g.H.Steward.renews g.H.Steward.waits g.P.Peers.does
+      c.args.ledgers.now c.in_round-replies.new.self c.args.moments.now c.copy_all-round.new.moments
+      peers (seats_in c.args.clients.now) (seats_in c.copy_all-round.new.clients) next
+      c.copy_all-round.result.messages.items c.copy_all-round.ensures.same
+      c.copy_all-round.ensures.gathered.given
+      (g.met.L.Ledgers.lived _ _ c.in_round-replies.ensures.follows)
+      (rw c.in-Err.is at c.in_round-replies.ensures.same)
+      (λ found may.
+      let live =
+      c.in_round-replies.ensures.finds.live
+      (not_lost _ _ _ c.in-Err.is c.in-Size.is size_differs)
+      found may in
+      (live, c.is_settled.ensures live found may));
+  few =
+      omega arith;
+  usable =
+      c.in_round-replies.ensures.usable;
+}

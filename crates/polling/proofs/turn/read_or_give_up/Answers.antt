@@ -30,7 +30,7 @@ returns-in-Err g c moments =
     (λ none. inl refl) refl
     (replied (rules g.L.Ledgers.means g.C.Moments.gives g.H.Steward.renews g.H.Steward.waits g.P.Peers.does) c.args.number
     (Whole c.args.ledgers.now) (Whole c.args.ledgers.now) moments moments c.args.peers.now c.args.client.now
-    c.give_up.new.self unavailable c.requires.open
+    c.give_up.new.self unavailable c.requires.may
     (c.whole_ledgers_are_seen.ensures c.args.ledgers.now c.args.ledgers.now moments moments
     c.args.client.now c.give_up.new.self unavailable
     (subst
