@@ -8,7 +8,8 @@ use Rattle.ledger_http.specs.Unread.{IsWhole}
 use Rattle.clients.specs.Talk.{Talk, may_answer}
 
 -- the client's next message may be answered, and the ledgers can be asked
-pub record MayBeAnswered {S : Type 0} (t : LedgersMeaning S) (ledgers : S) (talk : Talk) : Type 0 where
+pub record MayBeAnswered {S : Type 0} (t : LedgersMeaning S) (ledgers : S) (talk : Talk) :
+    Type 0 where
   pub usable : t.is_usable ledgers
   pub may : may_answer talk ≡ true
 

@@ -17,8 +17,8 @@ pub record Room (S C : Type 0) : Type 0 where
   pub moments : C
   pub talks : ℕ → Talk
 
--- a piece came from a client; its input ended; a message of it was replied to; the next part of that
--- reply was read; bytes of it were written to the client
+-- a piece came from a client; its input ended; a message of it was replied to; the next part of
+-- that reply was read; bytes of it were written to the client
 pub data Act : Type 0 where
   Came : ℕ → List ℕ → Act
   Ended : ℕ → Act
@@ -35,7 +35,8 @@ client_of (Continued client part) = client
 client_of (Wrote client bytes) = client
 
 -- the part that comes next of a reply, as the ledgers have it, once all that was read is written
-pub record IsNextPart {S : Type 0} (t : LedgersMeaning S) (ledgers : S) (talk : Talk) (part : Part) :
+pub record IsNextPart {S : Type 0} (t : LedgersMeaning S) (ledgers : S)
+    (talk : Talk) (part : Part) :
     Type 0 where
   pub rest : Rest
   pub written : talk.unsent ≡ []
@@ -190,8 +191,8 @@ module _ {S C : Type 0} {t : LedgersMeaning S} {gives : C → ℕ → C → Type
   ReadsOn before client (Then deeds last deed next lives done) =
       ReadsOn before client lives × HasYet t (machines_then before lives client) client deed last
 
--- what was written to a client, and what is owed, is what was owed and the replies to it, in order, as
--- long as its replies went on as they were begun
+-- what was written to a client, and what is owed, is what was owed and the replies to it, in order,
+-- as long as its replies went on as they were begun
 abbrev pub AreWritten :
     {S C : Type 0} → LedgersMeaning S → (C → ℕ → C → Type 0) → Type 0
 AreWritten {S} {C} t gives =

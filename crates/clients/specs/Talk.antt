@@ -9,8 +9,9 @@ use Rattle.parts.specs.declared.rest.Part.{Part}
 use Rattle.parts.specs.declared.rest.Rest.{Rest}
 use Rattle.service.specs.Replies.{unavailable}
 
--- what has come and is not answered; what of the last reply is there and is not written, and what of
--- it, where it is a statement, is left to be read; and whether another message is answered behind it
+-- what has come and is not answered; what of the last reply is there and is not written, and what
+-- of it, where it is a statement, is left to be read; and whether another message is answered
+-- behind it
 pub record Talk : Type 0 where
   pub unread : Unread
   pub unsent : List ℕ

@@ -188,16 +188,16 @@ impl Client {
         self.inbox.is_announced()
     }
 
-    /// How long its next message is with its head, where a good head was found and a body of allowed
-    /// length is due behind it.
+    /// How long its next message is with its head, where a good head was found and a body of
+    /// allowed length is due behind it.
     pub fn announced_length(&self) -> Option<usize>
         ensures { TellsLength self.now result }
     {
         self.inbox.announced_length()
     }
 
-    /// Where a body is due, makes room for what is wanting of it, up to so many bytes. Says how many
-    /// bytes to receive. It fails only where a body is due.
+    /// Where a body is due, makes room for what is wanting of it, up to so many bytes. Says how
+    /// many bytes to receive. It fails only where a body is due.
     pub fn reserve_due(&mut self, most: usize) -> Result<usize, AllocError>
         ensures { MakesRoom self.old self.new most result }
     {

@@ -13,8 +13,8 @@ add_fault add.NameTaken = NameTaken
 add_fault add.DigestTaken = DigestTaken
 add_fault (add.Unavailable why) = Unavailable
 
--- the tenant has joined; or its name is taken, or else its digest, or nothing is known but that all is
--- as before
+-- the tenant has joined; or its name is taken, or else its digest, or nothing is known but that all
+-- is as before
 abbrev pub IsAdded : List ℕ → List ℕ → Database → Database → Result ⊤ Fault → Type 0
 IsAdded name digest old new (Ok done) = HasJoined name digest old new (Ok tt)
 IsAdded name digest old new (Err NameTaken) = HasJoined name digest old new (Err add.NameTaken)

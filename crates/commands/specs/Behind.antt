@@ -64,7 +64,8 @@ NotesTold (Ok None) old new = new ≡ old
 NotesTold (Err why) old new = new ≡ old
 
 -- and so is the end of a search, where it ends with that
-pub record NotesPiece (told : Result (Option Overdue) BatchFault) (search : Search) (old new : Behind)
+pub record NotesPiece (told : Result (Option Overdue) BatchFault) (search : Search)
+    (old new : Behind)
     : Type 0 where
   pub noted : Behind
   pub notes : NotesTold told old noted

@@ -114,8 +114,8 @@ module _ {D : Type 0} {g : disk.Ghosts D} where
   abbrev pub kept_store : RunMeaning (Kept (Store D g))
   kept_store = run_meaning (kept_meaning store_meaning)
 
-  -- opening a store again over its own files was refused, and what is left of it answers no calls and
-  -- is not live
+  -- opening a store again over its own files was refused, and what is left of it answers no calls
+  -- and is not live
   pub record IsRefusedAgain (old left : Store D g) : Type 0 where
     pub refused : Refused
     pub leaves : LeavesStore refused old left
@@ -143,11 +143,11 @@ module _ {D : Type 0} {g : disk.Ghosts D} where
       (files : Option (Files D)) × GivesFiles left files
       × opens files (tenants_kept store_meaning new)
 
-  -- what is made of a store between turns, where a home opens these: one that answers calls stays as it
-  -- is; any other may stay, or is opened again over its own files, and is what was to be found there; or
-  -- that is refused, and the home opens a store in its place; or that is refused too, and none answers;
-  -- or an operator has asked for a deed, and this came of it; or for what is there, and nothing has
-  -- changed
+  -- what is made of a store between turns, where a home opens these: one that answers calls stays
+  -- as it is; any other may stay, or is opened again over its own files, and is what was to be
+  -- found there; or that is refused, and the home opens a store in its place; or that is refused
+  -- too, and none answers; or an operator has asked for a deed, and this came of it; or for what is
+  -- there, and nothing has changed
   pub data Renews (opens : Option (Files D) → Tenants → Type 0) (old new : Kept (Store D g)) :
       Type 0 where
     Stays : new ≡ old → Renews opens old new

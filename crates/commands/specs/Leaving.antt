@@ -39,8 +39,8 @@ module _ {D : Type 0} {g : disk.Ghosts D} {C : Type 0} where
         ServesKept opens gives does first moments peers most kept moments_now peers_now (Err fault)
 
 module _ {D : Type 0} {g : disk.Ghosts D} {C O : Type 0} where
-  -- what is left has served these peers a store, or what stands in its place, from these moments on,
-  -- until so many messages were replied to, or it was asked to end
+  -- what is left has served these peers a store, or what stands in its place, from these moments
+  -- on, until so many messages were replied to, or it was asked to end
   abbrev pub HasServedStore :
       {P : Type 0} → (Option (Files D) → Tenants → Type 0) → (C → ℕ → C → Type 0)
       → (P → Doing → P → Type 0) → Kept (Store D g) → C → P → ℕ → EndedService D P C O g → Type 0
@@ -48,8 +48,8 @@ module _ {D : Type 0} {g : disk.Ghosts D} {C O : Type 0} where
       ServesKept opens gives does first moments peers most ended.kept ended.moments ended.peers
       (Ok ended.why)
 
-  -- what is left has served a file to those who connected at an address. Nothing is known of its home,
-  -- of the clock or of what clients do
+  -- what is left has served a file to those who connected at an address. Nothing is known of its
+  -- home, of the clock or of what clients do
   pub record HasServedFile (word : Option (List ℕ)) (number : ℕ) (standby : Bool) (most : ℕ)
       (ended : EndedService D Listening C O g) : Type 0 where
     pub listening : Listening

@@ -61,7 +61,8 @@ module _ (Finds : OpenFault → Type 0) where
   IsFoundSo other = ⊥
 
 module _ {D : Type 0} (g : disk.Ghosts D) where
-  -- an opening found this case in what the files held, unless the disk had lied, and they hold it yet
+  -- an opening found this case in what the files held, unless the disk had lied, and they hold it
+  -- yet
   pub record HasFound (Tells : OpenFault → Database → Type 0) (image : Image) (fault : OpenFault)
       : Type 0 where
     pub left : Files D

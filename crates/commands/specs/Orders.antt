@@ -28,7 +28,8 @@ told_only (Ok done) = Ok tt
 told_only (Err fault) = Err fault
 
 module _ {D : Type 0} {g : disk.Ghosts D} where
-  -- the change of some tenant's key to this digest was tried, and what is told of it is how it ended
+  -- the change of some tenant's key to this digest was tried, and what is told of it is how it
+  -- ended
   abbrev pub IsKeyingTold : {T : Type 0} → List ℕ → Store D g → Result T Fault → Store D g → Type 0
   IsKeyingTold digest old result new =
       (was : List ℕ)
@@ -42,8 +43,8 @@ module _ {D : Type 0} {g : disk.Ghosts D} where
   IsListingTold store (Ok (Read piece)) = ⊥
   IsListingTold store (Err fault) = fault ≡ Unavailable
 
-  -- what an order comes to: the tenants are listed, or a piece of a statement is read, and nothing has
-  -- changed for any; or a deed was tried, and what is told of it is how it ended
+  -- what an order comes to: the tenants are listed, or a piece of a statement is read, and nothing
+  -- has changed for any; or a deed was tried, and what is told of it is how it ended
   abbrev pub CarriesOut : Order → Store D g → Result Done Fault → Store D g → Type 0
   CarriesOut Tenants old result new =
       (IsLive new → IsListingTold old result) × IsAtRest (run_meaning store_meaning) old new

@@ -60,8 +60,9 @@ module _ {D : Type 0} {g : disk.Ghosts D} where
       × Moves (run_meaning store_meaning) old
       (Tried (asked_for digest account) (ending_told result)) new)
 
-  -- a deed was tried: so a part of a statement is read for a client, and nothing is as it was not for
-  -- any tenant
+  -- a deed was tried: so a part of a statement is read for a client, and nothing is as it was not
+  -- for any tenant
   abbrev pub IsTried : Store D g → Store D g → Type 0
   IsTried old new =
-      (deed : Deed) × ((ending : Ending) × Moves (run_meaning store_meaning) old (Tried deed ending) new)
+      (deed : Deed) × ((ending : Ending)
+      × Moves (run_meaning store_meaning) old (Tried deed ending) new)

@@ -112,8 +112,8 @@ module _ {O D : Type 0} {g : disk.Ghosts D} where
         (HasOpened (HasWrittenStatement image (IsWrittenFrom written name id asked out ended.out)))
         ended.held
 
-  -- so it is; before the file is opened the name is judged, then the account's id, then the period's
-  -- bounds, and then the form
+  -- so it is; before the file is opened the name is judged, then the account's id, then the
+  -- period's bounds, and then the form
   pub record WritesStatement (written : O → Option (List ℕ)) (image : Image)
       (name account : List ℕ) (words : StatementWords) (out : O)
       (result : Result (Ended O D g) Fault) : Type 0 where
@@ -273,8 +273,8 @@ IsMadeTold None err = err.behind ≡ err.before
 IsMadeTold (Some path) err =
     err.has_failed ≡ false → Appends err.before err.behind (new_ledger_line path)
 
--- what a command has come to is told: 0, or 4 where damage was, with nothing on standard error but a
--- new ledger; or its fault
+-- what a command has come to is told: 0, or 4 where damage was, with nothing on standard error but
+-- a new ledger; or its fault
 abbrev pub TellsEnded :
     {O D : Type 0} {g : disk.Ghosts D} → Result (Ended O D g) Fault → Told → ℕ → Type 0
 TellsEnded (Ok ended) err status =

@@ -17,8 +17,8 @@ pub record IsEntryInWidth (entry : AccountEntry) : Type 0 where
   pub credits_pending : entry.balances.credits.pending < 2 ^ 128
   pub credits_posted : entry.balances.credits.posted < 2 ^ 128
 
--- where the body of an answer is what a service makes of a clock and entries, the piece that it tells
--- has these
+-- where the body of an answer is what a service makes of a clock and entries, the piece that it
+-- tells has these
 abbrev pub PiecesAreReadBack : Type 0
 PiecesAreReadBack =
     (asked : PieceAsked) (piece : Entries) (answer : Answer) → TellsEntries asked piece answer

@@ -25,11 +25,10 @@ use Rattle.commands.specs.declared.kept.Kept.{Kept}
 use Rattle.command_texts.specs.declared.fault.Fault.{Fault}
 
 -- clients were served from the first that came, until so many messages were replied to, and no
--- more, or fewer were, since it was asked to end; or, with a fault, fewer were, and peers told 2^64 - 1
--- times at least what had happened; each
--- was written a beginning of the replies to its own messages, in order, one a message, as long as
--- its replies went on as they were begun; and over live
--- ledgers all that was done is a course, in which each tenant sees its own deeds alone
+-- more, or fewer were, since it was asked to end; or, with a fault, fewer were, and peers told 2^64
+-- - 1 times at least what had happened; each was written a beginning of the replies to its own
+-- messages, in order, one a message, as long as its replies went on as they were begun; and over
+-- live ledgers all that was done is a course, in which each tenant sees its own deeds alone
 pub record ServesClients {S C P : Type 0} (r : Terms S C P) (ledgers : S) (moments : C) (peers : P)
     (most : ℕ) (ledgers_now : S) (moments_now : C) (peers_now : P) (result : Result Served Fault) :
     Type 0 where
@@ -68,10 +67,11 @@ module _ {D : Type 0} {g : disk.Ghosts D} {C P : Type 0}
   abbrev pub store_rules : Terms (SeenAt (Kept (Store D g))) C P
   store_rules = rules (kept_meaning store_meaning) gives (Renews opens) MayWait does
 
-  -- clients were served by a store, whenever it was opened again, or by what stood in its place; and
-  -- if it was live when this began, all that was done is a course of what happened to it, begun anew
-  -- only where an opening was refused or a store opened anew
-  pub record ServesStore (first : Kept (Store D g)) (moments : C) (peers : P) (most : ℕ) (moments_now : C)
+  -- clients were served by a store, whenever it was opened again, or by what stood in its place;
+  -- and if it was live when this began, all that was done is a course of what happened to it, begun
+  -- anew only where an opening was refused or a store opened anew
+  pub record ServesStore (first : Kept (Store D g)) (moments : C) (peers : P) (most : ℕ)
+      (moments_now : C)
       (peers_now : P) (result : Result Served Fault) : Type 0 where
     pub kept : Kept (Store D g)
     pub served :

@@ -35,21 +35,24 @@ batch_ending (Err batch_fault.UnknownKey) = Declined
 batch_ending (Err (batch_fault.Unavailable why)) = WasUnavailable
 
 module _ {D : Type 0} {g : disk.Ghosts D} where
-  -- nothing has changed for any tenant, or one was settled to a time that is no later than the moment
+  -- nothing has changed for any tenant, or one was settled to a time that is no later than the
+  -- moment
   abbrev pub SettlesBy : ℕ → Store D g → Store D g → Type 0
   SettlesBy moment old new =
       IsAtRest (run_meaning store_meaning) old new
       ⊎ ((digest : List ℕ) × (until : ℕ) × (until ≤ moment) × (ending : Ending)
       × Moves (run_meaning store_meaning) old (Tried (settling digest until) ending) new)
 
-  -- a search that goes on at a moment found none that is overdue, but for a number that no tenant has;
-  -- or it found one, whose tenant was settled to the time that it told
+  -- a search that goes on at a moment found none that is overdue, but for a number that no tenant
+  -- has; or it found one, whose tenant was settled to the time that it told
   abbrev pub HasSettled :
       ℕ → Search → Search → Store D g → Store D g → Result (Option Overdue) BatchFault → Type 0
-  HasSettled moment search searched old new (Ok None) = FindsNoneListed moment search searched old new
+  HasSettled moment search searched old new (Ok None) =
+      FindsNoneListed moment search searched old new
   HasSettled moment search searched old new (Ok (Some overdue)) =
       FindsOverdue old.due moment search searched overdue.number (piece_of overdue)
-      × Moves (run_meaning store_meaning) old (Tried (settling overdue.digest overdue.until) Done) new
+      × Moves (run_meaning store_meaning) old
+      (Tried (settling overdue.digest overdue.until) Done) new
   HasSettled moment search searched old new (Err why) = Unit {0}
 
   -- a piece of settling at a moment: what a search told was done, and is noted

@@ -56,7 +56,7 @@ module _ {D : Type 0} (g : disk.Ghosts D) (image : Image) where
   IsNotAdded name digest fault =
       (is_new : Bool) × (store : Store D g)
       × ComesOf (IsOpenedOrMade is_new image)
-        (λ old new. IsAdded name digest old new (Err fault)) store
+      (λ old new. IsAdded name digest old new (Err fault)) store
 
   -- a tenant of a ledger that was opened has no other key
   abbrev pub IsNotChanged : List ℕ → List ℕ → Fault → Type 0

@@ -151,8 +151,9 @@ impl<'a> HostDesk<'a> {
         self.rt.monotonic().unwrap_or(self.began)
     }
 
-    /// Listens beside the file, which is open, unless its socket is still there: another process that
-    /// had the file meanwhile has taken it away. Where it cannot be it is told, and all else goes on.
+    /// Listens beside the file, which is open, unless its socket is still there: another process
+    /// that had the file meanwhile has taken it away. Where it cannot be it is told, and all else
+    /// goes on.
     pub(crate) fn open(&mut self) {
         self.was_answering = true;
         let Ok(Some(path)) = desk_path(self.rt, self.db) else {

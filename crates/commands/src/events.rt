@@ -30,8 +30,8 @@ impl Events {
         }
     }
 
-    /// Those that a reply to a batch has results of, each in `"result":"NAME"`. There are none where the
-    /// whole batch is refused.
+    /// Those that a reply to a batch has results of, each in `"result":"NAME"`. There are none
+    /// where the whole batch is refused.
     pub(crate) fn told_in(reply: &[u8]) -> Events {
         let mut events = Events::none();
         for at in 0..reply.len() {

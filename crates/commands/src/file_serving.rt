@@ -137,11 +137,11 @@ impl<'a> HostFile<'a> {
 }
 
 /// Serves the ledger in a file on a port of an address, of 127.0.0.1 where none is given, at the
-/// moments of the machine's clock, within limits, until `most` messages were replied to, or an operator
-/// stops it. The port is bound first, so that clients wait while the file is opened, and are served
-/// once it is. With `standby` it is waited for a file that another process has: until that lets go of
-/// it, clients are answered that the service is unavailable. Once the file is open an operator may ask
-/// beside it.
+/// moments of the machine's clock, within limits, until `most` messages were replied to, or an
+/// operator stops it. The port is bound first, so that clients wait while the file is opened, and
+/// are served once it is. With `standby` it is waited for a file that another process has: until
+/// that lets go of it, clients are answered that the service is unavailable. Once the file is open
+/// an operator may ask beside it.
 pub fn serve_file<'a>(
     site: &'a Site<'a>,
     db: &'a str,

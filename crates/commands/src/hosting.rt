@@ -8,8 +8,8 @@ use polling::Batch;
 use sockets::{Counts, Operator};
 use std::time::Duration;
 
-/// What the sockets, the file and the desk of a service on this machine share. It tells whoever reads
-/// standard error, and rings at the desk. The service goes on where nobody does.
+/// What the sockets, the file and the desk of a service on this machine share. It tells whoever
+/// reads standard error, and rings at the desk. The service goes on where nobody does.
 #[derive(Drop)]
 pub struct Site<'a> {
     pub(crate) rt: &'a HostRuntime,

@@ -2,16 +2,16 @@
 ghost use Rattle.commands.specs.PieceByPiece.{PiecesMakeTheStatement, PiecesMakeTheWhole};
 ghost use Rattle.commands.specs.ReadBack.{PiecesAreReadBack};
 
-/// A statement of a ledger that is served is read piece by piece, while the ledger goes on. The pieces
-/// make the whole: they have each entry of the account once and in order, up to the clock of the
-/// first, and what is written of them is the statement of the ledger at that clock.
+/// A statement of a ledger that is served is read piece by piece, while the ledger goes on. The
+/// pieces make the whole: they have each entry of the account once and in order, up to the clock of
+/// the first, and what is written of them is the statement of the ledger at that clock.
 pub fn pieces_make_the_whole()
     ensures entries { PiecesMakeTheWhole }
     ensures statement { PiecesMakeTheStatement }
 {}
 
-/// What a service tells of a piece is read as it was told: the clock, and each entry with all that it
-/// has.
+/// What a service tells of a piece is read as it was told: the clock, and each entry with all that
+/// it has.
 pub fn pieces_are_read_back()
     ensures { PiecesAreReadBack }
 {}

@@ -43,8 +43,8 @@ impl<R: Clock> Moments for SystemMoments<'_, R> {
     }
 }
 
-/// A clock whose time since 1970 does not fall: where the clock beneath it is set back, or cannot be
-/// read, it tells again what it told last.
+/// A clock whose time since 1970 does not fall: where the clock beneath it is set back, or cannot
+/// be read, it tells again what it told last.
 #[derive(Drop)]
 pub struct RisingClock<'a, R: Clock> {
     clock: &'a R,

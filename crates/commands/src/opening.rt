@@ -285,7 +285,8 @@ fn make_in<D: Disk + Drop>(
 ) -> Result<Store<D>, Fault>
     ensures made { IfOk result (λ store. (image : Image) → Yields D.Disk files (AreOnlyThere image)
         → IsMade image store) }
-    ensures fault { IfErr result (λ fault. (image : Image) → Yields D.Disk files (AreOnlyThere image)
+    ensures fault { IfErr result
+        (λ fault. (image : Image) → Yields D.Disk files (AreOnlyThere image)
         → RefusesImage D.Disk image fault) }
 {
     if !files.may_be_used() {

@@ -64,8 +64,8 @@ pub trait Orders {
     // What telling it what an order came to makes of it.
     ghost tells: { Self → Order → Result Done Fault → Self → Type 0 } = { λ _ _ _ _. Unit {0} };
 
-    /// What is asked of the store next, if anything is. Is told whether a store is there that answers
-    /// calls.
+    /// What is asked of the store next, if anything is. Is told whether a store is there that
+    /// answers calls.
     fn next(&mut self, is_answering: bool) -> Option<Order>;
 
     /// Tells what the order that was given last came to.

@@ -84,8 +84,8 @@ pub(crate) fn run_copy<St: Start, O: Drain + Drop>(
     })
 }
 
-// Has the service that has a file copy it, or copies it where nobody serves the file. Says in digits
-// how many bytes the copy has.
+// Has the service that has a file copy it, or copies it where nobody serves the file. Says in
+// digits how many bytes the copy has.
 fn copy<St: Start>(
     rt: &HostRuntime,
     db: &str,

@@ -133,7 +133,8 @@ pub(crate) fn run_change_key<St: Start, O: Drain + Drop>(
     })
 }
 
-// Has the service that has a file change a tenant's key, or changes it where nobody serves the file.
+// Has the service that has a file change a tenant's key, or changes it where nobody serves the
+// file.
 fn change<St: Start>(
     rt: &HostRuntime,
     db: &str,

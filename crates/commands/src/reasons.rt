@@ -80,7 +80,8 @@ fn reason(rt: &HostRuntime, place: Option<Place<'_>>) -> Option<String> {
 fn tell_both<E: Drain>(rt: &HostRuntime, err: &mut E, fault: Fault, reason: Option<String>) -> u8
     requires { E.failed err.old ≡ false }
     ensures status { result ≡ status_of fault }
-    ensures lines { IsFaultWritten (E.written err.old) (E.written err.new) (E.failed err.new) fault }
+    ensures lines { IsFaultWritten (E.written err.old) (E.written err.new)
+        (E.failed err.new) fault }
 {
     match reason {
         Some(text) => tell_fault_for(rt.alloc(), err, fault, text.as_str()),

@@ -1,5 +1,5 @@
-//! A store that is seen to between turns: opened again where its disk fails, an operator's orders are
-//! carried out on it, and holds that are due are released.
+//! A store that is seen to between turns: opened again where its disk fails, an operator's orders
+//! are carried out on it, and holds that are due are released.
 ghost use Rattle.std.specs.Prelude.{◌≡◌, ◌≤◌, ◌*◌, min, false, IfErr, IfOk, IsTrue, OnErr, OnOk};
 ghost use Rattle.service.specs.Openings.{run_meaning, IsSettled, IsOpened};
 ghost use Rattle.store.specs.Stores.{IsLive, AnswersCalls, IsUsable};
@@ -43,8 +43,8 @@ pub trait Home<D: Disk + Drop> {
     // Which tenants a store may have that it opens in the place of one that gave these files back.
     ghost opens: { Option (Files D) → Tenants → Type 0 } = { λ _ _. Unit {0} };
 
-    /// Opens a store in the place of one that gave these files back, if there was one, and first lets
-    /// go of them.
+    /// Opens a store in the place of one that gave these files back, if there was one, and first
+    /// lets go of them.
     fn open_store(&self, left: &mut Option<Files<D>>) -> Result<Store<D>, Fault>
         ensures opens { IfOk result (λ store. opens left.old (tenants_of store)) }
         ensures usable { IfOk result IsUsable }
@@ -55,8 +55,8 @@ pub trait Home<D: Disk + Drop> {
     fn tell(&self, fault: Fault)
         requires { IsOpeningFault fault };
 
-    /// Is told of each time that it was tried to open a store again: one is open now, or this is why
-    /// none is.
+    /// Is told of each time that it was tried to open a store again: one is open now, or this is
+    /// why none is.
     fn tried(&self, _refused: Option<Fault>) {}
 
     /// Is told whether holds are being released, so that it is to be gone on soon.
@@ -76,9 +76,9 @@ struct Pause {
     seconds: u64,
 }
 
-/// Carries out an operator's orders, and opens a store again where its disk has failed: at once, and
-/// then, while that is refused, after a second, and after twice the time that was waited for, up to a
-/// minute. A store that answers has the holds released that are due.
+/// Carries out an operator's orders, and opens a store again where its disk has failed: at once,
+/// and then, while that is refused, after a second, and after twice the time that was waited for,
+/// up to a minute. A store that answers has the holds released that are due.
 pub(crate) struct Renewing<'a, H, K: Clock, O> {
     alloc: Global,
     home: &'a H,

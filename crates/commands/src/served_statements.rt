@@ -1,5 +1,5 @@
-//! Statements of a ledger that is served: the service is asked for one piece behind the other, of the
-//! entries up to the clock at which the first was read.
+//! Statements of a ledger that is served: the service is asked for one piece behind the other, of
+//! the entries up to the clock at which the first was read.
 ghost use Rattle.std.specs.Prelude.{◌≡◌, ◌⊎◌, ◌||◌, Bool, Err, false, is_err, map, true};
 ghost use Rattle.std.specs.Prelude.{IfErr, IfOk, IfSome, OnOk};
 ghost use Rattle.std.specs.Io.KnownBytes.{Appends};
@@ -78,8 +78,8 @@ impl<O: Drain> EntrySink for Whole<O> {
     }
 }
 
-/// What of a statement lies in a period, and the transfers of its entries where wide lines are asked
-/// for.
+/// What of a statement lies in a period, and the transfers of its entries where wide lines are
+/// asked for.
 #[derive(Drop)]
 struct Gathered {
     account: u128,
@@ -132,8 +132,8 @@ fn first_asked(tenant: &TenantName, account: u128, asked: &Asked) -> PieceAsked
     }
 }
 
-// What is asked for behind a piece whose last entry has this time. Behind a piece of no entries there
-// are no more.
+// What is asked for behind a piece whose last entry has this time. Behind a piece of no entries
+// there are no more.
 fn piece_behind(asked: PieceAsked, last: Option<u64>) -> Option<PieceAsked>
     ensures { result ≡ piece_behind asked last }
 {
@@ -158,7 +158,8 @@ fn ask_piece(
     db: &str,
     piece: &PieceAsked,
 ) -> Result<Option<(Entries, Answer)>, Fault>
-    ensures told { IfOk result (λ found. IfSome found (λ told. TellsEntries piece.now told.0 told.1)) }
+    ensures told { IfOk result
+        (λ found. IfSome found (λ told. TellsEntries piece.now told.0 told.1)) }
     ensures fault { IfErr result IsCallFault }
 {
     match ask(rt, db, &Call::Statement { piece: *piece })? {
@@ -316,8 +317,8 @@ fn period_text(rt: &HostRuntime, db: &str, first: First, asked: &Asked) -> Resul
     Ok(extract_text(rt.alloc(), asked.layout, &gathered.extract, transfers)?)
 }
 
-/// Writes what is asked for of a statement of a ledger that is served, whose first piece is there, and
-/// gives the writer back. Where the service has ended in the middle it is `Unavailable`.
+/// Writes what is asked for of a statement of a ledger that is served, whose first piece is there,
+/// and gives the writer back. Where the service has ended in the middle it is `Unavailable`.
 pub(crate) fn write_served<O: Drain + Drop>(
     rt: &HostRuntime,
     db: &str,

@@ -34,9 +34,9 @@ pub enum Served {
     Stopped,
 }
 
-/// Serves those who are connected, until `most` messages were replied to, or nothing more has happened
-/// and `home` says that it is to end; then what is left of replies is written. `Socket` where fewer
-/// were in 2^64 - 1 rounds.
+/// Serves those who are connected, until `most` messages were replied to, or nothing more has
+/// happened and `home` says that it is to end; then what is left of replies is written. `Socket`
+/// where fewer were in 2^64 - 1 rounds.
 pub(crate) fn serve_clients<L: Rounds, H: Steward<L> + Stops, C: Moments, P: Peers>(
     alloc: Global,
     peers: &mut P,

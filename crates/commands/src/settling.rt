@@ -84,8 +84,8 @@ fn settle_next<D: Disk + Drop>(
     }
 }
 
-/// Settles tenants whose holds are due, one piece after the other. Behind a piece it rests for as long
-/// as that took, so that clients have half of the time.
+/// Settles tenants whose holds are due, one piece after the other. Behind a piece it rests for as
+/// long as that took, so that clients have half of the time.
 #[derive(Drop)]
 pub(crate) struct Settler {
     alloc: Global,
@@ -151,7 +151,8 @@ impl Settler {
         self.behind.clear();
     }
 
-    /// Looks at some tenants, and releases a piece of what is due at one of them by the clock's moment.
+    /// Looks at some tenants, and releases a piece of what is due at one of them by the clock's
+    /// moment.
     pub(crate) fn settle<D: Disk + Drop, K: Clock>(&mut self, clock: &K, store: &mut Store<D>)
         requires { IsUsable store.old }
         ensures settles { (moment : ℕ) × SettlesPiece moment self.old self.new store.old store.new }
@@ -184,8 +185,8 @@ impl Settler {
         }
     }
 
-    /// Notes what a piece has told, which took so long, and whether a search has ended with it. Says for
-    /// how long it rests.
+    /// Notes what a piece has told, which took so long, and whether a search has ended with it.
+    /// Says for how long it rests.
     fn rest_behind(&mut self, told: Result<Option<Overdue>, BatchFault>, took: Duration) -> Duration
         ensures search { self.new.search ≡ search_behind told self.old.search }
         ensures behind { NotesPiece told self.new.search self.old.behind self.new.behind }

@@ -26,8 +26,8 @@ fn microseconds(time: Duration) -> u64
 }
 
 /// The body that tells which version of the schema a service has and for how long it has run, how
-/// many clients it has had, what it has done for them, what its disk has done, and how long the files
-/// are of the ledger at a path.
+/// many clients it has had, what it has done for them, what its disk has done, and how long the
+/// files are of the ledger at a path.
 pub(crate) fn status_body(
     rt: &HostRuntime,
     db: &str,

@@ -100,10 +100,10 @@ pub(crate) fn serve_to_end<
 /// Serves a store to those who are connected, until `most` messages were replied to, or an operator
 /// asks that it ends.
 ///
-/// Between turns an operator's orders are carried out, one at a time, and who asks for them is given
-/// back. Where there are none holds are released that are due by the clock, some 200 of a tenant at a
-/// time, and a batch of a tenant that has more of them waits. Without a store one is opened first,
-/// likewise.
+/// Between turns an operator's orders are carried out, one at a time, and who asks for them is
+/// given back. Where there are none holds are released that are due by the clock, some 200 of a
+/// tenant at a time, and a batch of a tenant that has more of them waits. Without a store one is
+/// opened first, likewise.
 ///
 /// Where the store's disk has failed, the store is opened again, over the same files or else anew,
 /// before anything else is done: at once, and while that is refused, after a second, and then after

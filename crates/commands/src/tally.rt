@@ -111,7 +111,8 @@ impl Tally {
 
     /// A turn has taken so long.
     pub(crate) fn turned(&mut self, took: Duration)
-        ensures longest { as_nanos self.new.longest ≡ max (as_nanos self.old.longest) (as_nanos took) }
+        ensures longest { as_nanos self.new.longest ≡ max (as_nanos self.old.longest)
+            (as_nanos took) }
     {
         self.busy = self.busy.saturating_add(took);
         self.longest = self.longest.max(took);

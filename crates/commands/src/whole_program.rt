@@ -34,7 +34,8 @@ pub fn program<S: AsStr, St: Start, O: Drain + Drop, E: Drain>(
 ) -> u8
     requires out { O.failed out ≡ false }
     requires err { E.failed err.old ≡ false }
-    ensures { RunsProgram ⟦<FileFrom<St> as Disk>⟧ O.written (image_at St.Start) (map S.text words.now)
+    ensures { RunsProgram ⟦<FileFrom<St> as Disk>⟧ O.written (image_at St.Start)
+        (map S.text words.now)
         out (told (E.written err.old) (E.written err.new) (E.failed err.new)) result }
 {
     match command(rt.alloc(), words) {

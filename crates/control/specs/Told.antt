@@ -29,7 +29,8 @@ IsFaultIn bytes fault =
     ⊎ ((status : ℕ) × (body : List ℕ) × HasReply bytes status body × (status ≢ 200)
     × (d : Data) × (json_of body ≡ Some d) × (fault ≡ fault_in d))
 
--- why a call is not answered: no reply was read, or the socket is another user's, or a reply tells it
+-- why a call is not answered: no reply was read, or the socket is another user's, or a reply tells
+-- it
 abbrev pub IsCallFault : Fault → Type 0
 IsCallFault fault =
     (fault ≡ Unavailable) ⊎ (fault ≡ Unreadable) ⊎ ((reply : List ℕ) × IsFaultIn reply fault)

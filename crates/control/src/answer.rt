@@ -2,8 +2,8 @@
 ghost use Rattle.std.specs.Prelude.{◌≡◌};
 ghost use Rattle.control.specs.Answers.{body_of};
 
-/// What a service has answered to a call. Only `call` makes one, of what it has sent and of all that
-/// came back.
+/// What a service has answered to a call. Only `call` makes one, of what it has sent and of all
+/// that came back.
 #[derive(Drop)]
 pub struct Answer {
     pub(crate) message: Vec<u8>,

@@ -100,8 +100,8 @@ fn lines_of(alloc: Global, form: CountForm, body: &[u8]) -> Result<String, Fault
     }
 }
 
-/// Writes the counts in a body, a line each. Where the body has none it is `Unavailable`, and nothing
-/// is written.
+/// Writes the counts in a body, a line each. Where the body has none it is `Unavailable`, and
+/// nothing is written.
 pub fn put_counted<O: Drain>(
     alloc: Global,
     out: &mut O,

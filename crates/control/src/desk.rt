@@ -66,9 +66,9 @@ impl Desk {
     }
 
     /// The next order, if the message of one is whole. Who is not answered by `answer` before the
-    /// next call is let go, but for one who asked for a copy, whom `answer_copy` answers, and those who
-    /// asked for the end: they are answered by `close`. While one waits for a copy, any other who asks
-    /// for one is refused here.
+    /// next call is let go, but for one who asked for a copy, whom `answer_copy` answers, and those
+    /// who asked for the end: they are answered by `close`. While one waits for a copy, any other
+    /// who asks for one is refused here.
     pub fn next(&mut self, now: Duration) -> Option<Order> {
         self.callers.retain(|caller| caller.stage != Stage::Waits);
         self.accept(now);
@@ -145,9 +145,9 @@ impl Desk {
         self.let_go();
     }
 
-    /// Ends: the socket is removed, who asked for the end is told, and who waits for a copy is refused.
-    /// So is whoever asks for anything else by now, within a fifth of a second. What is left of replies
-    /// is written for two seconds at most.
+    /// Ends: the socket is removed, who asked for the end is told, and who waits for a copy is
+    /// refused. So is whoever asks for anything else by now, within a fifth of a second. What is
+    /// left of replies is written for two seconds at most.
     pub fn close<R: Files + Clock>(mut self, rt: &R) {
         remove(rt, self.path.as_str(), self.file);
         let begin = rt.monotonic().unwrap_or(Duration::ZERO);

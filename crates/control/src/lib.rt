@@ -1,9 +1,9 @@
 //! The operator's socket: what a service is asked while it serves, and how a command asks it. A
 //! message is one of HTTP/1.1 with JSON, and there is one for each connection.
 //!
-//! Proved is what is made of the bytes: what a message asks and what it is refused for, the bytes of
-//! messages and replies, and what a reply tells. What the system does of sockets, files and clocks is
-//! not, so who is connected, read and written to when is only tested.
+//! Proved is what is made of the bytes: what a message asks and what it is refused for, the bytes
+//! of messages and replies, and what a reply tells. What the system does of sockets, files and
+//! clocks is not, so who is connected, read and written to when is only tested.
 #![tactic(auto)]
 
 mod answer;

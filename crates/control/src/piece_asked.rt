@@ -14,8 +14,8 @@ use serde_json::Value;
 use std::alloc::{AllocError, Global};
 use tenants::TenantName;
 
-/// A piece of an account's statement: its entries from a time up to another, both in nanoseconds and
-/// both included. The newest come first if it is reversed.
+/// A piece of an account's statement: its entries from a time up to another, both in nanoseconds
+/// and both included. The newest come first if it is reversed.
 #[derive(Clone, Copy, Debug, PartialEq, Eq)]
 pub struct PieceAsked {
     pub tenant: TenantName,

@@ -30,7 +30,8 @@ fn socket_at<R: Files>(rt: &R, path: &str) -> io::Result<Option<FileId>> {
     }
 }
 
-/// Listens at a path, for its owner alone. A socket that a service before has left there is removed.
+/// Listens at a path, for its owner alone. A socket that a service before has left there is
+/// removed.
 pub(crate) fn listen<R: Files + Net>(rt: &R, path: &str) -> io::Result<(UnixListener, FileId)> {
     if socket_at(rt, path)?.is_some() {
         fs::remove_file(rt, path)?;

@@ -23,10 +23,10 @@ pub record IsAtRest {S : Type 0} (t : RunMeaning S) (old new : S) : Type 0 where
       (found : Tenants) → t.may_find new found
       → t.may_find old found ⊎ (t.is_live new × KeepsAll (t.tenants new) found)
 
--- what a steward makes of ledgers: they stay as they are; they are opened again, and are what was to
--- be found; they are opened anew, whatever was before; that is refused, and they are not live; a deed
--- was tried that an operator asked for, and this is what came of it; or an operator has read them,
--- which tells nothing of any tenant
+-- what a steward makes of ledgers: they stay as they are; they are opened again, and are what was
+-- to be found; they are opened anew, whatever was before; that is refused, and they are not live; a
+-- deed was tried that an operator asked for, and this is what came of it; or an operator has read
+-- them, which tells nothing of any tenant
 pub data Renewed {S : Type 0} (t : RunMeaning S) (old new : S) : Type 0 where
   Stayed : new ≡ old → Renewed t old new
   Opened : IsOpened t old new → Renewed t old new

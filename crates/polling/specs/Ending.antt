@@ -13,8 +13,8 @@ use Rattle.polling.specs.declared.step.Step.TheVariants.{More, Waits}
 use Rattle.polling.specs.declared.serving.Done.{Done}
 use Rattle.polling.specs.declared.serving.Done.TheVariants.{Nothing, Served}
 
--- a step is told so, and for whom more may be done something was; where nothing more is read, such a
--- client may be let wait
+-- a step is told so, and for whom more may be done something was; where nothing more is read, such
+-- a client may be let wait
 abbrev pub IsToldAs : Step → Bool → Step → Type 0
 IsToldAs done idle told =
     ((told ≡ done) × (idle ≡ false)) ⊎ ((done ≡ More) × (told ≡ Waits))
@@ -60,9 +60,9 @@ pub data Ends (S C P : Type 0) (r : Terms S C P) (is_enough : Type 0) (old new :
   Quiet : IsIdleNow r old new replies → Ends S C P r is_enough old new replies
   Long : Turns S C P r old most_turns replies new → Ends S C P r is_enough old new replies
 
--- nothing is owed that was not before: who is new has a seat or was closed, who was told as ready had
--- its turn or was put off, and who was told as late was closed. A client keeps its place alone, with
--- nothing done for it, only where so many replies were wanted. Or no more turns are made
+-- nothing is owed that was not before: who is new has a seat or was closed, who was told as ready
+-- had its turn or was put off, and who was told as late was closed. A client keeps its place alone,
+-- with nothing done for it, only where so many replies were wanted. Or no more turns are made
 abbrev pub GivesTurns :
     (S C P : Type 0) → Terms S C P → ℕ → Held S C P → Held S C P → ℕ → Type 0
 GivesTurns S C P r most old new replies =

@@ -59,8 +59,8 @@ IsNextKind waits talk kind.PutOff = NextIs (IsWaitingBatch waits) talk
 IsNextKind waits talk kind.Query = NextIs IsLongQuestion talk
 IsNextKind waits talk kind.Other = Unit {0}
 
--- what becomes of who is in that seat, where so many questions had their turns: one more has with its
--- turn, if its next message is one; and it is put off only with a reason
+-- what becomes of who is in that seat, where so many questions had their turns: one more has with
+-- its turn, if its next message is one; and it is put off only with a reason
 abbrev pub IsPlaced : (List ℕ → Type 0) → Option Talk → ℕ → ℕ → Place → Type 0
 IsPlaced waits seat count count_now Gathered = count_now ≡ count
 IsPlaced waits seat count count_now Now =

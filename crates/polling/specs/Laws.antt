@@ -13,8 +13,8 @@ use Rattle.polling.specs.Seating.{AreEmpty, Held, held_by, HoldsHall, ServesAll,
 use Rattle.polling.specs.declared.seats.Seats.{Seats}
 
 module _ {S C P : Type 0} {r : Terms S C P} where
-  -- the machines that were there when something was read for a client last: behind what happens, and
-  -- behind all that happened
+  -- the machines that were there when something was read for a client last: behind what happens,
+  -- and behind all that happened
   abbrev pub machines_by :
       {old new : Hall S C P} {deeds : List Act} → Tenants → Occurs S C P r old deeds new → ℕ
       → Tenants
@@ -31,8 +31,8 @@ module _ {S C P : Type 0} {r : Terms S C P} where
   machines_in before (Then deeds last more next serves happens) client =
       machines_by (machines_in before serves client) happens client
 
-  -- the parts of its replies that a client was told were read while the ledgers had yet what was left
-  -- when the reply was begun
+  -- the parts of its replies that a client was told were read while the ledgers had yet what was
+  -- left when the reply was begun
   abbrev pub ReadsBy :
       {old new : Hall S C P} {deeds : List Act} → Tenants → ℕ → Occurs S C P r old deeds new
       → Type 0
@@ -109,8 +109,8 @@ ServingGoesOn {S} {C} {P} r =
 abbrev pub OwesNobody : {S C P : Type 0} → Hall S C P → Type 0
 OwesNobody all = (client : ℕ) (debt : Debt) → IsOwed (all.stands client) debt → ⊥
 
--- where nobody was owed anything and turns are given, nobody is, and nobody more keeps its place alone
--- unless so many replies were wanted; or no more turns are made
+-- where nobody was owed anything and turns are given, nobody is, and nobody more keeps its place
+-- alone unless so many replies were wanted; or no more turns are made
 abbrev pub GivesOn : {S C P : Type 0} → Terms S C P → Type 0
 GivesOn {S} {C} {P} r =
     (first mid : Hall S C P) (before : List Act) (served : Proceeds S C P r first before mid)

@@ -43,14 +43,16 @@ moments_of [] = []
 moments_of (message ∷ messages) = message.moment ∷ moments_of messages
 
 -- copies, and the moments that were given for them
-pub record AreGathered {C : Type 0} (gives : C → ℕ → C → Type 0) (seats : ℕ → Option Talk) (first : C)
+pub record AreGathered {C : Type 0} (gives : C → ℕ → C → Type 0)
+    (seats : ℕ → Option Talk) (first : C)
     (members : List Member) (messages : List Message) (last : C) : Type 0 where
   pub copied : AreCopied seats members messages
   pub given : AreGiven gives first (moments_of messages) last
 
 -- behind a round, of which these replies are not put yet: they lead from these machines to those of
 -- the ledgers, where these are live
-pub record AreToBePut {S C : Type 0} (t : LedgersMeaning S) (gives : C → ℕ → C → Type 0) (ledgers : S)
+pub record AreToBePut {S C : Type 0} (t : LedgersMeaning S)
+    (gives : C → ℕ → C → Type 0) (ledgers : S)
     (last : C) (machines : Tenants) (moments : C) (messages : List Message) (replies : List Reply) :
     Type 0 where
   pub given : AreGiven gives moments (moments_of messages) last
@@ -71,7 +73,8 @@ ArePut {S} {C} {P} t gives renews waits does messages replies seats seats_now co
     (held (Whole ledgers) last peers seats_now next) count
 
 -- the disk failed with a round of these messages
-pub record IsLost {S : Type 0} (t : LedgersMeaning S) (old : S) (messages : List Message) (new : S) :
+pub record IsLost {S : Type 0} (t : LedgersMeaning S) (old : S)
+    (messages : List Message) (new : S) :
     Type 0 where
   pub lived : t.is_live new → t.is_live old
   pub same : t.is_live new → KeepsAll (t.tenants old) (t.tenants new)

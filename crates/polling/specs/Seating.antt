@@ -54,8 +54,8 @@ has_nothing talk talk_now = is_empty talk.unsent && is_empty talk_now.unsent
 abbrev pub has_no_more : Talk → Talk → Bool
 has_no_more talk talk_now = is_written talk && is_written talk_now
 
--- one client was served, whichever others there are, and nothing else was done; and where more may be
--- done, something was, or it is told that nothing may have been
+-- one client was served, whichever others there are, and nothing else was done; and where more may
+-- be done, something was, or it is told that nothing may have been
 abbrev pub ServesOne :
     {S C P : Type 0} → Terms S C P → ℕ → S → C → P → Talk → S → C → P → Talk → Step → Bool → ℕ
     → Type 0
@@ -198,15 +198,17 @@ ServesTold {S} {C} {P} r told from to old new replies =
 abbrev pub ServesEach : {S C P : Type 0} → Terms S C P → Held S C P → Held S C P → ℕ → Type 0
 ServesEach r old new replies = ServesOwed r ⊥ [] [] old new replies
 
--- behind a turn of one client, what its step asks for was done, and it is owed no other; it keeps its
--- place alone only where nothing may have been done for it
+-- behind a turn of one client, what its step asks for was done, and it is owed no other; it keeps
+-- its place alone only where nothing may have been done for it
 abbrev pub IsFollowed :
     {S C P : Type 0} → Terms S C P → ℕ → Step → P → (ℕ → Option Talk) → P → (ℕ → Option Talk)
     → Type 0
 IsFollowed {S} {C} {P} r client step peers_then seats_then peers_now seats_now =
     (ledgers ledgers_now : S) (moments moments_now : C) (peers : P) (seats : ℕ → Option Talk)
     (next : ℕ) (idle : Bool) (replies : ℕ)
-    → HadTurn r client ledgers moments peers seats ledgers_now moments_now peers_then seats_then step
+    → HadTurn r client ledgers moments peers seats ledgers_now moments_now
+    peers_then seats_then step
     idle replies
-    → ServesOwed r (idle ≡ true) (owing A_turn client ∷ []) [] (held ledgers moments peers seats next)
+    → ServesOwed r (idle ≡ true) (owing A_turn client ∷ []) []
+    (held ledgers moments peers seats next)
     (held ledgers_now moments_now peers_now seats_now next) replies

@@ -153,11 +153,11 @@ module _ {S C : Type 0} {t : LedgersMeaning S} {gives : C → ℕ → C → Type
       AreToldUnavailable gone lives × IsToldUnavailable gone deed
 
 -- a deed of a client in its turn, with what peers did of it; peers tell something, and are handed a
--- number that nobody has; anything else among them; a client is put off, for one of the reasons, and
--- is to be told again; a new client has a seat; a client goes, for one of the reasons; a steward
--- attends to the ledgers; a round begins, ends or is taken back; moments were given for a round
--- that was not kept; or the disk fails with a round, and all its clients are told that the ledgers
--- are unavailable
+-- number that nobody has; anything else among them; a client is put off, for one of the reasons,
+-- and is to be told again; a new client has a seat; a client goes, for one of the reasons; a
+-- steward attends to the ledgers; a round begins, ends or is taken back; moments were given for a
+-- round that was not kept; or the disk fails with a round, and all its clients are told that the
+-- ledgers are unavailable
 pub data Occurs (S C P : Type 0) (r : Terms S C P) (old : Hall S C P) :
     List Act → Hall S C P → Type 0 where
   Did :

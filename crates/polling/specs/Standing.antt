@@ -9,8 +9,8 @@ use Rattle.polling.specs.declared.peers.Told.{Told}
 use Rattle.polling.specs.declared.peers.Told.TheVariants.{Joined, Ready, Late, Nothing}
 
 -- a client has no seat; it is new, and is owed a seat or its end; it has one, and waits until peers
--- tell of it; it was told as ready, and is owed a turn; in its turn something was done for it; it is
--- to be told as ready again, though nothing was; it was told as late, and is owed its end; or it
+-- tell of it; it was told as ready, and is owed a turn; in its turn something was done for it; it
+-- is to be told as ready again, though nothing was; it was told as late, and is owed its end; or it
 -- goes for good, and is owed its end too
 pub data Standing : Type 0 where
   Away : Standing
@@ -103,8 +103,8 @@ abbrev pub IsFinished : Talk → Type 0
 IsFinished talk = HasNothingUnsent talk × ((talk.goes_on ≡ false) ⊎ IsAllAnswered talk.unread)
 
 -- a client goes only for a reason: it was told as late; its connection was told as broken; a piece
--- of its next message is lost, since memory was wanting for it, which no contract can tell; the next
--- part of its reply could not be read; or nothing is left for it
+-- of its next message is lost, since memory was wanting for it, which no contract can tell; the
+-- next part of its reply could not be read; or nothing is left for it
 pub data MayGo {P : Type 0} (does : P → Doing → P → Type 0) (client : ℕ) (standing : Standing)
     (talk : Talk) (old new : P) : Type 0 where
   Told_late : standing ≡ Overdue → new ≡ old → MayGo does client standing talk old new

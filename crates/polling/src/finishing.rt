@@ -114,8 +114,8 @@ fn turn_away<L: Ledgers, H: Steward<L>, C: Moments, P: Peers>(peers: &mut P, sea
     seats.next += 1;
 }
 
-/// Does what the next thing that has happened asks for, but answers no message and takes nothing in.
-/// Says whether anything had happened.
+/// Does what the next thing that has happened asks for, but answers no message and takes nothing
+/// in. Says whether anything had happened.
 fn write_next<L: Ledgers, H: Steward<L>, C: Moments, P: Peers>(
     alloc: Global,
     peers: &mut P,

@@ -49,8 +49,8 @@ fn finish_in<L: Rounds, H: Steward<L>, C: Moments, P: Peers>(
     }
 }
 
-/// Does so, and lets the client go where it is to. Of so many replies that are wanted it says how many
-/// there were.
+/// Does so, and lets the client go where it is to. Of so many replies that are wanted it says how
+/// many there were.
 fn finish_one<L: Rounds, H: Steward<L>, C: Moments, P: Peers>(
     alloc: Global,
     peers: &mut P,
@@ -120,8 +120,8 @@ fn finish_each<L: Rounds, H: Steward<L>, C: Moments, P: Peers>(
     replies
 }
 
-/// Answers the messages of these clients in one round, if they are several. Where none is answered so,
-/// the next clients are served alone.
+/// Answers the messages of these clients in one round, if they are several. Where none is answered
+/// so, the next clients are served alone.
 fn share<L: Rounds, H: Steward<L>, C: Moments, P: Peers>(
     alloc: Global,
     peers: &P,
@@ -150,8 +150,8 @@ fn share<L: Rounds, H: Steward<L>, C: Moments, P: Peers>(
     replies
 }
 
-/// Serves those who are gathered where nobody more is to be waited for, with so many replies at most,
-/// and says how many there were.
+/// Serves those who are gathered where nobody more is to be waited for, with so many replies at
+/// most, and says how many there were.
 pub(crate) fn serve_due<L: Rounds, H: Steward<L>, C: Moments, P: Peers>(
     alloc: Global,
     peers: &mut P,

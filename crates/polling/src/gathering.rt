@@ -20,7 +20,8 @@ const FULL_BYTES: usize = 128 * 1024;
 /// How many clients are served alone behind a round that was not kept.
 const ALONE: u64 = 32;
 
-/// How many queries are answered in one turn of all who are ready. Each looks at 2,000 records at most.
+/// How many queries are answered in one turn of all who are ready. Each looks at 2,000 records at
+/// most.
 const MOST_QUERIES: u64 = 5;
 
 /// What becomes of a client who is ready.
@@ -30,8 +31,8 @@ pub(crate) enum Place {
     Gathered,
     /// It has its turn.
     Now,
-    /// It keeps its place for the next turn: enough records are looked at in this one, or the steward
-    /// puts it off.
+    /// It keeps its place for the next turn: enough records are looked at in this one, or the
+    /// steward puts it off.
     Later,
 }
 
@@ -187,8 +188,8 @@ impl Gathered {
         self.queries = 0;
     }
 
-    /// Whether those who are gathered are to be served now, where so many replies are wanted, and there
-    /// is more to be told without waiting, or not.
+    /// Whether those who are gathered are to be served now, where so many replies are wanted, and
+    /// there is more to be told without waiting, or not.
     pub(crate) fn is_due(&self, has_more: bool, most: u64) -> bool
         ensures { result ≡ false →
             (self.now.numbers.items ≡ []) ⊎ (length self.now.numbers.items < most) }

@@ -8,8 +8,8 @@ use chain::Ledgers;
 use clients::clients_are_served_in_rounds;
 use service::{Moments, each_tenant_sees_itself, responses_move_within};
 
-/// In whatever pieces messages come, whatever others ask between, and whatever the steward does to the
-/// ledgers, what is written to a client is a beginning of the replies to its own messages, in
+/// In whatever pieces messages come, whatever others ask between, and whatever the steward does to
+/// the ledgers, what is written to a client is a beginning of the replies to its own messages, in
 /// order, one a message.
 pub fn each_is_served<L: Ledgers, H: Steward<L>, C: Moments, P: Peers>()
     ensures { EachIsServed (rules L.means C.gives H.renews H.waits P.does) }
@@ -25,8 +25,8 @@ pub fn serving_is_a_run<L: Ledgers, H: Steward<L>, C: Moments, P: Peers>()
 
 /// All that is done over live ledgers, whenever they are opened again and whatever an operator asks
 /// for, is a course of what happens to them, with what an opening finds done. It begins anew where
-/// they are opened anew, or where that is refused. In it a tenant's replies and its machine are those
-/// of its own deeds alone.
+/// they are opened anew, or where that is refused. In it a tenant's replies and its machine are
+/// those of its own deeds alone.
 pub fn serving_is_a_course<L: Ledgers, H: Steward<L>, C: Moments, P: Peers>()
     ensures course { IsCourse (rules L.means C.gives H.renews H.waits P.does) }
     ensures alone { CoursesServeEachAlone (rules L.means C.gives H.renews H.waits P.does) }
@@ -40,9 +40,9 @@ pub fn serving_begins_empty<L: Ledgers, C: Moments, P: Peers>()
     ensures { BeginsEmpty L C P }
 {}
 
-/// What is done behind what was done leads on from the hall in which that began. Where nobody was owed
-/// a turn, nobody is behind turns that are given. Where it ended though not enough was done, those who
-/// are connected told something in it.
+/// What is done behind what was done leads on from the hall in which that began. Where nobody was
+/// owed a turn, nobody is behind turns that are given. Where it ended though not enough was done,
+/// those who are connected told something in it.
 pub fn serving_goes_on<L: Ledgers, H: Steward<L>, C: Moments, P: Peers>()
     ensures served { ServingGoesOn (rules L.means C.gives H.renews H.waits P.does) }
     ensures turns { GivesOn (rules L.means C.gives H.renews H.waits P.does) }

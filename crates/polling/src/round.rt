@@ -82,7 +82,8 @@ fn makes_room(round: &mut Round) -> bool
     ensures members { round.new.members.items ≡ round.old.members.items }
     ensures messages { round.new.messages.items ≡ round.old.messages.items }
     ensures room { IsTrue result → vec_len round.new.members < vec_capacity round.new.members }
-    ensures room_too { IsTrue result → vec_len round.new.messages < vec_capacity round.new.messages }
+    ensures room_too { IsTrue result →
+        vec_len round.new.messages < vec_capacity round.new.messages }
 {
     round.members.reserve(1).is_ok() && round.messages.reserve(1).is_ok()
 }
@@ -98,8 +99,10 @@ fn copy_in<C: Moments>(
     ensures same { AreSame (seats_in clients.old) (seats_in clients.new) }
     ensures gathered { (seats : ℕ → Option Talk) → (first : C) →
         AreSame seats (seats_in clients.old) →
-        AreGathered C.gives seats first round.old.members.items round.old.messages.items moments.old →
-        AreGathered C.gives seats first round.new.members.items round.new.messages.items moments.new }
+        AreGathered C.gives seats first round.old.members.items
+        round.old.messages.items moments.old →
+        AreGathered C.gives seats first round.new.members.items
+        round.new.messages.items moments.new }
     ensures few { length round.new.members.items ≤ length round.old.members.items + 1 }
 {
     if is_among(&round.members, number) {

@@ -153,9 +153,9 @@ enum Done {
     Served(u64),
 }
 
-/// Gathers a client whose next message may share a round, puts one off where enough records are looked
-/// at in this turn or the steward says so, and gives any other its turn. Says how many messages were
-/// replied to.
+/// Gathers a client whose next message may share a round, puts one off where enough records are
+/// looked at in this turn or the steward says so, and gives any other its turn. Says how many
+/// messages were replied to.
 fn serve_or_gather<L: Rounds, H: Steward<L>, C: Moments, P: Peers>(
     alloc: Global,
     peers: &mut P,
@@ -280,8 +280,8 @@ fn serve_next<L: Rounds, H: Steward<L>, C: Moments, P: Peers>(
 
 /// Serves all who are ready, one turn after the other, until nothing more has happened or so many
 /// messages were replied to, and says how many were. Messages that are ready at once share a round.
-/// Before each turn the steward attends to the ledgers: opens them again where they have failed, does
-/// what an operator asks for, and a piece of what is due.
+/// Before each turn the steward attends to the ledgers: opens them again where they have failed,
+/// does what an operator asks for, and a piece of what is due.
 pub fn serve_ready<L: Rounds, H: Steward<L>, C: Moments, P: Peers>(
     alloc: Global,
     peers: &mut P,

@@ -26,8 +26,8 @@ fn tell_all_answered<P: Peers>(peers: &P, clients: &BTreeMap<u64, Client>, round
 }
 
 /// Answers the next messages of clients in one round, of so many at most, and says how many are
-/// answered. There are none where the round is refused for want of memory or size, or would be of one
-/// message alone. Where the disk fails with it, each is told that the ledgers are unavailable.
+/// answered. There are none where the round is refused for want of memory or size, or would be of
+/// one message alone. Where the disk fails with it, each is told that the ledgers are unavailable.
 pub(crate) fn share_round<L: Rounds, H: Steward<L>, C: Moments, P: Peers>(
     alloc: Global,
     peers: &P,

@@ -59,8 +59,8 @@ fn read_piece<L: Ledgers, H: Steward<L>, C: Moments, P: Peers>(
     }
 }
 
-/// Reads a piece of what a client sends. Those who are connected are told first how long the message
-/// is that is waited for.
+/// Reads a piece of what a client sends. Those who are connected are told first how long the
+/// message is that is waited for.
 pub(crate) fn read_some<L: Ledgers, H: Steward<L>, C: Moments, P: Peers>(
     peers: &mut P,
     number: u64,

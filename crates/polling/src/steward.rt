@@ -21,8 +21,8 @@ pub trait Steward<L: Ledgers> {
         requires { L.means.is_usable ledgers.now }
         ensures { IsSettled (run_meaning L.means) ledgers.now };
 
-    /// Does what is to be done: opens again what has failed, where it is time to, or one deed that an
-    /// operator asks for or that is due.
+    /// Does what is to be done: opens again what has failed, where it is time to, or one deed that
+    /// an operator asks for or that is due.
     fn attend(&mut self, ledgers: &mut L)
         requires { L.means.is_usable ledgers.old }
         ensures renewed { renews ledgers.old ledgers.new }

@@ -50,8 +50,8 @@ pub(crate) fn write_all<L: Ledgers, H: Steward<L>, C: Moments, P: Peers>(
     Step::More
 }
 
-/// Reads the next part of the reply to a client, and writes of it. Where it can't be read the client
-/// goes, and its reply stays cut short.
+/// Reads the next part of the reply to a client, and writes of it. Where it can't be read the
+/// client goes, and its reply stays cut short.
 fn read_part<L: Ledgers, H: Steward<L>, C: Moments, P: Peers>(
     alloc: Global,
     peers: &mut P,
@@ -73,8 +73,8 @@ fn read_part<L: Ledgers, H: Steward<L>, C: Moments, P: Peers>(
     write_all::<L, H, C, P>(peers, number, client)
 }
 
-/// Writes what is left of the reply to a client, as `write_all` does. Where nothing is, but a part is
-/// left to be read, that is read and written of.
+/// Writes what is left of the reply to a client, as `write_all` does. Where nothing is, but a part
+/// is left to be read, that is read and written of.
 pub(crate) fn write_on<L: Ledgers, H: Steward<L>, C: Moments, P: Peers>(
     alloc: Global,
     peers: &mut P,
@@ -143,8 +143,8 @@ pub(crate) fn tell_answered<P: Peers>(peers: &P, batch: Option<Batch>, reply: &[
     }
 }
 
-/// Answers the next message of a client, or reads more of it where that has not come. Which batch it
-/// is, if it is one, is told with the reply.
+/// Answers the next message of a client, or reads more of it where that has not come. Which batch
+/// it is, if it is one, is told with the reply.
 pub(crate) fn answer_or_read<L: Ledgers, H: Steward<L>, C: Moments, P: Peers>(
     alloc: Global,
     peers: &mut P,
