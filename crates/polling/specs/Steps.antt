@@ -1,0 +1,109 @@
+-- What steps of serving ask for and leave.
+use Rattle.std.specs.Prelude.{◌≡◌, ◌≤◌, ◌<◌, ℕ, true, List, [], Option, Some, Contains, IfSome, IfNone, length}
+use Rattle.std.specs.BTreeMap.{BTreeMap}
+use Rattle.chain.specs.Ledgers.{LedgersMeaning}
+use Rattle.service.specs.declared.turns.Message.{Message}
+use Rattle.service.specs.Seen.{SeenAt}
+use Rattle.parts.specs.declared.rest.Rest.{Rest}
+use Rattle.clients.specs.Answering.{IsWanting}
+use Rattle.clients.specs.Talk.{Talk, may_answer}
+use Rattle.polling.specs.Kinds.{IsNextKind}
+use Rattle.polling.specs.Serving.{Terms}
+use Rattle.polling.specs.Standing.{AreSomeOf}
+use Rattle.polling.specs.Seating.{Held, ServesAll, AreSame}
+use Rattle.polling.specs.Round.{AreGathered}
+use Rattle.polling.specs.Ending.{Ends, GivesTurns, NothingIsLeft}
+use Rattle.polling.specs.declared.gathering.Kind.{Kind}
+use Rattle.polling.specs.declared.gathering.Place.{Place}
+use Rattle.polling.specs.declared.gathering.Place.TheVariants as place
+use Rattle.polling.specs.declared.round.Member.{Member}
+
+-- all that is there of a reply is written, this is left to be read of it, and the ledgers can be asked
+pub record MayReadPart {S : Type 0} (t : LedgersMeaning S) (ledgers : S) (talk : Talk) (rest : Rest) :
+    Type 0 where
+  pub usable : t.is_usable ledgers
+  pub written : talk.unsent ≡ []
+  pub left : talk.rest ≡ Some rest
+
+-- a client's next message may be answered, but is not whole, and the ledgers can be asked
+pub record MayReadMore {S : Type 0} (t : LedgersMeaning S) (ledgers : S) (talk : Talk) : Type 0 where
+  pub usable : t.is_usable ledgers
+  pub may : may_answer talk ≡ true
+  pub more : IsWanting talk.unread
+
+-- replies are wanted, and the ledgers can be asked
+pub record WantsReplies {S : Type 0} (t : LedgersMeaning S) (ledgers : S) (most : ℕ) : Type 0 where
+  pub usable : t.is_usable ledgers
+  pub some : 0 < most
+
+-- this was served, and the ledgers can be asked again
+pub record LeavesUsable {S : Type 0} (t : LedgersMeaning S) (ledgers : S) (Served : Type 0) :
+    Type 0 where
+  pub serves : Served
+  pub usable : t.is_usable ledgers
+
+-- so too, with so many replies at most
+pub record RepliesUpTo {S : Type 0} (most replies : ℕ) (t : LedgersMeaning S) (ledgers : S)
+    (Served : Type 0) : Type 0 where
+  pub serves : Served
+  pub few : replies ≤ most
+  pub usable : t.is_usable ledgers
+
+-- who is seated was served so; where nobody is in that seat, this is so; and the ledgers can be asked
+-- again
+pub record ServesIfSeated {S A : Type 0} (result : Option A) (t : LedgersMeaning S) (ledgers : S)
+    (Served : A → Type 0) (Nobody : Type 0) : Type 0 where
+  pub turn : IfSome result Served
+  pub none : IfNone result Nobody
+  pub usable : t.is_usable ledgers
+
+-- this was served by writing alone: what is left to be read of the reply stays
+pub record WritesAlone (old new : Talk) (Served : Type 0) : Type 0 where
+  pub serves : Served
+  pub rest : new.rest ≡ old.rest
+
+-- these replies were put, so many at most
+pub record PutsUpTo (most replies : ℕ) (Put : Type 0) : Type 0 where
+  pub put : Put
+  pub few : replies ≤ most
+
+-- which kind a client's next message is; the client is as it was
+pub record TellsKind (waits : List ℕ → Type 0) (old new : Talk) (told : Kind) : Type 0 where
+  pub kind : IsNextKind waits old told
+  pub same : new ≡ old
+
+-- a client is gathered only as one of those who are; who else is was gathered before, and still is
+pub record GathersNext (old new : List ℕ) (number : ℕ) (placed : Place) : Type 0 where
+  pub kept : AreSomeOf old new
+  pub gathered : placed ≡ place.Gathered → Contains new number
+
+-- a client's next message, where it was copied; the client is as it was
+pub record CopiesOne {A : Type 0} (old new : Talk) (result : Option A) (Copied : A → Type 0) :
+    Type 0 where
+  pub same : new ≡ old
+  pub copied : IfSome result Copied
+
+-- next messages of clients were copied, so many at most, and each seat is as it was
+pub record CopiesNext {C : Type 0} (gives : C → ℕ → C → Type 0) (seats seats_now : ℕ → Option Talk)
+    (first : C) (members : List Member) (messages : List Message) (last : C) (most : ℕ) : Type 0 where
+  pub same : AreSame seats seats_now
+  pub gathered : AreGathered gives seats first members messages last
+  pub few : length members ≤ most
+
+-- all who were ready were served, with so many replies at most: why that ended, and who had a turn
+pub record ServesReady {S C P : Type 0} (t : LedgersMeaning S) (r : Terms (SeenAt S) C P) (most : ℕ)
+    (ledgers : S) (old new : Held (SeenAt S) C P) (replies : ℕ) : Type 0 where
+  pub serves : ServesAll r old new replies
+  pub ends : Ends (SeenAt S) C P r (replies ≡ most) old new replies
+  pub turns : GivesTurns (SeenAt S) C P r most old new replies
+  pub few : replies ≤ most
+  pub usable : t.is_usable ledgers
+
+-- what was left of replies was written, whatever gives the moments: why that ended
+pub record WritesRest {S C P : Type 0} (t : LedgersMeaning S) (r : Terms (SeenAt S) C P)
+    (clients : BTreeMap ℕ Talk) (ledgers : S) (old new : C → Held (SeenAt S) C P) : Type 0 where
+  pub serves : (moments : C) → ServesAll r (old moments) (new moments) 0
+  pub ends :
+      (moments : C) →
+      Ends (SeenAt S) C P r (NothingIsLeft clients) (old moments) (new moments) 0
+  pub usable : t.is_usable ledgers
