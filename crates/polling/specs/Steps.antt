@@ -18,15 +18,18 @@ use Rattle.polling.specs.declared.gathering.Place.{Place}
 use Rattle.polling.specs.declared.gathering.Place.TheVariants as place
 use Rattle.polling.specs.declared.round.Member.{Member}
 
--- all that is there of a reply is written, this is left to be read of it, and the ledgers can be asked
-pub record MayReadPart {S : Type 0} (t : LedgersMeaning S) (ledgers : S) (talk : Talk) (rest : Rest) :
+-- all that is there of a reply is written, this is left to be read of it, and the ledgers can be
+-- asked
+pub record MayReadPart {S : Type 0} (t : LedgersMeaning S) (ledgers : S)
+    (talk : Talk) (rest : Rest) :
     Type 0 where
   pub usable : t.is_usable ledgers
   pub written : talk.unsent ≡ []
   pub left : talk.rest ≡ Some rest
 
 -- a client's next message may be answered, but is not whole, and the ledgers can be asked
-pub record MayReadMore {S : Type 0} (t : LedgersMeaning S) (ledgers : S) (talk : Talk) : Type 0 where
+pub record MayReadMore {S : Type 0} (t : LedgersMeaning S) (ledgers : S) (talk : Talk) :
+    Type 0 where
   pub usable : t.is_usable ledgers
   pub may : may_answer talk ≡ true
   pub more : IsWanting talk.unread
@@ -49,8 +52,8 @@ pub record RepliesUpTo {S : Type 0} (most replies : ℕ) (t : LedgersMeaning S) 
   pub few : replies ≤ most
   pub usable : t.is_usable ledgers
 
--- who is seated was served so; where nobody is in that seat, this is so; and the ledgers can be asked
--- again
+-- who is seated was served so; where nobody is in that seat, this is so; and the ledgers can be
+-- asked again
 pub record ServesIfSeated {S A : Type 0} (result : Option A) (t : LedgersMeaning S) (ledgers : S)
     (Served : A → Type 0) (Nobody : Type 0) : Type 0 where
   pub turn : IfSome result Served
@@ -85,7 +88,8 @@ pub record CopiesOne {A : Type 0} (old new : Talk) (result : Option A) (Copied :
 
 -- next messages of clients were copied, so many at most, and each seat is as it was
 pub record CopiesNext {C : Type 0} (gives : C → ℕ → C → Type 0) (seats seats_now : ℕ → Option Talk)
-    (first : C) (members : List Member) (messages : List Message) (last : C) (most : ℕ) : Type 0 where
+    (first : C) (members : List Member) (messages : List Message) (last : C) (most : ℕ) :
+    Type 0 where
   pub same : AreSame seats seats_now
   pub gathered : AreGathered gives seats first members messages last
   pub few : length members ≤ most
