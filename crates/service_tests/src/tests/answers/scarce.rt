@@ -203,7 +203,7 @@ impl Drop for ScarceFirm {
 impl Model for ScarceFirm {
     ghost use Rattle.std.specs.Prelude.{Some, None, bytes_eq, if◌then◌else◌};
     ghost use Rattle.chain.specs.Ledgers.{AreValid};
-    ghost use Rattle.service_tests.specs.declared.tests.scarce.ScarceLedger.{ScarceLedger};
+    ghost use Rattle.service_tests.specs.declared.tests.answers.scarce.ScarceLedger.{ScarceLedger};
 
     ghost Value = { ScarceLedger };
 

@@ -15,7 +15,7 @@ use std::test::Fail;
 use tenants::{Key, digest};
 
 /// Lists, of which an opening finds nothing.
-struct Lists;
+pub(crate) struct Lists;
 
 impl Settles<Book> for Lists {
     fn is_settled(_ledgers: &Book) {}
