@@ -124,26 +124,20 @@ program = record (new_app (codes "ledgerd")) {
   top = record (new_app (codes "ledgerd")).top { no_binary_name = true; has_version = true };
 }
 
--- the program with its first commands: to serve, and those that keep tenants
-abbrev pub tenants_program : App
-tenants_program =
-    with_subcommand
-    (with_subcommand
-    (with_subcommand
-    (with_subcommand program serve_shape) tenant_add_shape) tenant_key_shape) tenants_shape
-
--- and with those that ask a service, or read a store
-abbrev pub asking_program : App
-asking_program =
-    with_subcommand
-    (with_subcommand
-    (with_subcommand
-    (with_subcommand tenants_program status_shape) stop_shape) statement_shape) check_shape
-
 -- the whole command line
 unfoldable pub ledgerd_app : App
 ledgerd_app =
     with_subcommand
     (with_subcommand
     (with_subcommand
-    (with_subcommand asking_program migrate_shape) copy_shape) lint_shape) version_shape
+    (with_subcommand
+    (with_subcommand
+    (with_subcommand
+    (with_subcommand
+    (with_subcommand
+    (with_subcommand
+    (with_subcommand
+    (with_subcommand
+    (with_subcommand program serve_shape) tenant_add_shape) tenant_key_shape) tenants_shape)
+    status_shape) stop_shape) statement_shape) check_shape) migrate_shape) copy_shape) lint_shape)
+    version_shape

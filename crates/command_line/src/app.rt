@@ -1,10 +1,10 @@
 //! `ledgerd` as `clap` sees it: the subcommands, their options and their help.
 ghost use Rattle.std.specs.Prelude.{IfOk};
-ghost use Rattle.command_line.specs.Ledgerd.{asking_program, check_shape, copy_shape, counted_serve_app, db_rule};
-ghost use Rattle.command_line.specs.Ledgerd.{flag_rule, ledgerd_app, limit_rule, lint_shape, migrate_shape};
+ghost use Rattle.command_line.specs.Ledgerd.{check_shape, copy_shape, counted_serve_app, db_rule, flag_rule};
+ghost use Rattle.command_line.specs.Ledgerd.{ledgerd_app, limit_rule, lint_shape, migrate_shape};
 ghost use Rattle.command_line.specs.Ledgerd.{number_rule, option_rule, program, serve_shape};
 ghost use Rattle.command_line.specs.Ledgerd.{statement_shape, status_shape, stop_shape, store_app};
-ghost use Rattle.command_line.specs.Ledgerd.{tenant_add_shape, tenant_key_shape, tenants_program, tenants_shape};
+ghost use Rattle.command_line.specs.Ledgerd.{tenant_add_shape, tenant_key_shape, tenants_shape};
 ghost use Rattle.command_line.specs.Ledgerd.{text_rule, version_shape, whole_statement_app};
 ghost use Rattle.command_line.specs.Built.{IsLeaf, IsLocalArg, IsProgram};
 
@@ -310,33 +310,19 @@ fn version_command<'a>(alloc: Global) -> clap::Command<'a>
     clap::Command::new(alloc, "version").about(about)
 }
 
-// The program with its first commands: to serve, and those that keep tenants.
-fn tenants_program<'a>(alloc: Global) -> Result<clap::Command<'a>, AllocError>
-    ensures { IfOk result (IsProgram tenants_program) }
+/// The whole command line, which reads the words after the program's name.
+pub fn ledgerd_command<'a>(alloc: Global) -> Result<clap::Command<'a>, AllocError>
+    ensures { IfOk result (IsProgram ledgerd_app) }
 {
     named_command(alloc)?
         .subcommand(serve_command(alloc)?)?
         .subcommand(tenant_add_command(alloc)?)?
         .subcommand(tenant_key_command(alloc)?)?
-        .subcommand(tenants_command(alloc)?)
-}
-
-// And with those that ask a service, or read a store.
-fn asking_program<'a>(alloc: Global) -> Result<clap::Command<'a>, AllocError>
-    ensures { IfOk result (IsProgram asking_program) }
-{
-    tenants_program(alloc)?
+        .subcommand(tenants_command(alloc)?)?
         .subcommand(status_command(alloc)?)?
         .subcommand(stop_command(alloc)?)?
         .subcommand(statement_command(alloc)?)?
-        .subcommand(check_command(alloc)?)
-}
-
-/// The whole command line, which reads the words after the program's name.
-pub fn ledgerd_command<'a>(alloc: Global) -> Result<clap::Command<'a>, AllocError>
-    ensures { IfOk result (IsProgram ledgerd_app) }
-{
-    asking_program(alloc)?
+        .subcommand(check_command(alloc)?)?
         .subcommand(migrate_command(alloc)?)?
         .subcommand(copy_command(alloc)?)?
         .subcommand(lint_command(alloc)?)?
