@@ -53,7 +53,6 @@ use tenants::TenantName;
 
 /// The ledgers of many tenants in one database, in two files: a log and the database file. From a
 /// fault of the disk on each call but `schema`, `is_ready`, `reopen` and `close` answers so.
-#[derive(Drop)]
 pub struct Store<D: Disk> {
     pub(crate) place: Place<D>,
     /// Whether calls are answered.
@@ -62,6 +61,19 @@ pub struct Store<D: Disk> {
     /// How the files were opened, and are opened again.
     pub(crate) options: Options,
     pub(crate) alloc: Global,
+}
+
+// It is written out, so that who lets a store go does not prove again how each part is dropped.
+impl<D: Disk + Drop> Drop for Store<D> {
+    fn drop(self) {
+        let Store {
+            place: _,
+            ready: _,
+            due: _,
+            options: _,
+            alloc: _,
+        } = self;
+    }
 }
 
 impl<D: Disk + Drop> Store<D> {
