@@ -119,10 +119,9 @@ module _ {O : Type 0} (gives : Machine → O → Machine → Type 0)
   pub read_so :
       {S : Type 0} (t : LedgersMeaning S) (digest : List ℕ) (old new : S) (result : Result O BatchFault) →
       (t.is_live new → IsRun gives digest (t.tenants old) (t.tenants new) result) →
-      t.is_usable new → t.follows old new → ReadsOnly t old new
-  read_so t digest old new result run usable follows = record {
+      t.follows old new → ReadsOnly t old new
+  read_so t digest old new result run follows = record {
     same = λ live. run_keeps digest (t.tenants old) (t.tenants new) result (run live);
-    usable = usable;
     follows = follows;
   }
 
@@ -203,15 +202,15 @@ pub shown_read :
     (t.is_live new → IsRun (Shows shows answer) digest (t.tenants old) (t.tenants new) result) →
     (t.has_failed old ≡ true → result ≡ Err (batch_fault.Unavailable Disk)) →
     Finds t (IsAnswered result) (LeadsBy (Shows shows answer) digest) old new →
-    t.is_usable new → t.follows old new →
+    t.follows old new →
     ReadsTenant t digest (λ tenant. IsShown shows (seen_in (λ m. Found (answer m)) tenant)) old new told
-shown_read {S} {A} {X} shows answer t digest old new result told is run failed finds usable follows = record {
+shown_read {S} {A} {X} shows answer t digest old new result told is run failed finds follows = record {
   told = λ live.
       subst (λ (r : Result X ReadFault). IsShown shows (seen_in (λ m. Found (answer m)) (t.tenants old digest)) r)
       (sym is) (shown_told shows answer digest (t.tenants old) (t.tenants new) result (run live));
   failed = λ has. is ∙ ap read_answer (failed has);
   finds = found_so (Shows shows answer) (λ before output after given. given.same) t digest old new result told is finds;
-  reads = read_so (Shows shows answer) (λ before output after given. given.same) t digest old new result run usable follows;
+  reads = read_so (Shows shows answer) (λ before output after given. given.same) t digest old new result run follows;
 }
 
 -- work that answers about an account, as a read
@@ -222,16 +221,16 @@ pub account_read :
     (t.is_live new → IsRun (Answers shows answer) digest (t.tenants old) (t.tenants new) result) →
     (t.has_failed old ≡ true → result ≡ Err (batch_fault.Unavailable Disk)) →
     Finds t (IsAnswered result) (LeadsBy (Answers shows answer) digest) old new →
-    t.is_usable new → t.follows old new →
+    t.follows old new →
     ReadsTenant t digest (λ tenant. IsShown shows (seen_in answer tenant)) old new told
-account_read {S} {A} {X} shows answer t digest old new result told is run failed finds usable follows = record {
+account_read {S} {A} {X} shows answer t digest old new result told is run failed finds follows = record {
   told = λ live.
       subst (λ (r : Result X ReadFault). IsShown shows (seen_in answer (t.tenants old digest)) r)
       (sym is) (account_told shows answer digest (t.tenants old) (t.tenants new) result (run live));
   failed = λ has. is ∙ ap account_answer (failed has);
   finds = found_by (Answers shows answer) (λ before output after given. given.same) t digest old new result _
       (account_answered result told is) finds;
-  reads = read_so (Answers shows answer) (λ before output after given. given.same) t digest old new result run usable follows;
+  reads = read_so (Answers shows answer) (λ before output after given. given.same) t digest old new result run follows;
 }
 
 -- a batch that is refused for the disk, as a read

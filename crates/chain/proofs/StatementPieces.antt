@@ -72,12 +72,11 @@ HasHanded takes (Ok seen) rest old new = (front : List StatementRow) × (front +
 -- reads that are all answered
 pub record HasRead {S : Type 0} (t : LedgersMeaning S) (old new : S) : Type 0 where
   pub same : t.is_live new → KeepsAll (t.tenants old) (t.tenants new)
-  pub usable : t.is_usable new
   pub follows : t.follows old new
   pub found : (found : Tenants) → t.may_find new found → t.may_find old found ⊎ (t.is_live old × KeepsAll (t.tenants old) found)
 
 pub as_reads : {S : Type 0} (t : LedgersMeaning S) (old new : S) → HasRead t old new → ReadsOnly t old new
-as_reads t old new read = record { same = read.same; usable = read.usable; follows = read.follows }
+as_reads t old new read = record { same = read.same; follows = read.follows }
 
 -- the same fault is told or not, whatever else might have been answered
 pub same_fault : {A B : Type 0} (r : Result A ReadFault) (s : Result B ReadFault) (why : ReadFault) → r ≡ Err why → s ≡ Err why → IsTold r → IsTold s
@@ -205,10 +204,10 @@ module _ {S K : Type 0} (t : LedgersMeaning S) (takes : K → StatementRow → K
 
   -- nothing is read yet
   pub reading_begins :
-      (a : S) (sink : K) → t.is_usable a → t.follows a a → (t.is_live a → AreValid (t.tenants a)) →
+      (a : S) (sink : K) → t.follows a a → (t.is_live a → AreValid (t.tenants a)) →
       IsReading t takes digest account order a a (first_piece order) sink sink
-  reading_begins a sink usable stays valid = record {
-    read = record { same = λ live other. refl; usable = usable; follows = stays; found = λ found may. inl may };
+  reading_begins a sink stays valid = record {
+    read = record { same = λ live other. refl; follows = stays; found = λ found may. inl may };
     handed = λ live. begun_in (t.tenants a digest) (λ m is. valid live digest m is) sink;
     some = λ live. omega arith;
   }
@@ -284,13 +283,12 @@ module _ {S K : Type 0} (t : LedgersMeaning S) (takes : K → StatementRow → K
       (then : (a b c : S) → t.follows a b → t.follows b c → t.follows a c)
       (lived : (a b : S) → t.follows a b → t.is_live b → t.is_live a)
       (run : t.is_live c → IsRun (gives span) digest (t.tenants b) (t.tenants c) result)
-      (usable : t.is_usable c) (follows : t.follows b c) (finds : Finds t (IsAnswered result) (LeadsBy (gives span) digest) b c) where
+      (follows : t.follows b c) (finds : Finds t (IsAnswered result) (LeadsBy (gives span) digest) b c) where
     pub read_on : HasRead t a b → HasRead t a c
     read_on read = record {
       same = λ live other.
           run_keeps (gives span) (λ before output after given. given.same) digest (t.tenants b) (t.tenants c) result (run live) other
           ∙ read.same (lived b c follows live) other;
-      usable = usable;
       follows = then a b c read.follows follows;
       found = λ found may.
           elim ((found_by (gives span) (λ before output after given. given.same) t digest b c result (IsAnswered result) (λ told. told) finds).found found may) [

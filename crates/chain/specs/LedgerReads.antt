@@ -139,10 +139,9 @@ IsTold (Err fault.UnknownKey) = Unit {0}
 IsTold (Err fault.NoAccount) = Unit {0}
 IsTold (Err fault.NoHistory) = Unit {0}
 
--- a read changes no tenant's machine, and calls are still allowed
+-- a read changes no tenant's machine
 pub record ReadsOnly {S : Type 0} (t : LedgersMeaning S) (old new : S) : Type 0 where
   pub same : t.is_live new → KeepsAll (t.tenants old) (t.tenants new)
-  pub usable : t.is_usable new
   pub follows : t.follows old new
 
 -- a read of one tenant's machine: it is told so of the tenant, or that the disk failed where the

@@ -1,7 +1,8 @@
 -- The ledgers of many tenants: the machine of each, and what a call for one of them leaves.
-use Rattle.std.specs.Prelude.{◌≡◌, ◌≢◌, ◌⊎◌, ℕ, Bool, List, Option, Some, None, Result, Ok, Err}
-use Rattle.std.specs.Prelude.{OnOk}
+use Rattle.std.specs.Prelude.{◌≡◌, ◌≢◌, ◌⊎◌, ℕ, Bool, true, List, Option, Some, None, Result, Ok, Err}
+use Rattle.std.specs.Prelude.{IfOk, IsOk, OnErr, OnOk, is_some}
 use Rattle.records.specs.declared.unavailable.Unavailable.{Unavailable}
+use Rattle.records.specs.declared.unavailable.Unavailable.TheVariants.{Disk}
 use Rattle.records.specs.Machine.{Machine}
 use Rattle.records.specs.Valid.{IsValid}
 use Rattle.chain.specs.declared.ledgers.BatchFault.{BatchFault}
@@ -13,12 +14,11 @@ use Rattle.chain.specs.Tables.{Meaning}
 abbrev pub Tenants : Type 0
 Tenants = List ℕ → Option Machine
 
--- what the ledgers of many tenants mean: their machines, whether calls are allowed, whether the
--- ledgers are live, whether what they stand on has failed, what every run of calls keeps, and which
--- machines may be found where what they stand on is opened again
+-- what the ledgers of many tenants mean: their machines, whether the ledgers are live, whether what
+-- they stand on has failed, what every run of calls keeps, and which machines may be found where
+-- what they stand on is opened again
 pub record LedgersMeaning (S : Type 0) : Type 1 where
   pub tenants : S → Tenants
-  pub is_usable : S → Type 0
   pub is_live : S → Type 0
   pub has_failed : S → Bool
   pub follows : S → S → Type 0
@@ -89,3 +89,30 @@ LeadsByRound {O} gives old found = (output : O) × gives old output found
 -- there is nothing that a question leads to
 abbrev pub LeadsNowhere : Tenants → Tenants → Type 0
 LeadsNowhere old found = ⊥
+
+-- a batch on one tenant's machine: what it is told and leaves; of ledgers that have failed, that the
+-- disk has
+pub record RunsBatch {S O : Type 0} (t : LedgersMeaning S) (gives : Machine → O → Machine → Type 0)
+    (digest : List ℕ) (old new : S) (result : Result O BatchFault) : Type 0 where
+  pub run : t.is_live new → IsRun gives digest (t.tenants old) (t.tenants new) result
+  pub failed : t.has_failed old ≡ true → result ≡ Err (AreUnavailable Disk)
+  pub finds : Finds t (IsAnswered result) (LeadsBy gives digest) old new
+  pub follows : t.follows old new
+
+-- it is told whether a tenant has this digest, and nothing changes
+pub record Knows {S : Type 0} (t : LedgersMeaning S) (digest : List ℕ) (old new : S)
+    (result : Result Bool Unavailable) : Type 0 where
+  pub value : t.is_live new → IfOk result (λ known. known ≡ is_some (t.tenants old digest))
+  pub same : t.is_live new → KeepsAll (t.tenants old) (t.tenants new)
+  pub failed : t.has_failed old ≡ true → result ≡ Err Disk
+  pub finds : Finds t (IsOk result) LeadsNowhere old new
+  pub follows : t.follows old new
+
+-- the work of a round, all of it or nothing
+pub record RunsRound {S O : Type 0} (t : LedgersMeaning S) (gives : Tenants → O → Tenants → Type 0)
+    (old new : S) (result : Result O Unavailable) : Type 0 where
+  pub run : t.is_live new → IfOk result (λ output. gives (t.tenants old) output (t.tenants new))
+  pub same : t.is_live new → OnErr result (KeepsAll (t.tenants old) (t.tenants new))
+  pub failed : t.has_failed old ≡ true → result ≡ Err Disk
+  pub finds : Finds t (result ≢ Err Disk) (LeadsByRound gives) old new
+  pub follows : t.follows old new

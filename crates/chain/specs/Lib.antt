@@ -1,5 +1,6 @@
 pub mod Tables
 pub mod Ledgers
+pub mod Backends
 pub mod LedgerReads
 pub mod InBatch
 pub mod EventLaws

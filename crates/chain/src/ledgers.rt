@@ -1,11 +1,10 @@
-ghost use Rattle.std.specs.Prelude.{◌≡◌, true, false, Err, IfOk, IsOk, is_some};
+ghost use Rattle.std.specs.Prelude.{◌≡◌, true, false, Err};
 ghost use Rattle.records.specs.declared.unavailable.Unavailable.TheVariants.{Disk};
 ghost use Rattle.records.specs.Reads.{Found, found_accounts, found_transfers};
 ghost use Rattle.records.specs.Queries.{found_holds, open_holds, queried_accounts};
 ghost use Rattle.records.specs.Queries.{queried_transfers};
 ghost use Rattle.records.specs.Reads.{history_answer, history_balances_answer, statement_answer};
-ghost use Rattle.chain.specs.Ledgers.{LedgersMeaning, AreValid, KeepsAll, IsRun, Finds};
-ghost use Rattle.chain.specs.Ledgers.{IsAnswered, LeadsBy, LeadsNowhere};
+ghost use Rattle.chain.specs.Ledgers.{LedgersMeaning, AreValid, KeepsAll, Finds, RunsBatch, Knows};
 ghost use Rattle.chain.specs.LedgerReads.{seen_in, IsListOf, IsPageOf, HandsOut, is_refused};
 ghost use Rattle.chain.specs.LedgerReads.{ReadsOnly, ReadsTenant, IsTold};
 ghost use Rattle.chain.specs.declared.ledgers.BatchFault.TheVariants as batch_fault;
@@ -46,8 +45,8 @@ impl From<Unavailable> for BatchFault {
 /// Ledgers that lose what they stand on, as a store whose disk fails, are no longer live: what they
 /// answer from then on says nothing of any tenant.
 pub trait Ledgers {
-    // The machine of each tenant; whether calls are allowed; whether the ledgers are live; whether
-    // they have failed; what every run of calls keeps; and which machines an opening may find.
+    // The machine of each tenant; whether the ledgers are live; whether they have failed; what every
+    // run of calls keeps; and which machines an opening may find.
     ghost means: { LedgersMeaning Self };
 
     /// Whether what the ledgers stand on has failed, so that each call is answered that the disk
@@ -61,28 +60,11 @@ pub trait Ledgers {
         digest: &[u8; 32],
         work: W,
     ) -> Result<W::Output, BatchFault>
-        requires { means.is_usable self.old }
-        ensures run { means.is_live self.new →
-            IsRun (W.gives work) digest.now (means.tenants self.old) (means.tenants self.new)
-            result }
-        ensures failed { means.has_failed self.old ≡ true
-            → result ≡ Err (batch_fault.Unavailable Disk) }
-        ensures finds { Finds means (IsAnswered result) (LeadsBy (W.gives work) digest.now)
-            self.old self.new }
-        ensures usable { means.is_usable self.new }
-        ensures follows { means.follows self.old self.new };
+        ensures { RunsBatch means (W.gives work) digest.now self.old self.new result };
 
     /// Whether a tenant has this digest. Nothing changes.
     fn knows(&mut self, digest: &[u8; 32]) -> Result<bool, Unavailable>
-        requires { means.is_usable self.old }
-        ensures value { means.is_live self.new →
-            IfOk result (λ known. known ≡ is_some (means.tenants self.old digest.now)) }
-        ensures same { means.is_live self.new
-            → KeepsAll (means.tenants self.old) (means.tenants self.new) }
-        ensures failed { means.has_failed self.old ≡ true → result ≡ Err Disk }
-        ensures finds { Finds means (IsOk result) LeadsNowhere self.old self.new }
-        ensures usable { means.is_usable self.new }
-        ensures follows { means.follows self.old self.new };
+        ensures { Knows means digest.now self.old self.new result };
 
     /// The accounts with these ids, in the order asked, with their balances at the clock. An id
     /// asked twice is answered twice.
@@ -92,7 +74,6 @@ pub trait Ledgers {
         digest: &[u8; 32],
         ids: &[u128],
     ) -> Result<Listed<AccountWithBalances>, ReadFault>
-        requires { means.is_usable self.old }
         ensures { ReadsTenant means digest.now (IsListOf (λ m. Found (found_accounts m ids.now)))
             self.old self.new result }
     {
@@ -107,7 +88,6 @@ pub trait Ledgers {
         digest: &[u8; 32],
         ids: &[u128],
     ) -> Result<Listed<Transfer>, ReadFault>
-        requires { means.is_usable self.old }
         ensures { ReadsTenant means digest.now (IsListOf (λ m. Found (found_transfers m ids.now)))
             self.old self.new result }
     {
@@ -123,7 +103,6 @@ pub trait Ledgers {
         digest: &[u8; 32],
         ids: &[u128],
     ) -> Result<Listed<Hold>, ReadFault>
-        requires { means.is_usable self.old }
         ensures { ReadsTenant means digest.now (IsListOf (λ m. Found (found_holds m ids.now)))
             self.old self.new result }
     {
@@ -138,7 +117,6 @@ pub trait Ledgers {
         digest: &[u8; 32],
         asked: &PageFilter,
     ) -> Result<QueryPage<Hold>, ReadFault>
-        requires { means.is_usable self.old }
         ensures { ReadsTenant means digest.now (IsPageOf (λ m. Found (open_holds m asked.now)))
             self.old self.new result }
     {
@@ -153,7 +131,6 @@ pub trait Ledgers {
         digest: &[u8; 32],
         asked: &QueryFilter,
     ) -> Result<QueryPage<AccountWithBalances>, ReadFault>
-        requires { means.is_usable self.old }
         ensures { ReadsTenant means digest.now
             (IsPageOf (λ m. Found (queried_accounts m asked.now))) self.old self.new result }
     {
@@ -168,7 +145,6 @@ pub trait Ledgers {
         digest: &[u8; 32],
         asked: &QueryFilter,
     ) -> Result<QueryPage<Transfer>, ReadFault>
-        requires { means.is_usable self.old }
         ensures { ReadsTenant means digest.now
             (IsPageOf (λ m. Found (queried_transfers m asked.now))) self.old self.new result }
     {
@@ -183,7 +159,6 @@ pub trait Ledgers {
         digest: &[u8; 32],
         asked: &AccountFilter,
     ) -> Result<Listed<Transfer>, ReadFault>
-        requires { means.is_usable self.old }
         ensures { ReadsTenant means digest.now (IsListOf (λ m. history_answer m asked.now))
             self.old self.new result }
     {
@@ -198,7 +173,6 @@ pub trait Ledgers {
         digest: &[u8; 32],
         asked: &AccountFilter,
     ) -> Result<Listed<BalanceAt>, ReadFault>
-        requires { means.is_usable self.old }
         ensures { ReadsTenant means digest.now (IsListOf (λ m. history_balances_answer m asked.now))
             self.old self.new result }
     {
@@ -217,8 +191,7 @@ pub trait Ledgers {
         order: Order,
         sink: &mut S,
     ) -> Result<(), ReadFault>
-        requires usable { means.is_usable self.old }
-        requires open { S.refused sink.old ≡ false }
+        requires { S.refused sink.old ≡ false }
         ensures told { means.is_live self.new → HandsOut S.takes S.refuses
             (seen_in (λ m. statement_answer m account order) (means.tenants self.old digest.now))
             sink.old sink.new result }
@@ -257,6 +230,6 @@ pub trait Ledgers {
     ghost fails: { (a b : Self) → means.follows a b → means.has_failed a ≡ true
         → means.has_failed b ≡ true };
 
-    /// In live ledgers that may be called every tenant's machine is valid.
-    ghost valid: { (a : Self) → means.is_live a → means.is_usable a → AreValid (means.tenants a) };
+    /// In live ledgers every tenant's machine is valid.
+    ghost valid: { (a : Self) → means.is_live a → AreValid (means.tenants a) };
 }

@@ -2,11 +2,13 @@
 #![tactic(auto)]
 
 mod account_entry;
+mod backend;
 mod batch;
 mod chains;
 mod events;
 mod facts;
 mod histories;
+mod in_use;
 mod ledgers;
 mod lookups;
 mod pages;
@@ -19,8 +21,10 @@ mod tables;
 mod work;
 
 pub use account_entry::AccountEntry;
+pub use backend::{Backend, RoundBackend};
 pub use events::{run_accounts, run_transfers};
 pub use facts::transfer_facts;
+pub use in_use::InUse;
 pub use ledgers::{BatchFault, Ledgers};
 pub use reads::{Listed, QueryPage, ReadFault};
 pub use records::BatchReply;

@@ -1,6 +1,5 @@
-ghost use Rattle.std.specs.Prelude.{◌≡◌, ◌≢◌, true, Err, IfOk, OnErr};
-ghost use Rattle.records.specs.declared.unavailable.Unavailable.TheVariants.{Disk};
-ghost use Rattle.chain.specs.Ledgers.{Tenants, KeepsAll, Finds, LeadsByRound};
+ghost use Rattle.std.specs.Prelude.{IfOk};
+ghost use Rattle.chain.specs.Ledgers.{Tenants, RunsRound};
 
 use crate::Ledgers;
 use records::Unavailable;
@@ -16,10 +15,8 @@ pub trait RoundWork {
     /// Does it, on ledgers at the beginning of a round. After `Unavailable` whoever lent the
     /// ledgers takes them back to that beginning.
     fn run<L: Ledgers>(self, ledgers: &mut L) -> Result<Self::Output, Unavailable>
-        requires usable { L.means.is_usable ledgers.old }
         ensures gives { L.means.is_live ledgers.new → IfOk result (λ output.
             gives self (L.means.tenants ledgers.old) output (L.means.tenants ledgers.new)) }
-        ensures usable { L.means.is_usable ledgers.new }
         ensures follows { L.means.follows ledgers.old ledgers.new };
 }
 
@@ -28,14 +25,5 @@ pub trait Rounds: Ledgers {
     /// Runs the work of a round, and keeps all of it or nothing. Only where the disk failed may the
     /// next opening find it though it was not kept here.
     fn in_round<W: RoundWork + Drop>(&mut self, work: W) -> Result<W::Output, Unavailable>
-        requires { Self.means.is_usable self.old }
-        ensures run { Self.means.is_live self.new → IfOk result (λ output.
-            W.gives work (Self.means.tenants self.old) output (Self.means.tenants self.new)) }
-        ensures same { Self.means.is_live self.new → OnErr result
-            (KeepsAll (Self.means.tenants self.old) (Self.means.tenants self.new)) }
-        ensures failed { Self.means.has_failed self.old ≡ true → result ≡ Err Disk }
-        ensures finds { Finds Self.means (result ≢ Err Disk) (LeadsByRound (W.gives work))
-            self.old self.new }
-        ensures usable { Self.means.is_usable self.new }
-        ensures follows { Self.means.follows self.old self.new };
+        ensures { RunsRound Self.means (W.gives work) self.old self.new result };
 }

@@ -1,23 +1,16 @@
 -- What calls of a client ask for and leave.
-use Rattle.std.specs.Prelude.{◌≡◌, ◌≤◌, ℕ, true, Option, Result, IfOk, IfSome, OnErr}
+use Rattle.std.specs.Prelude.{◌≡◌, ◌≤◌, ℕ, Option, Result, IfOk, IfSome, OnErr}
 use Rattle.chain.specs.Ledgers.{LedgersMeaning}
 use Rattle.ledger_http.specs.Limits.{longest_message}
 use Rattle.ledger_http.specs.Message.{IsAnnounced}
 use Rattle.ledger_http.specs.Progress.{HasLength}
 use Rattle.ledger_http.specs.Unread.{IsWhole}
-use Rattle.clients.specs.Talk.{Talk, may_answer}
+use Rattle.clients.specs.Talk.{Talk}
 
--- the client's next message may be answered, and the ledgers can be asked
-pub record MayBeAnswered {S : Type 0} (t : LedgersMeaning S) (ledgers : S) (talk : Talk) :
-    Type 0 where
-  pub usable : t.is_usable ledgers
-  pub may : may_answer talk ≡ true
-
--- this was answered; the ledgers follow on those before, and can be asked again
+-- this was answered, and the ledgers follow on those before
 pub record AnswersOn {S : Type 0} (t : LedgersMeaning S) (old new : S) (Answered : Type 0) :
     Type 0 where
   pub answers : Answered
-  pub usable : t.is_usable new
   pub follows : t.follows old new
 
 -- how long the next message is, if all of it has come; the client is as it was

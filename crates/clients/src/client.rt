@@ -3,7 +3,7 @@ ghost use Rattle.std.specs.Prelude.{◌≡◌, ◌≤◌, true, false, length, t
 ghost use Rattle.ledger_http.specs.Message.{IsAnnounced};
 ghost use Rattle.clients.specs.Talk.{new_talk, received, input_ended, written, may_answer, given_up};
 ghost use Rattle.clients.specs.Talk.{continued, is_written};
-ghost use Rattle.clients.specs.Calls.{MayBeAnswered, AnswersOn, TellsSize, TellsLength, MakesRoom};
+ghost use Rattle.clients.specs.Calls.{AnswersOn, TellsSize, TellsLength, MakesRoom};
 ghost use Rattle.clients.specs.Answering.{HasAnswered};
 ghost use Rattle.clients.specs.Within.{replied_to};
 
@@ -114,7 +114,7 @@ impl Client {
         ledgers: &mut L,
         moments: &mut C,
     ) -> Answered
-        requires { MayBeAnswered L.means ledgers.old self.old }
+        requires { may_answer self.old ≡ true }
         ensures { AnswersOn L.means ledgers.old ledgers.new
             (HasAnswered L.means C.gives ledgers.old moments.old self.old
             ledgers.new moments.new self.new result) }

@@ -27,7 +27,6 @@ pub(crate) fn exchange<L: Ledgers, C: Moments>(
     moments: &mut C,
     inbox: &mut Inbox,
 ) -> Exchanged
-    requires { L.means.is_usable ledgers.old }
     ensures { AnswersOn L.means ledgers.old ledgers.new
         (ExchangesFirst L.means C.gives ledgers.old moments.old inbox.old
         ledgers.new moments.new inbox.new result) }

@@ -3,6 +3,7 @@ use Rattle.std.proofs.Common.{◌≡◌, inl, inr, ℕ, List, [], Option, Result
 use Rattle.sqlite_disk.specs.declared.Disk as disk
 use Rattle.records.specs.Machine.{Machine}
 use Rattle.records.specs.declared.unavailable.Unavailable.{Unavailable}
+use Rattle.chain.specs.Backends.{in_use}
 use Rattle.chain.specs.Ledgers.{Tenants, KeepsAll}
 use Rattle.ledger_http.specs.declared.refusal.Refusal.{Refusal}
 use Rattle.wire.specs.declared.request.Request.{Request}
@@ -12,12 +13,13 @@ use Rattle.service.specs.Deeds.{Asked, Deed, AreDone, IsDeedDone}
 use Rattle.service.specs.Openings.{run_meaning, FoundAfter, As_now, As_before, As_done, Moves}
 use Rattle.service.specs.Served.{served_to}
 use Rattle.store.specs.StoreLaws.{store_meaning}
-use Rattle.store.specs.Stores.{FindsTenants, ReadsStore, tenants_of}
+use Rattle.store.specs.Stores.{FindsTenants, IsUsable, ReadsStore, tenants_of}
 use Rattle.store.specs.declared.store.Store.{Store}
 
 module _ {D : Type 0} {g : disk.Ghosts D} where
   module _ {T : Type 0} (digest : List ℕ) (meaning : Result Request Refusal) (moment : ℕ)
-      (old mid new : Store D g) (told : Result T Unavailable) (reads : ReadsStore old mid told)
+      (old mid new : Store D g) (told : Result T Unavailable) (usable : IsUsable old)
+      (reads : ReadsStore old mid told)
     where
       done_before :
           (found : Tenants) → KeepsAll (tenants_of old) (tenants_of mid) →
@@ -54,9 +56,9 @@ module _ {D : Type 0} {g : disk.Ghosts D} where
 
       found_before :
           (ending : Ending) (found : Tenants) →
-          FoundAfter (run_meaning store_meaning) mid (Tried (Asked digest meaning moment) ending) new
+          FoundAfter (run_meaning (in_use store_meaning)) mid (Tried (Asked digest meaning moment) ending) new
           found →
-          FoundAfter (run_meaning store_meaning) old (Tried (Asked digest meaning moment) ending) new
+          FoundAfter (run_meaning (in_use store_meaning)) old (Tried (Asked digest meaning moment) ending) new
           found
       found_before ending found (As_now live keeps) = As_now live keeps
       found_before ending found (As_before still before) =
@@ -68,16 +70,17 @@ module _ {D : Type 0} {g : disk.Ghosts D} where
       found_before WasUnavailable found (As_done deed more untold live done) =
           let all =
           subst (λ (deeds : List Deed). AreDone deeds (tenants_of mid) found) (sym untold) done in
-          As_done (Asked digest meaning moment) [] refl (reads.answers.follows.lived live)
-          (all.0, done_before all.0 (reads.same live) all.1, all.2)
+          As_done (Asked digest meaning moment) [] refl
+          (reads.answers.follows.lived live.0, usable)
+          (all.0, done_before all.0 (reads.same live.0) all.1, all.2)
 
       pub both_move :
           (ending : Ending) →
-          Moves (run_meaning store_meaning) mid (Tried (Asked digest meaning moment) ending) new →
-          Moves (run_meaning store_meaning) old (Tried (Asked digest meaning moment) ending) new
+          Moves (run_meaning (in_use store_meaning)) mid (Tried (Asked digest meaning moment) ending) new →
+          Moves (run_meaning (in_use store_meaning)) old (Tried (Asked digest meaning moment) ending) new
       both_move ending moves = record {
         happens = λ live.
-            happens_before ending (reads.same (moves.lived live)) (moves.happens live);
-        lived = λ live. reads.answers.follows.lived (moves.lived live);
+            happens_before ending (reads.same (moves.lived live).0) (moves.happens live);
+        lived = λ live. (reads.answers.follows.lived (moves.lived live).0, usable);
         found = λ found may. found_before ending found (moves.found found may);
       }

@@ -32,7 +32,6 @@ module _ {S : Type 0} (t : LedgersMeaning S)
   pub reads_then : (a b c : S) → ReadsOnly t a b → ReadsOnly t b c → ReadsOnly t a c
   reads_then a b c one two = record {
     same = λ live digest. two.same live digest ∙ one.same (lived b c two.follows live) digest;
-    usable = two.usable;
     follows = then a b c one.follows two.follows;
   }
 

@@ -2,13 +2,14 @@
 use Rattle.std.proofs.Common.{◌⊎◌, inl, inr, Result}
 use Rattle.sqlite_disk.specs.declared.Disk as disk
 use Rattle.records.specs.declared.unavailable.Unavailable.{Unavailable}
+use Rattle.chain.specs.Backends.{in_use}
 use Rattle.chain.specs.Ledgers.{Tenants}
 use Rattle.service.specs.Courses.{Event, Tried}
 use Rattle.service.specs.Deeds.{Joined, Keyed}
 use Rattle.service.specs.Openings.{run_meaning, FoundAfter, As_now, As_before, As_done, Moves}
 use Rattle.polling.specs.Courses.{IsAtRest}
 use Rattle.store.specs.StoreLaws.{store_meaning}
-use Rattle.store.specs.Stores.{FindsTenants, IsHonest, ReadsStore, may_find}
+use Rattle.store.specs.Stores.{FindsTenants, IsHonest, IsUsable, ReadsStore, may_find}
 use Rattle.store.specs.declared.store.Store.{Store}
 use Rattle.command_texts.specs.declared.fault.Fault.{Fault}
 use Rattle.commands.specs.Kept.{kept_store, Attends, Tries, Looks}
@@ -24,7 +25,7 @@ module _ {D : Type 0} {g : disk.Ghosts D} where
   -- what may be found after an event of a store, where the store may not be there
   found_kept :
       (old : Store D g) (event : Event) (new : Store D g) (found : Tenants) →
-      FoundAfter (run_meaning store_meaning) old event new found →
+      FoundAfter (run_meaning (in_use store_meaning)) old event new found →
       FoundAfter kept_store (Open old) event (Open new) found
   found_kept old event new found (As_now live keeps) = As_now live keeps
   found_kept old event new found (As_before still before) = As_before still before
@@ -33,7 +34,7 @@ module _ {D : Type 0} {g : disk.Ghosts D} where
 
   pub moves_kept :
       (old : Store D g) (event : Event) (new : Store D g) →
-      Moves (run_meaning store_meaning) old event new → Moves kept_store (Open old) event (Open new)
+      Moves (run_meaning (in_use store_meaning)) old event new → Moves kept_store (Open old) event (Open new)
   moves_kept old event new moves = record {
     happens = moves.happens;
     lived = moves.lived;
@@ -41,7 +42,7 @@ module _ {D : Type 0} {g : disk.Ghosts D} where
   }
 
   pub rest_kept :
-      (old new : Store D g) → IsAtRest (run_meaning store_meaning) old new →
+      (old new : Store D g) → IsAtRest (run_meaning (in_use store_meaning)) old new →
       IsAtRest kept_store (Open old) (Open new)
   rest_kept old new rest =
       record { lived = rest.lived; same = rest.same; found = rest.found }
@@ -55,11 +56,12 @@ module _ {D : Type 0} {g : disk.Ghosts D} where
 
   -- a call that only reads changes nothing for any tenant
   pub rest_so :
-      {T : Type 0} (old new : Store D g) (result : Result T Unavailable) → ReadsStore old new result →
-      IsAtRest (run_meaning store_meaning) old new
-  rest_so old new result reads = record {
-    lived = reads.answers.follows.lived;
-    same = reads.same;
+      {T : Type 0} (old new : Store D g) (result : Result T Unavailable) → IsUsable old →
+      ReadsStore old new result →
+      IsAtRest (run_meaning (in_use store_meaning)) old new
+  rest_so old new result usable reads = record {
+    lived = λ live. (reads.answers.follows.lived live.0, usable);
+    same = λ live. reads.same live.0;
     found = λ found f.
         inl (found_read old new found reads.answers.follows.honest f
         (reads.finds f.honest f.db f.may));

@@ -1,42 +1,43 @@
 -- A store that is opened again, or anew in its place.
-use Rattle.std.proofs.Common.{◌≡◌, false, Option, Some, None, Result, Ok, Err, OnOk, OnErr, IfSome}
+use Rattle.std.proofs.Common.{◌≡◌, false, Option, Result, Ok, Err, OnOk, OnErr}
 use Rattle.std.proofs.Common.{IsTrue, ap, sym, subst}
 use Rattle.sqlite_disk.specs.declared.Disk as disk
 use Rattle.sqlite_disk.specs.declared.Files.{Files}
+use Rattle.chain.specs.Backends.{in_use}
 use Rattle.chain.specs.Ledgers.{Tenants}
 use Rattle.openings.specs.declared.opening.OpenFault.{OpenFault}
 use Rattle.service.specs.Openings.{run_meaning, IsSettled, IsOpened}
 use Rattle.service.specs.OpeningLaws.{is_opened}
-use Rattle.store.specs.StoreLaws.{store_meaning, finds_itself, opened_is_found, opened_is_live}
-use Rattle.store.specs.Stores.{IsHonest, IsSettledStore, IsUsable, StoreFinds, may_find}
+use Rattle.store.specs.StoreLaws.{store_meaning, opened_is_found, opened_is_live}
+use Rattle.store.specs.Stores.{IsHonest, IsUsable, StoreFinds, may_find}
 use Rattle.store.specs.declared.store.Store.{Store}
 use Rattle.command_texts.specs.declared.fault.Fault.{Fault}
-use Rattle.commands.specs.Kept.{kept_store, IsLiveKept, IsUsableKept, answers, WasRefused}
-use Rattle.commands.specs.Kept.{Attends, IsOpenedAnew, MayBeCalled, kept_of}
+use Rattle.commands.specs.Kept.{kept_store, IsLiveKept, answers, WasRefused}
+use Rattle.commands.specs.Kept.{Attends, IsOpenedAnew, MayBeCalled}
 use Rattle.commands.specs.Kept.{Renews, Stays, Again, Anew, Refuses, Tries, Looks}
 use Rattle.commands.specs.declared.kept.Kept.{Kept}
 use Rattle.commands.specs.declared.kept.Kept.TheVariants.{Open, Closed}
 
 module _ {D : Type 0} {g : disk.Ghosts D} where
-  -- what is kept of a store, if there is one, may be called where the store may be
-  pub usable_so :
-      (store : Option (Store D g)) → IfSome store IsUsable → (kept : Kept (Store D g))
-      → kept ≡ kept_of store → MayBeCalled kept
-  usable_so (Some store) usable kept is =
-      subst (λ (other : Kept (Store D g)). MayBeCalled other) (sym is) usable
-  usable_so None usable kept is =
-      subst (λ (other : Kept (Store D g)). MayBeCalled other) (sym is) tt
+  -- a store that is live is live in use, where it may be called
+  pub live_used :
+      (kept : Kept (Store D g)) → MayBeCalled kept → IsLiveKept store_meaning.ledgers kept →
+      IsLiveKept (in_use store_meaning) kept
+  live_used (Open store) usable live = (live, usable)
+  live_used Closed usable live = live
 
   -- a store that was opened again is what was to be found
   pub opened_so :
-      (old new : Store D g) (result : Result (Unit {0}) OpenFault) →
+      (old new : Store D g) (result : Result (Unit {0}) OpenFault) → IsUsable new →
       (IsHonest new → OnOk result (StoreFinds new (may_find old))) →
-      (IsHonest new → OnOk result (IsHonest old)) → IsSettled (run_meaning store_meaning) new →
-      OnOk result (IsOpened (run_meaning store_meaning) old new)
-  opened_so old new (Ok done) finds honest settled =
-      is_opened (run_meaning store_meaning) old new (opened_is_found old new finds honest)
-      (opened_is_live old new finds) settled
-  opened_so old new (Err fault) finds honest settled = tt
+      (IsHonest new → OnOk result (IsHonest old)) →
+      IsSettled (run_meaning (in_use store_meaning)) new →
+      OnOk result (IsOpened (run_meaning (in_use store_meaning)) old new)
+  opened_so old new (Ok done) usable finds honest settled =
+      is_opened (run_meaning (in_use store_meaning)) old new
+      (λ live. opened_is_found old new finds honest live.0)
+      (λ found may. (opened_is_live old new finds found may, usable)) settled
+  opened_so old new (Err fault) usable finds honest settled = tt
 
   -- a store was opened anew where one was refused, or that was refused too
   pub anew_so :
@@ -48,7 +49,7 @@ module _ {D : Type 0} {g : disk.Ghosts D} where
       Anew left silent refused anew answering settled
   anew_so opens old left new (Err fault) silent refused anew answering settled closed =
       Refuses silent (ap (λ (kept : Kept (Store D g)). answers kept) closed)
-      (subst (λ (kept : Kept (Store D g)). IsLiveKept store_meaning kept → ⊥) (sym closed)
+      (subst (λ (kept : Kept (Store D g)). IsLiveKept store_meaning.ledgers kept → ⊥) (sym closed)
       (λ live. live))
 
   -- what is done where no store is opened anew is done where some may be
@@ -66,8 +67,6 @@ module _ {D : Type 0} {g : disk.Ghosts D} where
   -- a store that is there is settled
   pub kept_settled :
       (kept : Kept (Store D g)) (store : Store D g) → kept ≡ Open store →
-      IsUsableKept store_meaning kept → IsSettledStore store → IsSettled kept_store kept
-  kept_settled kept store is usable settled =
-      subst (λ (each : Kept (Store D g)). IsSettled kept_store each) (sym is)
-      (finds_itself store settled
-      (subst (λ (each : Kept (Store D g)). IsUsableKept store_meaning each) is usable))
+      IsSettled (run_meaning (in_use store_meaning)) store → IsSettled kept_store kept
+  kept_settled kept store is settled =
+      subst (λ (each : Kept (Store D g)). IsSettled kept_store each) (sym is) settled

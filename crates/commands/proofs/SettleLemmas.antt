@@ -3,6 +3,7 @@ use Rattle.std.proofs.Common.{◌≡◌, inl, inr, ℕ, List, [], Option, Some, 
 use Rattle.sqlite_disk.specs.declared.Disk as disk
 use Rattle.records.specs.Machine.{Machine}
 use Rattle.wire.specs.declared.request.Request.TheVariants as asks
+use Rattle.chain.specs.Backends.{in_use}
 use Rattle.chain.specs.Ledgers.{Tenants, IsDone, IsRun, Finds, IsAnswered, LeadsBy}
 use Rattle.chain.specs.declared.ledgers.BatchFault.{BatchFault}
 use Rattle.chain.specs.declared.ledgers.BatchFault.TheVariants as batch_fault
@@ -11,7 +12,7 @@ use Rattle.service.specs.Deeds.{IsDeedDone}
 use Rattle.service.specs.Openings.{run_meaning, FoundAfter, As_now, As_before, As_done, IsSettled, Moves}
 use Rattle.service.specs.Served.{served_to}
 use Rattle.store.specs.StoreLaws.{store_meaning}
-use Rattle.store.specs.Stores.{FindsTenants, StoreFollows, IsLive, tenants_of}
+use Rattle.store.specs.Stores.{Continues, FindsTenants, IsLive, IsUsable, tenants_of}
 use Rattle.store.specs.declared.store.Store.{Store}
 use Rattle.commands.specs.Kept.{Attends, Tries, Looks}
 use Rattle.commands.specs.Settling.{GivesSettled, SettlesBy, batch_ending, settling}
@@ -47,9 +48,9 @@ module _ {D : Type 0} {g : disk.Ghosts D} where
     -- what may be found behind it
     settled_finds :
         (settled : Result (Unit {0}) BatchFault) →
-        Finds store_meaning (IsAnswered settled) (LeadsBy (GivesSettled moment) digest) old new →
-        IsSettled (run_meaning store_meaning) new → (found : Tenants) → FindsTenants new found →
-        FoundAfter (run_meaning store_meaning) old
+        Finds (in_use store_meaning) (IsAnswered settled) (LeadsBy (GivesSettled moment) digest) old new →
+        IsSettled (run_meaning (in_use store_meaning)) new → (found : Tenants) → FindsTenants new found →
+        FoundAfter (run_meaning (in_use store_meaning)) old
         (Tried (settling digest moment) (batch_ending settled)) new found
     settled_finds (Ok unheard) finds rests found may =
         let live = finds.live tt found may in
@@ -70,16 +71,17 @@ module _ {D : Type 0} {g : disk.Ghosts D} where
 
     pub settled_moves :
         (settled : Result (Unit {0}) BatchFault) →
-        (IsLive new
+        (IsLive new × IsUsable new
         → IsRun (GivesSettled moment) digest (tenants_of old) (tenants_of new) settled) →
-        Finds store_meaning (IsAnswered settled) (LeadsBy (GivesSettled moment) digest) old new →
-        IsSettled (run_meaning store_meaning) new → StoreFollows old new →
-        Moves (run_meaning store_meaning) old
+        Finds (in_use store_meaning) (IsAnswered settled) (LeadsBy (GivesSettled moment) digest) old new →
+        IsSettled (run_meaning (in_use store_meaning)) new →
+        Continues old new × (IsUsable new → IsUsable old) →
+        Moves (run_meaning (in_use store_meaning)) old
         (Tried (settling digest moment) (batch_ending settled)) new
     settled_moves settled run finds rests follows = record {
       happens = λ live.
           settled_happens digest moment (tenants_of old) (tenants_of new) settled (run live);
-      lived = follows.lived;
+      lived = λ live. (follows.0.follows.lived live.0, follows.1 live.1);
       found = settled_finds settled finds rests;
     }
 

@@ -3,6 +3,7 @@ use Rattle.std.specs.Prelude.{◌≡◌, Bool, true, false, Option, Some, None, 
 use Rattle.std.proofs.Common.{refl}
 use Rattle.sqlite_disk.specs.declared.Disk as disk
 use Rattle.sqlite_disk.specs.declared.Files.{Files}
+use Rattle.chain.specs.Backends.{in_use}
 use Rattle.chain.specs.Ledgers.{LedgersMeaning, Tenants, AreValid}
 use Rattle.service.specs.Courses as course
 use Rattle.service.specs.Deeds.{Deed}
@@ -13,7 +14,7 @@ use Rattle.polling.specs.Courses as renewed
 use Rattle.polling.specs.Serving.{renews_seen}
 use Rattle.store.specs.StoreLaws.{store_meaning}
 use Rattle.openings.specs.declared.refused.Refused.{Refused}
-use Rattle.store.specs.Stores.{GivesBack, IsLive, LeavesStore}
+use Rattle.store.specs.Stores.{GivesBack, IsLive, IsUsable, LeavesStore}
 use Rattle.store.specs.declared.store.Store.{Store}
 use Rattle.commands.specs.declared.kept.Kept.{Kept}
 use Rattle.commands.specs.declared.kept.Kept.TheVariants.{Open, Closed}
@@ -29,12 +30,7 @@ module _ {S : Type 0} (t : LedgersMeaning S) where
   tenants_kept (Open ledgers) = t.tenants ledgers
   tenants_kept Closed = λ digest. None
 
-  -- that there are none may be told at any time
-  abbrev pub IsUsableKept : Kept S → Type 0
-  IsUsableKept (Open ledgers) = t.is_usable ledgers
-  IsUsableKept Closed = Unit {0}
-
-  -- and it says nothing of any tenant
+  -- that there are none says nothing of any tenant
   abbrev pub IsLiveKept : Kept S → Type 0
   IsLiveKept (Open ledgers) = t.is_live ledgers
   IsLiveKept Closed = ⊥
@@ -59,7 +55,6 @@ module _ {S : Type 0} (t : LedgersMeaning S) where
   abbrev pub kept_meaning : LedgersMeaning (Kept S)
   kept_meaning = record {
     tenants = λ kept. tenants_kept kept;
-    is_usable = λ kept. IsUsableKept kept;
     is_live = λ kept. IsLiveKept kept;
     has_failed = λ kept. has_failed_kept kept;
     follows = λ old new. FollowsKept old new;
@@ -99,10 +94,10 @@ module _ {S : Type 0} (t : LedgersMeaning S) where
   kept_fails fails Closed (Open b) follows failed = absurd follows
 
   pub kept_valid :
-      ((a : S) → t.is_live a → t.is_usable a → AreValid (t.tenants a))
-      → (a : Kept S) → IsLiveKept a → IsUsableKept a → AreValid (tenants_kept a)
-  kept_valid valid (Open a) live usable = valid a live usable
-  kept_valid valid Closed live usable = absurd live
+      ((a : S) → t.is_live a → AreValid (t.tenants a))
+      → (a : Kept S) → IsLiveKept a → AreValid (tenants_kept a)
+  kept_valid valid (Open a) live = valid a live
+  kept_valid valid Closed live = absurd live
 
 module _ {D : Type 0} {g : disk.Ghosts D} where
   -- whether a store is there that answers calls
@@ -110,9 +105,21 @@ module _ {D : Type 0} {g : disk.Ghosts D} where
   answers (Open store) = store.ready
   answers Closed = false
 
+  -- the store, if it is there, may be called
+  abbrev pub MayBeCalled : Kept (Store D g) → Type 0
+  MayBeCalled (Open store) = IsUsable store
+  MayBeCalled Closed = Unit {0}
+
   -- what a store that may not be there means, where it is opened again
   abbrev pub kept_store : RunMeaning (Kept (Store D g))
-  kept_store = run_meaning (kept_meaning store_meaning)
+  kept_store = run_meaning (kept_meaning (in_use store_meaning))
+
+  -- a store that is live in use is live
+  pub live_kept :
+      (kept : Kept (Store D g)) → IsLiveKept (in_use store_meaning) kept
+      → IsLiveKept store_meaning.ledgers kept
+  live_kept (Open store) live = live.0
+  live_kept Closed live = live
 
   -- opening a store again over its own files was refused, and what is left of it answers no calls
   -- and is not live
@@ -141,7 +148,7 @@ module _ {D : Type 0} {g : disk.Ghosts D} where
       (Option (Files D) → Tenants → Type 0) → (left new : Kept (Store D g)) → Type 0
   IsOpenedAnew opens left new =
       (files : Option (Files D)) × GivesFiles left files
-      × opens files (tenants_kept store_meaning new)
+      × opens files (tenants_kept (in_use store_meaning) new)
 
   -- what is made of a store between turns, where a home opens these: one that answers calls stays
   -- as it is; any other may stay, or is opened again over its own files, and is what was to be
@@ -159,7 +166,7 @@ module _ {D : Type 0} {g : disk.Ghosts D} where
         IsOpenedAnew opens left new → IsTrue (answers new) → IsSettled kept_store new
         → Renews opens old new
     Refuses :
-        answers old ≡ false → answers new ≡ false → (IsLiveKept store_meaning new → ⊥)
+        answers old ≡ false → answers new ≡ false → (IsLiveKept store_meaning.ledgers new → ⊥)
         → Renews opens old new
     Tries :
         (deed : Deed) (ending : course.Ending) → Moves kept_store old (course.Tried deed ending) new
@@ -177,20 +184,17 @@ module _ {D : Type 0} {g : disk.Ghosts D} where
   renewal_of opens old new (Stays same) = Stayed same
   renewal_of opens old new (Again silent answering opened) = Opened opened
   renewal_of opens old new (Anew left silent refused anew answering settled) = renewed.Anew settled
-  renewal_of opens old new (Refuses silent none dead) = renewed.Refused dead
+  renewal_of opens old new (Refuses silent none dead) =
+      renewed.Refused (λ live. dead (live_kept new live))
   renewal_of opens old new (Tries deed ending moves) = Tried deed ending moves
   renewal_of opens old new (Looks rest) = Rested rest
-
-  -- the store, if it is there, may be called
-  abbrev pub MayBeCalled : Kept (Store D g) → Type 0
-  MayBeCalled kept = IsUsableKept store_meaning kept
 
   -- and as it is seen between messages: nothing is opened inside of a round
   abbrev pub renewal_seen :
       (opens : Option (Files D) → Tenants → Type 0) (old new : SeenAt (Kept (Store D g)))
       → renews_seen (Renews opens) old new
-      → Renewed (run_meaning (seen (kept_meaning store_meaning))) old new
+      → Renewed (run_meaning (seen (kept_meaning (in_use store_meaning)))) old new
   renewal_seen opens (Whole old) (Whole new) renews =
-      renewed_seen (kept_meaning store_meaning) (renewal_of opens old new renews)
+      renewed_seen (kept_meaning (in_use store_meaning)) (renewal_of opens old new renews)
   renewal_seen opens (Whole old) (Within ledgers machines) renews = absurd renews
   renewal_seen opens (Within ledgers machines) new renews = absurd renews

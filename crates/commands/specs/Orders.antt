@@ -1,6 +1,7 @@
 -- What carrying out an operator's order makes of a store.
 use Rattle.std.specs.Prelude.{◌≡◌, ℕ, List, Result, Ok, Err}
 use Rattle.sqlite_disk.specs.declared.Disk as disk
+use Rattle.chain.specs.Backends.{in_use}
 use Rattle.service.specs.Courses.{Tried}
 use Rattle.service.specs.Deeds.{Joined, Keyed}
 use Rattle.service.specs.Openings.{run_meaning, Moves}
@@ -33,7 +34,7 @@ module _ {D : Type 0} {g : disk.Ghosts D} where
   abbrev pub IsKeyingTold : {T : Type 0} → List ℕ → Store D g → Result T Fault → Store D g → Type 0
   IsKeyingTold digest old result new =
       (was : List ℕ)
-      × Moves (run_meaning store_meaning) old (Tried (Keyed was digest) (ending_told result)) new
+      × Moves (run_meaning (in_use store_meaning)) old (Tried (Keyed was digest) (ending_told result)) new
 
   -- the tenants are listed, if they could be read
   abbrev pub IsListingTold : Store D g → Result Done Fault → Type 0
@@ -47,11 +48,11 @@ module _ {D : Type 0} {g : disk.Ghosts D} where
   -- has changed for any; or a deed was tried, and what is told of it is how it ended
   abbrev pub CarriesOut : Order → Store D g → Result Done Fault → Store D g → Type 0
   CarriesOut Tenants old result new =
-      (IsLive new → IsListingTold old result) × IsAtRest (run_meaning store_meaning) old new
+      (IsLive new → IsListingTold old result) × IsAtRest (run_meaning (in_use store_meaning)) old new
   CarriesOut (AddTenant name digest) old result new =
       (IsLive new
       → OfDatabases (λ before after. IsAdded name digest before after (told_only result)) old new)
-      × Moves (run_meaning store_meaning) old (Tried (Joined digest) (ending_told result)) new
+      × Moves (run_meaning (in_use store_meaning)) old (Tried (Joined digest) (ending_told result)) new
   CarriesOut (ChangeKey name digest) old result new =
       (IsLive new
       → OfDatabases (λ before after. IsChanged name digest before after (told_only result)) old new)

@@ -6,6 +6,7 @@ use Rattle.sqlite_trees.specs.Tree.{Trees}
 use Rattle.records.specs.Machine.{Machine}
 use Rattle.records.specs.declared.query.Span.{Span}
 use Rattle.wire.specs.declared.request.Request.TheVariants as asks
+use Rattle.chain.specs.Backends.{in_use}
 use Rattle.chain.specs.declared.account_entry.AccountEntry.{AccountEntry}
 use Rattle.chain.specs.declared.reads.Listed.{Listed}
 use Rattle.chain.specs.declared.reads.ReadFault.{ReadFault}
@@ -55,9 +56,9 @@ module _ {D : Type 0} {g : disk.Ghosts D} where
   -- a piece is read for an operator: nothing is as it was not for any tenant
   abbrev pub IsReadForOperator : ℕ → Store D g → Result Done Fault → Store D g → Type 0
   IsReadForOperator account old result new =
-      IsAtRest (run_meaning store_meaning) old new
+      IsAtRest (run_meaning (in_use store_meaning)) old new
       ⊎ ((digest : List ℕ)
-      × Moves (run_meaning store_meaning) old
+      × Moves (run_meaning (in_use store_meaning)) old
       (Tried (asked_for digest account) (ending_told result)) new)
 
   -- a deed was tried: so a part of a statement is read for a client, and nothing is as it was not
@@ -65,4 +66,4 @@ module _ {D : Type 0} {g : disk.Ghosts D} where
   abbrev pub IsTried : Store D g → Store D g → Type 0
   IsTried old new =
       (deed : Deed) × ((ending : Ending)
-      × Moves (run_meaning store_meaning) old (Tried deed ending) new)
+      × Moves (run_meaning (in_use store_meaning)) old (Tried deed ending) new)

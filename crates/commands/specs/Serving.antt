@@ -2,6 +2,7 @@
 use Rattle.std.specs.Prelude.{◌≡◌, ◌≢◌, ◌≤◌, ◌<◌, ℕ, List, Option, Result, Ok, OnErr}
 use Rattle.sqlite_disk.specs.declared.Disk as disk
 use Rattle.sqlite_disk.specs.declared.Files.{Files}
+use Rattle.chain.specs.Backends.{in_use}
 use Rattle.chain.specs.Ledgers.{Tenants}
 use Rattle.service.specs.Courses.{Event}
 use Rattle.service.specs.Openings.{run_meaning, CourseSince, HasLed}
@@ -18,7 +19,8 @@ use Rattle.polling.specs.Serving.{Hall, Terms, Proceeds, rules, tellings}
 use Rattle.store.specs.StoreLaws.{store_meaning}
 use Rattle.store.specs.declared.store.Store.{Store}
 use Rattle.commands.specs.Behind.{MayWait}
-use Rattle.commands.specs.Kept.{kept_meaning, kept_store, IsLiveKept, Renews, renewal_seen}
+use Rattle.commands.specs.Kept.{kept_meaning, kept_store, IsLiveKept, MayBeCalled, Renews}
+use Rattle.commands.specs.Kept.{renewal_seen}
 use Rattle.commands.specs.declared.serving.Served.{Served}
 use Rattle.commands.specs.declared.serving.Served.TheVariants.{Enough}
 use Rattle.commands.specs.declared.kept.Kept.{Kept}
@@ -65,20 +67,22 @@ module _ {D : Type 0} {g : disk.Ghosts D} {C P : Type 0}
   -- messages are answered by a store, or by ledgers that are not there; a store that answers calls
   -- stays as it is; and only a batch waits of which a tenant is behind
   abbrev pub store_rules : Terms (SeenAt (Kept (Store D g))) C P
-  store_rules = rules (kept_meaning store_meaning) gives (Renews opens) MayWait does
+  store_rules = rules (kept_meaning (in_use store_meaning)) gives (Renews opens) MayWait does
 
-  -- clients were served by a store, whenever it was opened again, or by what stood in its place;
+  -- clients were served by a store, whenever it was opened again, or by what stood in its place,
+  -- and what stands there in the end may be called;
   -- and if it was live when this began, all that was done is a course of what happened to it, begun
   -- anew only where an opening was refused or a store opened anew
   pub record ServesStore (first : Kept (Store D g)) (moments : C) (peers : P) (most : ℕ)
       (moments_now : C)
       (peers_now : P) (result : Result Served Fault) : Type 0 where
     pub kept : Kept (Store D g)
+    pub usable : MayBeCalled kept
     pub served :
         ServesClients store_rules (Whole first) moments peers most (Whole kept) moments_now
         peers_now result
     pub course :
-        IsLiveKept store_meaning first
+        IsLiveKept store_meaning.ledgers first
         → HasLed kept_store
         (IsSince (renewal_seen opens) (empty_hall (Whole first) moments peers) served.deeds
         served.last served.served) kept

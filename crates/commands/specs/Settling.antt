@@ -4,6 +4,7 @@ use Rattle.sqlite_disk.specs.declared.Disk as disk
 use Rattle.records.specs.Machine.{Machine}
 use Rattle.records.specs.Step.{step_machine, transfer_rules}
 use Rattle.wire.specs.declared.request.Request.TheVariants as asks
+use Rattle.chain.specs.Backends.{in_use}
 use Rattle.chain.specs.declared.ledgers.BatchFault.{BatchFault}
 use Rattle.chain.specs.declared.ledgers.BatchFault.TheVariants as batch_fault
 use Rattle.polling.specs.Courses.{IsAtRest}
@@ -39,9 +40,9 @@ module _ {D : Type 0} {g : disk.Ghosts D} where
   -- moment
   abbrev pub SettlesBy : ℕ → Store D g → Store D g → Type 0
   SettlesBy moment old new =
-      IsAtRest (run_meaning store_meaning) old new
+      IsAtRest (run_meaning (in_use store_meaning)) old new
       ⊎ ((digest : List ℕ) × (until : ℕ) × (until ≤ moment) × (ending : Ending)
-      × Moves (run_meaning store_meaning) old (Tried (settling digest until) ending) new)
+      × Moves (run_meaning (in_use store_meaning)) old (Tried (settling digest until) ending) new)
 
   -- a search that goes on at a moment found none that is overdue, but for a number that no tenant
   -- has; or it found one, whose tenant was settled to the time that it told
@@ -51,7 +52,7 @@ module _ {D : Type 0} {g : disk.Ghosts D} where
       FindsNoneListed moment search searched old new
   HasSettled moment search searched old new (Ok (Some overdue)) =
       FindsOverdue old.due moment search searched overdue.number (piece_of overdue)
-      × Moves (run_meaning store_meaning) old
+      × Moves (run_meaning (in_use store_meaning)) old
       (Tried (settling overdue.digest overdue.until) Done) new
   HasSettled moment search searched old new (Err why) = Unit {0}
 

@@ -8,6 +8,7 @@ ghost use Rattle.commands.specs.Undone.{IsNotCopied, IsUndone};
 
 use crate::calling::real_path;
 use crate::opening::open_file;
+use chain::InUse;
 use command_texts::Fault;
 use control::is_from_root;
 pub(crate) use copies::Progress;
@@ -39,7 +40,7 @@ pub(crate) fn copy_file<St: Start>(
     db: &str,
     to: &str,
     start: St,
-) -> Result<(u64, Store<FileFrom<St>>), Fault>
+) -> Result<(u64, InUse<Store<FileFrom<St>>>), Fault>
     ensures opened { IfOk result (λ done. IsFrom (image_at St.Start) done.1) }
     ensures fault { IfErr result
         (IsUndone ⟦<FileFrom<St> as Disk>⟧ (image_at St.Start) IsNotCopied) }

@@ -1,3 +1,4 @@
+use chain::InUse;
 use control::Answer;
 use migrate::LedgerOfVersion;
 use sqlite::Files;
@@ -6,7 +7,7 @@ use store::Store;
 
 /// What a command leaves where it ends without a fault.
 #[derive(Drop)]
-pub(crate) struct Ended<'a, O, D: Disk> {
+pub(crate) struct Ended<'a, O, D: Disk + Drop> {
     /// Standard output.
     pub(crate) out: O,
     /// Whether damage was told there.
@@ -18,11 +19,11 @@ pub(crate) struct Ended<'a, O, D: Disk> {
 
 /// What a command has of the ledger in a file, where it ends.
 #[derive(Drop)]
-pub(crate) enum Held<D: Disk> {
+pub(crate) enum Held<D: Disk + Drop> {
     Nothing,
     /// The service that has the file has answered so.
     Asked(Answer),
-    Opened(Store<D>),
+    Opened(InUse<Store<D>>),
     /// It was brought to a version.
     Migrated(LedgerOfVersion<D>),
     /// It was not opened, as it is damaged.

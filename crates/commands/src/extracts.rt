@@ -24,7 +24,6 @@ fn extract_of<L: Ledgers>(
     account: u128,
     asked: &Asked,
 ) -> Result<Extract, Fault>
-    requires { L.means.is_usable ledgers.old }
     ensures found { L.means.is_live ledgers.new → IsExtractFound
         (L.means.tenants ledgers.old digest.now) account asked.now result }
     ensures reads { ReadsOnly L.means ledgers.old ledgers.new }
@@ -61,7 +60,6 @@ fn transfers_of<L: Ledgers>(
     is_wide: bool,
     extract: &Extract,
 ) -> Result<Vec<Transfer>, Fault>
-    requires { L.means.is_usable ledgers.old }
     ensures told { L.means.is_live ledgers.new → IfOk result (λ found. AreTransfersOf
         (L.means.tenants ledgers.old digest.now) is_wide (kept_of extract.now) found.items) }
     ensures fault { IfErr result (λ fault. fault ≡ Fault.Unavailable) }
@@ -85,7 +83,6 @@ fn text_asked<L: Ledgers>(
     account: u128,
     asked: &Asked,
 ) -> Result<Vec<u8>, Fault>
-    requires { L.means.is_usable ledgers.old }
     ensures told { L.means.is_live ledgers.new → IfOk result (λ text. IsTextAsked
         (L.means.tenants ledgers.old digest.now) account asked.now text.items) }
     ensures fault { L.means.is_live ledgers.new → IfErr result (IsAbsenceTold
@@ -109,8 +106,7 @@ pub(crate) fn write_extract<L: Ledgers, O: Drain + Drop>(
     asked: &Asked,
     mut out: O,
 ) -> (O, Result<(), Fault>)
-    requires usable { L.means.is_usable ledgers.old }
-    requires open { O.failed out ≡ false }
+    requires { O.failed out ≡ false }
     ensures told { L.means.is_live ledgers.new → IsExtractTold O.written
         (L.means.tenants ledgers.old digest.now) account asked.now out result.0 result.1 }
     ensures reads { ReadsOnly L.means ledgers.old ledgers.new }

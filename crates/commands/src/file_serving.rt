@@ -15,7 +15,9 @@ use crate::opening::{ServedFile, open_served};
 use crate::renewing::Home;
 use crate::serving::Served;
 use crate::store_serving::{EndedService, serve_to_end};
+use crate::stores::may_be_called;
 use crate::{RisingClock, SystemMoments};
+use chain::InUse;
 use command_line::LimitWords;
 use command_texts::{Fault, tell_fault};
 use metered_disk::Meter;
@@ -55,7 +57,7 @@ impl<'a> Home<ServedFile<'a>> for HostFile<'a> {
     fn open_store(
         &self,
         left: &mut Option<Files<ServedFile<'a>>>,
-    ) -> Result<Store<ServedFile<'a>>, Fault> {
+    ) -> Result<InUse<Store<ServedFile<'a>>>, Fault> {
         *left = None;
         self.began.set(self.now());
         open_served(self.rt, self.path, &self.audit, self.meter)
@@ -80,7 +82,7 @@ impl<'a> Home<ServedFile<'a>> for HostFile<'a> {
         self.bell.set_tally(tally);
     }
 
-    fn tell_answers(&self, _store: &Store<ServedFile<'a>>) {
+    fn tell_answers(&self, _store: &InUse<Store<ServedFile<'a>>>) {
         if self.is_told.get() {
             let path = self.path;
             let _ = self.rt.eprintln(format_args!("serving {path} again"));
@@ -106,12 +108,15 @@ impl<'a> HostFile<'a> {
 
     // The store, if it can be opened now; none where another process has the file and it is waited
     // for.
-    fn first_store(&self, standby: bool) -> Result<Option<Store<ServedFile<'a>>>, Fault>
+    fn first_store(&self, standby: bool) -> Result<Option<InUse<Store<ServedFile<'a>>>>, Fault>
         ensures first { IfOk result (IsServedFirst standby) }
         ensures fault { IfErr result (RefusesSome ⟦<ServedFile<'a> as Disk>⟧) }
     {
         match self.open_store(&mut None) {
-            Ok(store) => Ok(Some(store)),
+            Ok(store) => {
+                may_be_called(&store);
+                Ok(Some(store))
+            }
             Err(Fault::InUse) if standby => Ok(None),
             Err(fault) => Err(fault),
         }

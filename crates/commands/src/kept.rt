@@ -1,10 +1,13 @@
 //! Ledgers that may not be there.
 ghost use Rattle.std.specs.Prelude.{◌≡◌};
 ghost use Rattle.commands.specs.Kept.{kept_meaning, kept_stays, kept_then, kept_lived};
-ghost use Rattle.commands.specs.Kept.{kept_fails, kept_of, kept_valid};
+ghost use Rattle.commands.specs.Kept.{kept_fails, kept_of, kept_valid, MayBeCalled};
 
-use chain::{BatchFault, Ledgers, RoundWork, Rounds, Work};
+use crate::stores;
+use chain::{BatchFault, InUse, Ledgers, RoundWork, Rounds, Work};
 use records::Unavailable;
+use sqlite_disk::Disk;
+use store::Store;
 
 /// Ledgers, or none where they cannot be opened.
 #[derive(Drop)]
@@ -23,6 +26,15 @@ impl<L> Kept<L> {
             Some(ledgers) => Kept::Open(ledgers),
             None => Kept::Closed,
         }
+    }
+}
+
+/// A law: the store, if it is there, may be called.
+pub(crate) fn may_be_called<D: Disk + Drop>(kept: &Kept<InUse<Store<D>>>)
+    ensures { MayBeCalled kept.now }
+{
+    if let Kept::Open(store) = kept {
+        stores::may_be_called(store);
     }
 }
 
@@ -62,7 +74,7 @@ impl<L: Ledgers> Ledgers for Kept<L> {
 
     ghost fails = { λ a b follows failed. kept_fails L.means L.fails a b follows failed };
 
-    ghost valid = { λ a live usable. kept_valid L.means L.valid a live usable };
+    ghost valid = { λ a live. kept_valid L.means L.valid a live };
 }
 
 impl<L: Rounds> Rounds for Kept<L> {

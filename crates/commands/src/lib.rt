@@ -36,6 +36,7 @@ mod settling;
 mod statements;
 mod status;
 mod store_serving;
+mod stores;
 mod tally;
 mod whole_program;
 

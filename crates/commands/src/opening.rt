@@ -4,12 +4,13 @@ ghost use Rattle.sqlite_wal.specs.Files.{image_at};
 ghost use Rattle.sqlite_wal.specs.Recovery.{Image};
 ghost use Rattle.migrate.specs.Ledgers.{IsMigratable, IsOpenedToMigrate};
 ghost use Rattle.openings.specs.Found.{AreOnlyThere, Yields};
-ghost use Rattle.store.specs.Stores.{AnswersCalls, IsUsable};
+ghost use Rattle.store.specs.Stores.{AnswersCalls};
 ghost use Rattle.commands.specs.Holding.{IsOpenedOrMade, IsFoundAs, IsFrom, IsMade};
 ghost use Rattle.commands.specs.Openings.{HasFoundSome, IsFoundFault, IsOpeningFault, IsUnopened, open_fault};
 ghost use Rattle.commands.specs.Openings.{RefusesImage, RefusesOlder, RefusesSome};
 
 use audit::Damage;
+use chain::InUse;
 use command_texts::Fault;
 use metered_disk::{Meter, Metered, measured};
 use migrate::LedgerOfVersion;
@@ -47,13 +48,13 @@ pub(crate) fn open_file<St: Start>(
     rt: &HostRuntime,
     path: &str,
     start: St,
-) -> Result<Store<FileFrom<St>>, Fault>
+) -> Result<InUse<Store<FileFrom<St>>>, Fault>
     ensures opened { IfOk result (IsFrom (image_at St.Start)) }
     ensures fault { IfErr result (RefusesImage ⟦<FileFrom<St> as Disk>⟧ (image_at St.Start)) }
 {
     let options = prepared(rt, path)?;
     match Store::open_at(rt, path, start, options, &FullAudit) {
-        Ok(store) => Ok(store),
+        Ok(store) => Ok(InUse { backend: store }),
         Err((fault, _files)) => Err(open_fault(fault)),
     }
 }
@@ -67,8 +68,7 @@ pub(crate) fn open_served<'a, A: Audit>(
     path: &str,
     audit: &A,
     meter: &'a Meter,
-) -> Result<Store<ServedFile<'a>>, Fault>
-    ensures usable { IfOk result IsUsable }
+) -> Result<InUse<Store<ServedFile<'a>>>, Fault>
     ensures ready { IfOk result AnswersCalls }
     ensures fault { IfErr result (RefusesSome ⟦<ServedFile<'a> as Disk>⟧) }
 {
@@ -83,23 +83,22 @@ fn open_measured<'a, A: Audit>(
     path: &str,
     audit: &A,
     meter: &'a Meter,
-) -> Result<Store<ServedFile<'a>>, OpenFault>
-    ensures usable { IfOk result IsUsable }
+) -> Result<InUse<Store<ServedFile<'a>>>, OpenFault>
     ensures ready { IfOk result AnswersCalls }
     ensures fault { IfErr result (IsFoundFault (HasFoundSome ⟦<ServedFile<'a> as Disk>⟧)) }
 {
     find(rt, path)?;
     let files = measured(files_at(rt, path, Unknown)?, rt, meter);
     match Store::open(rt.alloc(), files, options(rt, SERVED_PAGES)?, audit) {
-        Ok(store) => Ok(store),
+        Ok(store) => Ok(InUse { backend: store }),
         Err((fault, _files)) => Err(fault),
     }
 }
 
 /// A ledger that was opened, or made.
 #[derive(Drop)]
-pub(crate) struct Opened<D: Disk> {
-    pub(crate) store: Store<D>,
+pub(crate) struct Opened<D: Disk + Drop> {
+    pub(crate) store: InUse<Store<D>>,
     pub(crate) is_new: bool,
 }
 
@@ -110,7 +109,6 @@ pub(crate) fn open_or_make<St: Start>(
     path: &str,
     start: St,
 ) -> Result<Opened<FileFrom<St>>, Fault>
-    ensures usable { IfOk result (λ opened. IsUsable opened.store) }
     ensures begun { IfOk result (λ opened.
         IsOpenedOrMade opened.is_new (image_at St.Start) opened.store) }
     ensures fault { IfErr result (RefusesImage ⟦<FileFrom<St> as Disk>⟧ (image_at St.Start)) }
@@ -144,9 +142,9 @@ pub(crate) fn open_to_migrate<St: Start>(
 
 /// What an audit of the ledger in a file has found.
 #[derive(Drop)]
-pub(crate) enum Audited<D: Disk> {
+pub(crate) enum Audited<D: Disk + Drop> {
     /// No damage: it is open.
-    Sound(Store<D>),
+    Sound(InUse<Store<D>>),
     /// The first damage, and the files.
     Damaged(Damage, Files<D>),
 }
@@ -162,7 +160,7 @@ pub(crate) fn examine<St: Start>(
 {
     let options = prepared(rt, path)?;
     match Store::open_at(rt, path, start, options, &FullAudit) {
-        Ok(store) => Ok(Audited::Sound(store)),
+        Ok(store) => Ok(Audited::Sound(InUse { backend: store })),
         Err((OpenFault::Damaged(damage), Some(files))) => Ok(Audited::Damaged(damage, files)),
         Err((fault, _files)) => Err(open_fault(fault)),
     }
@@ -236,7 +234,6 @@ fn make_file(rt: &HostRuntime, path: &str) -> Result<(), Fault>
 }
 
 fn make<St: Start>(rt: &HostRuntime, path: &str, start: St) -> Result<Opened<FileFrom<St>>, Fault>
-    ensures usable { IfOk result (λ opened. IsUsable opened.store) }
     ensures begun { IfOk result (λ opened.
         IsOpenedOrMade opened.is_new (image_at St.Start) opened.store) }
     ensures fault { IfErr result (RefusesImage ⟦<FileFrom<St> as Disk>⟧ (image_at St.Start)) }
@@ -244,7 +241,7 @@ fn make<St: Start>(rt: &HostRuntime, path: &str, start: St) -> Result<Opened<Fil
     let options = small_options(rt)?;
     match Store::create_at(rt, path, start, options) {
         Ok(store) => Ok(Opened {
-            store,
+            store: InUse { backend: store },
             is_new: true,
         }),
         Err((fault, _files)) => Err(open_fault(fault)),
@@ -258,7 +255,6 @@ fn open_or_make_in<St: Start>(
     path: &str,
     start: St,
 ) -> Result<Opened<FileFrom<St>>, Fault>
-    ensures usable { IfOk result (λ opened. IsUsable opened.store) }
     ensures begun { IfOk result (λ opened.
         IsOpenedOrMade opened.is_new (image_at St.Start) opened.store) }
     ensures fault { IfErr result (RefusesImage ⟦<FileFrom<St> as Disk>⟧ (image_at St.Start)) }
@@ -266,7 +262,7 @@ fn open_or_make_in<St: Start>(
     let options = small_options(rt)?;
     match Store::open_at(rt, path, start, options, &FullAudit) {
         Ok(store) => Ok(Opened {
-            store,
+            store: InUse { backend: store },
             is_new: false,
         }),
         Err((OpenFault::NotALedger, Some(files))) => Ok(Opened {
@@ -282,7 +278,7 @@ fn make_in<D: Disk + Drop>(
     rt: &HostRuntime,
     files: Files<D>,
     options: Options,
-) -> Result<Store<D>, Fault>
+) -> Result<InUse<Store<D>>, Fault>
     ensures made { IfOk result (λ store. (image : Image) → Yields D.Disk files (AreOnlyThere image)
         → IsMade image store) }
     ensures fault { IfErr result
@@ -293,7 +289,7 @@ fn make_in<D: Disk + Drop>(
         return Err(Fault::Unavailable);
     }
     match Store::create(rt.alloc(), files, options) {
-        Ok(store) => Ok(store),
+        Ok(store) => Ok(InUse { backend: store }),
         Err((OpenFault::Unreadable, _files)) => Err(Fault::NotALedger),
         Err((fault, _files)) => Err(open_fault(fault)),
     }

@@ -1,15 +1,14 @@
 //! What an operator asks of a store while it is served, and what is done for it.
 ghost use Rattle.std.specs.Prelude.{◌≡◌, Bool};
-ghost use Rattle.store.specs.Stores.{IsUsable};
-ghost use Rattle.store.specs.StoreLaws.{store_meaning};
-ghost use Rattle.commands.specs.Kept.{Attends, MayBeCalled};
+ghost use Rattle.commands.specs.Kept.{Attends};
 ghost use Rattle.commands.specs.Orders.{CarriesOut, IsToldOfOrder};
 
 use crate::adding::add_tenant;
 use crate::kept::Kept;
 use crate::keying::change_key;
 use crate::pieces::read_piece;
-use chain::{AccountEntry, Listed};
+use crate::stores::may_be_called;
+use chain::{AccountEntry, InUse, Listed};
 use command_texts::Fault;
 use records::Span;
 use sqlite_disk::Disk;
@@ -80,18 +79,20 @@ pub trait Orders {
 // Carries out an order on a store.
 fn carry_out_on<D: Disk + Drop>(
     alloc: Global,
-    store: &mut Store<D>,
+    store: &mut InUse<Store<D>>,
     order: &Order,
 ) -> Result<Done, Fault>
-    requires { IsUsable store.old }
-    ensures done { CarriesOut order.now store.old result store.new }
-    ensures usable { IsUsable store.new }
+    ensures { CarriesOut order.now store.old result store.new }
 {
     match order {
-        Order::Tenants => match store.tenants() {
-            Ok(tenants) => Ok(Done::Listed(tenants)),
-            Err(_) => Err(Fault::Unavailable),
-        },
+        Order::Tenants => {
+            let listed = store.backend.tenants();
+            may_be_called(store);
+            match listed {
+                Ok(tenants) => Ok(Done::Listed(tenants)),
+                Err(_) => Err(Fault::Unavailable),
+            }
+        }
         Order::AddTenant { name, digest } => {
             add_tenant(store, name, digest)?;
             Ok(Done::Changed)
@@ -111,14 +112,12 @@ fn carry_out_on<D: Disk + Drop>(
 /// Carries out an order, and tells what it came to. Where no store is there, that is `Unavailable`.
 pub(crate) fn carry_out<D: Disk + Drop, O: Orders>(
     alloc: Global,
-    kept: &mut Kept<Store<D>>,
+    kept: &mut Kept<InUse<Store<D>>>,
     orders: &mut O,
     order: &Order,
 )
-    requires { MayBeCalled kept.old }
     ensures told { IsToldOfOrder O.tells order.now orders.old kept.old orders.new kept.new }
     ensures renews { Attends kept.old kept.new }
-    ensures usable { MayBeCalled kept.new }
 {
     match kept {
         Kept::Open(store) => {

@@ -19,6 +19,8 @@ use crate::ended::{Ended, Held};
 use crate::opening::{Audited, examine, open_file, open_to_migrate};
 use crate::served_statements::{ask_first, write_served};
 use crate::statements::write_asked;
+use crate::stores::may_be_called;
+use chain::InUse;
 use command_line::StatementWords;
 use command_texts::{
     Fault, account_id, damage_line, name, put_copied, put_schema, put_stopped, put_text, version,
@@ -32,7 +34,7 @@ use store::Store;
 use tenants::TenantName;
 
 /// Tells what the service that has a file tells of itself.
-pub(crate) fn run_status<O: Drain + Drop, D: Disk>(
+pub(crate) fn run_status<O: Drain + Drop, D: Disk + Drop>(
     rt: &HostRuntime,
     db: &str,
     as_metrics: bool,
@@ -108,7 +110,7 @@ fn copy<St: Start>(
 }
 
 /// Stops the service that has a file, and tells so once it has let go of it.
-pub(crate) fn run_stop<O: Drain + Drop, D: Disk>(
+pub(crate) fn run_stop<O: Drain + Drop, D: Disk + Drop>(
     rt: &HostRuntime,
     db: &str,
     mut out: O,
@@ -193,7 +195,7 @@ fn write_unserved<St: Start, O: Drain + Drop>(
     asked: &Asked,
     start: St,
     out: O,
-) -> Result<(O, Store<FileFrom<St>>), Fault>
+) -> Result<(O, InUse<Store<FileFrom<St>>>), Fault>
     requires { O.failed out ≡ false }
     ensures written { IfOk result (λ done. HasWrittenStatement (image_at St.Start)
         (IsWrittenFrom O.written tenant.now account asked.now out done.0) done.1) }
@@ -203,12 +205,13 @@ fn write_unserved<St: Start, O: Drain + Drop>(
         O.written tenant.now account asked.now out fault) }
 {
     let mut store = open_file(rt, db, start)?;
-    let Ok(found) = store.digest_of(tenant) else {
+    let Ok(found) = store.backend.digest_of(tenant) else {
         return Err(Fault::Unavailable);
     };
     let digest = found.ok_or(Fault::NoTenant)?;
-    let out = write_asked(rt.alloc(), &mut store, &digest, account, asked, out)?;
-    Ok((out, store))
+    let written = write_asked(rt.alloc(), &mut store, &digest, account, asked, out);
+    may_be_called(&store);
+    Ok((written?, store))
 }
 
 /// Audits a file, and tells its first damage, or that there is none.

@@ -16,6 +16,7 @@ use crate::given_key::GivenKey;
 use crate::keying::change_key;
 use crate::listing::listed;
 use crate::opening::{open_file, open_or_make};
+use chain::InUse;
 use command_texts::{Fault, key_digest, name, put_added, put_changed};
 use control::{Call, added_in, changed_in, put_listed};
 use records::Drain;
@@ -86,7 +87,7 @@ fn add_to<'a, St: Start>(
     tenant: &TenantName,
     digest: &[u8; 32],
     start: St,
-) -> Result<(Option<&'a str>, Store<FileFrom<St>>), Fault>
+) -> Result<(Option<&'a str>, InUse<Store<FileFrom<St>>>), Fault>
     ensures made { IfOk result (λ done. IsNoneOr db.now (text_in done.0)) }
     ensures added { IfOk result (λ done.
         HasAdded (image_at St.Start) (text_in done.0) tenant.now digest.now done.1) }
@@ -164,7 +165,7 @@ fn change_in<St: Start>(
     tenant: &TenantName,
     digest: &[u8; 32],
     start: St,
-) -> Result<Store<FileFrom<St>>, Fault>
+) -> Result<InUse<Store<FileFrom<St>>>, Fault>
     ensures changed { IfOk result (HasChanged (image_at St.Start) tenant.now digest.now) }
     ensures fault { IfErr result (λ fault.
         RefusesImage ⟦<FileFrom<St> as Disk>⟧ (image_at St.Start) fault
@@ -221,7 +222,7 @@ fn list_in<St: Start, O: Drain>(
     db: &str,
     start: St,
     out: &mut O,
-) -> Result<Store<FileFrom<St>>, Fault>
+) -> Result<InUse<Store<FileFrom<St>>>, Fault>
     requires { O.failed out.old ≡ false }
     ensures listed { IfOk result
         (HasListed (image_at St.Start) (O.written out.old) (O.written out.new)) }
@@ -229,7 +230,7 @@ fn list_in<St: Start, O: Drain>(
         (IsUndone ⟦<FileFrom<St> as Disk>⟧ (image_at St.Start) (λ fault. ⊥)) }
 {
     let mut store = open_file(rt, db, start)?;
-    let Ok(tenants) = store.tenants() else {
+    let Ok(tenants) = store.backend.tenants() else {
         return Err(Fault::Unavailable);
     };
     let body = listed(rt.alloc(), tenants.as_slice())?;

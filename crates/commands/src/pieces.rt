@@ -1,16 +1,18 @@
 //! Pieces of an account's statement, each read in a batch of its own.
 ghost use Rattle.std.specs.Prelude.{◌≡◌, [], IfSome};
+ghost use Rattle.chain.specs.Backends.{in_use};
 ghost use Rattle.parts.specs.Parts.{IsPart};
 ghost use Rattle.service.specs.Courses.{Tried};
 ghost use Rattle.service.specs.Openings.{run_meaning, Moves};
 ghost use Rattle.store.specs.StoreLaws.{store_meaning};
-ghost use Rattle.store.specs.Stores.{IsLive, IsUsable, OfDatabase, tenants_of};
+ghost use Rattle.store.specs.Stores.{IsLive, OfDatabase, tenants_of};
 ghost use Rattle.commands.specs.Endings.{ending_told};
 ghost use Rattle.commands.specs.Pieces.{asked_for, piece_told, machine_named};
 ghost use Rattle.commands.specs.Pieces.{IsPieceTold, IsReadForOperator, IsTried};
 
 use crate::orders::Done;
-use chain::{AccountEntry, Listed, ReadFault};
+use crate::stores::{is_settled, may_be_called};
+use chain::{AccountEntry, InUse, Listed, ReadFault};
 use command_texts::Fault;
 use parts::{Part, Rest};
 use records::Span;
@@ -36,55 +38,52 @@ fn piece_told(read: Result<Listed<AccountEntry>, ReadFault>) -> Result<Done, Fau
 // Reads a piece of the statement of the tenant with a digest.
 fn entries_of<D: Disk + Drop>(
     alloc: Global,
-    store: &mut Store<D>,
+    store: &mut InUse<Store<D>>,
     digest: &[u8; 32],
     account: u128,
     span: &Span,
 ) -> Result<Done, Fault>
-    requires { IsUsable store.old }
     ensures told { IsLive store.new
         → IsPieceTold account span.now (tenants_of store.old digest.now) result }
-    ensures moves { Moves (run_meaning store_meaning) store.old
+    ensures moves { Moves (run_meaning (in_use store_meaning)) store.old
         (Tried (asked_for digest.now account) (ending_told result)) store.new }
-    ensures usable { IsUsable store.new }
+    ensures lived { IsLive store.new → IsLive store.old }
 {
     let read = parts::read_piece(alloc, store, digest, account, span);
-    store.is_settled();
+    is_settled(store);
     piece_told(read)
 }
 
 /// Reads the part of a statement that comes next for a client that is told it.
 pub(crate) fn next_part<D: Disk + Drop>(
     alloc: Global,
-    store: &mut Store<D>,
+    store: &mut InUse<Store<D>>,
     rest: &Rest,
 ) -> Option<Part>
-    requires { IsUsable store.old }
     ensures told { IfSome result (λ part. IsLive store.new
         → IsPart [] (tenants_of store.new rest.now.digest) rest.now part) }
     ensures tried { IsTried store.old store.new }
-    ensures usable { IsUsable store.new }
 {
     let read = rest.part(alloc, store, b"");
-    store.is_settled();
+    is_settled(store);
     read.ok()
 }
 
 /// Reads a piece of an account's statement for an operator.
 pub(crate) fn read_piece<D: Disk + Drop>(
     alloc: Global,
-    store: &mut Store<D>,
+    store: &mut InUse<Store<D>>,
     tenant: &TenantName,
     account: u128,
     span: &Span,
 ) -> Result<Done, Fault>
-    requires { IsUsable store.old }
     ensures told { IsLive store.new → OfDatabase
         (λ db. IsPieceTold account span.now (machine_named tenant.now db.trees) result) store.old }
     ensures read { IsReadForOperator account store.old result store.new }
-    ensures usable { IsUsable store.new }
 {
-    match store.digest_of(tenant) {
+    let found = store.backend.digest_of(tenant);
+    may_be_called(store);
+    match found {
         Ok(Some(digest)) => entries_of(alloc, store, &digest, account, span),
         Ok(None) => Err(Fault::NoTenant),
         Err(_) => Err(Fault::Unavailable),

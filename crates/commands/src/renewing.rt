@@ -1,11 +1,12 @@
 //! A store that is seen to between turns: opened again where its disk fails, an operator's orders
 //! are carried out on it, and holds that are due are released.
 ghost use Rattle.std.specs.Prelude.{◌≡◌, ◌≤◌, ◌*◌, min, false, IfErr, IfOk, IsTrue, OnErr, OnOk};
+ghost use Rattle.chain.specs.Backends.{in_use};
 ghost use Rattle.service.specs.Openings.{run_meaning, IsSettled, IsOpened};
-ghost use Rattle.store.specs.Stores.{IsLive, AnswersCalls, IsUsable};
+ghost use Rattle.store.specs.Stores.{AnswersCalls};
 ghost use Rattle.store.specs.StoreLaws.{store_meaning};
 ghost use Rattle.commands.specs.Behind.{MayWait};
-ghost use Rattle.commands.specs.Kept.{answers, kept_store, IsLiveKept, MayBeCalled};
+ghost use Rattle.commands.specs.Kept.{answers, kept_store, IsLiveKept};
 ghost use Rattle.commands.specs.Kept.{Attends, GivesFiles, IsOpenedAnew, IsRefusedAgain, Renews};
 ghost use Rattle.commands.specs.Openings.{IsOpeningFault};
 
@@ -15,6 +16,8 @@ use crate::orders::{Orders, carry_out};
 use crate::pieces::next_part;
 use crate::serving::Stops;
 use crate::settling::Settler;
+use crate::stores::is_settled;
+use chain::InUse;
 use command_texts::Fault;
 use parts::{Part, Rest};
 use polling::Steward;
@@ -37,7 +40,7 @@ pub trait Home<D: Disk + Drop> {
     ghost use Rattle.std.specs.Prelude.{IfErr, IfOk, Option};
     ghost use Rattle.sqlite_disk.specs.declared.Files.{Files};
     ghost use Rattle.chain.specs.Ledgers.{Tenants};
-    ghost use Rattle.store.specs.Stores.{AnswersCalls, IsUsable, tenants_of};
+    ghost use Rattle.store.specs.Stores.{AnswersCalls, tenants_of};
     ghost use Rattle.commands.specs.Openings.{IsOpeningFault, RefusesSome};
 
     // Which tenants a store may have that it opens in the place of one that gave these files back.
@@ -45,9 +48,8 @@ pub trait Home<D: Disk + Drop> {
 
     /// Opens a store in the place of one that gave these files back, if there was one, and first
     /// lets go of them.
-    fn open_store(&self, left: &mut Option<Files<D>>) -> Result<Store<D>, Fault>
+    fn open_store(&self, left: &mut Option<Files<D>>) -> Result<InUse<Store<D>>, Fault>
         ensures opens { IfOk result (λ store. opens left.old (tenants_of store)) }
-        ensures usable { IfOk result IsUsable }
         ensures ready { IfOk result AnswersCalls }
         ensures fault { IfErr result (RefusesSome D.Disk) };
 
@@ -63,7 +65,7 @@ pub trait Home<D: Disk + Drop> {
     fn settles(&self, _is_busy: bool) {}
 
     /// Is told that a store answers calls again.
-    fn tell_answers(&self, store: &Store<D>)
+    fn tell_answers(&self, store: &InUse<Store<D>>)
         requires { AnswersCalls store.now };
 }
 
@@ -132,20 +134,20 @@ impl<H, K: Clock, O: Orders> Stops for Renewing<'_, H, K, O> {
     }
 }
 
-impl<D: Disk + Drop, H: Home<D>, K: Clock, O: Orders> Steward<Kept<Store<D>>>
+impl<D: Disk + Drop, H: Home<D>, K: Clock, O: Orders> Steward<Kept<InUse<Store<D>>>>
     for Renewing<'_, H, K, O> {
     ghost renews = { λ old new. Renews H.opens old new };
 
     ghost waits = { MayWait };
 
-    fn is_settled(kept: &Kept<Store<D>>) {
+    fn is_settled(kept: &Kept<InUse<Store<D>>>) {
         match kept {
-            Kept::Open(store) => store.is_settled(),
+            Kept::Open(store) => is_settled(store),
             Kept::Closed => {}
         }
     }
 
-    fn attend(&mut self, kept: &mut Kept<Store<D>>) {
+    fn attend(&mut self, kept: &mut Kept<InUse<Store<D>>>) {
         match self.orders.next(is_answering(kept)) {
             Some(order) => carry_out(self.alloc, kept, &mut self.orders, &order),
             None => {
@@ -159,7 +161,7 @@ impl<D: Disk + Drop, H: Home<D>, K: Clock, O: Orders> Steward<Kept<Store<D>>>
         }
     }
 
-    fn reads(alloc: Global, kept: &mut Kept<Store<D>>, rest: &Rest) -> Option<Part> {
+    fn reads(alloc: Global, kept: &mut Kept<InUse<Store<D>>>, rest: &Rest) -> Option<Part> {
         match kept {
             Kept::Open(store) => next_part(alloc, store, rest),
             Kept::Closed => None,
@@ -176,11 +178,9 @@ fn settle<D: Disk + Drop, H: Home<D>, K: Clock>(
     home: &H,
     clock: &K,
     settler: &mut Settler,
-    kept: &mut Kept<Store<D>>,
+    kept: &mut Kept<InUse<Store<D>>>,
 )
-    requires { MayBeCalled kept.old }
-    ensures renews { Attends kept.old kept.new }
-    ensures usable { MayBeCalled kept.new }
+    ensures { Attends kept.old kept.new }
 {
     if settler.rests(clock) {
         return;
@@ -196,12 +196,10 @@ fn renew<D: Disk + Drop, H: Home<D>, K: Clock>(
     home: &H,
     clock: &K,
     pause: &mut Option<Pause>,
-    kept: &mut Kept<Store<D>>,
+    kept: &mut Kept<InUse<Store<D>>>,
 )
-    requires usable { MayBeCalled kept.old }
-    requires silent { answers kept.old ≡ false }
-    ensures renews { Renews H.opens kept.old kept.new }
-    ensures usable { MayBeCalled kept.new }
+    requires { answers kept.old ≡ false }
+    ensures { Renews H.opens kept.old kept.new }
 {
     if !is_time(clock, *pause) {
         return;
@@ -245,16 +243,16 @@ fn next_pause<K: Clock>(clock: &K, before: Option<Pause>, fault: Fault) -> Pause
 }
 
 // Whether a store is there that answers calls.
-fn is_answering<D: Disk + Drop>(kept: &Kept<Store<D>>) -> bool
+fn is_answering<D: Disk + Drop>(kept: &Kept<InUse<Store<D>>>) -> bool
     ensures { result ≡ answers kept.now }
 {
     match kept {
-        Kept::Open(store) => store.is_ready(),
+        Kept::Open(store) => store.backend.is_ready(),
         Kept::Closed => false,
     }
 }
 
-fn tell_answers<D: Disk + Drop, H: Home<D>>(home: &H, kept: &Kept<Store<D>>)
+fn tell_answers<D: Disk + Drop, H: Home<D>>(home: &H, kept: &Kept<InUse<Store<D>>>)
     requires { IsTrue (answers kept.now) }
 {
     if let Kept::Open(store) = kept {
@@ -263,14 +261,14 @@ fn tell_answers<D: Disk + Drop, H: Home<D>>(home: &H, kept: &Kept<Store<D>>)
 }
 
 // Opens a store again over its own files.
-fn reopened<D: Disk + Drop>(store: &mut Store<D>) -> Result<(), OpenFault>
-    ensures usable { IsUsable store.new }
+fn reopened<D: Disk + Drop>(store: &mut InUse<Store<D>>) -> Result<(), OpenFault>
     ensures ready { OnOk result (AnswersCalls store.new) }
-    ensures opened { OnOk result (IsOpened (run_meaning store_meaning) store.old store.new) }
+    ensures opened { OnOk result (IsOpened (run_meaning (in_use store_meaning)) store.old
+        store.new) }
     ensures refused { OnErr result (IsRefusedAgain store.old store.new) }
 {
-    let opened = store.reopen(&FullAudit);
-    store.is_settled();
+    let opened = store.backend.reopen(&FullAudit);
+    is_settled(store);
     match opened {
         Ok(()) => Ok(()),
         Err(refused) => Err(refused.fault),
@@ -278,21 +276,23 @@ fn reopened<D: Disk + Drop>(store: &mut Store<D>) -> Result<(), OpenFault>
 }
 
 // Takes a store away, if there is one, which gives its files back.
-fn take_files<D: Disk + Drop>(kept: &mut Kept<Store<D>>) -> Option<Files<D>>
+fn take_files<D: Disk + Drop>(kept: &mut Kept<InUse<Store<D>>>) -> Option<Files<D>>
     ensures files { GivesFiles kept.old result }
     ensures gone { kept.new ≡ Kept.Closed }
 {
     match mem::replace(kept, Kept::Closed) {
-        Kept::Open(store) => Some(store.close()),
+        Kept::Open(store) => Some(store.into_backend().close()),
         Kept::Closed => None,
     }
 }
 
 // Opens a store anew, where there is none or its files were refused: these go to the home as they
 // are.
-fn open_anew<D: Disk + Drop, H: Home<D>>(home: &H, kept: &mut Kept<Store<D>>) -> Result<(), Fault>
-    requires { IsLiveKept store_meaning kept.old → ⊥ }
-    ensures usable { MayBeCalled kept.new }
+fn open_anew<D: Disk + Drop, H: Home<D>>(
+    home: &H,
+    kept: &mut Kept<InUse<Store<D>>>,
+) -> Result<(), Fault>
+    requires { IsLiveKept store_meaning.ledgers kept.old → ⊥ }
     ensures answers { OnOk result (IsTrue (answers kept.new)) }
     ensures anew { OnOk result (IsOpenedAnew H.opens kept.old kept.new) }
     ensures settled { OnOk result (IsSettled kept_store kept.new) }
@@ -302,7 +302,7 @@ fn open_anew<D: Disk + Drop, H: Home<D>>(home: &H, kept: &mut Kept<Store<D>>) ->
     let mut left = take_files(kept);
     match home.open_store(&mut left) {
         Ok(store) => {
-            store.is_settled();
+            is_settled(&store);
             *kept = Kept::Open(store);
             Ok(())
         }
@@ -314,11 +314,9 @@ fn open_anew<D: Disk + Drop, H: Home<D>>(home: &H, kept: &mut Kept<Store<D>>) ->
 // any other refusal leaves it to be tried again.
 fn opened_again<D: Disk + Drop, H: Home<D>>(
     home: &H,
-    kept: &mut Kept<Store<D>>,
+    kept: &mut Kept<InUse<Store<D>>>,
 ) -> Result<(), Fault>
-    requires usable { MayBeCalled kept.old }
-    requires silent { answers kept.old ≡ false }
-    ensures usable { MayBeCalled kept.new }
+    requires { answers kept.old ≡ false }
     ensures answers { OnOk result (IsTrue (answers kept.new)) }
     ensures renews { Renews H.opens kept.old kept.new }
     ensures fault { IfErr result IsOpeningFault }

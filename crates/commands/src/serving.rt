@@ -45,7 +45,6 @@ pub(crate) fn serve_clients<L: Rounds, H: Steward<L> + Stops, C: Moments, P: Pee
     moments: &mut C,
     most: u64,
 ) -> Result<Served, Fault>
-    requires { L.means.is_usable ledgers.old }
     ensures served { ServesClients (rules L.means C.gives H.renews H.waits P.does)
         (Whole ledgers.old) moments.old peers.old most (Whole ledgers.new) moments.new peers.new
         result }

@@ -1,16 +1,17 @@
 //! Holds that are due are released between turns, a piece at a time.
 ghost use Rattle.std.specs.Prelude.{◌≡◌, ℕ, IsTrue};
+ghost use Rattle.chain.specs.Backends.{in_use};
 ghost use Rattle.service.specs.Courses.{Tried};
 ghost use Rattle.service.specs.Openings.{run_meaning, Moves};
 ghost use Rattle.stored_ledgers.specs.Overdue.{BeginsSearch};
 ghost use Rattle.store.specs.StoreLaws.{store_meaning};
-ghost use Rattle.store.specs.Stores.{IsUsable};
 ghost use Rattle.commands.specs.Behind.{IsEmpty, AsksForOneBehind, NotesPiece, NotesTold, search_behind};
 ghost use Rattle.commands.specs.Settling.{GivesSettled, HasSettled, SettlesPiece, SettlesBy, batch_ending, settling};
 
 use crate::behind::Behind;
 use crate::moments::moment_of;
-use chain::{BatchFault, Ledgers, Tables, Work, run_transfers};
+use crate::stores::{is_settled, may_be_called};
+use chain::{BatchFault, InUse, Ledgers, Tables, Work, run_transfers};
 use ledger_http::asked;
 use records::Unavailable;
 use sqlite_disk::Disk;
@@ -43,21 +44,19 @@ impl Work for Settlement {
 /// Settles the tenant with a digest to a time, in nanoseconds.
 fn settle_tenant<D: Disk + Drop>(
     alloc: Global,
-    store: &mut Store<D>,
+    store: &mut InUse<Store<D>>,
     digest: &[u8; 32],
     until: u64,
 ) -> Result<(), BatchFault>
-    requires { IsUsable store.old }
-    ensures moves { Moves (run_meaning store_meaning) store.old
+    ensures { Moves (run_meaning (in_use store_meaning)) store.old
         (Tried (settling digest.now until) (batch_ending result)) store.new }
-    ensures usable { IsUsable store.new }
 {
     let work = Settlement {
         alloc,
         moment: until,
     };
-    let settled = <Store<D> as Ledgers>::in_batch(store, digest, work);
-    store.is_settled();
+    let settled = store.in_batch(digest, work);
+    is_settled(store);
     settled
 }
 
@@ -65,16 +64,16 @@ fn settle_tenant<D: Disk + Drop>(
 /// nanoseconds. Says which, if any is found.
 fn settle_next<D: Disk + Drop>(
     alloc: Global,
-    store: &mut Store<D>,
+    store: &mut InUse<Store<D>>,
     search: &mut Search,
     moment: u64,
 ) -> Result<Option<Overdue>, BatchFault>
-    requires { IsUsable store.old }
     ensures settles { SettlesBy moment store.old store.new }
     ensures has { HasSettled moment search.old search.new store.old store.new result }
-    ensures usable { IsUsable store.new }
 {
-    match store.overdue(search, moment) {
+    let found = store.backend.overdue(search, moment);
+    may_be_called(store);
+    match found {
         Ok(Some(overdue)) => {
             settle_tenant(alloc, store, &overdue.digest, overdue.until)?;
             Ok(Some(overdue))
@@ -153,10 +152,12 @@ impl Settler {
 
     /// Looks at some tenants, and releases a piece of what is due at one of them by the clock's
     /// moment.
-    pub(crate) fn settle<D: Disk + Drop, K: Clock>(&mut self, clock: &K, store: &mut Store<D>)
-        requires { IsUsable store.old }
-        ensures settles { (moment : ℕ) × SettlesPiece moment self.old self.new store.old store.new }
-        ensures usable { IsUsable store.new }
+    pub(crate) fn settle<D: Disk + Drop, K: Clock>(
+        &mut self,
+        clock: &K,
+        store: &mut InUse<Store<D>>,
+    )
+        ensures { (moment : ℕ) × SettlesPiece moment self.old self.new store.old store.new }
     {
         let begun = clock.monotonic().unwrap_or(Duration::ZERO);
         let moment = moment_of(clock);

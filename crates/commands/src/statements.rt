@@ -23,8 +23,7 @@ pub(crate) fn write_statement<L: Ledgers, O: Drain + Drop>(
     order: Order,
     out: O,
 ) -> (O, Result<(), Fault>)
-    requires usable { L.means.is_usable ledgers.old }
-    requires open { O.failed out ≡ false }
+    requires { O.failed out ≡ false }
     ensures told { L.means.is_live ledgers.new → IsStatementTold O.written
         (answer_in (L.means.tenants ledgers.old digest.now) account order) out result.0 result.1 }
     ensures reads { ReadsOnly L.means ledgers.old ledgers.new }
@@ -52,8 +51,7 @@ pub(crate) fn write_asked<L: Ledgers, O: Drain + Drop>(
     asked: &Asked,
     out: O,
 ) -> Result<O, Fault>
-    requires usable { L.means.is_usable ledgers.old }
-    requires open { O.failed out ≡ false }
+    requires { O.failed out ≡ false }
     ensures told { L.means.is_live ledgers.new → IsGivenBack (IsAskedTold O.written
         (L.means.tenants ledgers.old digest.now) account asked.now out) result }
     ensures reads { ReadsOnly L.means ledgers.old ledgers.new }
@@ -74,8 +72,7 @@ fn put_asked<L: Ledgers, O: Drain + Drop>(
     asked: &Asked,
     out: O,
 ) -> (O, Result<(), Fault>)
-    requires usable { L.means.is_usable ledgers.old }
-    requires open { O.failed out ≡ false }
+    requires { O.failed out ≡ false }
     ensures told { L.means.is_live ledgers.new → IsAskedTold O.written
         (L.means.tenants ledgers.old digest.now) account asked.now out result.0 result.1 }
     ensures reads { ReadsOnly L.means ledgers.old ledgers.new }

@@ -1,15 +1,15 @@
 //! Serves a store to many clients at once, and to an operator.
-ghost use Rattle.std.specs.Prelude.{◌≡◌, IfErr, IfOk, IfSome, IsTrue, Ok};
-ghost use Rattle.store.specs.Stores.{IsUsable};
-ghost use Rattle.commands.specs.Kept.{kept_of, MayBeCalled};
+ghost use Rattle.std.specs.Prelude.{◌≡◌, IfErr, IfOk, IsTrue, Ok};
+ghost use Rattle.commands.specs.Kept.{kept_of};
 ghost use Rattle.commands.specs.Leaving.{HasFailedServing, HasServedStore};
 ghost use Rattle.commands.specs.Serving.{ServesKept, ServesStore};
 
 use crate::desk::HostDesk;
-use crate::kept::Kept;
+use crate::kept::{Kept, may_be_called};
 use crate::orders::Orders;
 use crate::renewing::{Home, Renewing};
 use crate::serving::{Served, serve_clients};
+use chain::InUse;
 use command_texts::Fault;
 use polling::Peers;
 use service::Moments;
@@ -20,9 +20,9 @@ use store::Store;
 
 /// What has served, where that has ended without a fault. Only `serve_to_end` makes one.
 #[derive(Drop)]
-pub struct EndedService<D: Disk, P, C, O> {
+pub struct EndedService<D: Disk + Drop, P, C, O> {
     why: Served,
-    kept: Kept<Store<D>>,
+    kept: Kept<InUse<Store<D>>>,
     peers: P,
     moments: C,
     orders: O,
@@ -59,13 +59,12 @@ pub(crate) fn serve_to_end<
     alloc: Global,
     mut peers: P,
     home: &H,
-    store: Option<Store<D>>,
+    store: Option<InUse<Store<D>>>,
     mut moments: C,
     clock: &K,
     orders: O,
     most: u64,
 ) -> Result<EndedService<D, P, C, O>, (Fault, O)>
-    requires { IfSome store IsUsable }
     ensures served { IfOk result
         (HasServedStore H.opens C.gives P.does (kept_of store) moments peers most) }
     ensures stopped { IfOk result
@@ -114,13 +113,12 @@ pub fn serve_store<D: Disk + Drop, P: Peers, H: Home<D>, C: Moments, K: Clock, O
     alloc: Global,
     peers: &mut P,
     home: &H,
-    store: Option<Store<D>>,
+    store: Option<InUse<Store<D>>>,
     moments: &mut C,
     clock: &K,
     orders: O,
     most: u64,
 ) -> (Result<Served, Fault>, O)
-    requires { IfSome store IsUsable }
     ensures served { ServesStore H.opens C.gives P.does (kept_of store) moments.old peers.old most
         moments.new peers.new result.0 }
     ensures stopped { result.0 ≡ Ok Served.Stopped → IsTrue (O.stops result.1) }
@@ -135,19 +133,20 @@ fn serve_kept<D: Disk + Drop, P: Peers, H: Home<D>, C: Moments, K: Clock, O: Ord
     alloc: Global,
     peers: &mut P,
     home: &H,
-    kept: &mut Kept<Store<D>>,
+    kept: &mut Kept<InUse<Store<D>>>,
     moments: &mut C,
     clock: &K,
     orders: O,
     most: u64,
 ) -> (Result<Served, Fault>, O)
-    requires { MayBeCalled kept.old }
     ensures served { ServesKept H.opens C.gives P.does kept.old moments.old peers.old most
         kept.new moments.new peers.new result.0 }
     ensures stopped { result.0 ≡ Ok Served.Stopped → IsTrue (O.stops result.1) }
     ensures fault { IfErr result.0 (λ fault. fault ≡ Fault.Socket) }
 {
     let mut renewing = Renewing::new(alloc, home, clock, orders);
+    may_be_called(kept);
     let served = serve_clients(alloc, peers, kept, &mut renewing, moments, most);
+    may_be_called(kept);
     (served, renewing.into_orders())
 }

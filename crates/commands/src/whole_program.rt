@@ -47,7 +47,7 @@ pub fn program<S: AsStr, St: Start, O: Drain + Drop, E: Drain>(
 }
 
 // What `version` and `--version` ask for.
-fn write_version<O: Drain + Drop, D: Disk>(mut out: O) -> Result<Ended<'static, O, D>, Fault>
+fn write_version<O: Drain + Drop, D: Disk + Drop>(mut out: O) -> Result<Ended<'static, O, D>, Fault>
     requires { O.failed out ≡ false }
     ensures { TellsVersion O.written out result }
 {

@@ -53,7 +53,6 @@ pub fn read_piece<L: Ledgers>(
     account: u128,
     span: &Span,
 ) -> Result<Listed<AccountEntry>, ReadFault>
-    requires { L.means.is_usable ledgers.old }
     ensures { ReadsTenant L.means digest.now (IsPieceOf account span.now)
         ledgers.old ledgers.new result }
 {

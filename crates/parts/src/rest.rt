@@ -101,7 +101,6 @@ impl Rest {
         ledgers: &mut L,
         before: &[u8],
     ) -> Result<Part, ReadFault>
-        requires { L.means.is_usable ledgers.old }
         ensures { ReadsTenant L.means self.now.digest
             (λ tenant. IsPartTold before.now tenant self.now) ledgers.old ledgers.new result }
     {

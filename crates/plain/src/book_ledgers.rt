@@ -1,10 +1,10 @@
 ghost use Rattle.plain.specs.BookLedgers.{book_meaning};
 
 use crate::Book;
-use chain::{BatchFault, Ledgers, RoundWork, Rounds, Work};
+use chain::{Backend, BatchFault, InUse, RoundBackend, RoundWork, Work};
 use records::Unavailable;
 
-impl Ledgers for Book {
+impl Backend for Book {
     ghost means = { book_meaning };
 
     fn has_failed(&self) -> bool {
@@ -34,16 +34,14 @@ impl Ledgers for Book {
     ghost valid = { λ a live usable. usable };
 }
 
-impl Rounds for Book {
-    // The book is copied first, and the copy takes its place where the work fails.
+impl RoundBackend for Book {
+    // The work is done on a copy, which takes the book's place where it is done.
     fn in_round<W: RoundWork + Drop>(&mut self, work: W) -> Result<W::Output, Unavailable> {
-        let before = self.copy()?;
-        match work.run(self) {
-            Ok(output) => Ok(output),
-            Err(why) => {
-                *self = before;
-                Err(why)
-            }
-        }
+        let mut ledgers = InUse {
+            backend: self.copy()?,
+        };
+        let output = work.run(&mut ledgers)?;
+        *self = ledgers.into_backend();
+        Ok(output)
     }
 }

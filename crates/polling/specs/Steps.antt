@@ -1,7 +1,6 @@
 -- What steps of serving ask for and leave.
 use Rattle.std.specs.Prelude.{◌≡◌, ◌≤◌, ◌<◌, ℕ, true, List, [], Option, Some, Contains, IfSome, IfNone, length}
 use Rattle.std.specs.BTreeMap.{BTreeMap}
-use Rattle.chain.specs.Ledgers.{LedgersMeaning}
 use Rattle.service.specs.declared.turns.Message.{Message}
 use Rattle.service.specs.Seen.{SeenAt}
 use Rattle.parts.specs.declared.rest.Rest.{Rest}
@@ -18,47 +17,26 @@ use Rattle.polling.specs.declared.gathering.Place.{Place}
 use Rattle.polling.specs.declared.gathering.Place.TheVariants as place
 use Rattle.polling.specs.declared.round.Member.{Member}
 
--- all that is there of a reply is written, this is left to be read of it, and the ledgers can be
--- asked
-pub record MayReadPart {S : Type 0} (t : LedgersMeaning S) (ledgers : S)
-    (talk : Talk) (rest : Rest) :
-    Type 0 where
-  pub usable : t.is_usable ledgers
+-- all that is there of a reply is written, and this is left to be read of it
+pub record MayReadPart (talk : Talk) (rest : Rest) : Type 0 where
   pub written : talk.unsent ≡ []
   pub left : talk.rest ≡ Some rest
 
--- a client's next message may be answered, but is not whole, and the ledgers can be asked
-pub record MayReadMore {S : Type 0} (t : LedgersMeaning S) (ledgers : S) (talk : Talk) :
-    Type 0 where
-  pub usable : t.is_usable ledgers
+-- a client's next message may be answered, but is not whole
+pub record MayReadMore (talk : Talk) : Type 0 where
   pub may : may_answer talk ≡ true
   pub more : IsWanting talk.unread
 
--- replies are wanted, and the ledgers can be asked
-pub record WantsReplies {S : Type 0} (t : LedgersMeaning S) (ledgers : S) (most : ℕ) : Type 0 where
-  pub usable : t.is_usable ledgers
-  pub some : 0 < most
-
--- this was served, and the ledgers can be asked again
-pub record LeavesUsable {S : Type 0} (t : LedgersMeaning S) (ledgers : S) (Served : Type 0) :
-    Type 0 where
-  pub serves : Served
-  pub usable : t.is_usable ledgers
-
--- so too, with so many replies at most
-pub record RepliesUpTo {S : Type 0} (most replies : ℕ) (t : LedgersMeaning S) (ledgers : S)
-    (Served : Type 0) : Type 0 where
+-- this was served, with so many replies at most
+pub record RepliesUpTo (most replies : ℕ) (Served : Type 0) : Type 0 where
   pub serves : Served
   pub few : replies ≤ most
-  pub usable : t.is_usable ledgers
 
--- who is seated was served so; where nobody is in that seat, this is so; and the ledgers can be
--- asked again
-pub record ServesIfSeated {S A : Type 0} (result : Option A) (t : LedgersMeaning S) (ledgers : S)
-    (Served : A → Type 0) (Nobody : Type 0) : Type 0 where
+-- who is seated was served so; where nobody is in that seat, this is so
+pub record ServesIfSeated {A : Type 0} (result : Option A) (Served : A → Type 0) (Nobody : Type 0) :
+    Type 0 where
   pub turn : IfSome result Served
   pub none : IfNone result Nobody
-  pub usable : t.is_usable ledgers
 
 -- this was served by writing alone: what is left to be read of the reply stays
 pub record WritesAlone (old new : Talk) (Served : Type 0) : Type 0 where
@@ -95,19 +73,17 @@ pub record CopiesNext {C : Type 0} (gives : C → ℕ → C → Type 0) (seats s
   pub few : length members ≤ most
 
 -- all who were ready were served, with so many replies at most: why that ended, and who had a turn
-pub record ServesReady {S C P : Type 0} (t : LedgersMeaning S) (r : Terms (SeenAt S) C P) (most : ℕ)
-    (ledgers : S) (old new : Held (SeenAt S) C P) (replies : ℕ) : Type 0 where
+pub record ServesReady {S C P : Type 0} (r : Terms (SeenAt S) C P) (most : ℕ)
+    (old new : Held (SeenAt S) C P) (replies : ℕ) : Type 0 where
   pub serves : ServesAll r old new replies
   pub ends : Ends (SeenAt S) C P r (replies ≡ most) old new replies
   pub turns : GivesTurns (SeenAt S) C P r most old new replies
   pub few : replies ≤ most
-  pub usable : t.is_usable ledgers
 
 -- what was left of replies was written, whatever gives the moments: why that ended
-pub record WritesRest {S C P : Type 0} (t : LedgersMeaning S) (r : Terms (SeenAt S) C P)
-    (clients : BTreeMap ℕ Talk) (ledgers : S) (old new : C → Held (SeenAt S) C P) : Type 0 where
+pub record WritesRest {S C P : Type 0} (r : Terms (SeenAt S) C P) (clients : BTreeMap ℕ Talk)
+    (old new : C → Held (SeenAt S) C P) : Type 0 where
   pub serves : (moments : C) → ServesAll r (old moments) (new moments) 0
   pub ends :
       (moments : C) →
       Ends (SeenAt S) C P r (NothingIsLeft clients) (old moments) (new moments) 0
-  pub usable : t.is_usable ledgers

@@ -5,7 +5,7 @@ ghost use Rattle.polling.specs.Serving.{rules};
 ghost use Rattle.polling.specs.Standing.{A_seat, owing};
 ghost use Rattle.polling.specs.Seating.{HadTurn, HadNone, ServesOne, ServesAll, ServesOwed, seats_in, held_by};
 ghost use Rattle.polling.specs.Ending.{IsToldAs, HasTurn, IsIdleNow, NothingIsLeft};
-ghost use Rattle.polling.specs.Steps.{LeavesUsable, ServesIfSeated, WritesRest};
+ghost use Rattle.polling.specs.Steps.{ServesIfSeated, WritesRest};
 
 use crate::seats::Seats;
 use crate::serving::{follow, let_go};
@@ -33,12 +33,10 @@ fn write_left<L: Ledgers, H: Steward<L>, C: Moments, P: Peers>(
     client: &mut Client,
     ledgers: &mut L,
 ) -> Step
-    requires { L.means.is_usable ledgers.old }
-    ensures { LeavesUsable L.means ledgers.new
-        ((done : Step) × ((idle : Bool) × IsToldAs done idle result × ((moments : C) →
+    ensures { (done : Step) × ((idle : Bool) × IsToldAs done idle result × ((moments : C) →
         ServesOne (rules L.means C.gives H.renews H.waits P.does) number
         (Whole ledgers.old) moments peers.old client.old
-        (Whole ledgers.new) moments peers.new client.new done idle 0))) }
+        (Whole ledgers.new) moments peers.new client.new done idle 0)) }
 {
     match write_on::<L, H, C, P>(alloc, peers, number, client, ledgers) {
         Step::More => {
@@ -60,8 +58,7 @@ fn write_in<L: Ledgers, H: Steward<L>, C: Moments, P: Peers>(
     number: u64,
     ledgers: &mut L,
 ) -> Option<Step>
-    requires { L.means.is_usable ledgers.old }
-    ensures { ServesIfSeated result L.means ledgers.new
+    ensures { ServesIfSeated result
         (λ step. (done : Step) × ((idle : Bool) ×
         IsToldAs done idle step × ((moments : C) →
         HadTurn (rules L.means C.gives H.renews H.waits P.does) number
@@ -85,12 +82,10 @@ fn write_one<L: Ledgers, H: Steward<L>, C: Moments, P: Peers>(
     number: u64,
     ledgers: &mut L,
 )
-    requires { L.means.is_usable ledgers.old }
-    ensures { LeavesUsable L.means ledgers.new
-        ((moments : C) →
+    ensures { (moments : C) →
         ServesAll (rules L.means C.gives H.renews H.waits P.does)
         (held_by ledgers.old moments peers.old seats.old)
-        (held_by ledgers.new moments peers.new seats.new) 0) }
+        (held_by ledgers.new moments peers.new seats.new) 0 }
 {
     match write_in::<L, H, C, P>(alloc, peers, &mut seats.clients, number, ledgers) {
         Some(step) => follow::<L, H, C, P>(peers, &mut seats.clients, number, step),
@@ -122,16 +117,14 @@ fn write_next<L: Ledgers, H: Steward<L>, C: Moments, P: Peers>(
     seats: &mut Seats,
     ledgers: &mut L,
 ) -> bool
-    requires { L.means.is_usable ledgers.old }
     ensures turn { IsTrue result → (moments : C) →
         HasTurn (rules L.means C.gives H.renews H.waits P.does)
         (held_by ledgers.old moments peers.old seats.old)
         (held_by ledgers.new moments peers.new seats.new) 0 }
-    ensures quiet { LeavesUsable L.means ledgers.new
-        (result ≡ false → (moments : C) →
+    ensures quiet { result ≡ false → (moments : C) →
         IsIdleNow (rules L.means C.gives H.renews H.waits P.does)
         (held_by ledgers.old moments peers.old seats.old)
-        (held_by ledgers.new moments peers.new seats.new) 0) }
+        (held_by ledgers.new moments peers.new seats.new) 0 }
 {
     match peers.told(seats.next) {
         Told::Joined => {
@@ -158,9 +151,7 @@ pub fn write_rest<L: Ledgers, H: Steward<L>, C: Moments, P: Peers>(
     seats: &mut Seats,
     ledgers: &mut L,
 )
-    requires { L.means.is_usable ledgers.old }
-    ensures { WritesRest L.means (rules L.means C.gives H.renews H.waits P.does)
-        seats.new.clients ledgers.new
+    ensures { WritesRest (rules L.means C.gives H.renews H.waits P.does) seats.new.clients
         (λ moments. held_by ledgers.old moments peers.old seats.old)
         (λ moments. held_by ledgers.new moments peers.new seats.new) }
 {

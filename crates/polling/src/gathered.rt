@@ -30,8 +30,7 @@ fn finish_in<L: Rounds, H: Steward<L>, C: Moments, P: Peers>(
     piece: &mut [u8],
     answers: bool,
 ) -> Option<Turned>
-    requires usable { L.means.is_usable ledgers.old }
-    ensures found { ServesIfSeated result L.means ledgers.new
+    ensures found { ServesIfSeated result
         (λ turned. HadTurn (rules L.means C.gives H.renews H.waits P.does) number
         (Whole ledgers.old) moments.old peers.old (seats_in clients.old)
         (Whole ledgers.new) moments.new peers.new (seats_in clients.new)
@@ -61,8 +60,7 @@ fn finish_one<L: Rounds, H: Steward<L>, C: Moments, P: Peers>(
     piece: &mut [u8],
     most: u64,
 ) -> u64
-    requires { L.means.is_usable ledgers.old }
-    ensures { RepliesUpTo most result L.means ledgers.new
+    ensures { RepliesUpTo most result
         (ServesOwed (rules L.means C.gives H.renews H.waits P.does) (result ≡ most)
         (owing A_turn number ∷ []) []
         (held_by ledgers.old moments.old peers.old seats.old)
@@ -97,8 +95,7 @@ fn finish_each<L: Rounds, H: Steward<L>, C: Moments, P: Peers>(
     piece: &mut [u8],
     most: u64,
 ) -> u64
-    requires { L.means.is_usable ledgers.old }
-    ensures { RepliesUpTo most result L.means ledgers.new
+    ensures { RepliesUpTo most result
         (ServesOwed (rules L.means C.gives H.renews H.waits P.does) (result ≡ most)
         (turns_of numbers.now) []
         (held_by ledgers.old moments.old peers.old seats.old)
@@ -132,8 +129,7 @@ fn share<L: Rounds, H: Steward<L>, C: Moments, P: Peers>(
     gathered: &mut Gathered,
     most: u64,
 ) -> u64
-    requires { L.means.is_usable ledgers.old }
-    ensures replies { RepliesUpTo most result L.means ledgers.new
+    ensures replies { RepliesUpTo most result
         ((peers : P) → (next : ℕ) →
         ServesEach (rules L.means C.gives H.renews H.waits P.does)
         (held (Whole ledgers.old) moments.old peers (seats_in clients.old) next)
@@ -162,8 +158,7 @@ pub(crate) fn serve_due<L: Rounds, H: Steward<L>, C: Moments, P: Peers>(
     gathered: &mut Gathered,
     most: u64,
 ) -> u64
-    requires { L.means.is_usable ledgers.old }
-    ensures replies { RepliesUpTo most result L.means ledgers.new
+    ensures replies { RepliesUpTo most result
         (ServesOwed (rules L.means C.gives H.renews H.waits P.does) (result ≡ most)
         (turns_of gathered.old.numbers.items) (turns_of gathered.new.numbers.items)
         (held_by ledgers.old moments.old peers.old seats.old)

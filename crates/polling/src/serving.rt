@@ -6,7 +6,7 @@ ghost use Rattle.polling.specs.Standing.{A_seat, A_turn, An_end, owing, told_of,
 ghost use Rattle.polling.specs.Seating.{HadTurn, HadNone, IsFollowed, ServesOwed, ServesTold, count_of, seats_in, held_by};
 ghost use Rattle.polling.specs.Ending.{HasDone, replies_of};
 ghost use Rattle.polling.specs.declared.peers.Told.TheVariants.{Late, Nothing};
-ghost use Rattle.polling.specs.Steps.{LeavesUsable, RepliesUpTo, ServesIfSeated, ServesReady, WantsReplies};
+ghost use Rattle.polling.specs.Steps.{RepliesUpTo, ServesIfSeated, ServesReady};
 
 use crate::gathered::serve_due;
 use crate::gathering::{Gathered, Place};
@@ -30,8 +30,7 @@ fn turn_in<L: Ledgers, H: Steward<L>, C: Moments, P: Peers>(
     moments: &mut C,
     piece: &mut [u8],
 ) -> Option<Turned>
-    requires usable { L.means.is_usable ledgers.old }
-    ensures { ServesIfSeated result L.means ledgers.new
+    ensures { ServesIfSeated result
         (λ turned. HadTurn (rules L.means C.gives H.renews H.waits P.does) number
         (Whole ledgers.old) moments.old peers.old (seats_in clients.old)
         (Whole ledgers.new) moments.new peers.new (seats_in clients.new)
@@ -79,12 +78,10 @@ fn serve_one<L: Ledgers, H: Steward<L>, C: Moments, P: Peers>(
     moments: &mut C,
     piece: &mut [u8],
 ) -> bool
-    requires { L.means.is_usable ledgers.old }
-    ensures { LeavesUsable L.means ledgers.new
-        (ServesOwed (rules L.means C.gives H.renews H.waits P.does) ⊥
+    ensures { ServesOwed (rules L.means C.gives H.renews H.waits P.does) ⊥
         (owing A_turn number ∷ []) []
         (held_by ledgers.old moments.old peers.old seats.old)
-        (held_by ledgers.new moments.new peers.new seats.new) (count_of result)) }
+        (held_by ledgers.new moments.new peers.new seats.new) (count_of result) }
 {
     match turn_in::<L, H, C, P>(
         alloc,
@@ -167,8 +164,7 @@ fn serve_or_gather<L: Rounds, H: Steward<L>, C: Moments, P: Peers>(
     piece: &mut [u8],
     gathered: &mut Gathered,
 ) -> u64
-    requires { L.means.is_usable ledgers.old }
-    ensures { RepliesUpTo 1 result L.means ledgers.new
+    ensures { RepliesUpTo 1 result
         (ServesOwed (rules L.means C.gives H.renews H.waits P.does) ⊥
         (owing A_turn number ∷ turns_of gathered.old.numbers.items)
         (turns_of gathered.new.numbers.items)
@@ -203,8 +199,7 @@ fn serve_told<L: Rounds, H: Steward<L>, C: Moments, P: Peers>(
     gathered: &mut Gathered,
     told: Told,
 ) -> u64
-    requires { L.means.is_usable ledgers.old }
-    ensures { RepliesUpTo 1 result L.means ledgers.new
+    ensures { RepliesUpTo 1 result
         (ServesTold (rules L.means C.gives H.renews H.waits P.does) told
         (told_of seats.old.next told ++ turns_of gathered.old.numbers.items)
         (turns_of gathered.new.numbers.items)
@@ -250,11 +245,11 @@ fn serve_next<L: Rounds, H: Steward<L>, C: Moments, P: Peers>(
     gathered: &mut Gathered,
     most: u64,
 ) -> Done
-    requires { WantsReplies L.means ledgers.old most }
+    requires { 0 < most }
     ensures does { HasDone (rules L.means C.gives H.renews H.waits P.does)
         (held_by ledgers.old moments.old peers.old seats.old)
         (held_by ledgers.new moments.new peers.new seats.new) result }
-    ensures turns { RepliesUpTo most (replies_of result) L.means ledgers.new
+    ensures turns { RepliesUpTo most (replies_of result)
         (ServesOwed (rules L.means C.gives H.renews H.waits P.does)
         (replies_of result ≡ most)
         (turns_of gathered.old.numbers.items) (turns_of gathered.new.numbers.items)
@@ -292,8 +287,7 @@ pub fn serve_ready<L: Rounds, H: Steward<L>, C: Moments, P: Peers>(
     piece: &mut [u8],
     most: u64,
 ) -> u64
-    requires { L.means.is_usable ledgers.old }
-    ensures { ServesReady L.means (rules L.means C.gives H.renews H.waits P.does) most ledgers.new
+    ensures { ServesReady (rules L.means C.gives H.renews H.waits P.does) most
         (held_by ledgers.old moments.old peers.old seats.old)
         (held_by ledgers.new moments.new peers.new seats.new) result }
 {

@@ -37,8 +37,7 @@ pub(crate) fn share_round<L: Rounds, H: Steward<L>, C: Moments, P: Peers>(
     moments: &mut C,
     most: u64,
 ) -> u64
-    requires { L.means.is_usable ledgers.old }
-    ensures { RepliesUpTo most result L.means ledgers.new
+    ensures { RepliesUpTo most result
         ((peers : P) → (next : ℕ) →
         ServesEach (rules L.means C.gives H.renews H.waits P.does)
         (held (Whole ledgers.old) moments.old peers (seats_in clients.old) next)

@@ -18,23 +18,18 @@ pub trait Steward<L: Ledgers> {
 
     /// A law: while ledgers are live, an opening finds what is there.
     fn is_settled(ledgers: &L)
-        requires { L.means.is_usable ledgers.now }
         ensures { IsSettled (run_meaning L.means) ledgers.now };
 
     /// Does what is to be done: opens again what has failed, where it is time to, or one deed that
     /// an operator asks for or that is due.
     fn attend(&mut self, ledgers: &mut L)
-        requires { L.means.is_usable ledgers.old }
-        ensures renewed { renews ledgers.old ledgers.new }
-        ensures usable { L.means.is_usable ledgers.new };
+        ensures renewed { renews ledgers.old ledgers.new };
 
     /// Reads the part of a statement that comes next, where it can be read.
     fn reads(alloc: Global, ledgers: &mut L, rest: &Rest) -> Option<Part>
-        requires { L.means.is_usable ledgers.old }
         ensures renewed { renews ledgers.old ledgers.new }
         ensures told { IfSome result (λ part. L.means.is_live ledgers.new
-            → IsPart [] (L.means.tenants ledgers.new rest.now.digest) rest.now part) }
-        ensures usable { L.means.is_usable ledgers.new };
+            → IsPart [] (L.means.tenants ledgers.new rest.now.digest) rest.now part) };
 
     /// Whether a client's next message, which is a batch, waits for the client's next turn, since
     /// more is to be done for its tenant first.

@@ -1,10 +1,10 @@
 //! A client's turn.
 ghost use Rattle.std.specs.Prelude.{◌≡◌, true, false, not, Some};
-ghost use Rattle.clients.specs.Calls.{MayBeAnswered};
+ghost use Rattle.clients.specs.Talk.{may_answer};
 ghost use Rattle.service.specs.Seen.{SeenAt, Whole};
 ghost use Rattle.polling.specs.Serving.{rules};
 ghost use Rattle.polling.specs.Seating.{ServesOne, count_of, has_no_more, has_nothing};
-ghost use Rattle.polling.specs.Steps.{LeavesUsable, WritesAlone, MayReadMore, MayReadPart};
+ghost use Rattle.polling.specs.Steps.{WritesAlone, MayReadMore, MayReadPart};
 
 use crate::step::{Step, read_some, write_some};
 use crate::{Batch, Peers, Steward};
@@ -60,11 +60,10 @@ fn read_part<L: Ledgers, H: Steward<L>, C: Moments, P: Peers>(
     ledgers: &mut L,
     rest: &Rest,
 ) -> Step
-    requires { MayReadPart L.means ledgers.old client.old rest.now }
-    ensures { LeavesUsable L.means ledgers.new
-        ((moments : C) → ServesOne (rules L.means C.gives H.renews H.waits P.does) number
+    requires { MayReadPart client.old rest.now }
+    ensures { (moments : C) → ServesOne (rules L.means C.gives H.renews H.waits P.does) number
         (Whole ledgers.old) moments peers.old client.old
-        (Whole ledgers.new) moments peers.new client.new result false 0) }
+        (Whole ledgers.new) moments peers.new client.new result false 0 }
 {
     let Some(part) = H::reads(alloc, ledgers, rest) else {
         return Step::Goes;
@@ -82,12 +81,10 @@ pub(crate) fn write_on<L: Ledgers, H: Steward<L>, C: Moments, P: Peers>(
     client: &mut Client,
     ledgers: &mut L,
 ) -> Step
-    requires { L.means.is_usable ledgers.old }
-    ensures { LeavesUsable L.means ledgers.new
-        ((moments : C) → ServesOne (rules L.means C.gives H.renews H.waits P.does) number
+    ensures { (moments : C) → ServesOne (rules L.means C.gives H.renews H.waits P.does) number
         (Whole ledgers.old) moments peers.old client.old
         (Whole ledgers.new) moments peers.new client.new result
-        (has_no_more client.old client.new) 0) }
+        (has_no_more client.old client.new) 0 }
 {
     match write_all::<L, H, C, P>(peers, number, client) {
         Step::More => {}
@@ -112,7 +109,7 @@ fn read_or_give_up<L: Ledgers, H: Steward<L>, C: Moments, P: Peers>(
     ledgers: &L,
     piece: &mut [u8],
 ) -> Turned
-    requires { MayReadMore L.means ledgers.now client.old }
+    requires { MayReadMore client.old }
     ensures { (moments : C) → ServesOne (rules L.means C.gives H.renews H.waits P.does) number
         (Whole ledgers.now) moments peers.old client.old
         (Whole ledgers.now) moments peers.new client.new result.step false
@@ -155,12 +152,11 @@ pub(crate) fn answer_or_read<L: Ledgers, H: Steward<L>, C: Moments, P: Peers>(
     piece: &mut [u8],
     batch: Option<Batch>,
 ) -> Turned
-    requires { MayBeAnswered L.means ledgers.old client.old }
-    ensures { LeavesUsable L.means ledgers.new
-        (ServesOne (rules L.means C.gives H.renews H.waits P.does) number
+    requires { may_answer client.old ≡ true }
+    ensures { ServesOne (rules L.means C.gives H.renews H.waits P.does) number
         (Whole ledgers.old) moments.old peers.old client.old
         (Whole ledgers.new) moments.new peers.new client.new result.step false
-        (count_of result.replied)) }
+        (count_of result.replied) }
 {
     match client.answer(alloc, ledgers, moments) {
         Answered::Replied => {
@@ -194,12 +190,10 @@ pub(crate) fn finish<L: Ledgers, H: Steward<L>, C: Moments, P: Peers>(
     piece: &mut [u8],
     answers: bool,
 ) -> Turned
-    requires usable { L.means.is_usable ledgers.old }
-    ensures turn { LeavesUsable L.means ledgers.new
-        (ServesOne (rules L.means C.gives H.renews H.waits P.does) number
+    ensures turn { ServesOne (rules L.means C.gives H.renews H.waits P.does) number
         (Whole ledgers.old) moments.old peers.old client.old
         (Whole ledgers.new) moments.new peers.new client.new result.step (not answers)
-        (count_of result.replied)) }
+        (count_of result.replied) }
     ensures few { answers ≡ false → result.replied ≡ false }
 {
     if answers && client.is_written() {
@@ -223,12 +217,10 @@ pub(crate) fn turn<L: Ledgers, H: Steward<L>, C: Moments, P: Peers>(
     moments: &mut C,
     piece: &mut [u8],
 ) -> Turned
-    requires usable { L.means.is_usable ledgers.old }
-    ensures { LeavesUsable L.means ledgers.new
-        (ServesOne (rules L.means C.gives H.renews H.waits P.does) number
+    ensures { ServesOne (rules L.means C.gives H.renews H.waits P.does) number
         (Whole ledgers.old) moments.old peers.old client.old
         (Whole ledgers.new) moments.new peers.new client.new result.step false
-        (count_of result.replied)) }
+        (count_of result.replied) }
 {
     let is_told_in_parts = client.rest().is_some();
     match write_on::<L, H, C, P>(alloc, peers, number, client, ledgers) {

@@ -33,14 +33,13 @@ pub batch_serves :
     (t.is_live new → IsRun (Gives request moment) digest (t.tenants old) (t.tenants new) result) →
     (t.has_failed old ≡ true → result ≡ Err (batch.Unavailable Disk)) →
     Finds t (IsAnswered result) (LeadsBy (Gives request moment) digest) old new →
-    t.is_usable new → t.follows old new → ServesOver t digest (Ok request) moment old new reply
-batch_serves t request moment digest old new result reply is run failed finds usable follows = record {
+    t.follows old new → ServesOver t digest (Ok request) moment old new reply
+batch_serves t request moment digest old new result reply is run failed finds follows = record {
   serves = λ live.
       subst (λ (r : Reply). Serves (t.tenants old) (t.tenants new) digest (Ok request) moment r) (sym is)
       (serves_by_batch request moment digest (t.tenants old) (t.tenants new) result (run live));
   failed = λ has. is ∙ ap batch_reply (failed has);
   finds = finds_by_batch t old new request moment digest result reply is finds;
-  usable = usable;
   follows = follows;
 }
 
@@ -64,7 +63,6 @@ begins_served t digest asked meaning moment old new reply begun is whole_is over
       failed = λ has. whole_is ∙ ap whole (over.failed has);
       finds = finds_whole t old new _ reply begun whole_is over.finds;
       left = none_left t old new reply begun whole_is;
-      usable = over.usable;
       follows = over.follows;
     })
 
@@ -88,6 +86,5 @@ begins_read t digest asked request moment old new read reply begun is same whole
       finds = finds_whole t old new _ reply begun whole_is
           (finds_by_read t old new asked request moment digest _ _ is same told reads.finds);
       left = none_left t old new reply begun whole_is;
-      usable = reads.reads.usable;
       follows = reads.reads.follows;
     }

@@ -11,12 +11,11 @@ use Rattle.parts.specs.declared.rest.Rest.{Rest}
 -- reads, one behind the other, and what may be found behind them
 pub record HasRead {S : Type 0} (t : LedgersMeaning S) (old new : S) : Type 0 where
   pub same : t.is_live new → KeepsAll (t.tenants old) (t.tenants new)
-  pub usable : t.is_usable new
   pub follows : t.follows old new
   pub found : (found : Tenants) → t.may_find new found → t.may_find old found ⊎ (t.is_live old × KeepsAll (t.tenants old) found)
 
 pub as_reads : {S : Type 0} (t : LedgersMeaning S) (old new : S) → HasRead t old new → ReadsOnly t old new
-as_reads t old new read = record { same = read.same; usable = read.usable; follows = read.follows }
+as_reads t old new read = record { same = read.same; follows = read.follows }
 
 pub as_finds :
     {S : Type 0} (t : LedgersMeaning S) (old new : S) (A : Type 0) → HasRead t old new →
@@ -24,10 +23,9 @@ pub as_finds :
 as_finds t old new A read live = record { found = read.found; live = live }
 
 pub none_read :
-    {S : Type 0} (t : LedgersMeaning S) (a : S) → t.is_usable a → t.follows a a → HasRead t a a
-none_read t a usable stays = record {
+    {S : Type 0} (t : LedgersMeaning S) (a : S) → t.follows a a → HasRead t a a
+none_read t a stays = record {
   same = λ live digest. refl;
-  usable = usable;
   follows = stays;
   found = λ found may. inl may;
 }
@@ -40,7 +38,6 @@ pub read_more :
     HasRead t old mid → ReadsOnly t mid new → Finds t A KeepsAll mid new → HasRead t old new
 read_more t old mid new A then lived lived' before reads finds = record {
   same = λ live digest. reads.same live digest ∙ before.same (lived' live) digest;
-  usable = reads.usable;
   follows = then before.follows reads.follows;
   found = λ found may. elim (finds.found found may) [
     | inl early ↦ before.found found early

@@ -11,11 +11,6 @@ use Rattle.service.specs.Replies.{Serves, unavailable}
 use Rattle.service.specs.Responds.{Responds, RefusesEarly, TellsPage, TellsHealth, TellsFailure}
 use Rattle.service.specs.Responds.{IsQuestionAnswered, IsLeftBy}
 
--- the ledgers may be called, and are as a run of calls leaves them
-pub record StaysInUse {S : Type 0} (t : LedgersMeaning S) (old new : S) : Type 0 where
-  pub usable : t.is_usable new
-  pub follows : t.follows old new
-
 -- a request of one tenant is served, or refused where the ledgers have failed
 pub record ServesOver {S : Type 0} (t : LedgersMeaning S) (digest : List ℕ)
     (meaning : Result Request Refusal) (moment : ℕ) (old new : S) (reply : Reply) : Type 0 where
@@ -24,7 +19,6 @@ pub record ServesOver {S : Type 0} (t : LedgersMeaning S) (digest : List ℕ)
   pub failed : t.has_failed old ≡ true → reply ≡ unavailable
   pub finds :
       Finds t (reply ≢ unavailable) (IsDeedDone (Asked digest meaning moment)) old new
-  pub usable : t.is_usable new
   pub follows : t.follows old new
 
 -- the same of a reply that is begun; where something of it is left, the machines are as before
@@ -39,7 +33,6 @@ pub record BeginsOver {S : Type 0} (t : LedgersMeaning S) (digest : List ℕ)
       (IsDeedDone (Asked digest meaning moment)) old new
   pub left :
       IfSome begun.rest (λ rest. t.is_live new → IsLeftOf (t.tenants old) (t.tenants new) rest)
-  pub usable : t.is_usable new
   pub follows : t.follows old new
 
 -- a reply to the first message of the bytes: the response to it where the ledgers are live, and
@@ -52,5 +45,4 @@ pub record RespondsOver {S : Type 0} (t : LedgersMeaning S) (bytes : List ℕ) (
   pub health : TellsHealth (t.has_failed old) bytes reply
   pub failed : TellsFailure (t.has_failed old) bytes reply
   pub finds : Finds t (IsQuestionAnswered bytes reply) (IsLeftBy bytes moment) old new
-  pub usable : t.is_usable new
   pub follows : t.follows old new

@@ -10,11 +10,10 @@ use Rattle.service.specs.Responds.{Responds, RefusesEarly, IsQuestionAnswered, I
 use Rattle.service.specs.Courses.{Event, Replied, Happens, HappenInTurn, MayFollow, IsStill, untold_in}
 use Rattle.service.specs.Courses.{MayBeFound, Course, IsReplyTo}
 
--- what ledgers that can be opened again mean: their machines, whether calls are allowed, whether
--- they are live, and which machines an opening may find in what they stand on
+-- what ledgers that can be opened again mean: their machines, whether they are live, and which
+-- machines an opening may find in what they stand on
 pub record RunMeaning (S : Type 0) : Type 1 where
   pub tenants : S → Tenants
-  pub is_usable : S → Type 0
   pub is_live : S → Type 0
   pub may_find : S → Tenants → Type 0
 
@@ -22,7 +21,6 @@ pub record RunMeaning (S : Type 0) : Type 1 where
 abbrev pub run_meaning : {S : Type 0} → LedgersMeaning S → RunMeaning S
 run_meaning t = record {
   tenants = t.tenants;
-  is_usable = t.is_usable;
   is_live = t.is_live;
   may_find = t.may_find;
 }

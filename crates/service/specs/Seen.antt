@@ -25,7 +25,6 @@ MayBeSeen t (Within ledgers machines) found = t.is_live ledgers × KeepsAll mach
 abbrev pub seen : {S : Type 0} → LedgersMeaning S → LedgersMeaning (SeenAt S)
 seen t = record {
   tenants = machines_seen t;
-  is_usable = λ point. t.is_usable (ledgers_seen point);
   is_live = λ point. t.is_live (ledgers_seen point);
   has_failed = λ point. t.has_failed (ledgers_seen point);
   follows = λ old new. t.follows (ledgers_seen old) (ledgers_seen new);

@@ -6,7 +6,7 @@ ghost use Rattle.ledger_http.specs.declared.refusal.Refusal.{Refusal};
 ghost use Rattle.wire.specs.declared.request.Request.{Request};
 ghost use Rattle.wire.specs.Meaning.{meaning_of, HasFew};
 ghost use Rattle.wire.specs.declared.request.Request.TheVariants.{Accounts, Transfers};
-ghost use Rattle.service.specs.Calls.{BeginsOver, ServesOver, StaysInUse};
+ghost use Rattle.service.specs.Calls.{BeginsOver, ServesOver};
 ghost use Rattle.service.specs.Replies.{Serves, batch_reply, unavailable};
 
 use crate::batches::{AccountBatch, TransferBatch};
@@ -42,7 +42,6 @@ fn accounts<L: Ledgers>(
     events: Items<AccountEvent>,
     moment: u64,
 ) -> Reply
-    requires usable { L.means.is_usable ledgers.old }
     requires few { length events ≤ 1000 }
     ensures { ServesOver L.means digest.now (Ok (Accounts events)) moment
         ledgers.old ledgers.new result }
@@ -62,7 +61,6 @@ fn transfers<L: Ledgers>(
     events: Items<TransferEvent>,
     moment: u64,
 ) -> Reply
-    requires usable { L.means.is_usable ledgers.old }
     requires few { length events ≤ 1000 }
     ensures { ServesOver L.means digest.now (Ok (Transfers events)) moment
         ledgers.old ledgers.new result }
@@ -83,7 +81,6 @@ fn serve_request<L: Ledgers>(
     request: Request,
     moment: u64,
 ) -> Begun
-    requires usable { L.means.is_usable ledgers.old }
     requires few { HasFew request }
     ensures { BeginsOver L.means digest.now (Ok request) moment
         ledgers.old ledgers.new result }
@@ -124,7 +121,6 @@ fn serve_request<L: Ledgers>(
 
 // Refuses a request whose body is refused, unless there is no such tenant: that comes first.
 fn refuse<L: Ledgers>(ledgers: &mut L, digest: &[u8; 32], refusal: Refusal) -> Reply
-    requires { L.means.is_usable ledgers.old }
     ensures serves { L.means.is_live ledgers.new
         → (meaning : Result Request Refusal) (moment : ℕ)
         → (refusal ≢ Refusal.Unavailable → meaning ≡ Err refusal)
@@ -132,7 +128,7 @@ fn refuse<L: Ledgers>(ledgers: &mut L, digest: &[u8; 32], refusal: Refusal) -> R
         moment result }
     ensures failed { L.means.has_failed ledgers.old ≡ true → result ≡ unavailable }
     ensures finds { Finds L.means (result ≢ unavailable) LeadsNowhere ledgers.old ledgers.new }
-    ensures stays { StaysInUse L.means ledgers.old ledgers.new }
+    ensures stays { L.means.follows ledgers.old ledgers.new }
 {
     let Ok(known) = ledgers.knows(digest) else {
         return Reply::Fixed(Refusal::Unavailable);
@@ -151,7 +147,6 @@ pub(crate) fn answer<L: Ledgers>(
     asked: &Asked,
     moment: u64,
 ) -> Begun
-    requires { L.means.is_usable ledgers.old }
     ensures { BeginsOver L.means (sha256 asked.now.key)
         (meaning_of asked.now.route asked.now.account.now asked.now.body.now) moment
         ledgers.old ledgers.new result }

@@ -4,7 +4,6 @@ ghost use Rattle.std.specs.Io.KnownBytes.{Appends};
 ghost use Rattle.records.specs.Streams.{AppendsFront};
 ghost use Rattle.ledger_http.specs.First.{IsBrokenOff};
 ghost use Rattle.ledger_http.specs.ReplyText.{reply_text};
-ghost use Rattle.service.specs.Calls.{StaysInUse};
 ghost use Rattle.service.specs.Connections.{connection, Exchanges};
 
 use crate::moments::Moments;
@@ -53,7 +52,6 @@ pub(crate) fn exchange<L: Ledgers, R: Source, C: Moments>(
     reader: &mut R,
     moments: &mut C,
 ) -> Result<Option<Exchanged>, ReadError>
-    requires usable { L.means.is_usable ledgers.old }
     requires reads { R.failed reader.old ≡ false }
     ensures exchanges { IfOk result (Exchanges L.means C.gives
         (connection ledgers.old (R.left reader.old) moments.old true)
@@ -63,7 +61,7 @@ pub(crate) fn exchange<L: Ledgers, R: Source, C: Moments>(
     ensures broken { OnErr result ((unread : List ℕ) → R.left reader.old ≡ Some unread
         → IsBrokenOff unread (R.left reader.new)) }
     ensures failed { R.failed reader.new ≡ is_err result }
-    ensures stays { StaysInUse L.means ledgers.old ledgers.new }
+    ensures stays { L.means.follows ledgers.old ledgers.new }
 {
     match read_message(alloc, reader)? {
         Message::Whole(message) => {

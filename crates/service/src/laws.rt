@@ -156,10 +156,10 @@ pub fn left_in_course_stays()
     rests_stay();
 }
 
-/// Of live ledgers that may be called, and every response leaves them so, each tenant's books
-/// balance, its limits hold and its pending transfers end once at most.
+/// Of live ledgers each tenant's books balance, its limits hold and its pending transfers end once at
+/// most.
 pub fn ledgers_are_sound<L: Ledgers>()
-    ensures { (ledgers : L) → L.means.is_live ledgers → L.means.is_usable ledgers
+    ensures { (ledgers : L) → L.means.is_live ledgers
         → EachIsSound (L.means.tenants ledgers) }
 {
     sums_fit();

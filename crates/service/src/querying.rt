@@ -15,7 +15,6 @@ fn accounts<L: Ledgers>(
     digest: &[u8; 32],
     asked: &QueryFilter,
 ) -> Result<Outcome, ReadFault>
-    requires { L.means.is_usable ledgers.old }
     ensures { ReadsTenant L.means digest.now (ShowsTo (asks.Query (Accounts asked.now)))
         ledgers.old ledgers.new result }
 {
@@ -33,7 +32,6 @@ fn transfers<L: Ledgers>(
     digest: &[u8; 32],
     asked: &QueryFilter,
 ) -> Result<Outcome, ReadFault>
-    requires { L.means.is_usable ledgers.old }
     ensures { ReadsTenant L.means digest.now (ShowsTo (asks.Query (Transfers asked.now)))
         ledgers.old ledgers.new result }
 {
@@ -51,7 +49,6 @@ fn open_holds<L: Ledgers>(
     digest: &[u8; 32],
     asked: &PageFilter,
 ) -> Result<Outcome, ReadFault>
-    requires { L.means.is_usable ledgers.old }
     ensures { ReadsTenant L.means digest.now (ShowsTo (asks.Query (OpenPending asked.now)))
         ledgers.old ledgers.new result }
 {
@@ -70,7 +67,6 @@ pub(crate) fn queried<L: Ledgers>(
     digest: &[u8; 32],
     query: &Query,
 ) -> Result<Outcome, ReadFault>
-    requires { L.means.is_usable ledgers.old }
     ensures { ReadsTenant L.means digest.now (ShowsTo (asks.Query query.now))
         ledgers.old ledgers.new result }
 {

@@ -17,7 +17,6 @@ pub(crate) fn looked_up_accounts<L: Ledgers>(
     digest: &[u8; 32],
     ids: &[u128],
 ) -> Result<Outcome, ReadFault>
-    requires { L.means.is_usable ledgers.old }
     ensures { ReadsTenant L.means digest.now (ShowsTo (LookupAccounts ids.now))
         ledgers.old ledgers.new result }
 {
@@ -34,7 +33,6 @@ pub(crate) fn looked_up_transfers<L: Ledgers>(
     digest: &[u8; 32],
     ids: &[u128],
 ) -> Result<Outcome, ReadFault>
-    requires { L.means.is_usable ledgers.old }
     ensures { ReadsTenant L.means digest.now (ShowsTo (LookupTransfers ids.now))
         ledgers.old ledgers.new result }
 {
@@ -51,7 +49,6 @@ pub(crate) fn looked_up_holds<L: Ledgers>(
     digest: &[u8; 32],
     ids: &[u128],
 ) -> Result<Outcome, ReadFault>
-    requires { L.means.is_usable ledgers.old }
     ensures { ReadsTenant L.means digest.now (ShowsTo (LookupPending ids.now))
         ledgers.old ledgers.new result }
 {
@@ -68,7 +65,6 @@ pub(crate) fn history_of_transfers<L: Ledgers>(
     digest: &[u8; 32],
     asked: &AccountFilter,
 ) -> Result<Outcome, ReadFault>
-    requires { L.means.is_usable ledgers.old }
     ensures { ReadsTenant L.means digest.now (ShowsTo (HistoryTransfers asked.now))
         ledgers.old ledgers.new result }
 {
@@ -85,7 +81,6 @@ pub(crate) fn history_of_balances<L: Ledgers>(
     digest: &[u8; 32],
     asked: &AccountFilter,
 ) -> Result<Outcome, ReadFault>
-    requires { L.means.is_usable ledgers.old }
     ensures { ReadsTenant L.means digest.now (ShowsTo (HistoryBalances asked.now))
         ledgers.old ledgers.new result }
 {

@@ -38,7 +38,6 @@ fn told_early<L: Ledgers>(ledgers: &L, early: Early) -> Reply
 /// The reply and the caller's machine after it depend on the caller's machine, the bytes and the
 /// moment alone; every other tenant's machine stays.
 pub fn begin<L: Ledgers>(alloc: Global, ledgers: &mut L, bytes: &[u8], moment: u64) -> Begun
-    requires { L.means.is_usable ledgers.old }
     ensures asks { IfSome result.rest (λ rest. IsQuestion bytes.now) }
     ensures left { IfSome result.rest (λ rest. L.means.is_live ledgers.new
         → IsLeftSame bytes.now moment (L.means.tenants ledgers.old)
@@ -55,7 +54,6 @@ pub fn begin<L: Ledgers>(alloc: Global, ledgers: &mut L, bytes: &[u8], moment: u
 /// The reply to the first message of `bytes`, at a moment in nanoseconds, as it is begun and then read
 /// to its end.
 pub fn respond<L: Ledgers>(alloc: Global, ledgers: &mut L, bytes: &[u8], moment: u64) -> Reply
-    requires { L.means.is_usable ledgers.old }
     ensures { RespondsOver L.means bytes.now moment ledgers.old ledgers.new result }
 {
     let Begun { front, rest } = begin(alloc, ledgers, bytes, moment);

@@ -1,6 +1,5 @@
 //! Messages of many clients, answered in one round.
 ghost use Rattle.std.specs.Prelude.{◌≡◌, ◌≤◌, [], IfOk, OnErr, length, vec_len, vec_capacity};
-ghost use Rattle.service.specs.Calls.{StaysInUse};
 ghost use Rattle.service.specs.Openings.{run_meaning};
 ghost use Rattle.service.specs.Turns.{MovesInRound, MovesEach};
 
@@ -19,13 +18,12 @@ fn respond_each<L: Ledgers, H: Settles<L>>(
     messages: &[Message],
     mut replies: Vec<Reply>,
 ) -> Vec<Reply>
-    requires usable { L.means.is_usable ledgers.old }
     requires none { replies.items ≡ [] }
     requires empty { vec_len replies ≡ 0 }
     requires room { length messages.now ≤ vec_capacity replies }
     ensures moves { MovesEach (run_meaning L.means) ledgers.old messages.now result.items
         ledgers.new }
-    ensures stays { StaysInUse L.means ledgers.old ledgers.new }
+    ensures stays { L.means.follows ledgers.old ledgers.new }
 {
     responses_move::<L>();
     for message in messages {
@@ -47,11 +45,9 @@ pub fn respond_round<L: Rounds, H: Settles<L>>(
     ledgers: &mut L,
     messages: &[Message],
 ) -> Result<Vec<Reply>, NoMemory>
-    requires { L.means.is_usable ledgers.old }
     ensures moves { IfOk result (λ replies. MovesInRound (run_meaning L.means) ledgers.old
         messages.now replies.items ledgers.new) }
     ensures undone { OnErr result (ledgers.new ≡ ledgers.old) }
-    ensures usable { L.means.is_usable ledgers.new }
     ensures follows { L.means.follows ledgers.old ledgers.new }
 {
     let replies = Vec::with_capacity(alloc, messages.len())?;

@@ -1,6 +1,5 @@
 //! Serves a connection: one message after the other.
 ghost use Rattle.std.specs.Prelude.{◌≡◌, ◌≤◌, true, false};
-ghost use Rattle.service.specs.Calls.{StaysInUse};
 ghost use Rattle.service.specs.Connections.{connection, IsServed, replies_in};
 ghost use Rattle.service.specs.Connections.{is_read_fault, is_write_fault};
 
@@ -36,7 +35,6 @@ pub fn serve<L: Ledgers, R: Source, W: Drain, C: Moments>(
     moments: &mut C,
     most: u64,
 ) -> Result<u64, ServeFault>
-    requires usable { L.means.is_usable ledgers.old }
     requires reads { R.failed reader.old ≡ false }
     requires writes { W.failed writer.old ≡ false }
     ensures served { IsServed L.means C.gives
@@ -45,7 +43,7 @@ pub fn serve<L: Ledgers, R: Source, W: Drain, C: Moments>(
     ensures few { replies_in result ≤ most }
     ensures reader_failed { R.failed reader.new ≡ is_read_fault result }
     ensures writer_failed { W.failed writer.new ≡ is_write_fault result }
-    ensures stays { StaysInUse L.means ledgers.old ledgers.new }
+    ensures stays { L.means.follows ledgers.old ledgers.new }
 {
     let mut replies = 0;
     while replies < most {

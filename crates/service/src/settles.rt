@@ -7,6 +7,5 @@ use chain::Ledgers;
 pub trait Settles<L: Ledgers> {
     /// That law.
     fn is_settled(ledgers: &L)
-        requires { L.means.is_usable ledgers.now }
         ensures { IsSettled (run_meaning L.means) ledgers.now };
 }

@@ -5,7 +5,6 @@ ghost use Rattle.chain.specs.LedgerReads.{ReadsOnly};
 ghost use Rattle.ledger_http.specs.ReplyText.{reply_text};
 ghost use Rattle.wire.specs.declared.request.Request.TheVariants.{Statement};
 ghost use Rattle.service.specs.Begun.{IsLeftOf, reply_of, reply_with, whole};
-ghost use Rattle.service.specs.Calls.{StaysInUse};
 ghost use Rattle.service.specs.Deeds as deed;
 ghost use Rattle.service.specs.Deeds.{IsDeedDone};
 ghost use Rattle.service.specs.Replies.{Serves, unavailable};
@@ -26,7 +25,6 @@ pub(crate) fn begin_statement<L: Ledgers>(
     digest: &[u8; 32],
     account: u128,
 ) -> Begun
-    requires { L.means.is_usable ledgers.old }
     ensures serves { L.means.is_live ledgers.new → (moment : ℕ)
         → Serves (L.means.tenants ledgers.old) (L.means.tenants ledgers.new) digest.now
         (Ok (Statement account)) moment (reply_of (L.means.tenants ledgers.new) result) }
@@ -37,7 +35,7 @@ pub(crate) fn begin_statement<L: Ledgers>(
         ledgers.old ledgers.new }
     ensures left { IfSome result.rest (λ rest. L.means.is_live ledgers.new
         → IsLeftOf (L.means.tenants ledgers.old) (L.means.tenants ledgers.new) rest) }
-    ensures stays { StaysInUse L.means ledgers.old ledgers.new }
+    ensures stays { L.means.follows ledgers.old ledgers.new }
 {
     let rest = Rest::whole(*digest, account);
     match rest.part(alloc, ledgers, header_line()) {
@@ -59,7 +57,6 @@ pub(crate) fn finish_statement<L: Ledgers>(
     front: &Reply,
     rest: Rest,
 ) -> Reply
-    requires { L.means.is_usable ledgers.old }
     ensures text { L.means.is_live ledgers.new → result ≢ unavailable → reply_text result
         ≡ reply_text (reply_with (L.means.tenants ledgers.old) front.now (Some rest)) }
     ensures finds { Finds L.means (result ≢ unavailable) KeepsAll ledgers.old ledgers.new }

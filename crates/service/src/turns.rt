@@ -20,7 +20,6 @@ pub struct Message {
 impl Message {
     /// The reply to it, as `respond` gives it.
     pub(crate) fn respond<L: Ledgers>(&self, alloc: Global, ledgers: &mut L) -> Reply
-        requires { L.means.is_usable ledgers.old }
         ensures { RespondsOver L.means self.now.bytes.items self.now.moment
             ledgers.old ledgers.new result }
     {

@@ -5,6 +5,7 @@ mod answers;
 mod asserting;
 mod booked;
 mod firms;
+mod frail;
 mod messages;
 mod talking;
 mod turns;

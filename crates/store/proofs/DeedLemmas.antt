@@ -97,7 +97,7 @@ keying_in law name digest old new (Err (key.Unavailable why)) ledgers told =
 module _ {D : Type 0} {g : disk.Ghosts D} where
   -- a call that was not made
   pub untried : (store : Store D g) (deed : Deed)
-      → Moves (run_meaning store_meaning) store (Tried deed course.Unavailable) store
+      → Moves (run_meaning store_meaning.ledgers) store (Tried deed course.Unavailable) store
   untried store deed = record {
     happens = λ live d. refl;
     lived = λ live. live;
@@ -136,10 +136,10 @@ module _ {D : Type 0} {g : disk.Ghosts D} where
       (done : IsLive old → (db : Trees) (found : Tenants)
       → ((d : List ℕ) → found d ≡ tenants_in db d) → OfDatabase (λ was. After was db) old
       → IsDeedDone deed (tenants_of old) found)
-      (settled : IsSettled (run_meaning store_meaning) new) where
+      (settled : IsSettled (run_meaning store_meaning.ledgers) new) where
     found_so : (ending : Ending) (found : Tenants)
         → (IsHonest new → ending ≢ course.Unavailable → IsLive new) → FindsTenants new found
-        → FoundAfter (run_meaning store_meaning) old (Tried deed ending) new found
+        → FoundAfter (run_meaning store_meaning.ledgers) old (Tried deed ending) new found
     found_so course.Done found open_yet f =
         let live = open_yet f.honest (λ is. cc) in As_now live (settled live found f)
     found_so course.Declined found open_yet f =
@@ -153,7 +153,7 @@ module _ {D : Type 0} {g : disk.Ghosts D} where
     tried_so : (ending : Ending)
         → (IsLive new → Happens (tenants_of old) (Tried deed ending) (tenants_of new))
         → (IsHonest new → ending ≢ course.Unavailable → IsLive new)
-        → Moves (run_meaning store_meaning) old (Tried deed ending) new
+        → Moves (run_meaning store_meaning.ledgers) old (Tried deed ending) new
     tried_so ending happens open_yet = record {
       happens = happens;
       lived = follows.lived;
@@ -168,9 +168,9 @@ module _ {D : Type 0} {g : disk.Ghosts D} where
       → IsSettledStore new
       → (IsLive new → OfDatabases (λ before after.
       HasJoined name digest before after (joining_answer joined)) old new)
-      → Moves (run_meaning store_meaning) old (Tried (deed.Joined digest) (ending_of result)) new
+      → Moves (run_meaning store_meaning.ledgers) old (Tried (deed.Joined digest) (ending_of result)) new
   joins_so law name digest old new joined result is usable answers goes settled told =
-      subst (λ result. Moves (run_meaning store_meaning) old (Tried (deed.Joined digest) (ending_of result)) new)
+      subst (λ result. Moves (run_meaning store_meaning.ledgers) old (Tried (deed.Joined digest) (ending_of result)) new)
       (sym is)
       (tried_so (deed.Joined digest) (Joined name digest) old new usable answers.follows
       (λ shut. (answers.refuses shut).1) goes
@@ -197,11 +197,11 @@ module _ {D : Type 0} {g : disk.Ghosts D} where
       → IsSettledStore new
       → (IsLive new → OfDatabases (λ before after.
       HasKeyed name digest before after (keying_answer keyed)) old new)
-      → Moves (run_meaning store_meaning) old
+      → Moves (run_meaning store_meaning.ledgers) old
       (Tried (deed.Keyed (digest_named old name) digest) (key_ending result)) new
   keys_so law name digest old new keyed result is usable answers goes settled told =
       let tried : Place D g → Deed = λ place. deed.Keyed (unwrap_or (names_at place name) []) digest in
-      subst (λ result. Moves (run_meaning store_meaning) old (Tried (tried old.place) (key_ending result)) new)
+      subst (λ result. Moves (run_meaning store_meaning.ledgers) old (Tried (tried old.place) (key_ending result)) new)
       (sym is)
       (tried_so (tried old.place) (Keyed name digest) old new usable answers.follows
       (λ shut. (answers.refuses shut).1) goes

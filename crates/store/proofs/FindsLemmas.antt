@@ -171,7 +171,7 @@ module _ {D : Type 0} {g : disk.Ghosts D} where
       Goes old new (λ db. OfDatabase (λ was. IsAfterBatch gives digest was db) old) →
       (result : Result O BatchFault) → (old.ready ≡ false → new ≡ old)
       → (IsHonest new → result ≢ Err (batch_fault.Unavailable DiskFailed) → IsLive new)
-      → Finds store_meaning (IsAnswered result) (LeadsBy gives digest) old new
+      → Finds store_meaning.ledgers (IsAnswered result) (LeadsBy gives digest) old new
   finds_batch gives digest old new usable follows goes result unready open_yet = record {
     found = found_after old new usable follows unready (IsAfterBatch gives digest)
         (LeadsBy gives digest) (λ live. leads_at gives digest old.place) goes;
@@ -183,7 +183,7 @@ module _ {D : Type 0} {g : disk.Ghosts D} where
       {O : Type 0} (gives : Tenants → O → Tenants → Type 0) (old new : Store D g)
       (result : Result O Unavailable) → IsUsable old → AnswersUnless DiskFailed old new result →
       Goes old new (λ db. OfDatabase (λ was. IsAfterRound gives was db) old) →
-      Finds store_meaning (result ≢ Err DiskFailed) (LeadsByRound gives) old new
+      Finds store_meaning.ledgers (result ≢ Err DiskFailed) (LeadsByRound gives) old new
   finds_round gives old new result usable answers goes = record {
     found = found_after old new usable answers.follows (λ shut. (answers.refuses shut).1)
         (IsAfterRound gives) (LeadsByRound gives) (λ live. round_at gives old.place) goes;
@@ -203,7 +203,7 @@ module _ {D : Type 0} {g : disk.Ghosts D} where
   pub finds_known :
       {T : Type 0} (old new : Store D g) (result : Result T Unavailable)
       (Leads : Tenants → Tenants → Type 0) → ReadsStore old new result →
-      Finds store_meaning (IsOk result) Leads old new
+      Finds store_meaning.ledgers (IsOk result) Leads old new
   finds_known old new result Leads reads = record {
     found = λ found f. elim (reads.finds f.honest f.db f.may) [
       | inl before ↦ inl (record {

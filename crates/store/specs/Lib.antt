@@ -6,3 +6,4 @@ pub mod StoreLaws
 pub mod Deeds
 pub mod Overdue
 pub mod Reopened
+pub mod InUseLaws

@@ -3,7 +3,8 @@ use Rattle.std.proofs.Common.{◌≡◌, inl, inr, Bool, true, false, not, IsTru
 use Rattle.std.proofs.Common.{refl, sym, ap, subst, ◌∙◌}
 use Rattle.std.proofs.Math.Logic.{∥∥₁_elim, ∥∥₁_map}
 use Rattle.sqlite_disk.specs.declared.Disk as disk
-use Rattle.chain.specs.Ledgers.{LedgersMeaning, Tenants, KeepsAll, AreValid}
+use Rattle.chain.specs.Backends.{BackendMeaning}
+use Rattle.chain.specs.Ledgers.{Tenants, KeepsAll, AreValid}
 use Rattle.sqlite_trees.specs.Tree.{Trees}
 use Rattle.sqlite_schema.specs.declared.schema.Schema.{Schema}
 use Rattle.sqlite.specs.Effect.{Database}
@@ -35,15 +36,17 @@ kept_then a b c first second = record {
 }
 
 module _ {D : Type 0} {g : disk.Ghosts D} where
-  -- what a store means as ledgers
-  abbrev pub store_meaning : LedgersMeaning (Store D g)
+  -- what a store means as what keeps ledgers
+  abbrev pub store_meaning : BackendMeaning (Store D g)
   store_meaning = record {
-    tenants = λ store. tenants_of store;
+    ledgers = record {
+      tenants = λ store. tenants_of store;
+      is_live = λ store. IsLive store;
+      has_failed = λ store. not store.ready;
+      follows = λ old new. Continues old new;
+      may_find = λ store found. FindsTenants store found;
+    };
     is_usable = λ store. IsUsable store;
-    is_live = λ store. IsLive store;
-    has_failed = λ store. not store.ready;
-    follows = λ old new. Continues old new;
-    may_find = λ store found. FindsTenants store found;
   }
 
   -- no call at all is a run of calls

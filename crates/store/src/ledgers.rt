@@ -1,11 +1,11 @@
-//! A store as the ledgers of many tenants.
+//! A store as what keeps the ledgers of many tenants.
 
 use crate::Store;
-use chain::{BatchFault, Ledgers, RoundWork, Rounds, Work};
+use chain::{Backend, BatchFault, RoundBackend, RoundWork, Work};
 use records::Unavailable;
 use sqlite_disk::Disk;
 
-impl<D: Disk + Drop> Ledgers for Store<D> {
+impl<D: Disk + Drop> Backend for Store<D> {
     ghost use Rattle.store.specs.StoreLaws.{store_meaning, continues_itself, continues_then};
     ghost use Rattle.store.specs.StoreLaws.{stays_failed, valid_tenants};
 
@@ -39,7 +39,7 @@ impl<D: Disk + Drop> Ledgers for Store<D> {
     ghost valid = { λ a live usable. valid_tenants a live usable };
 }
 
-impl<D: Disk + Drop> Rounds for Store<D> {
+impl<D: Disk + Drop> RoundBackend for Store<D> {
     fn in_round<W: RoundWork + Drop>(&mut self, work: W) -> Result<W::Output, Unavailable> {
         self.is_settled();
         self.in_round(work)

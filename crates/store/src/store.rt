@@ -283,7 +283,7 @@ impl<D: Disk + Drop> Store<D> {
             (λ old. Joined name.now digest.now old db) self.old) }
         ensures answers { AnswersUnless (AddTenant.Unavailable DiskFailed)
             self.old self.new result }
-        ensures moves { Moves (run_meaning store_meaning) self.old
+        ensures moves { Moves (run_meaning store_meaning.ledgers) self.old
             (Tried (DeedJoined digest.now) (ending_of result)) self.new }
     {
         joining_adds_one();
@@ -309,8 +309,8 @@ impl<D: Disk + Drop> Store<D> {
             (λ old. Keyed name.now digest.now old db) self.old) }
         ensures answers { AnswersUnless (ChangeKey.Unavailable DiskFailed)
             self.old self.new result }
-        ensures moves { IsKeyTried (run_meaning store_meaning) self.old digest.now result self.new }
-        ensures whose { Moves (run_meaning store_meaning) self.old
+        ensures moves { IsKeyTried (run_meaning store_meaning.ledgers) self.old digest.now result self.new }
+        ensures whose { Moves (run_meaning store_meaning.ledgers) self.old
             (Tried (DeedKeyed (digest_named self.old name.now) digest.now) (key_ending result))
             self.new }
     {

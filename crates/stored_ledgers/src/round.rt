@@ -5,7 +5,7 @@ ghost use Rattle.stored_ledgers.specs.Rounds.{is_of_disk};
 
 use crate::batches::{DueSets, UnknownKey};
 use crate::working::{Past, work_here};
-use chain::{BatchFault, Ledgers, Work};
+use chain::{Backend, BatchFault, Work};
 use ledger_sql::finding::find_tenant;
 use records::Unavailable;
 use sqlite::{Alter, Connection};
@@ -23,7 +23,7 @@ pub(crate) struct Round<'a, S: Alter> {
     pub(crate) pasts: &'a mut Vec<Past>,
 }
 
-impl<S: Alter> Ledgers for Round<'_, S> {
+impl<S: Alter> Backend for Round<'_, S> {
     ghost use Rattle.std.specs.Prelude.{◌≡◌, None, refl};
     ghost use Rattle.std.proofs.Common.{◌∙◌};
     ghost use Rattle.sqlite.specs.Held.{state as conn_state};
@@ -33,18 +33,20 @@ impl<S: Alter> Ledgers for Round<'_, S> {
     ghost use Rattle.stored_ledgers.specs.RoundLaws.{round_itself, round_then, round_lived, valid_here};
 
     ghost means = { record {
-      tenants = λ r. tenants_in (conn_state S.Store r.conn.now).now.trees;
+      ledgers = record {
+        tenants = λ r. tenants_in (conn_state S.Store r.conn.now).now.trees;
+        is_live = λ r. (r.failure ≡ None) × Live (conn_state S.Store r.conn.now);
+        has_failed = λ r. is_of_disk r.failure;
+        follows = λ a b.
+            (b.conn.ghost_name ≡ a.conn.ghost_name)
+            × (b.due.ghost_name ≡ a.due.ghost_name)
+            × (b.pasts.ghost_name ≡ a.pasts.ghost_name)
+            × FollowsInRound a.due.now b.due.now a.failure b.failure
+            (conn_state S.Store a.conn.now) (conn_state S.Store b.conn.now);
+        may_find = λ r found. FindsHere (conn_state S.Store r.conn.now) found;
+      };
       is_usable = λ r.
           CanGoOn r.failure r.due.now r.pasts.now.items (conn_state S.Store r.conn.now);
-      is_live = λ r. (r.failure ≡ None) × Live (conn_state S.Store r.conn.now);
-      has_failed = λ r. is_of_disk r.failure;
-      follows = λ a b.
-          (b.conn.ghost_name ≡ a.conn.ghost_name)
-          × (b.due.ghost_name ≡ a.due.ghost_name)
-          × (b.pasts.ghost_name ≡ a.pasts.ghost_name)
-          × FollowsInRound a.due.now b.due.now a.failure b.failure
-          (conn_state S.Store a.conn.now) (conn_state S.Store b.conn.now);
-      may_find = λ r found. FindsHere (conn_state S.Store r.conn.now) found;
     } };
 
     fn has_failed(&self) -> bool {

@@ -17,7 +17,8 @@ use crate::batches::DueSets;
 use crate::round::Round;
 use crate::transactions::{Change, in_transaction};
 use crate::working::{Past, forget};
-use chain::RoundWork;
+use chain::{Backend, InUse, RoundWork};
+use core::mem::replace_with;
 use records::Unavailable;
 use sqlite::{Alter, Connection};
 use std::alloc::Global;
@@ -115,12 +116,30 @@ fn run_round<S: Alter, W: RoundWork + Drop>(
         failure: None,
         pasts,
     };
-    let ran = work.run(&mut round);
+    let ran = replace_with(&mut round, (work, None), run_in_use);
     // The first fault says why, whatever the work made of it.
     match round.failure {
         Some(why) => Err(why),
         None => ran,
     }
+}
+
+/// Does the work of a round on the ledgers of a backend, which is given back. Beside the work stands
+/// the place of its output, which has none yet.
+fn run_in_use<B: Backend, W: RoundWork + Drop>(
+    backend: B,
+    job: (W, Option<W::Output>),
+) -> (B, Result<W::Output, Unavailable>)
+    requires { B.means.is_usable backend }
+    ensures gives { B.means.ledgers.is_live result.0 → IfOk result.1 (λ output. W.gives job.0
+        (B.means.ledgers.tenants backend) output (B.means.ledgers.tenants result.0)) }
+    ensures follows { B.means.ledgers.follows backend result.0 }
+    ensures usable { B.means.is_usable result.0 }
+{
+    let (work, _output) = job;
+    let mut ledgers = InUse { backend };
+    let ran = work.run(&mut ledgers);
+    (ledgers.into_backend(), ran)
 }
 
 /// Drops what fell due by moments that clocks have behind them.

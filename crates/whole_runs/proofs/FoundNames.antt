@@ -8,6 +8,7 @@ use Rattle.sqlite_value.specs.Order.{Row}
 use Rattle.sqlite_trees.specs.Tree.{Trees}
 use Rattle.sqlite.specs.Effect.{Database}
 use Rattle.sqlite.specs.Files.{file_state}
+use Rattle.chain.specs.Backends.{in_use}
 use Rattle.ledger_sql.specs.TableRows.{with_name as rows_with_name}
 use Rattle.service.specs.Courses.{Ending, Done, Declined, Unavailable}
 use Rattle.service.specs.Openings.{run_meaning}
@@ -73,9 +74,9 @@ module _ {D : Type 0} {g : disk.Ghosts D} where
 
   -- messages
   pub names_left : (old new : Store D g) → Continues old new
-      → LeavesNames (run_meaning store_meaning) store_names old new
+      → LeavesNames (run_meaning (in_use store_meaning)) store_names old new
   names_left old new continues = record {
-    same = names_stay old new continues;
+    same = λ live. names_stay old new continues live.0;
     found = λ found f. ∥∥₁_map (continues.found f.honest f.db f.may) (λ was. record {
       honest = continues.follows.honest f.honest;
       db = was.0;
@@ -102,7 +103,7 @@ module _ {D : Type 0} {g : disk.Ghosts D} where
       (settled' : IsSettledStore new) (usable' : IsUsable new) where
     abbrev Ends : Ending → Names → Type 0
     Ends ending found =
-        ∥ AsEnded ending (FindsNames old found) (IsLive old × Changes (names_of old) found) ∥₁
+        ∥ AsEnded ending (FindsNames old found) ((IsLive old × IsUsable old) × Changes (names_of old) found) ∥₁
 
     crash_at : (ready : Bool) (sets : DueSets) (place : Place D g) → IsUsableAt ready sets place
         → IsLiveAt place → (db : Trees) → OfDatabaseAt (λ was. After was db) place
@@ -123,7 +124,7 @@ module _ {D : Type 0} {g : disk.Ghosts D} where
         let live = live_at old.ready old.due old.place ready usable (follows.honest f.honest) in
         let same : names_in f.db ≡ found = λ i name. sym (f.agrees name) i in
         ∣ inr (
-          live,
+          (live, usable),
           subst (Changes (names_of old)) same
               (crash_at old.ready old.due old.place usable live f.db after),
         ) ∣₁
@@ -137,7 +138,7 @@ module _ {D : Type 0} {g : disk.Ghosts D} where
         let live = open_yet f.honest (λ is. cc) in
         let same : names_of new ≡ found =
         λ i name. sym (finds_own new settled' usable' live found f name) i in
-        ∣ (follows.lived live, subst (Changes (names_of old)) same (told live)) ∣₁
+        ∣ ((follows.lived live, usable), subst (Changes (names_of old)) same (told live)) ∣₁
     found_tried Declined told open_yet found f =
         let live = open_yet f.honest (λ is. cc) in
         ∣ found_own old settled usable (follows.lived live) found
@@ -169,13 +170,13 @@ module _ {D : Type 0} {g : disk.Ghosts D} where
       → (IsHonest new → OnOk result (StoreFinds new (may_find old)))
       → (IsHonest new → OnOk result (IsHonest old))
       → IfErr result (λ refused. LeavesStore refused old new)
-      → ReopensNames (run_meaning store_meaning) store_names old result new
+      → ReopensNames (run_meaning (in_use store_meaning)) store_names old result new
   names_reopened old new (Ok done) settled usable finds honest left = record {
     member = λ live.
-        let now = honest_at new.place live in opened_at old new.place (honest now) (finds now);
+        let now = honest_at new.place live.0 in opened_at old new.place (honest now) (finds now);
     found = λ found f.
         let live = found_live_at (may_find old) new.place f.honest (finds f.honest) in
-        (live, finds_own new settled usable live found f);
+        ((live, usable), finds_own new settled usable live found f);
   }
   names_reopened old new (Err refused) settled usable finds honest left =
       λ is found f. ∥∥₁_map ((left.stand is).found f.honest f.db f.may) (λ may. record {

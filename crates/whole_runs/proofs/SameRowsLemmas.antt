@@ -161,24 +161,24 @@ stores_isolate g h law isolates old new old' new' bytes moment reply reply' r r'
     isolates (tenants_of old) (tenants_of new) (tenants_of old') (tenants_of new') bytes moment
     reply reply' r.responds r'.responds
     (λ digest caller.
-    stores_same law digest old old' r.was_usable r'.was_usable r.lived r'.lived
+    stores_same law digest old old' r.lived.1 r'.lived.1 r.lived.0 r'.lived.0
     (agree digest caller))
     available available' in
     record {
       same_reply = same.same_reply;
       same_rows = λ digest caller.
-          stores_agree law digest new new' r.usable r'.usable r.live r'.live
+          stores_agree law digest new new' r.live.1 r'.live.1 r.live.0 r'.live.0
           (same.same_machine digest caller);
       others = λ digest not_caller.
-          stores_agree law digest old new r.was_usable r.usable r.lived r.live
+          stores_agree law digest old new r.lived.1 r.live.1 r.lived.0 r.live.0
           (sym (same.others digest not_caller));
       others' = λ digest not_caller.
-          stores_agree law digest old' new' r'.was_usable r'.usable r'.lived r'.live
+          stores_agree law digest old' new' r'.lived.1 r'.live.1 r'.lived.0 r'.live.0
           (sym (same.others' digest not_caller));
     }
 
 -- where nothing was done no row moves
 pub stores_stay : {D : Type 0} (g : disk.Ghosts D) → HeldMachines → StoresStay g
 stores_stay g law old new bytes moment reply r untold digest =
-    stores_agree law digest old new r.was_usable r.usable r.lived r.live
+    stores_agree law digest old new r.lived.1 r.live.1 r.lived.0 r.live.0
     (sym (r.responds.same untold digest))

@@ -17,6 +17,11 @@ has_name name named = bytes_eq named.name name
 abbrev pub names_among : List Named → Names
 names_among tenants name = option_map (λ named. named.digest) (find (has_name name) tenants)
 
+-- the tenants of a book, and their names
+pub record NamedTenants : Type 0 where
+  pub book : List Tenant
+  pub names : List Named
+
 -- a book of valid machines, whose tenants have these names
 abbrev pub IsNamedBook : List Tenant → List Named → Type 0
 IsNamedBook book tenants =

@@ -90,12 +90,11 @@ pub record IsInOrder {S : Type 0} (t : RunMeaning S) (n : NamesMeaning S) (ledge
     pub names : AreNamesSettled t n ledgers
     pub named : t.is_live ledgers → AreNamed (n.named ledgers) (t.tenants ledgers)
 
--- where a run ends they are in order, of valid machines as long as they are live, and can be called
+-- where a run ends they are in order, and of valid machines as long as they are live
 pub record EndsInOrder {S : Type 0} (t : RunMeaning S) (n : NamesMeaning S) (ledgers : S) : Type 0
   where
     pub settled : IsInOrder t n ledgers
     pub valid : t.is_live ledgers → AreValid (t.tenants ledgers)
-    pub usable : t.is_usable ledgers
 
 -- a run step by step: each step makes its ledgers of those before it, and the steps up to there
 -- have run. At each moment the ledgers are in order.

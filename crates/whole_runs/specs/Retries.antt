@@ -30,11 +30,10 @@ pub record HasAskedInRun (digest : List ℕ) (request : Request) (moment : ℕ) 
   pub asked : IsAskedEarlier (began digest) (own_happenings digest events) request moment m
   pub held : last (digest_since digest events) ≡ Some now
 
--- where a run has come to live ledgers that may be called, an event that failed for good in its
--- course stays failed
+-- where a run has come to live ledgers, an event that failed for good in its course stays failed
 abbrev pub StaysFailedIn : {S : Type 0} → RunMeaning S → Type 0
 StaysFailedIn {S} t =
-    (ledgers : S) → t.is_live ledgers → t.is_usable ledgers
+    (ledgers : S) → t.is_live ledgers
     → (digest : List ℕ) (batch : List TransferEvent) (moment : ℕ) (m now : Machine)
     → (asked : HasAskedInRun digest (Transfers batch) moment m now)
     → asked.last ≡ t.tenants ledgers

@@ -3,6 +3,7 @@ use Rattle.std.specs.Prelude.{◌≡◌, ◌≢◌, ℕ, ℤ, List, Option, Some
 use Rattle.sqlite_disk.specs.declared.Disk as disk
 use Rattle.sqlite_trees.specs.Tree.{Trees}
 use Rattle.sqlite.specs.Files.{file_state}
+use Rattle.chain.specs.Backends.{in_use}
 use Rattle.chain.specs.Ledgers.{LedgersMeaning}
 use Rattle.ledger_http.specs.declared.reply.Reply.{Reply}
 use Rattle.ledger_http.specs.ReplyText.{reply_text}
@@ -49,13 +50,11 @@ abbrev pub StoresAgree :
     {D E : Type 0} {g : disk.Ghosts D} {h : disk.Ghosts E} → List ℕ → Store D g → Store E h → Type 0
 StoresAgree digest store store' = AgreeAt digest store.place store'.place
 
--- ledgers respond to some bytes, and are live and may be called
+-- ledgers respond to some bytes, and are live
 pub record HasResponded {S : Type 0} (t : LedgersMeaning S) (old : S) (bytes : List ℕ) (moment : ℕ)
     (reply : Reply) (new : S) : Type 0 where
   pub lived : t.is_live old
   pub live : t.is_live new
-  pub was_usable : t.is_usable old
-  pub usable : t.is_usable new
   pub responds : Responds (t.tenants old) (t.tenants new) bytes moment reply
 
 -- two stores give the same reply and leave the caller the same rows, and all other rows stay
@@ -72,8 +71,8 @@ abbrev pub StoresIsolate : {D E : Type 0} → disk.Ghosts D → disk.Ghosts E �
 StoresIsolate {D} {E} g h =
     (old new : Store D g) (old' new' : Store E h) (bytes : List ℕ) (moment : ℕ)
     (reply reply' : Reply)
-    → HasResponded store_meaning old bytes moment reply new
-    → HasResponded store_meaning old' bytes moment reply' new'
+    → HasResponded (in_use store_meaning) old bytes moment reply new
+    → HasResponded (in_use store_meaning) old' bytes moment reply' new'
     → ((digest : List ℕ) → IsCaller bytes digest → StoresAgree digest old old')
     → reply ≢ unavailable
     → reply' ≢ unavailable
@@ -83,6 +82,6 @@ StoresIsolate {D} {E} g h =
 abbrev pub StoresStay : {D : Type 0} → disk.Ghosts D → Type 0
 StoresStay {D} g =
     (old new : Store D g) (bytes : List ℕ) (moment : ℕ) (reply : Reply)
-    → HasResponded store_meaning old bytes moment reply new
+    → HasResponded (in_use store_meaning) old bytes moment reply new
     → reply ≡ unavailable
     → (digest : List ℕ) → StoresAgree digest old new

@@ -1,17 +1,19 @@
 //! Lists, as ledgers that can be opened again.
 ghost use Rattle.std.specs.Prelude.{ℕ, ◌≡◌, List, None};
 ghost use Rattle.std.specs.List.{position};
-ghost use Rattle.chain.specs.Ledgers.{KeepsAll};
+ghost use Rattle.chain.specs.Ledgers.{AreValid, KeepsAll};
 ghost use Rattle.plain.specs.BookLedgers.{machines_in};
 ghost use Rattle.stored_ledgers.specs.Names.{KeepsNames};
 ghost use Rattle.whole_runs.specs.BookNames.{IsNamedBook, has_name, names_among};
 
 use crate::Reopening;
+use chain::InUse;
 use ledger_http::Reply;
 use plain::{Book, PlainTables};
 use records::Unavailable;
 use service::{Message, Settles, respond, respond_round, responses_happen};
 use std::alloc::Global;
+use std::marker::Model;
 use store::{AddTenant, ChangeKey, Refused};
 use tenants::TenantName;
 use wire::NoMemory;
@@ -27,21 +29,38 @@ struct Named {
 #[derive(Drop)]
 pub struct NamedBook {
     alloc: Global,
-    book: Book,
+    book: InUse<Book>,
     names: Vec<Named>,
+}
+
+impl Model for NamedBook {
+    ghost use Rattle.whole_runs.specs.BookNames.{NamedTenants, IsNamedBook};
+
+    ghost Value = { NamedTenants };
+
+    ghost view = { λ it. record { book = it.book; names = it.names.items } };
+
+    ghost invariant = { λ it. IsNamedBook it.book it.names.items };
 }
 
 /// Lists, of which an opening finds nothing.
 struct Lists;
 
-impl Settles<Book> for Lists {
-    fn is_settled(_ledgers: &Book) {}
+impl Settles<InUse<Book>> for Lists {
+    fn is_settled(_ledgers: &InUse<Book>) {}
+}
+
+/// A law: the machines of a book in use are valid.
+fn are_valid(book: &InUse<Book>)
+    ensures { AreValid (machines_in book.now) }
+{
+    let _book = &book.backend;
 }
 
 impl NamedBook {
     /// Ledgers without tenants.
     pub fn new(alloc: Global) -> NamedBook
-        ensures usable { ⟦<NamedBook as Reopening>⟧.means.is_usable result }
+        ensures live { ⟦<NamedBook as Reopening>⟧.means.is_live result }
         ensures empty { (digest : List ℕ)
             → ⟦<NamedBook as Reopening>⟧.means.tenants result digest ≡ None }
         ensures unnamed { (name : List ℕ)
@@ -49,9 +68,18 @@ impl NamedBook {
     {
         NamedBook {
             alloc,
-            book: Book::new(alloc),
+            book: InUse {
+                backend: Book::new(alloc),
+            },
             names: Vec::new(alloc),
         }
+    }
+
+    /// A law: they are always live.
+    pub fn are_live(&self)
+        ensures { ⟦<NamedBook as Reopening>⟧.means.is_live self.now }
+    {
+        let _names = &self.names;
     }
 }
 
@@ -67,14 +95,13 @@ fn place_of(names: &[Named], name: &TenantName) -> Option<usize>
 impl Reopening for NamedBook {
     ghost means = { record {
       tenants = λ named. machines_in named.book;
-      is_usable = λ named. IsNamedBook named.book named.names.items;
-      is_live = λ named. Unit {0};
+      is_live = λ named. IsNamedBook named.book named.names;
       may_find = λ named found. KeepsAll (machines_in named.book) found;
     } };
 
     ghost names = { record {
-      named = λ named. names_among named.names.items;
-      may_find = λ named found. KeepsNames (names_among named.names.items) found;
+      named = λ named. names_among named.names;
+      may_find = λ named found. KeepsNames (names_among named.names) found;
     } };
 
     ghost refuses = { λ refused old new. ⊥ };
@@ -83,7 +110,9 @@ impl Reopening for NamedBook {
 
     fn reply_to(&mut self, alloc: Global, bytes: &[u8], moment: u64) -> Reply {
         responses_happen();
-        respond(alloc, &mut self.book, bytes, moment)
+        let reply = respond(alloc, &mut self.book, bytes, moment);
+        are_valid(&self.book);
+        reply
     }
 
     fn reply_to_round(
@@ -91,20 +120,23 @@ impl Reopening for NamedBook {
         alloc: Global,
         messages: &[Message],
     ) -> Result<Vec<Reply>, NoMemory> {
-        respond_round::<Book, Lists>(alloc, &mut self.book, messages)
+        let replies = respond_round::<InUse<Book>, Lists>(alloc, &mut self.book, messages);
+        are_valid(&self.book);
+        replies
     }
 
     fn join(&mut self, name: &TenantName, digest: &[u8; 32]) -> Result<(), AddTenant> {
         if place_of(&self.names, name).is_some() {
             return Err(AddTenant::NameTaken);
         }
-        if self.book.holds(digest) {
+        let book = &mut self.book;
+        if book.backend.holds(digest) {
             return Err(AddTenant::DigestTaken);
         }
         if self.names.reserve(1).is_err() {
             return Err(AddTenant::Unavailable(Unavailable::Memory));
         }
-        match self.book.add(*digest, PlainTables::new(self.alloc)) {
+        match book.backend.add(*digest, PlainTables::new(self.alloc)) {
             Ok(()) => {
                 self.names.push_reserved(Named {
                     name: *name,
@@ -121,17 +153,19 @@ impl Reopening for NamedBook {
             return Err(ChangeKey::NoTenant);
         };
         let was = self.names[place].digest;
-        if was != *digest && self.book.holds(digest) {
+        let book = &mut self.book;
+        if was != *digest && book.backend.holds(digest) {
             return Err(ChangeKey::DigestTaken);
         }
-        self.book.rekey(&was, digest);
+        book.backend.rekey(&was, digest);
         self.names[place].digest = *digest;
         Ok(())
     }
 
     fn open_again(&mut self) -> Result<(), Refused> {
+        self.are_live();
         Ok(())
     }
 
-    ghost valid = { λ a live usable. usable.0 };
+    ghost valid = { λ a live. live.0 };
 }

@@ -25,8 +25,8 @@ use wire::NoMemory;
 /// the fault, or the round, may be found done then, all of it, or not: no other may. So it is with
 /// the name of a tenant, and its digest.
 pub trait Reopening {
-    // The machine of each tenant; whether calls are allowed; whether the ledgers are live; and
-    // which machines an opening may find.
+    // The machine of each tenant; whether the ledgers are live; and which machines an opening may
+    // find.
     ghost means: { RunMeaning Self };
 
     // The digest of the tenant with each name, and which names an opening may find.
@@ -38,16 +38,13 @@ pub trait Reopening {
     /// A law: while the ledgers are live, an opening finds what is there, and each tenant has one
     /// name.
     fn is_settled(&self)
-        requires { means.is_usable self.now }
         ensures { IsInOrder means names self.now };
 
     /// The reply to the first message of `bytes`, at a moment in nanoseconds.
     fn reply_to(&mut self, alloc: Global, bytes: &[u8], moment: u64) -> Reply
-        requires { means.is_usable self.old }
         ensures replies { Replies means self.old bytes.now moment result self.new }
         ensures early { RefusesEarly bytes.now result }
-        ensures named { LeavesNames means names self.old self.new }
-        ensures usable { means.is_usable self.new };
+        ensures named { LeavesNames means names self.old self.new };
 
     /// The replies to messages, in order: they are answered in one round, and where that cannot be,
     /// one by one. Where memory lacks for the replies, nothing is done.
@@ -56,41 +53,33 @@ pub trait Reopening {
         alloc: Global,
         messages: &[Message],
     ) -> Result<Vec<Reply>, NoMemory>
-        requires { means.is_usable self.old }
         ensures moves { IfOk result (λ replies.
             MovesInRound means self.old messages.now replies.items self.new) }
         ensures undone { OnErr result (self.new ≡ self.old) }
-        ensures named { LeavesNames means names self.old self.new }
-        ensures usable { means.is_usable self.new };
+        ensures named { LeavesNames means names self.old self.new };
 
     /// Adds a tenant, whose machine is a new one. The name is looked up before the digest.
     fn join(&mut self, name: &TenantName, digest: &[u8; 32]) -> Result<(), AddTenant>
-        requires { means.is_usable self.old }
         ensures moves { Moves means self.old
             (Tried (Joined digest.now) (ending_of result)) self.new }
         ensures taken { TellsTaken means self.old digest.now (result ≡ Err AddTenant.DigestTaken)
             self.new }
-        ensures named { IsJoinTried means names self.old name.now digest.now result self.new }
-        ensures usable { means.is_usable self.new };
+        ensures named { IsJoinTried means names self.old name.now digest.now result self.new };
 
     /// Gives the tenant with this name the key of this digest, under which its machine stands from
     /// then on. The same key again changes nothing.
     fn change_key(&mut self, name: &TenantName, digest: &[u8; 32]) -> Result<(), ChangeKey>
-        requires { means.is_usable self.old }
         ensures moves { IsKeyTriedOf means names self.old name.now digest.now result self.new }
         ensures taken { TellsTaken means self.old digest.now (result ≡ Err ChangeKey.DigestTaken)
-            self.new }
-        ensures usable { means.is_usable self.new };
+            self.new };
 
     /// Closes the ledgers and opens them again. After an error each call but a later opening
     /// answers that they are unavailable, and that opening finds what this one might have, where it
     /// is told that this stands.
     fn open_again(&mut self) -> Result<(), Refused>
-        requires { means.is_usable self.old }
         ensures opened { Reopens means refuses self.old result self.new }
-        ensures named { ReopensNames means names self.old result self.new }
-        ensures usable { means.is_usable self.new };
+        ensures named { ReopensNames means names self.old result self.new };
 
-    /// In live ledgers that may be called every tenant's machine is valid.
-    ghost valid: { (a : Self) → means.is_live a → means.is_usable a → AreValid (means.tenants a) };
+    /// In live ledgers every tenant's machine is valid.
+    ghost valid: { (a : Self) → means.is_live a → AreValid (means.tenants a) };
 }

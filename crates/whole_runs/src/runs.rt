@@ -11,10 +11,8 @@ use wire::NoMemory;
 
 // Runs one step.
 fn run_step<L: Reopening>(alloc: Global, ledgers: &mut L, step: &Step) -> Answer
-    requires { L.means.is_usable ledgers.old }
     ensures makes { StepMakes L.means L.names L.refuses ledgers.old step.now result ledgers.new }
     ensures answer { IsAnswerTo step.now result }
-    ensures usable { L.means.is_usable ledgers.new }
 {
     match step {
         Step::Request(bytes, moment) => {
@@ -44,7 +42,6 @@ pub fn run_all<L: Reopening>(
     ledgers: &mut L,
     steps: &[Step],
 ) -> Result<Vec<Answer>, NoMemory>
-    requires { L.means.is_usable ledgers.old }
     ensures run { L.means.is_live ledgers.old → IfOk result (λ answers.
         HasRun L.means ledgers.old steps.now answers.items ledgers.new) }
     ensures through { L.means.is_live ledgers.old → IfOk result (λ answers.

@@ -1,5 +1,4 @@
 //! A file that is broken while it is served.
-ghost use Rattle.store.specs.Stores.{IsUsable};
 
 use super::files::Step::{Breaks, Posts};
 use super::files::{opened, take_steps};
@@ -7,6 +6,7 @@ use super::homes::Notice::Refused;
 use super::homes::{Notes, Nowhere};
 use super::scripted::Hand;
 use super::serving::{UNAVAILABLE, exchange_over};
+use chain::InUse;
 use command_texts::Fault;
 use sqlite::Options;
 use sqlite_disk::Disk;
@@ -43,10 +43,8 @@ fn broken<D: Disk + Drop>(
     bytes: &[u8],
     home: &Nowhere,
     clock: &Hand,
-    store: Store<D>,
-) -> Result<Vec<u8>, Fail>
-    requires { IsUsable store }
-{
+    store: InUse<Store<D>>,
+) -> Result<Vec<u8>, Fail> {
     let log = format!(in rt.alloc(); "{db}-wal")?;
     fs::write(rt, db, bytes)?;
     fs::write(rt, log.as_str(), "")?;

@@ -1,9 +1,9 @@
 //! Steps on files of this machine: what is done to a file, and what the program tells of it.
-ghost use Rattle.std.specs.Prelude.{◌≡◌, false, IfOk};
-ghost use Rattle.store.specs.Stores.{IsUsable};
+ghost use Rattle.std.specs.Prelude.{◌≡◌, false};
 
 use super::broken::breaks;
 use super::firms::{ADDING, Messages};
+use chain::InUse;
 use command_line::LimitWords;
 use command_texts::Fault;
 use commands::{Served, Site, program, serve_file};
@@ -157,11 +157,13 @@ pub fn remove(rt: &HostRuntime, paths: [&str; 2]) {
 }
 
 /// The ledger in a file.
-pub fn opened(rt: &HostRuntime, db: &str, options: Options) -> Result<Store<File>, OpenFault>
-    ensures { IfOk result IsUsable }
-{
+pub fn opened(
+    rt: &HostRuntime,
+    db: &str,
+    options: Options,
+) -> Result<InUse<Store<File>>, OpenFault> {
     match Store::open_at(rt, db, Unknown, options, &FullAudit) {
-        Ok(store) => Ok(store),
+        Ok(store) => Ok(InUse { backend: store }),
         Err((fault, _files)) => Err(fault),
     }
 }

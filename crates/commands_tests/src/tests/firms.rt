@@ -84,10 +84,7 @@ pub enum Messages {
 
 impl Messages {
     /// Sends them.
-    pub fn send<L: Ledgers>(self, alloc: Global, ledgers: &mut L)
-        requires { L.means.is_usable ledgers.old }
-        ensures { L.means.is_usable ledgers.new }
-    {
+    pub fn send<L: Ledgers>(self, alloc: Global, ledgers: &mut L) {
         match self {
             Messages::PostedInPart => {
                 let _reply = respond(alloc, ledgers, ACCOUNTS.as_bytes(), 0);

@@ -1,9 +1,10 @@
 //! Stores in memory whose disks fail, and homes that open others in their place.
 ghost use Rattle.std.specs.Prelude.{IfSome};
-ghost use Rattle.store.specs.Stores.{AnswersCalls, IsUsable};
+ghost use Rattle.store.specs.Stores.{AnswersCalls};
 
 use super::firms::KEY;
 use super::scripted::Hand;
+use chain::InUse;
 use command_texts::Fault;
 use commands::Home;
 use failing_disk::OnceFailing;
@@ -44,9 +45,8 @@ impl Fails {
 /// Makes new firms, each with ledgers of its own.
 pub trait Firms<D: Disk + Drop> {
     /// The ledgers of a new firm, if its disk lets it be made.
-    fn store(&self, fails: Fails) -> Option<Store<D>>
-        ensures usable { IfSome result IsUsable }
-        ensures ready { IfSome result AnswersCalls };
+    fn store(&self, fails: Fails) -> Option<InUse<Store<D>>>
+        ensures { IfSome result AnswersCalls };
 }
 
 /// Makes them in memory.
@@ -54,7 +54,7 @@ pub trait Firms<D: Disk + Drop> {
 pub struct InMemory(pub Global);
 
 impl Firms<TestDisk> for InMemory {
-    fn store(&self, fails: Fails) -> Option<Store<TestDisk>> {
+    fn store(&self, fails: Fails) -> Option<InUse<Store<TestDisk>>> {
         let files = Files {
             log: fails.disk(self.0),
             db: Fails::Never.disk(self.0),
@@ -63,22 +63,20 @@ impl Firms<TestDisk> for InMemory {
             return None;
         }
         match Store::create(self.0, files, Options::new(7)) {
-            Ok(store) => with_firm(store),
+            Ok(store) => with_firm(InUse { backend: store }),
             Err(_) => None,
         }
     }
 }
 
 // The ledgers with the firm, if it can be added.
-fn with_firm<D: Disk + Drop>(mut store: Store<D>) -> Option<Store<D>>
-    requires { IsUsable store }
-    ensures usable { IfSome result IsUsable }
-    ensures ready { IfSome result AnswersCalls }
+fn with_firm<D: Disk + Drop>(mut store: InUse<Store<D>>) -> Option<InUse<Store<D>>>
+    ensures { IfSome result AnswersCalls }
 {
     let name = TenantName::read("firm")?;
     let key = Key::read(KEY.as_bytes())?;
-    let joined = store.add_tenant(&name, &digest(&key));
-    if joined.is_err() || !store.is_ready() {
+    let joined = store.backend.add_tenant(&name, &digest(&key));
+    if joined.is_err() || !store.backend.is_ready() {
         return None;
     }
     Some(store)
@@ -144,7 +142,7 @@ impl<'a> Notes<'a> {
 pub struct Nowhere<'a>(pub Notes<'a>);
 
 impl<D: Disk + Drop> Home<D> for Nowhere<'_> {
-    fn open_store(&self, left: &mut Option<Files<D>>) -> Result<Store<D>, Fault> {
+    fn open_store(&self, left: &mut Option<Files<D>>) -> Result<InUse<Store<D>>, Fault> {
         *left = None;
         self.0.ask();
         Err(Fault::NotALedger)
@@ -154,7 +152,7 @@ impl<D: Disk + Drop> Home<D> for Nowhere<'_> {
         self.0.add(Notice::Refused(fault));
     }
 
-    fn tell_answers(&self, _store: &Store<D>) {
+    fn tell_answers(&self, _store: &InUse<Store<D>>) {
         self.0.add(Notice::Answers);
     }
 }
@@ -178,7 +176,7 @@ impl<'a, F> Refusing<'a, F> {
 }
 
 impl<D: Disk + Drop, F: Firms<D>> Home<D> for Refusing<'_, F> {
-    fn open_store(&self, left: &mut Option<Files<D>>) -> Result<Store<D>, Fault> {
+    fn open_store(&self, left: &mut Option<Files<D>>) -> Result<InUse<Store<D>>, Fault> {
         *left = None;
         self.notes.ask();
         let left = self.left.get();
@@ -196,7 +194,7 @@ impl<D: Disk + Drop, F: Firms<D>> Home<D> for Refusing<'_, F> {
         self.notes.add(Notice::Refused(fault));
     }
 
-    fn tell_answers(&self, _store: &Store<D>) {
+    fn tell_answers(&self, _store: &InUse<Store<D>>) {
         self.notes.add(Notice::Answers);
     }
 }

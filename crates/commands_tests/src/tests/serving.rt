@@ -1,12 +1,11 @@
 //! Clients that are served at once by stores in memory, whose disks fail.
-ghost use Rattle.std.specs.Prelude.{IfSome};
-ghost use Rattle.store.specs.Stores.{IsUsable};
 
 use super::firms::NO_TRANSFERS;
 use super::homes::Notice::{Answers, Refused};
 use super::homes::{Fails, Firms, InMemory, Notes, Notice, Nowhere, Refusing, TestDisk};
 use super::orders::Silent;
 use super::scripted::{Hand, Scripted};
+use chain::InUse;
 use command_texts::Fault;
 use commands::{Home, Served, serve_store};
 use service::Moments;
@@ -55,13 +54,11 @@ impl Moments for Thousands {
 pub fn exchange_over<D: Disk + Drop, H: Home<D>>(
     alloc: Global,
     home: &H,
-    store: Store<D>,
+    store: InUse<Store<D>>,
     clock: &Hand,
     seconds: u64,
     messages: (u64, u64),
-) -> Result<Vec<u8>, AllocError>
-    requires { IsUsable store }
-{
+) -> Result<Vec<u8>, AllocError> {
     let mut peers = Scripted::new(alloc, clock, seconds);
     peers.add(NO_TRANSFERS, messages.0)?;
     peers.add(NO_TRANSFERS, messages.1)?;
@@ -84,9 +81,7 @@ pub fn exchange_over<D: Disk + Drop, H: Home<D>>(
 }
 
 // The ledgers of a firm, which are sound, or whose log fails at its next call.
-fn some_store<D: Disk + Drop, F: Firms<D>>(firms: &F, are_sound: bool) -> Option<Store<D>>
-    ensures { IfSome result IsUsable }
-{
+fn some_store<D: Disk + Drop, F: Firms<D>>(firms: &F, are_sound: bool) -> Option<InUse<Store<D>>> {
     if are_sound {
         return firms.store(Fails::Never);
     }

@@ -1,11 +1,11 @@
 //! Holds that are due are released while clients are served.
-ghost use Rattle.std.specs.Prelude.{⊤, IfSome};
-ghost use Rattle.store.specs.Stores.{IsUsable};
+ghost use Rattle.std.specs.Prelude.{⊤};
 
 use super::firms::{KEY, LOOKUP, Messages, NO_TRANSFERS, OF_OTHER, OTHER_KEY, POST_OF_HOLD};
 use super::homes::{Fails, Firms, InMemory, Notes, Nowhere, TestDisk};
 use super::orders::Silent;
 use super::scripted::{Hand, Scripted};
+use chain::InUse;
 use commands::{Served, serve_store};
 use service::{Moments, respond};
 use sqlite_disk::Disk;
@@ -63,9 +63,11 @@ fn holds(alloc: Global, many: u64) -> Result<String, AllocError> {
 }
 
 /// The ledgers of the firm, which has sent so many holds at the moment 0, and of another one.
-fn with_holds<D: Disk + Drop, F: Firms<D>>(alloc: Global, firms: &F, many: u64) -> Option<Store<D>>
-    ensures { IfSome result IsUsable }
-{
+fn with_holds<D: Disk + Drop, F: Firms<D>>(
+    alloc: Global,
+    firms: &F,
+    many: u64,
+) -> Option<InUse<Store<D>>> {
     let mut store = firms.store(Fails::Never)?;
     Messages::PostedInPart.send(alloc, &mut store);
     let Ok(message) = holds(alloc, many) else {
@@ -74,7 +76,7 @@ fn with_holds<D: Disk + Drop, F: Firms<D>>(alloc: Global, firms: &F, many: u64) 
     let _reply = respond(alloc, &mut store, message.as_bytes(), 0);
     let name = TenantName::read("other")?;
     let key = Key::read(OTHER_KEY.as_bytes())?;
-    let _added = store.add_tenant(&name, &digest(&key));
+    let _added = store.backend.add_tenant(&name, &digest(&key));
     Some(store)
 }
 

@@ -1,8 +1,7 @@
 //! Connections over a store: several messages, ends, and writers that fail.
 ghost use Rattle.std.specs.Prelude.{◌≡◌};
-ghost use Rattle.store.specs.Stores.{IsUsable};
 
-use super::disks::{Faulty, NEVER, TestDisk, new_store, shut};
+use super::disks::{Faulty, NEVER, TestDisk, TestStore, new_store, shut};
 use super::messages::{asked, wanted};
 use super::scripts::runs;
 use chain::Ledgers;
@@ -13,7 +12,6 @@ use std::alloc::{AllocError, Global};
 use std::io::{self, ErrorKind, Write};
 use std::process::Abort;
 use std::test::Fail;
-use store::Store;
 
 /// Gives 0 and then every thousandth nanosecond.
 #[derive(Drop)]
@@ -141,10 +139,7 @@ fn served<L: Ledgers>(
     ledgers: &mut L,
     input: &[u8],
     limits: (usize, u64),
-) -> (Vec<u8>, Result<u64, ServeFault>)
-    requires { L.means.is_usable ledgers.old }
-    ensures { L.means.is_usable ledgers.new }
-{
+) -> (Vec<u8>, Result<u64, ServeFault>) {
     let (room, most) = limits;
     let taken = Vec::new(alloc);
     let mut reader = Streamed::new(input);
@@ -204,10 +199,7 @@ fn serves<L: Ledgers>(
     alloc: Global,
     ledgers: &mut L,
     connection: &Connection,
-) -> Result<(), Fail>
-    requires { L.means.is_usable ledgers.old }
-    ensures { L.means.is_usable ledgers.new }
-{
+) -> Result<(), Fail> {
     let input = input_of(alloc, connection)?;
     let limits = (connection.room, connection.most);
     let (written, ended) = served(alloc, ledgers, &input, limits);
@@ -218,10 +210,8 @@ fn serves<L: Ledgers>(
 fn serves_all<D: Disk + Drop>(
     rt: &impl Abort,
     alloc: Global,
-    store: &mut Store<D>,
-) -> Result<(), Fail>
-    requires { IsUsable store.old }
-{
+    store: &mut TestStore<D>,
+) -> Result<(), Fail> {
     runs(rt, alloc, store, BASES)?;
     for connection in &CONNECTIONS {
         serves(rt, alloc, store, connection)?;
@@ -231,7 +221,7 @@ fn serves_all<D: Disk + Drop>(
 
 /// The same, over disks of their own.
 fn serves_on<D: Faulty, R: Abort>(rt: &R, alloc: Global) -> Result<(), Fail> {
-    let mut store: Store<D> = new_store(alloc, NEVER, NEVER)?;
+    let mut store: TestStore<D> = new_store(alloc, NEVER, NEVER)?;
     let ended = serves_all(rt, alloc, &mut store);
     shut(store);
     ended

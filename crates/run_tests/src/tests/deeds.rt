@@ -69,10 +69,7 @@ impl Deed {
 
 impl Spelled {
     /// Runs the step, and tells what it is told.
-    pub fn told<L: Reopening>(&self, alloc: Global, ledgers: &mut L) -> Told
-        requires { L.means.is_usable ledgers.old }
-        ensures { L.means.is_usable ledgers.new }
-    {
+    pub fn told<L: Reopening>(&self, alloc: Global, ledgers: &mut L) -> Told {
         match answers(alloc, ledgers, &self.steps) {
             Ok(answers) => self.meaning(&answers),
             Err(_) => Told::Unavailable,

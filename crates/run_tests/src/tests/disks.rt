@@ -1,7 +1,6 @@
 //! Disks in memory, which may fail from some call on, and stores over them.
-ghost use Rattle.std.specs.Prelude.{IfOk};
-ghost use Rattle.store.specs.Stores.{IsUsable};
 
+use chain::InUse;
 use records::Unavailable;
 use rows::AllRows;
 use sqlite::{Files, Options};
@@ -26,6 +25,9 @@ impl Faulty for TestDisk {
     }
 }
 
+/// A store that may be called.
+pub type TestStore<D> = InUse<Store<D>>;
+
 /// Few pages, and so short a log that commits copy it into the database file.
 const SMALL: Options = Options {
     cache_pages: 16,
@@ -49,19 +51,16 @@ pub fn empty<D: Faulty>(alloc: Global, log: u64, database: u64) -> Files<D> {
 pub fn made<D: Disk + Drop>(
     alloc: Global,
     files: Files<D>,
-) -> Result<Store<D>, (OpenFault, Files<D>)>
-    ensures { IfOk result IsUsable }
-{
+) -> Result<TestStore<D>, (OpenFault, Files<D>)> {
     if !(files.log.may_be_used() && files.db.may_be_used()) {
         return Err((OpenFault::Unavailable(Unavailable::Disk), files));
     }
-    Store::create(alloc, files, SMALL)
+    let backend = Store::create(alloc, files, SMALL)?;
+    Ok(InUse { backend })
 }
 
 /// A new store, whose disks fail behind so many calls.
-pub fn new_store<D: Faulty>(alloc: Global, log: u64, database: u64) -> Result<Store<D>, Fail>
-    ensures { IfOk result IsUsable }
-{
+pub fn new_store<D: Faulty>(alloc: Global, log: u64, database: u64) -> Result<TestStore<D>, Fail> {
     match made(alloc, empty(alloc, log, database)) {
         Ok(store) => Ok(store),
         Err((fault, _files)) => Err(fault.into()),
@@ -76,43 +75,36 @@ pub fn crashed<D: Crash>(mut files: Files<D>) -> Files<D> {
 }
 
 /// The store that is found in files.
-pub fn opened<D: Disk + Drop>(alloc: Global, files: Files<D>) -> Result<Store<D>, Fail>
-    ensures { IfOk result IsUsable }
-{
+pub fn opened<D: Disk + Drop>(alloc: Global, files: Files<D>) -> Result<TestStore<D>, Fail> {
     if !(files.log.may_be_used() && files.db.may_be_used()) {
         return Err("a file is not to be used".into());
     }
     match Store::open(alloc, files, SMALL, &FullAudit) {
-        Ok(store) => Ok(store),
+        Ok(backend) => Ok(InUse { backend }),
         Err((fault, _files)) => Err(fault.into()),
     }
 }
 
 /// The store that is found in the files of another after a crash.
-pub fn after_a_crash<D: Crash + Drop>(alloc: Global, store: Store<D>) -> Result<Store<D>, Fail>
-    ensures { IfOk result IsUsable }
-{
-    opened(alloc, crashed(store.close()))
+pub fn after_a_crash<D: Crash + Drop>(
+    alloc: Global,
+    store: TestStore<D>,
+) -> Result<TestStore<D>, Fail> {
+    opened(alloc, crashed(store.into_backend().close()))
 }
 
 /// Closes a store, and forgets its files.
-pub fn shut<D: Disk + Drop>(store: Store<D>) {
-    let _files = store.close();
+pub fn shut<D: Disk + Drop>(store: TestStore<D>) {
+    let _files = store.into_backend().close();
 }
 
 /// All rows.
-pub fn all_rows<D: Disk + Drop>(store: &mut Store<D>) -> Result<AllRows, Unavailable>
-    requires { IsUsable store.old }
-    ensures { IsUsable store.new }
-{
-    store.all_rows()
+pub fn all_rows<D: Disk + Drop>(store: &mut TestStore<D>) -> Result<AllRows, Unavailable> {
+    store.backend.all_rows()
 }
 
 /// All rows, once there is memory to read them.
-pub fn rows_in<D: Disk + Drop>(store: &mut Store<D>) -> Result<AllRows, Fail>
-    requires { IsUsable store.old }
-    ensures { IsUsable store.new }
-{
+pub fn rows_in<D: Disk + Drop>(store: &mut TestStore<D>) -> Result<AllRows, Fail> {
     match all_rows(store) {
         Err(Unavailable::Memory) => Ok(all_rows(store)?),
         rows => Ok(rows?),
@@ -120,8 +112,9 @@ pub fn rows_in<D: Disk + Drop>(store: &mut Store<D>) -> Result<AllRows, Fail>
 }
 
 /// Opens a store again.
-pub fn reopen<D: Disk + Drop>(store: &mut Store<D>) -> Result<(), OpenFault>
-    ensures { IsUsable store.new }
-{
-    store.reopen(&FullAudit).map_err(|refused| refused.fault)
+pub fn reopen<D: Disk + Drop>(store: &mut TestStore<D>) -> Result<(), OpenFault> {
+    store
+        .backend
+        .reopen(&FullAudit)
+        .map_err(|refused| refused.fault)
 }

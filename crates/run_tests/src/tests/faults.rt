@@ -1,16 +1,14 @@
 //! Disks that fail while a tenant sends a chain, or while a tenant is added. What an opening finds
 //! then is all of that or nothing, and no other tenant's rows are touched.
-ghost use Rattle.store.specs.Stores.{IsUsable};
 
 use super::deeds::{CHAIN, Deed, JOINING, Spelled, Told};
-use super::disks::{Faulty, NEVER, TestDisk, after_a_crash, new_store, rows_in, shut};
+use super::disks::{Faulty, NEVER, TestDisk, TestStore, after_a_crash, new_store, rows_in, shut};
 use super::scripts::runs;
 use rows::AllRows;
 use sqlite_disk::{Crash, Disk};
 use std::alloc::Global;
 use std::process::Abort;
 use std::test::Fail;
-use store::Store;
 
 /// Two tenants with their accounts.
 const TWO: &str = "tenant 0 = added
@@ -46,11 +44,9 @@ const OUTCOMES: [Outcome; 3] = [Outcome::Undone, Outcome::Undone, Outcome::Done]
 fn around<D: Disk + Drop>(
     rt: &impl Abort,
     alloc: Global,
-    store: &mut Store<D>,
+    store: &mut TestStore<D>,
     deed: &Spelled,
-) -> Result<(AllRows, AllRows), Fail>
-    requires { IsUsable store.old }
-{
+) -> Result<(AllRows, AllRows), Fail> {
     runs(rt, alloc, store, TWO)?;
     let before = rows_in(store)?;
     let told = deed.told(alloc, store);
@@ -65,7 +61,7 @@ fn both<D: Faulty, R: Abort>(
     alloc: Global,
     deed: &Spelled,
 ) -> Result<(AllRows, AllRows), Fail> {
-    let mut store: Store<D> = new_store(alloc, NEVER, NEVER)?;
+    let mut store: TestStore<D> = new_store(alloc, NEVER, NEVER)?;
     let rows = around(rt, alloc, &mut store, deed);
     shut(store);
     rows
@@ -83,11 +79,9 @@ fn leaves_the_second(rt: &impl Abort, before: &AllRows, after: &AllRows) -> Resu
 fn told_among_two<D: Disk + Drop>(
     rt: &impl Abort,
     alloc: Global,
-    store: &mut Store<D>,
+    store: &mut TestStore<D>,
     deed: &Spelled,
-) -> Result<Told, Fail>
-    requires { IsUsable store.old }
-{
+) -> Result<Told, Fail> {
     runs(rt, alloc, store, TWO)?;
     Ok(deed.told(alloc, store))
 }
@@ -95,7 +89,7 @@ fn told_among_two<D: Disk + Drop>(
 /// What is found in the files of a store after a crash, and what a deed is told then.
 fn found<D: Crash + Drop>(
     alloc: Global,
-    store: Store<D>,
+    store: TestStore<D>,
     deed: &Spelled,
 ) -> Result<(AllRows, Told), Fail> {
     let mut store = after_a_crash(alloc, store)?;
@@ -118,7 +112,7 @@ fn became<D: Faulty, R: Abort>(
         Failing::Log => (calls, NEVER),
         Failing::Database => (NEVER, calls),
     };
-    let mut store: Store<D> = new_store(alloc, log, database)?;
+    let mut store: TestStore<D> = new_store(alloc, log, database)?;
     let told = match told_among_two(rt, alloc, &mut store, deed) {
         Ok(told) => told,
         Err(fail) => {

@@ -1,12 +1,10 @@
 //! Want of memory. To be run with each allocation refused in turn (`make alloc`). A disk in memory
 //! that wants memory has failed: what was to be written may be found after a crash, or not.
-ghost use Rattle.std.specs.Prelude.{IfOk, IfSome};
-ghost use Rattle.store.specs.Stores.{IsUsable};
 
 use super::deeds::{CHAIN, Spelled, Told};
 use super::disks::{
-    Faulty, NEVER, TestDisk, after_a_crash, all_rows, crashed, empty, made, opened, reopen,
-    rows_in, shut,
+    Faulty, NEVER, TestDisk, TestStore, after_a_crash, all_rows, crashed, empty, made, opened,
+    reopen, rows_in, shut,
 };
 use super::scripts::{answers, steps};
 use records::Unavailable;
@@ -16,16 +14,14 @@ use sqlite_disk::{Crash, Disk};
 use std::alloc::Global;
 use std::process::Abort;
 use std::test::Fail;
-use store::{OpenFault, Store};
+use store::OpenFault;
 
 /// A tenant with its accounts.
 const ONE: &str = "tenant 0 = added
 0@0 base = 0@1 0@2 0@3 0@4";
 
 /// A new store, once there is memory for it.
-fn created<D: Faulty>(alloc: Global) -> Result<Store<D>, Fail>
-    ensures { IfOk result IsUsable }
-{
+fn created<D: Faulty>(alloc: Global) -> Result<TestStore<D>, Fail> {
     match made(alloc, empty(alloc, NEVER, NEVER)) {
         Ok(store) => Ok(store),
         Err((OpenFault::Unavailable(Unavailable::Memory), files)) => created_again(alloc, files),
@@ -37,9 +33,7 @@ fn created<D: Faulty>(alloc: Global) -> Result<Store<D>, Fail>
 }
 
 /// A store that is made in the files that were given back.
-fn created_again<D: Disk + Drop>(alloc: Global, files: Files<D>) -> Result<Store<D>, Fail>
-    ensures { IfOk result IsUsable }
-{
+fn created_again<D: Disk + Drop>(alloc: Global, files: Files<D>) -> Result<TestStore<D>, Fail> {
     match made(alloc, files) {
         Ok(store) => Ok(store),
         Err((fault, _files)) => Err(fault.into()),
@@ -47,9 +41,7 @@ fn created_again<D: Disk + Drop>(alloc: Global, files: Files<D>) -> Result<Store
 }
 
 /// A store that is made after a crash, or that is there.
-fn created_or_found<D: Disk + Drop>(alloc: Global, files: Files<D>) -> Result<Store<D>, Fail>
-    ensures { IfOk result IsUsable }
-{
+fn created_or_found<D: Disk + Drop>(alloc: Global, files: Files<D>) -> Result<TestStore<D>, Fail> {
     match made(alloc, files) {
         Ok(store) => Ok(store),
         Err((OpenFault::NotALedger, files)) => opened(alloc, files),
@@ -58,9 +50,7 @@ fn created_or_found<D: Disk + Drop>(alloc: Global, files: Files<D>) -> Result<St
 }
 
 /// All rows of a store, which is closed.
-fn last_rows<D: Disk + Drop>(mut store: Store<D>) -> Result<AllRows, Fail>
-    requires { IsUsable store }
-{
+fn last_rows<D: Disk + Drop>(mut store: TestStore<D>) -> Result<AllRows, Fail> {
     let rows = rows_in(&mut store);
     shut(store);
     rows
@@ -87,10 +77,7 @@ fn is_base(rows: &AllRows) -> bool {
 }
 
 /// Adds a tenant with its accounts, if there is memory for that, and reads its rows.
-fn added<D: Disk + Drop>(alloc: Global, store: &mut Store<D>) -> Option<AllRows>
-    requires { IsUsable store.old }
-    ensures { IsUsable store.new }
-{
+fn added<D: Disk + Drop>(alloc: Global, store: &mut TestStore<D>) -> Option<AllRows> {
     let steps = steps(alloc, ONE).ok()?;
     let _answers = answers(alloc, store, &steps).ok()?;
     let rows = all_rows(store).ok()?;
@@ -98,10 +85,10 @@ fn added<D: Disk + Drop>(alloc: Global, store: &mut Store<D>) -> Option<AllRows>
 }
 
 /// A store to which a tenant is added, and all rows, if there is memory for that.
-fn with_a_tenant<D: Disk + Drop>(alloc: Global, mut store: Store<D>) -> Option<(Store<D>, AllRows)>
-    requires { IsUsable store }
-    ensures { IfSome result (λ base. IsUsable base.0) }
-{
+fn with_a_tenant<D: Disk + Drop>(
+    alloc: Global,
+    mut store: TestStore<D>,
+) -> Option<(TestStore<D>, AllRows)> {
     match added(alloc, &mut store) {
         Some(rows) => Some((store, rows)),
         None => {
@@ -112,9 +99,7 @@ fn with_a_tenant<D: Disk + Drop>(alloc: Global, mut store: Store<D>) -> Option<(
 }
 
 /// A store with a tenant, and all rows, if there is memory for that.
-fn base<D: Faulty>(alloc: Global) -> Option<(Store<D>, AllRows)>
-    ensures { IfSome result (λ base. IsUsable base.0) }
-{
+fn base<D: Faulty>(alloc: Global) -> Option<(TestStore<D>, AllRows)> {
     match made(alloc, empty(alloc, NEVER, NEVER)) {
         Ok(store) => with_a_tenant(alloc, store),
         Err((_fault, _files)) => None,
@@ -122,9 +107,7 @@ fn base<D: Faulty>(alloc: Global) -> Option<(Store<D>, AllRows)>
 }
 
 /// The same, once there is memory for it.
-fn whole_base<D: Faulty>(alloc: Global) -> Result<(Store<D>, AllRows), Fail>
-    ensures { IfOk result (λ base. IsUsable base.0) }
-{
+fn whole_base<D: Faulty>(alloc: Global) -> Result<(TestStore<D>, AllRows), Fail> {
     match base(alloc) {
         Some(base) => Ok(base),
         None => Ok(base(alloc).ok_or("no base")?),
@@ -132,9 +115,7 @@ fn whole_base<D: Faulty>(alloc: Global) -> Result<(Store<D>, AllRows), Fail>
 }
 
 /// The store opened again, now that there is memory for it.
-fn reopened_at_last<D: Disk + Drop>(mut store: Store<D>) -> Result<Store<D>, Fail>
-    ensures { IfOk result IsUsable }
-{
+fn reopened_at_last<D: Disk + Drop>(mut store: TestStore<D>) -> Result<TestStore<D>, Fail> {
     match reopen(&mut store) {
         Ok(()) => Ok(store),
         Err(fault) => {
@@ -145,9 +126,7 @@ fn reopened_at_last<D: Disk + Drop>(mut store: Store<D>) -> Result<Store<D>, Fai
 }
 
 /// The store opened again, once there is memory for it.
-fn reopened<D: Crash + Drop>(alloc: Global, mut store: Store<D>) -> Result<Store<D>, Fail>
-    ensures { IfOk result IsUsable }
-{
+fn reopened<D: Crash + Drop>(alloc: Global, mut store: TestStore<D>) -> Result<TestStore<D>, Fail> {
     match reopen(&mut store) {
         Ok(()) => Ok(store),
         Err(OpenFault::Unavailable(Unavailable::Memory)) => reopened_at_last(store),
@@ -174,11 +153,8 @@ fn want_of_memory_in_reopen(rt: HostRuntime) -> Result<(), Fail> {
 }
 
 /// A store on the same files where its disk has failed, or else itself.
-fn served_again<D: Crash + Drop>(alloc: Global, store: Store<D>) -> Result<Store<D>, Fail>
-    requires { IsUsable store }
-    ensures { IfOk result IsUsable }
-{
-    if store.is_ready() {
+fn served_again<D: Crash + Drop>(alloc: Global, store: TestStore<D>) -> Result<TestStore<D>, Fail> {
+    if store.backend.is_ready() {
         return Ok(store);
     }
     after_a_crash(alloc, store)
@@ -203,13 +179,11 @@ struct Found {
 /// Looks at a store behind a chain, and sends the chain again.
 fn found_after<D: Crash + Drop>(
     alloc: Global,
-    store: Store<D>,
+    store: TestStore<D>,
     chain: &Spelled,
     before: &AllRows,
-) -> Result<Found, Fail>
-    requires { IsUsable store }
-{
-    let has_failed = !store.is_ready();
+) -> Result<Found, Fail> {
+    let has_failed = !store.backend.is_ready();
     let mut store = served_again(alloc, store)?;
     let rows = rows_in(&mut store);
     let again = chain.told(alloc, &mut store);

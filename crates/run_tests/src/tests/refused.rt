@@ -1,8 +1,7 @@
 //! A run in the middle of which an opening is refused, since memory lacks for the audit. Nothing is
 //! lost by it: what was answered before stands behind the next opening.
-ghost use Rattle.store.specs.Stores.{IsUsable};
 
-use super::disks::{NEVER, TestDisk, new_store, shut};
+use super::disks::{NEVER, TestDisk, TestStore, new_store, shut};
 use super::scripts::runs;
 use audit::AuditFault;
 use records::Unavailable;
@@ -10,7 +9,7 @@ use rows::AllRows;
 use std::alloc::Global;
 use std::process::Abort;
 use std::test::Fail;
-use store::{Audit, OpenFault, Refused, Store};
+use store::{Audit, OpenFault, Refused};
 
 /// An audit that has no memory to look at the rows.
 struct NoMemory;
@@ -36,13 +35,14 @@ key 1 of 5 = no_tenant
 0@0 transfers 100 1 2 10; 101 9 2 5; 102 1 2 10 = 18@7 60@8 0@9";
 
 /// The opening of a store that is refused for want of memory, between two parts of a run.
-fn goes_on(rt: &impl Abort, alloc: Global, store: &mut Store<TestDisk>) -> Result<(), Fail>
-    requires { IsUsable store.old }
-{
+fn goes_on(rt: &impl Abort, alloc: Global, store: &mut TestStore<TestDisk>) -> Result<(), Fail> {
     runs(rt, alloc, store, BEFORE)?;
     let fault = OpenFault::Unavailable(Unavailable::Memory);
     let stands = true;
-    assert_eq!(rt; store.reopen(&NoMemory), Err(Refused { fault, stands }));
+    assert_eq!(rt;
+        store.backend.reopen(&NoMemory),
+        Err(Refused { fault, stands })
+    );
     runs(rt, alloc, store, BEHIND)
 }
 

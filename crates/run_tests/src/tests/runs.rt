@@ -1,13 +1,12 @@
 //! Runs over lists, and over disks in memory.
 
-use super::disks::{Faulty, NEVER, TestDisk, new_store, shut};
+use super::disks::{Faulty, NEVER, TestDisk, TestStore, new_store, shut};
 use super::examples::{EXAMPLES, TENANTS};
 use super::requests::{CLOCKS, READS, REFUSALS};
 use super::scripts::{answers, runs, runs_in_rounds};
 use std::alloc::{AllocError, Global};
 use std::process::Abort;
 use std::test::Fail;
-use store::Store;
 use whole_runs::{NamedBook, Reopening};
 use wire::NoMemory;
 
@@ -79,9 +78,7 @@ fn tenants(alloc: Global) -> Result<String, AllocError> {
 }
 
 /// All examples, over the same ledgers, which are opened again behind them.
-fn examples<L: Reopening>(rt: &impl Abort, alloc: Global, ledgers: &mut L) -> Result<(), Fail>
-    requires { L.means.is_usable ledgers.old }
-{
+fn examples<L: Reopening>(rt: &impl Abort, alloc: Global, ledgers: &mut L) -> Result<(), Fail> {
     runs(rt, alloc, ledgers, &tenants(alloc)?)?;
     runs(rt, alloc, ledgers, EXAMPLES)?;
     runs(rt, alloc, ledgers, "open = opened")
@@ -95,7 +92,7 @@ fn run_over_lists(rt: &impl Abort, alloc: Global, script: &str) -> Result<(), Fa
 /// Runs each script over disks of its own.
 fn runs_on<D: Faulty, R: Abort>(rt: &R, alloc: Global, scripts: &[&str]) -> Result<(), Fail> {
     for script in scripts {
-        let mut store: Store<D> = new_store(alloc, NEVER, NEVER)?;
+        let mut store: TestStore<D> = new_store(alloc, NEVER, NEVER)?;
         let ended = runs(rt, alloc, &mut store, script);
         shut(store);
         ended?;
@@ -105,7 +102,7 @@ fn runs_on<D: Faulty, R: Abort>(rt: &R, alloc: Global, scripts: &[&str]) -> Resu
 
 /// All examples, over disks of their own.
 fn examples_on<D: Faulty, R: Abort>(rt: &R, alloc: Global) -> Result<(), Fail> {
-    let mut store: Store<D> = new_store(alloc, NEVER, NEVER)?;
+    let mut store: TestStore<D> = new_store(alloc, NEVER, NEVER)?;
     let ended = examples(rt, alloc, &mut store);
     shut(store);
     ended
@@ -141,9 +138,7 @@ fn examples_in_rounds<L: Reopening>(
     rt: &impl Abort,
     alloc: Global,
     ledgers: &mut L,
-) -> Result<(), Fail>
-    requires { L.means.is_usable ledgers.old }
-{
+) -> Result<(), Fail> {
     runs_in_rounds(rt, alloc, ledgers, &tenants(alloc)?)?;
     runs_in_rounds(rt, alloc, ledgers, EXAMPLES)?;
     runs(rt, alloc, ledgers, "open = opened")
@@ -164,7 +159,7 @@ fn runs_in_rounds_on<D: Faulty, R: Abort>(
     scripts: &[&str],
 ) -> Result<(), Fail> {
     for script in scripts {
-        let mut store: Store<D> = new_store(alloc, NEVER, NEVER)?;
+        let mut store: TestStore<D> = new_store(alloc, NEVER, NEVER)?;
         let ended = runs_in_rounds(rt, alloc, &mut store, script);
         shut(store);
         ended?;
@@ -174,7 +169,7 @@ fn runs_in_rounds_on<D: Faulty, R: Abort>(
 
 /// The examples in rounds, over disks of their own.
 fn examples_in_rounds_on<D: Faulty, R: Abort>(rt: &R, alloc: Global) -> Result<(), Fail> {
-    let mut store: Store<D> = new_store(alloc, NEVER, NEVER)?;
+    let mut store: TestStore<D> = new_store(alloc, NEVER, NEVER)?;
     let ended = examples_in_rounds(rt, alloc, &mut store);
     shut(store);
     ended

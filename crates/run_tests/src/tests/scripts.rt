@@ -45,10 +45,7 @@ pub fn answers<L: Reopening>(
     alloc: Global,
     ledgers: &mut L,
     steps: &[Step],
-) -> Result<Vec<Answer>, NoMemory>
-    requires { L.means.is_usable ledgers.old }
-    ensures { L.means.is_usable ledgers.new }
-{
+) -> Result<Vec<Answer>, NoMemory> {
     run_all(alloc, ledgers, steps)
 }
 
@@ -88,10 +85,7 @@ pub fn runs<L: Reopening>(
     alloc: Global,
     ledgers: &mut L,
     script: &str,
-) -> Result<(), Fail>
-    requires { L.means.is_usable ledgers.old }
-    ensures { L.means.is_usable ledgers.new }
-{
+) -> Result<(), Fail> {
     let text = joined(alloc, script)?;
     let steps = steps(alloc, &text)?;
     let answers = answers(alloc, ledgers, &steps)?;
@@ -104,10 +98,7 @@ pub fn runs_in_rounds<L: Reopening>(
     alloc: Global,
     ledgers: &mut L,
     script: &str,
-) -> Result<(), Fail>
-    requires { L.means.is_usable ledgers.old }
-    ensures { L.means.is_usable ledgers.new }
-{
+) -> Result<(), Fail> {
     let text = joined(alloc, script)?;
     let steps = in_rounds(alloc, steps(alloc, &text)?)?;
     let answers = one_by_one(alloc, answers(alloc, ledgers, &steps)?)?;

@@ -5,11 +5,11 @@ mod playing;
 mod talks;
 mod turns;
 
+use chain::InUse;
 use plain::{Book, PlainTables};
 use records::Streamed;
 use service::{Moments, serve};
 use std::alloc::Global;
-use std::marker::Model;
 use tenants::{Key, digest};
 
 /// Gives the same moment again and again.
@@ -27,27 +27,17 @@ impl Moments for Always {
 /// The ledgers of several firms.
 pub(crate) struct Firms {
     alloc: Global,
-    book: Book,
+    ledgers: InUse<Book>,
 }
 
 // It is written out, so that who lets firms go does not prove again how each part is dropped.
 impl Drop for Firms {
     fn drop(self) {
-        let Firms { alloc: _, book: _ } = self;
+        let Firms {
+            alloc: _,
+            ledgers: _,
+        } = self;
     }
-}
-
-impl Model for Firms {
-    ghost use Rattle.std.specs.Prelude.{List};
-    ghost use Rattle.chain.specs.Ledgers.{AreValid};
-    ghost use Rattle.plain.specs.BookLedgers.{machines_in};
-    ghost use Rattle.plain.specs.declared.book.Tenant.{Tenant};
-
-    ghost Value = { List Tenant };
-
-    ghost view = { λ firms. firms.book };
-
-    ghost invariant = { λ firms. AreValid (machines_in firms.book) };
 }
 
 impl Firms {
@@ -55,7 +45,9 @@ impl Firms {
     pub(crate) fn new(alloc: Global) -> Firms {
         Firms {
             alloc,
-            book: Book::new(alloc),
+            ledgers: InUse {
+                backend: Book::new(alloc),
+            },
         }
     }
 
@@ -71,10 +63,11 @@ impl Firms {
     /// Adds a firm, unless it is there.
     pub(crate) fn add(&mut self, key: &str) -> Result<(), &'static str> {
         let digest = digest(&Key::read(key.as_bytes()).ok_or("no key")?);
-        if self.book.holds(&digest) {
+        if self.ledgers.backend.holds(&digest) {
             return Ok(());
         }
-        self.book
+        self.ledgers
+            .backend
             .add(digest, PlainTables::new(self.alloc))
             .map_err(|_| "no memory")
     }
@@ -85,7 +78,7 @@ impl Firms {
         let mut writer = Streamed::new(Vec::new(self.alloc));
         let _ = serve(
             self.alloc,
-            &mut self.book,
+            &mut self.ledgers,
             &mut reader,
             &mut writer,
             &mut Always(1000),

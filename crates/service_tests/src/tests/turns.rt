@@ -1,7 +1,6 @@
 //! Clients by a script of readiness, each of whom has a turn.
 
 mod failing;
-pub(crate) mod frail;
 mod rounds;
 pub(crate) mod scripted;
 mod serving;

@@ -18,7 +18,6 @@ returns-in-Whole g c = record {
         held_so g.L.Ledgers.means c.front.result.now c.moment-moment.result
             (g.L.Ledgers.means.tenants c.args.ledgers.now) c.begin-begun.new.ledgers c.begin-begun.result.rest c.begin-begun.ensures.left,
       );
-  usable = c.begin-begun.ensures.replies.usable;
   follows = c.begin-begun.ensures.replies.follows;
 }
 
@@ -28,7 +27,6 @@ returns-in-Refused g c = record {
       answers_refused g.L.Ledgers.means g.C.Moments.gives c.args.ledgers.now c.args.moments.now
       c.args.inbox.now _ c.in-Refused.refusal c.later_bytes_change_nothing.ensures.refused
       c.next.ensures.same (rw c.in-Refused.is at c.next.ensures.next);
-  usable = c.requires;
   follows = g.met.L.Ledgers.stays c.args.ledgers.now;
 }
 
@@ -38,7 +36,6 @@ returns-in-Wanting g c = record {
     record { ledgers_same = refl; moments_same = refl; same = c.next.ensures.same },
     rw c.in-Wanting.is at c.next.ensures.next,
   );
-  usable = c.requires;
   follows = g.met.L.Ledgers.stays c.args.ledgers.now;
 }
 
@@ -48,6 +45,5 @@ returns-in-End g c = record {
     record { ledgers_same = refl; moments_same = refl; same = c.next.ensures.same },
     rw c.in-End.is at c.next.ensures.next,
   );
-  usable = c.requires;
   follows = g.met.L.Ledgers.stays c.args.ledgers.now;
 }

@@ -10,4 +10,4 @@ pub returns-in-Open-clause-renews : goal.returns-in-Open-clause-renews
 returns-in-Open-clause-renews g c =
     subst (λ (was : Kept (Store _ _)). Attends was (Open c.carry_out_on-done.new.store)) (sym c.in-Open.is)
     (order_renews c.args.order.now _ c.carry_out_on-done.new.store c.carry_out_on-done.result
-    c.carry_out_on-done.ensures.done)
+    c.carry_out_on-done.ensures)

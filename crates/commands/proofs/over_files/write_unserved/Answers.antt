@@ -17,28 +17,32 @@ use Rattle.commands.proofs.over_files.write_unserved.Goals as goal
 pub returns-clause-written : goal.returns-clause-written
 returns-clause-written g c =
     let read = c.in-Ok.ensures in
-    let wrote = c.in_ok-out.ensures in
+    let reads = rw c.store.view_is at read.reads in
+    let value = rw c.store.view_is at read.value in
+    let wrote = c.in_ok-written.ensures in
     record {
       first = c.in_ok-store.store;
       begun = c.in_ok-store.ensures.opened;
-      lived = λ live. read.reads.answers.follows.lived (wrote.reads.follows.follows.lived live);
+      lived = λ live. reads.answers.follows.lived (wrote.reads.follows.0.follows.lived live);
       is = λ live.
-          let lived = wrote.reads.follows.follows.lived live in
+          let lived = wrote.reads.follows.0.follows.lived live in
           of_then
           (λ (db : Database). IsWrittenFrom g.O.Drain.written c.args.tenant.now c.args.account
-          c.args.asked.now c.args.out c.in_ok-out.out db.trees)
-          c.in_ok-store.store c.write_asked.new.ledgers live
+          c.args.asked.now c.args.out c.in_ok-written.field-0 db.trees)
+          c.in_ok-store.store c.write_asked-written.new.ledgers live
           (so_by_name
           (λ (tenant : Option Machine). IsAskedTold g.O.Drain.written tenant c.args.account
-          c.args.asked.now c.args.out c.in_ok-out.out (Ok tt))
+          c.args.asked.now c.args.out c.in_ok-written.field-0 (Ok tt))
           c.args.tenant.now c.in_ok-digest.digest c.in-Ok.found c.in_ok-store.store
-          c.digest_of.new.self c.in_ok-digest.ensures.ok_part (read.reads.same lived)
-          (read.value lived) (wrote.told live));
+          c.digest_of.new.self c.in_ok-digest.ensures.ok_part (reads.same lived)
+          (value lived) (wrote.told (live, c.may_be_called.ensures)));
     }
 
 pub returns-in_err-digest-clause-fault : goal.returns-in_err-digest-clause-fault
 returns-in_err-digest-clause-fault g c =
     let read = c.in-Ok.ensures in
+    let reads = rw c.store.view_is at read.reads in
+    let value = rw c.store.view_is at read.value in
     let none = c.in_err-digest.ensures in
     err_so
     (λ (fault : Fault). RefusesImage _ (image_at g.St.Start) fault
@@ -48,39 +52,41 @@ returns-in_err-digest-clause-fault g c =
     c.from_residual-in_err-digest.ensures.1
     (inr (nobody_there _ (image_at g.St.Start) g.O.Drain.written c.args.tenant.now c.args.account
     c.args.asked.now c.args.out c.in_ok-store.store c.digest_of.new.self c.in-Ok.found
-    c.in_err-digest.field-0.0 c.in_ok-store.ensures.opened read.reads.answers.follows.lived
+    c.in_err-digest.field-0.0 c.in_ok-store.ensures.opened reads.answers.follows.lived
     (told_as_none c.in-Ok.found c.in_err-digest.field-0.0 none.value none.ok_part) none.ok_part
-    read.value))
+    value))
 
-pub returns-in_err-out-clause-fault : goal.returns-in_err-out-clause-fault
-returns-in_err-out-clause-fault g c =
+pub returns-in_err-written-clause-fault : goal.returns-in_err-written-clause-fault
+returns-in_err-written-clause-fault g c =
     let read = c.in-Ok.ensures in
-    let wrote = c.in_err-out.ensures in
-    let fault = c.in_err-out.field-0.0 in
+    let reads = rw c.store.view_is at read.reads in
+    let value = rw c.store.view_is at read.value in
+    let wrote = c.in_err-written.ensures in
+    let fault = c.in_err-written.field-0.0 in
     err_so
     (λ (fault : Fault). RefusesImage _ (image_at g.St.Start) fault
     ⊎ IsNotWritten _ (image_at g.St.Start) g.O.Drain.written c.args.tenant.now c.args.account
     c.args.asked.now c.args.out fault)
-    c.from_residual-in_err-out.result fault c.from_residual-in_err-out.ensures.1
+    c.from_residual-in_err-written.result fault c.from_residual-in_err-written.ensures.1
     (inr (
-      c.write_asked.new.ledgers,
+      c.write_asked-written.new.ledgers,
       record {
         first = c.in_ok-store.store;
         begun = c.in_ok-store.ensures.opened;
-        lived = λ live. read.reads.answers.follows.lived (wrote.reads.follows.follows.lived live);
+        lived = λ live. reads.answers.follows.lived (wrote.reads.follows.0.follows.lived live);
         is = λ live.
-            let lived = wrote.reads.follows.follows.lived live in
+            let lived = wrote.reads.follows.0.follows.lived live in
             of_then
             (λ (db : Database). (given : g.row.O.Denot)
             × IsAskedTold g.O.Drain.written (machine_named c.args.tenant.now db.trees) c.args.account
             c.args.asked.now c.args.out given (Err fault))
-            c.in_ok-store.store c.write_asked.new.ledgers live
+            c.in_ok-store.store c.write_asked-written.new.ledgers live
             (so_by_name
             (λ (tenant : Option Machine). (given : g.row.O.Denot)
             × IsAskedTold g.O.Drain.written tenant c.args.account c.args.asked.now c.args.out given
             (Err fault))
             c.args.tenant.now c.in_ok-digest.digest c.in-Ok.found c.in_ok-store.store
-            c.digest_of.new.self c.in_ok-digest.ensures.ok_part (read.reads.same lived)
-            (read.value lived) (wrote.told live));
+            c.digest_of.new.self c.in_ok-digest.ensures.ok_part (reads.same lived)
+            (value lived) (wrote.told (live, c.may_be_called.ensures)));
       },
     ))

@@ -1,7 +1,8 @@
 use Rattle.std.proofs.Common.{[], List, Option, sym, subst}
 use Rattle.records.specs.Machine.{Machine}
+use Rattle.chain.specs.Backends.{in_use}
 use Rattle.parts.specs.Parts.{IsPart}
-use Rattle.store.specs.StoreLaws.{store_meaning, finds_itself}
+use Rattle.store.specs.StoreLaws.{store_meaning}
 use Rattle.store.specs.Stores.{IsLive, tenants_of}
 use Rattle.commands.specs.Pieces.{asked_for}
 use Rattle.commands.proofs.PartLemmas.{part_given, read_ending, read_moves}
@@ -12,16 +13,20 @@ returns-clause-told g c =
     let digest = c.args.rest.now.digest in
     part_given (IsLive c.part-read.new.ledgers) c.args.rest.now (tenants_of c.args.store.now digest)
     (tenants_of c.part-read.new.ledgers digest) c.part-read.result c.ok.result c.ok.ensures.value
-    (λ live. c.part-read.ensures.reads.same live digest) c.part-read.ensures.told
+    (λ live. c.part-read.ensures.reads.same (live, c.is_settled.ensures.usable) digest)
+    (λ live. c.part-read.ensures.told (live, c.is_settled.ensures.usable))
 
 pub returns-clause-tried : goal.returns-clause-tried
 returns-clause-tried g c = (
   asked_for c.args.rest.now.digest c.args.rest.now.account,
   (
     read_ending c.part-read.result,
-    read_moves (store_meaning {D = g.row.D.Denot} {g = g.D.Disk}) c.args.rest.now.digest c.args.rest.now.account
+    read_moves (in_use (store_meaning {D = g.row.D.Denot} {g = g.D.Disk})) c.args.rest.now.digest c.args.rest.now.account
         c.args.store.now c.part-read.new.ledgers c.part-read.result c.part-read.ensures.reads c.part-read.ensures.finds
-        (finds_itself c.part-read.new.ledgers c.is_settled.ensures c.part-read.ensures.reads.usable)
-        c.part-read.ensures.reads.follows.follows.lived,
+        c.is_settled.ensures.settled
+        (λ live. (
+          c.part-read.ensures.reads.follows.0.follows.lived live.0,
+          c.part-read.ensures.reads.follows.1 live.1,
+        )),
   ),
 )

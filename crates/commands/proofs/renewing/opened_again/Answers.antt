@@ -11,18 +11,18 @@ pub returns-in-Err-Unavailable-Disk-clause-renews :
 returns-in-Err-Unavailable-Disk-clause-renews g c =
     let refused = c.in-Err-Unavailable-Disk.ensures in
     anew_so g.H.Home.opens c.args.kept.now (Open c.reopened.new.store) c.open_anew.new.kept c.open_anew.result
-    c.requires.silent
+    c.requires
     (subst (λ (was : Kept (Store _ _)). WasRefused was (Open c.reopened.new.store))
     (sym c.in-Open.is) refused.refused)
     c.open_anew.ensures.anew c.open_anew.ensures.answers c.open_anew.ensures.settled c.open_anew.ensures.refused
 
 pub returns-in-Err-clause-renews : goal.returns-in-Err-clause-renews
 returns-in-Err-clause-renews g c =
-    let refused = c.in-Err.ensures in Refuses c.requires.silent refused.refused.silent refused.refused.shut
+    let refused = c.in-Err.ensures in Refuses c.requires refused.refused.silent refused.refused.shut
 
 pub returns-in-Closed-clause-renews : goal.returns-in-Closed-clause-renews
 returns-in-Closed-clause-renews g c =
     let opened = c.open_anew-in-Closed in
-    anew_so g.H.Home.opens c.args.kept.now c.args.kept.now opened.new.kept opened.result c.requires.silent
+    anew_so g.H.Home.opens c.args.kept.now c.args.kept.now opened.new.kept opened.result c.requires
     (subst (λ (was : Kept (Store _ _)). WasRefused was was) (sym c.in-Closed.is) tt)
     opened.ensures.anew opened.ensures.answers opened.ensures.settled opened.ensures.refused

@@ -6,7 +6,7 @@ use Rattle.commands.specs.declared.kept.Kept.TheVariants.{Open}
 use Rattle.commands.proofs.SettleLemmas.{settling_renews}
 use Rattle.commands.proofs.renewing.settle.Goals as goal
 
-pub returns-in-Open-clause-renews : goal.returns-in-Open-clause-renews
-returns-in-Open-clause-renews g c =
+pub returns-in-Open : goal.returns-in-Open
+returns-in-Open g c =
     subst (λ (was : Kept (Store _ _)). Attends was (Open c.settle.new.store)) (sym c.in-Open.is)
-    (settling_renews c.settle.ensures.settles.0 _ c.settle.new.store c.settle.ensures.settles.1.by)
+    (settling_renews c.settle.ensures.0 _ c.settle.new.store c.settle.ensures.1.by)

@@ -19,7 +19,6 @@ loop-init g c = record {
   left = omega arith;
   wanting = λ (some : 0 < 0). omega arith;
   told = omega arith;
-  usable = c.requires;
 }
 
 pub loop-preserved : goal.loop-preserved
@@ -43,7 +42,6 @@ loop-preserved g c =
       left = omega (arith, on.count, before.left, round.ensures.few);
       wanting = λ some. omega arith;
       told = omega (arith, on.told, before.told);
-      usable = round.ensures.usable;
     }
 
 pub returns-then-left-eq0-clause-served : goal.returns-then-left-eq0-clause-served

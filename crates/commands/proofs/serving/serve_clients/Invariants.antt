@@ -19,5 +19,4 @@ invariant-loop g l = record {
   left : replies_in deeds + l.left ≡ l.most;
   wanting : 0 < l.counter → 0 < l.left;
   told : l.counter ≤ tellings served;
-  usable : g.L.Ledgers.means.is_usable l.ledgers;
 }

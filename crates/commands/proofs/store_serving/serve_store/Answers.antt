@@ -2,12 +2,7 @@ use Rattle.std.proofs.Common.{subst}
 use Rattle.store.specs.declared.store.Store.{Store}
 use Rattle.commands.specs.Serving.{ServesStore}
 use Rattle.commands.specs.declared.kept.Kept.{Kept}
-use Rattle.commands.proofs.RenewLemmas.{usable_so}
 use Rattle.commands.proofs.store_serving.serve_store.Goals as goal
-
-pub serve_kept-requires : goal.serve_kept-requires
-serve_kept-requires g c =
-    usable_so c.args.store c.requires c.of-kept.result c.of-kept.ensures
 
 pub returns-clause-served : goal.returns-clause-served
 returns-clause-served g c =

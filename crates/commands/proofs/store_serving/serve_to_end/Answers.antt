@@ -1,9 +1,4 @@
-use Rattle.commands.proofs.RenewLemmas.{usable_so}
 use Rattle.commands.proofs.store_serving.serve_to_end.Goals as goal
-
-pub serve_kept-served-requires : goal.serve_kept-served-requires
-serve_kept-served-requires g c =
-    usable_so c.args.store c.requires c.of-kept.result c.of-kept.ensures
 
 pub returns-in-Ok-clause-served : goal.returns-in-Ok-clause-served
 returns-in-Ok-clause-served g c =

@@ -2,8 +2,8 @@
 ghost use Rattle.std.specs.Prelude.{◌≡◌, true, false, Err};
 
 use chain::{
-    BatchFault, BatchReply, Ledgers, Listed, QueryPage, ReadFault, RoundWork, Rounds, Tables, Work,
-    run_accounts, run_transfers,
+    BatchFault, BatchReply, InUse, Ledgers, Listed, QueryPage, ReadFault, RoundWork, Rounds,
+    Tables, Work, run_accounts, run_transfers,
 };
 use plain::{Book, PlainTables};
 use records::{
@@ -13,7 +13,6 @@ use records::{
 };
 use samples::{KEEPS_HISTORY, LIMITS_DEBITS, account};
 use std::alloc::Global;
-use std::marker::Model;
 use std::test::Fail;
 
 /// The digest of the firm whose accounts and transfers the examples speak of.
@@ -63,23 +62,19 @@ impl Work for Sending<'_> {
 }
 
 /// The ledgers of the two firms.
-#[derive(Drop)]
 pub struct Firms {
     alloc: Global,
-    book: Book,
+    ledgers: InUse<Book>,
 }
 
-impl Model for Firms {
-    ghost use Rattle.std.specs.Prelude.{List};
-    ghost use Rattle.chain.specs.Ledgers.{AreValid};
-    ghost use Rattle.plain.specs.BookLedgers.{machines_in};
-    ghost use Rattle.plain.specs.declared.book.Tenant.{Tenant};
-
-    ghost Value = { List Tenant };
-
-    ghost view = { λ firms. firms.book };
-
-    ghost invariant = { λ firms. AreValid (machines_in firms.book) };
+// It is written out, so that who lets firms go does not prove again how each part is dropped.
+impl Drop for Firms {
+    fn drop(self) {
+        let Firms {
+            alloc: _,
+            ledgers: _,
+        } = self;
+    }
 }
 
 impl Firms {
@@ -88,7 +83,10 @@ impl Firms {
         let mut book = Book::new(alloc);
         book.add(FIRM, PlainTables::new(alloc))?;
         book.add(OTHER, PlainTables::new(alloc))?;
-        Ok(Firms { alloc, book })
+        Ok(Firms {
+            alloc,
+            ledgers: InUse { backend: book },
+        })
     }
 
     /// The base of the examples: the first firm has accounts 1 to 4.
@@ -121,12 +119,12 @@ impl Firms {
         digest: &[u8; 32],
         work: W,
     ) -> Result<W::Output, BatchFault> {
-        self.book.in_batch(digest, work)
+        self.ledgers.in_batch(digest, work)
     }
 
     /// Does the work of a round.
     pub fn round<W: RoundWork + Drop>(&mut self, work: W) -> Result<W::Output, Unavailable> {
-        self.book.in_round(work)
+        self.ledgers.in_round(work)
     }
 
     /// Sends a batch of transfers at a moment, in nanoseconds.
@@ -142,7 +140,7 @@ impl Firms {
 
     /// Whether a firm has this digest.
     pub fn knows(&mut self, digest: &[u8; 32]) -> Result<bool, Unavailable> {
-        self.book.knows(digest)
+        self.ledgers.knows(digest)
     }
 
     /// The accounts with these ids.
@@ -151,7 +149,7 @@ impl Firms {
         digest: &[u8; 32],
         ids: &[u128],
     ) -> Result<Listed<AccountWithBalances>, ReadFault> {
-        self.book.lookup_accounts(self.alloc, digest, ids)
+        self.ledgers.lookup_accounts(self.alloc, digest, ids)
     }
 
     /// The transfers with these ids.
@@ -160,12 +158,12 @@ impl Firms {
         digest: &[u8; 32],
         ids: &[u128],
     ) -> Result<Listed<Transfer>, ReadFault> {
-        self.book.lookup_transfers(self.alloc, digest, ids)
+        self.ledgers.lookup_transfers(self.alloc, digest, ids)
     }
 
     /// What has become of the holds with these ids.
     pub fn pending(&mut self, digest: &[u8; 32], ids: &[u128]) -> Result<Listed<Hold>, ReadFault> {
-        self.book.lookup_pending(self.alloc, digest, ids)
+        self.ledgers.lookup_pending(self.alloc, digest, ids)
     }
 
     /// A page of the holds that are open.
@@ -174,7 +172,7 @@ impl Firms {
         digest: &[u8; 32],
         asked: &PageFilter,
     ) -> Result<QueryPage<Hold>, ReadFault> {
-        self.book.open_pending(self.alloc, digest, asked)
+        self.ledgers.open_pending(self.alloc, digest, asked)
     }
 
     /// A page of the accounts that a query asks for.
@@ -183,7 +181,7 @@ impl Firms {
         digest: &[u8; 32],
         asked: &QueryFilter,
     ) -> Result<QueryPage<AccountWithBalances>, ReadFault> {
-        self.book.query_accounts(self.alloc, digest, asked)
+        self.ledgers.query_accounts(self.alloc, digest, asked)
     }
 
     /// A page of the transfers that a query asks for.
@@ -192,7 +190,7 @@ impl Firms {
         digest: &[u8; 32],
         asked: &QueryFilter,
     ) -> Result<QueryPage<Transfer>, ReadFault> {
-        self.book.query_transfers(self.alloc, digest, asked)
+        self.ledgers.query_transfers(self.alloc, digest, asked)
     }
 
     /// The transfers that a filter asks for.
@@ -201,7 +199,7 @@ impl Firms {
         digest: &[u8; 32],
         asked: &AccountFilter,
     ) -> Result<Listed<Transfer>, ReadFault> {
-        self.book.history_transfers(self.alloc, digest, asked)
+        self.ledgers.history_transfers(self.alloc, digest, asked)
     }
 
     /// The balances of an account after each transfer that a filter asks for.
@@ -210,7 +208,7 @@ impl Firms {
         digest: &[u8; 32],
         asked: &AccountFilter,
     ) -> Result<Listed<BalanceAt>, ReadFault> {
-        self.book.history_balances(self.alloc, digest, asked)
+        self.ledgers.history_balances(self.alloc, digest, asked)
     }
 
     /// How an account's statement ends, and its rows, of which so many are taken.
@@ -223,7 +221,7 @@ impl Firms {
     ) -> (Result<(), ReadFault>, Vec<StatementRow>) {
         let mut rows = Rows::new(self.alloc, room);
         let told = self
-            .book
+            .ledgers
             .each_statement_row(self.alloc, digest, account, order, &mut rows);
         (told, rows.taken)
     }

@@ -37,9 +37,7 @@ fn sent<L: Ledgers>(
     ledgers: &mut L,
     digest: &[u8; 32],
 ) -> Result<Option<u64>, Unavailable>
-    requires { L.means.is_usable ledgers.old }
-    ensures usable { L.means.is_usable ledgers.new }
-    ensures follows { L.means.follows ledgers.old ledgers.new }
+    ensures { L.means.follows ledgers.old ledgers.new }
 {
     let transfers = [transfer(100, (1, 2), 10)];
     let sending = Sending {

@@ -23,5 +23,5 @@ returns g c = record {
   reads =
       read_so (GivesPiece c.args.account c.args.span.now) (λ before output after given. given.0)
       g.L.Ledgers.means c.args.digest.now c.args.ledgers.now c.in_batch.new.self c.in_batch.result
-      c.in_batch.ensures.run c.in_batch.ensures.usable c.in_batch.ensures.follows;
+      c.in_batch.ensures.run c.in_batch.ensures.follows;
 }

@@ -4,7 +4,7 @@ use Rattle.polling.proofs.finishing.write_in.Goals as goal
 pub returns-in-Some : goal.returns-in-Some
 returns-in-Some g c = record {
   turn =
-      let written = c.write_left.ensures.serves in (
+      let written = c.write_left.ensures in (
         written.0,
         (
           written.1.0,
@@ -19,7 +19,5 @@ returns-in-Some g c = record {
         ),
       );
   none =
-      search rules;
-  usable =
       search rules;
 }

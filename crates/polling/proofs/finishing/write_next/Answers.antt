@@ -30,7 +30,7 @@ returns-in-Ready-clause-turn g c is moments =
       peers = c.told.new.self;
       first = nothing_done r (held_by c.args.ledgers.now moments c.args.peers.now c.args.seats.now);
       said = c.told.ensures;
-      served = λ first keeps stand. c.write_one.ensures.serves moments first keeps;
+      served = λ first keeps stand. c.write_one.ensures moments first keeps;
     }
 
 pub returns-in-Late-clause-turn : goal.returns-in-Late-clause-turn
@@ -50,15 +50,11 @@ returns-in-Late-clause-turn g c is moments =
     }
 
 pub returns-in-Nothing-clause-quiet : goal.returns-in-Nothing-clause-quiet
-returns-in-Nothing-clause-quiet g c = record {
-  serves =
-      λ is moments. let r = rules g.L.Ledgers.means g.C.Moments.gives g.H.Steward.renews g.H.Steward.waits g.P.Peers.does in
-      record {
-        before = held_by c.args.ledgers.now moments c.args.peers.now c.args.seats.now;
-        served = nothing_done r (held_by c.args.ledgers.now moments c.args.peers.now c.args.seats.now);
-        said = c.in-Nothing.ensures;
-        same = refl {a = held_by c.args.ledgers.now moments c.told.new.self c.args.seats.now};
-      };
-  usable =
-      c.requires;
-}
+returns-in-Nothing-clause-quiet g c =
+    λ is moments. let r = rules g.L.Ledgers.means g.C.Moments.gives g.H.Steward.renews g.H.Steward.waits g.P.Peers.does in
+    record {
+      before = held_by c.args.ledgers.now moments c.args.peers.now c.args.seats.now;
+      served = nothing_done r (held_by c.args.ledgers.now moments c.args.peers.now c.args.seats.now);
+      said = c.in-Nothing.ensures;
+      same = refl {a = held_by c.args.ledgers.now moments c.told.new.self c.args.seats.now};
+    }

@@ -6,7 +6,7 @@ use Rattle.polling.proofs.TurnLemmas.{turns_serve, next_turn, too_long, quiet_se
 use Rattle.polling.proofs.finishing.write_rest.Goals as goal
 
 pub loop-init : goal.loop-init
-loop-init g c = (c.requires, λ moments. Start)
+loop-init g c moments = Start
 
 pub returns-then-are_written : goal.returns-then-are_written
 returns-then-are_written g c = record {
@@ -14,11 +14,9 @@ returns-then-are_written g c = record {
       λ moments. turns_serve (rules g.L.Ledgers.means g.C.Moments.gives g.H.Steward.renews g.H.Steward.waits g.P.Peers.does)
       (held_by c.args.ledgers.now moments c.args.peers.now c.args.seats.now)
       (held_by c.loop.ledgers moments c.loop.peers c.loop.seats) c.loop.counter 0
-      (c.loop.invariant.1 moments);
+      (c.loop.invariant moments);
   ends =
       λ moments. Enough (c.if-are_written.ensures refl);
-  usable =
-      c.loop.invariant.0;
 }
 
 pub returns-then-not-write_next : goal.returns-then-not-write_next
@@ -30,8 +28,8 @@ returns-then-not-write_next g c = record {
       let new = held_by c.write_next.new.ledgers moments c.write_next.new.peers c.write_next.new.seats in
       quiet_serves r first new 0
       (quiet_then r first old new 0
-      (turns_serve r first old c.loop.counter 0 (c.loop.invariant.1 moments))
-      (c.if-not-write_next.ensures.quiet.serves refl moments));
+      (turns_serve r first old c.loop.counter 0 (c.loop.invariant moments))
+      (c.if-not-write_next.ensures.quiet refl moments));
   ends =
       λ moments. let r = rules g.L.Ledgers.means g.C.Moments.gives g.H.Steward.renews g.H.Steward.waits g.P.Peers.does in
       let first = held_by c.args.ledgers.now moments c.args.peers.now c.args.seats.now in
@@ -39,23 +37,18 @@ returns-then-not-write_next g c = record {
       let new = held_by c.write_next.new.ledgers moments c.write_next.new.peers c.write_next.new.seats in
       Quiet
       (quiet_then r first old new 0
-      (turns_serve r first old c.loop.counter 0 (c.loop.invariant.1 moments))
-      (c.if-not-write_next.ensures.quiet.serves refl moments));
-  usable =
-      c.if-not-write_next.ensures.quiet.usable;
+      (turns_serve r first old c.loop.counter 0 (c.loop.invariant moments))
+      (c.if-not-write_next.ensures.quiet refl moments));
 }
 
 pub loop-preserved : goal.loop-preserved
-loop-preserved g c = (
-  c.if-not-write_next.ensures.quiet.usable,
-  λ moments.
-      let r = rules g.L.Ledgers.means g.C.Moments.gives g.H.Steward.renews g.H.Steward.waits g.P.Peers.does in
-      next_turn r (held_by c.args.ledgers.now moments c.args.peers.now c.args.seats.now)
-      (held_by c.loop.ledgers moments c.loop.peers c.loop.seats)
-      (held_by c.write_next.new.ledgers moments c.write_next.new.peers c.write_next.new.seats) c.loop.counter 0 0 0 refl
-      (c.loop.invariant.1 moments)
-      (c.if-not-write_next.ensures.turn refl moments),
-)
+loop-preserved g c moments =
+    let r = rules g.L.Ledgers.means g.C.Moments.gives g.H.Steward.renews g.H.Steward.waits g.P.Peers.does in
+    next_turn r (held_by c.args.ledgers.now moments c.args.peers.now c.args.seats.now)
+    (held_by c.loop.ledgers moments c.loop.peers c.loop.seats)
+    (held_by c.write_next.new.ledgers moments c.write_next.new.peers c.write_next.new.seats) c.loop.counter 0 0 0 refl
+    (c.loop.invariant moments)
+    (c.if-not-write_next.ensures.turn refl moments)
 
 pub returns : goal.returns
 returns g c = record {
@@ -63,13 +56,11 @@ returns g c = record {
       λ moments. turns_serve (rules g.L.Ledgers.means g.C.Moments.gives g.H.Steward.renews g.H.Steward.waits g.P.Peers.does)
       (held_by c.args.ledgers.now moments c.args.peers.now c.args.seats.now)
       (held_by c.loop.ledgers moments c.loop.peers c.loop.seats) c.loop.counter 0
-      (c.loop.invariant.1 moments);
+      (c.loop.invariant moments);
   ends =
       λ moments. too_long (rules g.L.Ledgers.means g.C.Moments.gives g.H.Steward.renews g.H.Steward.waits g.P.Peers.does)
       (NothingIsLeft c.loop.seats.clients)
       (held_by c.args.ledgers.now moments c.args.peers.now c.args.seats.now)
       (held_by c.loop.ledgers moments c.loop.peers c.loop.seats) c.loop.counter 0 c.loop.auto.counter-end
-      c.loop-test.false (c.loop.invariant.1 moments);
-  usable =
-      c.loop.invariant.0;
+      c.loop-test.false (c.loop.invariant moments);
 }

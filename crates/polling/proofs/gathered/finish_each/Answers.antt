@@ -14,7 +14,6 @@ loop-number-init g c = record {
       (held_by c.args.ledgers.now c.args.moments.now c.args.peers.now c.args.seats.now)
       (λ one found. found);
   few = omega arith;
-  usable = c.requires;
 }
 
 pub loop-number-preserved : goal.loop-number-preserved
@@ -54,7 +53,6 @@ loop-number-preserved g c =
           let more = one.ensures.few in
           let before = c.loop-number.invariant.few in
           omega (arith, more, before);
-      usable = one.ensures.usable;
     }
 
 pub returns : goal.returns
@@ -72,6 +70,4 @@ returns g c = record {
       c.loop-number.invariant.serves;
   few =
       c.loop-number.invariant.few;
-  usable =
-      c.loop-number.invariant.usable;
 }

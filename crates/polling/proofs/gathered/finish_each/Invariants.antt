@@ -13,5 +13,4 @@ invariant-loop-number g l = record {
       (held_by l.fn.ledgers l.fn.moments l.fn.peers l.fn.seats)
       (held_by l.ledgers l.moments l.peers l.seats) l.replies;
   few : l.replies ≤ l.most;
-  usable : g.L.Ledgers.means.is_usable l.ledgers;
 }

@@ -22,8 +22,6 @@ returns-then-turned g c = record {
       c.in-Some.ensures.found.turn);
   few =
       few_finished c.in-Some.turned.replied true c.args.most c.if-turned.true c.in-Some.ensures.few;
-  usable =
-      c.finish_in.ensures.found.usable;
 }
 
 pub returns-else-turned : goal.returns-else-turned
@@ -41,8 +39,6 @@ returns-else-turned g c = record {
       c.in-Some.ensures.found.turn);
   few =
       omega arith;
-  usable =
-      c.finish_in.ensures.found.usable;
 }
 
 pub returns-in-None : goal.returns-in-None
@@ -59,6 +55,4 @@ returns-in-None g c = record {
       (λ (is : A_turn ≡ A_seat). cc) c.in-None.ensures.found.none);
   few =
       omega arith;
-  usable =
-      c.finish_in.ensures.found.usable;
 }

@@ -20,8 +20,6 @@ returns-then-not-is_due-clause-replies g c = record {
       (none_owed r why (turns_of started) (turns_of started) now (λ one found. found));
   few =
       omega arith;
-  usable =
-      c.requires;
 }
 
 pub returns-clause-replies : goal.returns-clause-replies
@@ -60,6 +58,4 @@ returns-clause-replies g c = record {
       taken more.ensures.serves)));
   few =
       let one = c.share-shared.ensures.replies.few in let more = c.finish_each-more.ensures.few in omega (arith, one, more);
-  usable =
-      c.finish_each-more.ensures.usable;
 }

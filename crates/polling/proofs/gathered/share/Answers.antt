@@ -12,6 +12,4 @@ returns-then-numbers-lt2-clause-replies g c = record {
       (held (Whole c.args.ledgers.now) c.args.moments.now peers (seats_in c.args.clients.now) next);
   few =
       omega arith;
-  usable =
-      c.requires;
 }

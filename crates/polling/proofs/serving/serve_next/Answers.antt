@@ -61,8 +61,6 @@ returns-then-is_over-clause-turns g c = record {
       (tells_owed r why gathered ledgers moments c.args.peers.now c.told-told.new.self seats next Nothing said);
   few =
       omega arith;
-  usable =
-      c.attend.ensures.usable;
 }
 
 pub returns-clause-does : goal.returns-clause-does
@@ -134,11 +132,9 @@ returns-clause-turns g c = record {
       mid new c.serve_due-more.result
       (λ (all : c.serve_due-more.result ≡ c.args.most - c.serve_told-replies.result).
       let few = c.serve_told-replies.ensures.few in
-      let some = c.requires.some in
+      let some = c.requires in
       omega (arith, all, few, some))
       c.serve_due-more.ensures.replies.serves));
   few =
-      let told = c.serve_told-replies.ensures.few in let due = c.serve_due-more.ensures.replies.few in let some = c.requires.some in omega (arith, told, due, some);
-  usable =
-      c.serve_due-more.ensures.replies.usable;
+      let told = c.serve_told-replies.ensures.few in let due = c.serve_due-more.ensures.replies.few in let some = c.requires in omega (arith, told, due, some);
 }

@@ -22,8 +22,6 @@ returns-in-Gathered g c = record {
       c.place.ensures.gathers.kept);
   few =
       omega arith;
-  usable =
-      c.requires;
 }
 
 pub returns-in-Later : goal.returns-in-Later
@@ -52,8 +50,6 @@ returns-in-Later g c = record {
       seats_now next c.place.ensures.same (among_turns gathered gathered_now c.place.ensures.gathers.kept));
   few =
       omega arith;
-  usable =
-      c.requires;
 }
 
 pub returns-then-serve_one : goal.returns-then-serve_one
@@ -77,11 +73,9 @@ returns-then-serve_one g c = record {
       c.place.ensures.same
       (among_beside turn (turns_of gathered) (turns_of gathered_now)
       (among_turns gathered gathered_now c.place.ensures.gathers.kept)))
-      (beside r ⊥ (turn ∷ []) [] (turns_of gathered_now) mid new 1 c.if-serve_one.ensures.serves);
+      (beside r ⊥ (turn ∷ []) [] (turns_of gathered_now) mid new 1 c.if-serve_one.ensures);
   few =
       omega arith;
-  usable =
-      c.serve_one.ensures.usable;
 }
 
 pub returns-else-serve_one : goal.returns-else-serve_one
@@ -105,9 +99,7 @@ returns-else-serve_one g c = record {
       c.place.ensures.same
       (among_beside turn (turns_of gathered) (turns_of gathered_now)
       (among_turns gathered gathered_now c.place.ensures.gathers.kept)))
-      (beside r ⊥ (turn ∷ []) [] (turns_of gathered_now) mid new 0 c.if-serve_one.ensures.serves);
+      (beside r ⊥ (turn ∷ []) [] (turns_of gathered_now) mid new 0 c.if-serve_one.ensures);
   few =
       omega arith;
-  usable =
-      c.serve_one.ensures.usable;
 }

@@ -20,7 +20,6 @@ loop-init g c =
           (none_owed r (0 ≡ c.args.most) [] [] first (λ one found. found));
       all = λ some. c.new-gathered.ensures.none;
       few = omega arith;
-      usable = c.requires;
     }
 
 pub returns-then-replies-most : goal.returns-then-replies-most
@@ -43,8 +42,6 @@ returns-then-replies-most g c = record {
       (c.loop.invariant.all c.if-replies-most.true) c.loop.invariant.served);
   few =
       c.loop.invariant.few;
-  usable =
-      c.loop.invariant.usable;
 }
 
 pub returns-in-Nothing : goal.returns-in-Nothing
@@ -94,8 +91,6 @@ returns-in-Nothing g c = record {
       c.in-Nothing.ensures.turns.serves)));
   few =
       c.loop.invariant.few;
-  usable =
-      c.in-Nothing.ensures.turns.usable;
 }
 
 pub returns : goal.returns
@@ -119,8 +114,6 @@ returns g c = record {
       c.loop.replies c.loop.auto.counter-end c.loop-test.false c.loop.invariant.turns);
   few =
       c.loop.invariant.few;
-  usable =
-      c.loop.invariant.usable;
 }
 
 pub loop-preserved : goal.loop-preserved
@@ -159,5 +152,4 @@ loop-preserved g c =
           let before = c.loop.invariant.few in
           let more = c.in-Served.ensures.turns.few in
           omega (arith, before, more);
-      usable = c.serve_next.ensures.turns.usable;
     }

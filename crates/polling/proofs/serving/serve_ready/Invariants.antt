@@ -21,5 +21,4 @@ invariant-loop g l = record {
       (held_by l.ledgers l.moments l.peers l.seats) l.replies;
   all : l.replies ≡ l.most → l.gathered.numbers.items ≡ [];
   few : l.replies ≤ l.most;
-  usable : g.L.Ledgers.means.is_usable l.ledgers;
 }

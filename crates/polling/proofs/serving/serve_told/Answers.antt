@@ -21,8 +21,6 @@ returns-in-Joined g c = record {
       (c.join.ensures c.args.ledgers.now c.args.moments.now) first keeps);
   few =
       omega arith;
-  usable =
-      c.requires;
 }
 
 pub returns-in-Ready : goal.returns-in-Ready
@@ -31,8 +29,6 @@ returns-in-Ready g c = record {
       rw c.in-Ready.is (λ first keeps told. c.serve_or_gather.ensures.serves first keeps);
   few =
       c.serve_or_gather.ensures.few;
-  usable =
-      c.serve_or_gather.ensures.usable;
 }
 
 pub returns-in-Late : goal.returns-in-Late
@@ -47,8 +43,6 @@ returns-in-Late g c = record {
       (c.let_go.ensures c.args.ledgers.now c.args.moments.now));
   few =
       omega arith;
-  usable =
-      c.requires;
 }
 
 pub returns-in-Nothing : goal.returns-in-Nothing
@@ -61,6 +55,4 @@ returns-in-Nothing g c = record {
       (λ first keeps told. none_owed r ⊥ gathered gathered old (λ one found. found) first keeps);
   few =
       omega arith;
-  usable =
-      c.requires;
 }

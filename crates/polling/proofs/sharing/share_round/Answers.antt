@@ -16,8 +16,6 @@ returns-then-len-lt2 g c = record {
       c.copy_all-round.ensures.gathered.given;
   few =
       omega arith;
-  usable =
-      c.requires;
 }
 
 pub put_all-count-requires : goal.put_all-count-requires
@@ -48,8 +46,6 @@ returns-in-Ok g c = record {
       c.put_all-count.ensures.put;
   few =
       let put = c.put_all-count.ensures.few in let copied = c.copy_all-round.ensures.few in omega (arith, put, copied);
-  usable =
-      c.in_round-replies.ensures.usable;
 }
 
 pub tell_all-requires : goal.tell_all-requires
@@ -89,8 +85,6 @@ returns-in-Disk g c = record {
       c.tell_all.ensures.put;
   few =
       let put = c.tell_all.ensures.few in let copied = c.copy_all-round.ensures.few in omega (arith, put, copied);
-  usable =
-      c.in_round-replies.ensures.usable;
 }
 
 pub returns-in-Memory : goal.returns-in-Memory
@@ -111,8 +105,6 @@ returns-in-Memory g c = record {
       (live, c.is_settled.ensures live found may));
   few =
       omega arith;
-  usable =
-      c.in_round-replies.ensures.usable;
 }
 
 pub returns : goal.returns
@@ -133,6 +125,4 @@ returns g c = record {
       (live, c.is_settled.ensures live found may));
   few =
       omega arith;
-  usable =
-      c.in_round-replies.ensures.usable;
 }

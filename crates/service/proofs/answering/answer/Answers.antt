@@ -38,6 +38,5 @@ returns-in-Err g c =
       finds =
           finds_on g.L.Ledgers.means _ _ _ _ _ _ (λ available. available)
           (λ was now nowhere. absurd nowhere) c.refuse.ensures.finds;
-      usable = c.refuse.ensures.stays.usable;
-      follows = c.refuse.ensures.stays.follows;
+      follows = c.refuse.ensures.stays;
     })

@@ -61,6 +61,5 @@ returns-in-Statement g c =
       failed = c.begin_statement.ensures.failed;
       finds = c.begin_statement.ensures.finds c.args.moment;
       left = c.begin_statement.ensures.left;
-      usable = c.begin_statement.ensures.stays.usable;
-      follows = c.begin_statement.ensures.stays.follows;
+      follows = c.begin_statement.ensures.stays;
     })

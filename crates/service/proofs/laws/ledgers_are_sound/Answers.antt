@@ -1,8 +1,8 @@
 use Rattle.service.proofs.laws.ledgers_are_sound.Goals as goal
 
 pub returns : goal.returns
-returns g c ledgers live usable digest m held =
-    let valid = g.met.L.Ledgers.valid ledgers live usable digest m held in
+returns g c ledgers live digest m held =
+    let valid = g.met.L.Ledgers.valid ledgers live digest m held in
     record {
       sums = c.sums_fit.ensures m valid;
       books = c.books_balance.ensures m valid;

@@ -46,7 +46,6 @@ returns-in-Ok-clause-replies g c = record {
             (sym a.told) left,
       ))
       c.answer.ensures.finds;
-  usable = c.answer.ensures.usable;
   follows = c.answer.ensures.follows;
 }
 
@@ -83,7 +82,6 @@ returns-in-Err-clause-replies g c = record {
       subst (λ (asked : Result Question Early). IsOk asked)
       (a.told (λ is. answered.available (c.told_early.ensures ∙ ap (told_early _) is))) (answered.asks a.head a.has) in
       cc));
-  usable = c.requires;
   follows = g.met.L.Ledgers.stays c.args.ledgers.now;
 }
 

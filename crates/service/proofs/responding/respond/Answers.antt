@@ -49,7 +49,6 @@ returns-in-Some g c = record {
       (λ live. (subst (λ (r : Option Rest). IfSome r (λ rest. t.is_live c.begin-front.new.ledgers →
       IsLeftSame c.args.bytes.now c.args.moment (t.tenants c.args.ledgers.now) (t.tenants c.begin-front.new.ledgers) rest)) c.in-Some.is c.begin-front.ensures.left live).0)
       c.finish_statement.ensures.finds;
-  usable = c.finish_statement.ensures.reads.usable;
   follows = g.met.L.Ledgers.then _ _ _ c.begin-front.ensures.replies.follows c.finish_statement.ensures.reads.follows;
 }
 

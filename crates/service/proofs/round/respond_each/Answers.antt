@@ -8,7 +8,6 @@ loop-message-init g c = record {
   moves = rw c.requires.none (none_answered (run_meaning g.L.Ledgers.means) c.args.ledgers.now);
   count = c.requires.empty;
   room = c.requires.room;
-  usable = c.requires.usable;
   follows = g.met.L.Ledgers.stays c.args.ledgers.now;
 }
 
@@ -23,7 +22,6 @@ loop-message-preserved g c = record {
       c.respond-reply.ensures.follows c.is_settled.ensures);
   count = c.push_reserved.ensures.len ∙ ap (λ (n : ℕ). n + 1) c.loop-message.invariant.count;
   room = omega (arith, c.push_reserved.ensures.capacity, c.loop-message.invariant.room);
-  usable = c.respond-reply.ensures.usable;
   follows = g.met.L.Ledgers.then _ _ _ c.loop-message.invariant.follows
       c.respond-reply.ensures.follows;
 }

@@ -9,7 +9,6 @@ loop-replies-init g c = record {
   replied = none_yet g.L.Ledgers.means g.C.Moments.gives _ _;
   reads = c.requires.reads;
   writes = c.requires.writes;
-  usable = c.requires.usable;
   follows = g.met.L.Ledgers.stays c.args.ledgers.now;
   few = omega arith;
 }
@@ -95,9 +94,8 @@ loop-replies-preserved g c =
           c.write.ensures.ok);
       reads = c.in-Ok-Some.ensures.failed;
       writes = c.write.ensures.failed ∙ (sym c.is_err.ensures.value ∙ c.if-is_err.false);
-      usable = c.exchange.ensures.stays.usable;
       follows = g.met.L.Ledgers.then _ _ _ c.loop-replies.invariant.follows
-          c.exchange.ensures.stays.follows;
+          c.exchange.ensures.stays;
       few = omega arith;
     }
 

@@ -13,7 +13,6 @@ invariant-loop-replies g l = record {
       (g.W.Drain.written l.writer);
   reads : g.R.Source.failed l.reader ≡ false;
   writes : g.W.Drain.failed l.writer ≡ false;
-  usable : g.L.Ledgers.means.is_usable l.ledgers;
   follows : g.L.Ledgers.means.follows l.fn.ledgers l.ledgers;
   few : l.replies ≤ l.most;
 }

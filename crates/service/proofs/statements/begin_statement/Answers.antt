@@ -11,7 +11,7 @@ returns-in-Ok-reply_to-clause-serves g c live moment =
     let old = g.met.L.Ledgers.lived c.args.ledgers.now c.part.new.ledgers c.in-Ok.ensures.reads.follows live in
     statement_begun (g.L.Ledgers.means.tenants c.args.ledgers.now) (g.L.Ledgers.means.tenants c.part.new.ledgers)
     c.args.digest.now c.header_line.result.now c.args.account moment c.whole-rest.result c.in-Ok.part c.in-Ok-reply_to.front
-    (g.met.L.Ledgers.valid c.args.ledgers.now old c.requires) (c.in-Ok.ensures.reads.same live) c.whole-rest.ensures
+    (g.met.L.Ledgers.valid c.args.ledgers.now old) (c.in-Ok.ensures.reads.same live) c.whole-rest.ensures
     c.header_line.ensures (c.in-Ok.ensures.told live)
     (c.in-Ok-reply_to.ensures ∙ ap (λ chunks. outcome_text (told.Statement chunks)) (c.into.ensures ∙ c.into_vec.ensures))
 

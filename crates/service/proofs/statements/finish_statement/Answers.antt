@@ -8,7 +8,7 @@ use Rattle.service.proofs.statements.finish_statement.Goals as goal
 
 pub parts-init : goal.parts-init
 parts-init g c = record {
-  read = none_read g.L.Ledgers.means c.args.ledgers.now c.requires (g.met.L.Ledgers.stays c.args.ledgers.now);
+  read = none_read g.L.Ledgers.means c.args.ledgers.now (g.met.L.Ledgers.stays c.args.ledgers.now);
   whole = λ live.
       let grown = rw c.if-is_err.ensures.negation at c.extend_from_slice.ensures.items in
       ap (λ (xs : List ℕ). xs ++ chunks_left (g.L.Ledgers.means.tenants c.args.ledgers.now) (Some c.args.rest))

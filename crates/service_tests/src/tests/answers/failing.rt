@@ -1,84 +1,15 @@
-//! Ledgers in memory of which a batch is refused, as each piece of a statement is one.
+//! Firms in memory of which a batch is refused, as each piece of a statement is one.
 ghost use Rattle.std.specs.Prelude.{◌≡◌, true, false};
-ghost use Rattle.chain.specs.Ledgers.{AreValid};
-ghost use Rattle.plain.specs.BookLedgers.{machines_in};
 
 use super::scripts::Answers;
-use chain::{AccountEntry, BatchFault, Ledgers, Listed, ReadFault, Work};
+use crate::tests::frail::Frail;
+use chain::{AccountEntry, InUse, Ledgers, Listed, ReadFault};
 use ledger_http::Reply;
 use parts::{Part, Rest, read_piece};
 use plain::Book;
 use records::{Order, RowSink, SinkFault, Span, StatementRow, Unavailable};
 use service::{Begun, begin, respond};
 use std::alloc::Global;
-use std::marker::Model;
-
-/// The ledgers of several firms, of which a batch may be refused. Where that is for their disk,
-/// each call is told so from then on.
-#[derive(Drop)]
-struct Failing {
-    book: Book,
-    /// How many batches come before the one that is refused, and why it is.
-    refusal: Option<(u64, Unavailable)>,
-    is_shut: bool,
-}
-
-impl Ledgers for Failing {
-    ghost means = { record {
-      tenants = λ l. machines_in l.book;
-      is_usable = λ l. AreValid (machines_in l.book);
-      is_live = λ l. l.is_shut ≡ false;
-      has_failed = λ l. l.is_shut;
-      follows = λ a b.
-          (b.is_shut ≡ false → a.is_shut ≡ false) × (a.is_shut ≡ true → b.is_shut ≡ true);
-      may_find = λ l found. ⊥;
-    } };
-
-    fn has_failed(&self) -> bool {
-        self.is_shut
-    }
-
-    fn in_batch<W: Work + Drop>(
-        &mut self,
-        digest: &[u8; 32],
-        work: W,
-    ) -> Result<W::Output, BatchFault> {
-        if self.is_shut {
-            return Err(BatchFault::Unavailable(Unavailable::Disk));
-        }
-        match self.refusal.take() {
-            None => self.book.in_batch(digest, work),
-            Some((0, why)) => {
-                self.is_shut = why == Unavailable::Disk;
-                Err(BatchFault::Unavailable(why))
-            }
-            Some((before, why)) => {
-                self.refusal = Some((before.saturating_sub(1), why));
-                self.book.in_batch(digest, work)
-            }
-        }
-    }
-
-    fn knows(&mut self, digest: &[u8; 32]) -> Result<bool, Unavailable> {
-        if self.is_shut {
-            return Err(Unavailable::Disk);
-        }
-        self.book.knows(digest)
-    }
-
-    ghost stays = { λ a. (λ live. live, λ failed. failed) };
-
-    ghost then = { λ a b c first second. (
-      λ live. first.0 (second.0 live),
-      λ failed. second.1 (first.1 failed),
-    ) };
-
-    ghost lived = { λ a b follows live. follows.0 live };
-
-    ghost fails = { λ a b follows failed. follows.1 failed };
-
-    ghost valid = { λ a live usable. usable };
-}
 
 /// Takes the timestamp and the id of each row.
 #[derive(Drop)]
@@ -116,10 +47,10 @@ impl RowSink for Taken {
     }
 }
 
-/// Firms with such ledgers.
+/// Firms of whose batches one may be refused.
 pub(crate) struct FrailFirms {
     alloc: Global,
-    ledgers: Failing,
+    ledgers: Frail,
 }
 
 // It is written out, so that who lets firms go does not prove again how each part is dropped.
@@ -132,37 +63,21 @@ impl Drop for FrailFirms {
     }
 }
 
-impl Model for FrailFirms {
-    ghost use Rattle.std.specs.Prelude.{List};
-    ghost use Rattle.chain.specs.Ledgers.{AreValid};
-    ghost use Rattle.plain.specs.BookLedgers.{machines_in};
-    ghost use Rattle.plain.specs.declared.book.Tenant.{Tenant};
-
-    ghost Value = { List Tenant };
-
-    ghost view = { λ firms. firms.ledgers.book };
-
-    ghost invariant = { λ firms. AreValid (machines_in firms.ledgers.book) };
-}
-
 impl FrailFirms {
     /// Firms of whose batches none is refused so far.
-    pub(crate) fn new(alloc: Global, book: Book) -> FrailFirms
-        requires { AreValid (machines_in book) }
-    {
+    pub(crate) fn new(alloc: Global, ledgers: InUse<Book>) -> FrailFirms {
         FrailFirms {
             alloc,
-            ledgers: Failing {
-                book,
-                refusal: None,
-                is_shut: false,
-            },
+            ledgers: Frail::new(ledgers, None),
         }
     }
 
     /// No firm, and ledgers that have failed.
     pub(crate) fn failed(alloc: Global) -> FrailFirms {
-        let mut firms = FrailFirms::new(alloc, Book::new(alloc));
+        let ledgers = InUse {
+            backend: Book::new(alloc),
+        };
+        let mut firms = FrailFirms::new(alloc, ledgers);
         firms.ledgers.is_shut = true;
         firms
     }

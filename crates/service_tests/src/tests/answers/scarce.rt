@@ -6,13 +6,12 @@ ghost use Rattle.chain.specs.Ledgers.{AreValid};
 use super::scripts::{Answers, are_told, exchange, messages};
 use crate::tests::asserting::same;
 use crate::tests::messages::FIRST;
-use chain::{AccountEntry, BatchFault, Ledgers, RoundWork, Rounds, Tables, Work};
+use chain::{AccountEntry, Backend, BatchFault, InUse, RoundBackend, RoundWork, Tables, Work};
 use ledger_http::Reply;
 use plain::PlainTables;
 use records::{Accepted, Account, AccountWithBalances, PendingState, Span, Transfer, Unavailable};
 use service::{Message, Settles, respond, respond_round};
 use std::alloc::{AllocError, Global};
-use std::marker::Model;
 use std::process::Abort;
 use std::test::Fail;
 use tenants::{Key, digest};
@@ -124,17 +123,19 @@ struct ScarceLedger {
     scarce: Scarce,
 }
 
-impl Ledgers for ScarceLedger {
+impl Backend for ScarceLedger {
     ghost means = { record {
-      tenants = λ l digest.
-          if bytes_eq digest l.digest then Some l.scarce.tables.now else None;
+      ledgers = record {
+        tenants = λ l digest.
+            if bytes_eq digest l.digest then Some l.scarce.tables.now else None;
+        is_live = λ l. Unit {0};
+        has_failed = λ l. false;
+        follows = λ a b. Unit {0};
+        may_find = λ l found. ⊥;
+      };
       is_usable = λ l.
           AreValid
           (λ digest. if bytes_eq digest l.digest then Some l.scarce.tables.now else None);
-      is_live = λ l. Unit {0};
-      has_failed = λ l. false;
-      follows = λ a b. Unit {0};
-      may_find = λ l found. ⊥;
     } };
 
     fn has_failed(&self) -> bool {
@@ -175,7 +176,7 @@ impl Ledgers for ScarceLedger {
 }
 
 // It refuses all rounds, so that each message is answered by itself.
-impl Rounds for ScarceLedger {
+impl RoundBackend for ScarceLedger {
     fn in_round<W: RoundWork + Drop>(&mut self, _work: W) -> Result<W::Output, Unavailable> {
         Err(Unavailable::Memory)
     }
@@ -184,13 +185,13 @@ impl Rounds for ScarceLedger {
 /// Such a ledger, of which an opening finds nothing.
 struct Unkept;
 
-impl Settles<ScarceLedger> for Unkept {
-    fn is_settled(_ledgers: &ScarceLedger) {}
+impl Settles<InUse<ScarceLedger>> for Unkept {
+    fn is_settled(_ledgers: &InUse<ScarceLedger>) {}
 }
 
 /// A firm with such a ledger.
 struct ScarceFirm {
-    ledger: ScarceLedger,
+    ledger: InUse<ScarceLedger>,
 }
 
 // It is written out, so that who lets a firm go does not prove again how each part is dropped.
@@ -198,20 +199,6 @@ impl Drop for ScarceFirm {
     fn drop(self) {
         let ScarceFirm { ledger: _ } = self;
     }
-}
-
-impl Model for ScarceFirm {
-    ghost use Rattle.std.specs.Prelude.{Some, None, bytes_eq, if◌then◌else◌};
-    ghost use Rattle.chain.specs.Ledgers.{AreValid};
-    ghost use Rattle.service_tests.specs.declared.tests.answers.scarce.ScarceLedger.{ScarceLedger};
-
-    ghost Value = { ScarceLedger };
-
-    ghost view = { λ firm. firm.ledger };
-
-    ghost invariant = { λ firm. AreValid
-        (λ digest. if bytes_eq digest firm.ledger.digest then Some firm.ledger.scarce.tables.now
-        else None) };
 }
 
 impl Answers for ScarceFirm {
@@ -226,7 +213,8 @@ impl ScarceFirm {
         let digest = digest(&Key::read(FIRST.as_bytes()).ok_or("no key")?);
         let tables = PlainTables::new(alloc);
         let scarce = Scarce { tables, room: 1 };
-        let ledger = ScarceLedger { digest, scarce };
+        let backend = ScarceLedger { digest, scarce };
+        let ledger = InUse { backend };
         let mut firm = ScarceFirm { ledger };
         exchange(
             rt,
@@ -238,17 +226,17 @@ impl ScarceFirm {
     }
 
     fn give(&mut self, room: u64) {
-        self.ledger.scarce.room = room;
+        self.ledger.backend.scarce.room = room;
     }
 
     /// The replies to the messages of one round.
     fn round(&mut self, alloc: Global, messages: &[Message]) -> Result<Vec<Reply>, AllocError> {
-        respond_round::<ScarceLedger, Unkept>(alloc, &mut self.ledger, messages)
+        respond_round::<InUse<ScarceLedger>, Unkept>(alloc, &mut self.ledger, messages)
     }
 
     /// Looks whether it has its accounts alone.
     fn is_base(&mut self, rt: &impl Abort) {
-        let tables = &mut self.ledger.scarce.tables;
+        let tables = &mut self.ledger.backend.scarce.tables;
         tables.begin();
         same(rt, "the clock", tables.clock(), Ok(4));
         let lengths = (

@@ -5,6 +5,7 @@ use super::Firms;
 use crate::tests::answers::failing::FrailFirms;
 use crate::tests::answers::messages::key_of;
 use crate::tests::answers::scripts::{Answers, exchange, joined};
+use chain::InUse;
 use ledger_http::Reply;
 use plain::Book;
 use records::{Drain, Source};
@@ -17,8 +18,8 @@ use tenants::{Key, digest};
 /// Lists, of which an opening finds nothing.
 pub(crate) struct Lists;
 
-impl Settles<Book> for Lists {
-    fn is_settled(_ledgers: &Book) {}
+impl Settles<InUse<Book>> for Lists {
+    fn is_settled(_ledgers: &InUse<Book>) {}
 }
 
 impl Firms {
@@ -26,17 +27,17 @@ impl Firms {
     pub(crate) fn rekey(&mut self, was: &str, key: &str) -> Result<(), &'static str> {
         let was = digest(&Key::read(was.as_bytes()).ok_or("no key")?);
         let digest = digest(&Key::read(key.as_bytes()).ok_or("no key")?);
-        if self.book.holds(&digest) {
+        if self.ledgers.backend.holds(&digest) {
             return Err("a firm has this key");
         }
-        self.book.rekey(&was, &digest);
+        self.ledgers.backend.rekey(&was, &digest);
         Ok(())
     }
 
     /// The same firms, of whose batches one may be refused.
     pub(crate) fn frail(self) -> FrailFirms {
-        let Firms { alloc, book } = self;
-        FrailFirms::new(alloc, book)
+        let Firms { alloc, ledgers } = self;
+        FrailFirms::new(alloc, ledgers)
     }
 
     /// Plays a script.
@@ -60,7 +61,7 @@ impl Firms {
 
     /// The replies to the messages of one round.
     pub(crate) fn round(&mut self, messages: &[Message]) -> Result<Vec<Reply>, AllocError> {
-        respond_round::<Book, Lists>(self.alloc, &mut self.book, messages)
+        respond_round::<InUse<Book>, Lists>(self.alloc, &mut self.ledgers, messages)
     }
 
     /// Serves a connection.
@@ -74,12 +75,12 @@ impl Firms {
         requires reads { R.failed reader.old ≡ false }
         requires writes { W.failed writer.old ≡ false }
     {
-        serve(self.alloc, &mut self.book, reader, writer, moments, most)
+        serve(self.alloc, &mut self.ledgers, reader, writer, moments, most)
     }
 }
 
 impl Answers for Firms {
     fn answer(&mut self, alloc: Global, bytes: &[u8], moment: u64) -> Reply {
-        respond(alloc, &mut self.book, bytes, moment)
+        respond(alloc, &mut self.ledgers, bytes, moment)
     }
 }

@@ -11,11 +11,11 @@ impl Firms {
         if !client.may_answer() {
             return None;
         }
-        Some(client.answer(self.alloc, &mut self.book, &mut Always(1000)))
+        Some(client.answer(self.alloc, &mut self.ledgers, &mut Always(1000)))
     }
 
     /// The next part of a statement.
     pub(crate) fn part(&mut self, rest: &Rest) -> Result<Part, ReadFault> {
-        rest.part(self.alloc, &mut self.book, b"")
+        rest.part(self.alloc, &mut self.ledgers, b"")
     }
 }

@@ -2,8 +2,9 @@
 ghost use Rattle.std.specs.Prelude.{⊤};
 
 use super::{Always, Firms};
-use crate::tests::turns::frail::{Fate, Frail, Opens};
+use crate::tests::frail::{Fate, Frail, Opens};
 use crate::tests::turns::scripted::{Peer, Scripted};
+use chain::InUse;
 use parts::{Part, Rest};
 use plain::Book;
 use polling::{Seats, Steward, serve_ready, write_rest};
@@ -15,14 +16,14 @@ use std::test::Fail;
 #[derive(Drop)]
 struct Never;
 
-impl Steward<Book> for Never {
+impl Steward<InUse<Book>> for Never {
     ghost renews = { λ old new. ⊤ };
 
-    fn is_settled(_ledgers: &Book) {}
+    fn is_settled(_ledgers: &InUse<Book>) {}
 
-    fn attend(&mut self, _ledgers: &mut Book) {}
+    fn attend(&mut self, _ledgers: &mut InUse<Book>) {}
 
-    fn reads(alloc: Global, ledgers: &mut Book, rest: &Rest) -> Option<Part> {
+    fn reads(alloc: Global, ledgers: &mut InUse<Book>, rest: &Rest) -> Option<Part> {
         rest.part(alloc, ledgers, b"").ok()
     }
 }
@@ -31,14 +32,14 @@ impl Steward<Book> for Never {
 #[derive(Drop)]
 struct Blind;
 
-impl Steward<Book> for Blind {
+impl Steward<InUse<Book>> for Blind {
     ghost renews = { λ old new. ⊤ };
 
-    fn is_settled(_ledgers: &Book) {}
+    fn is_settled(_ledgers: &InUse<Book>) {}
 
-    fn attend(&mut self, _ledgers: &mut Book) {}
+    fn attend(&mut self, _ledgers: &mut InUse<Book>) {}
 
-    fn reads(_alloc: Global, _ledgers: &mut Book, _rest: &Rest) -> Option<Part> {
+    fn reads(_alloc: Global, _ledgers: &mut InUse<Book>, _rest: &Rest) -> Option<Part> {
         None
     }
 }
@@ -50,17 +51,17 @@ struct PutsOff {
     left: Cell<u64>,
 }
 
-impl Steward<Book> for PutsOff {
+impl Steward<InUse<Book>> for PutsOff {
     ghost renews = { λ old new. ⊤ };
 
     // Nothing is known of these.
     ghost waits = { λ message. ⊤ };
 
-    fn is_settled(_ledgers: &Book) {}
+    fn is_settled(_ledgers: &InUse<Book>) {}
 
-    fn attend(&mut self, _ledgers: &mut Book) {}
+    fn attend(&mut self, _ledgers: &mut InUse<Book>) {}
 
-    fn reads(alloc: Global, ledgers: &mut Book, rest: &Rest) -> Option<Part> {
+    fn reads(alloc: Global, ledgers: &mut InUse<Book>, rest: &Rest) -> Option<Part> {
         rest.part(alloc, ledgers, b"").ok()
     }
 
@@ -92,11 +93,11 @@ impl Firms {
         let mut seats = Seats::new(self.alloc);
         let replies = self.serve_seated(peers, &mut seats, most);
         peers.joins(another)?;
-        write_rest::<Book, Never, Always, Scripted<'a>>(
+        write_rest::<InUse<Book>, Never, Always, Scripted<'a>>(
             self.alloc,
             peers,
             &mut seats,
-            &mut self.book,
+            &mut self.ledgers,
         );
         Ok(replies)
     }
@@ -110,34 +111,39 @@ impl Firms {
             self.alloc,
             peers,
             &mut seats,
-            &mut self.book,
+            &mut self.ledgers,
             &mut Blind,
             &mut Always(1000),
             &mut piece,
             most,
         );
-        write_rest::<Book, Blind, Always, Scripted>(self.alloc, peers, &mut seats, &mut self.book);
+        write_rest::<InUse<Book>, Blind, Always, Scripted>(
+            self.alloc,
+            peers,
+            &mut seats,
+            &mut self.ledgers,
+        );
         replies
     }
 
     /// Serves clients over ledgers of which the first round has a fate. Says how many messages were
     /// replied to, and how many rounds were begun.
     pub(crate) fn serve_frail(self, peers: &mut Scripted, fate: Fate) -> (u64, u64) {
-        let Firms { alloc, book } = self;
+        let Firms { alloc, ledgers } = self;
         let mut seats = Seats::new(alloc);
-        let mut ledgers = Frail::new(book, fate);
+        let mut frail = Frail::new(ledgers, Some(fate));
         let mut piece = [0; 100];
         let replies = serve_ready(
             alloc,
             peers,
             &mut seats,
-            &mut ledgers,
+            &mut frail,
             &mut Opens,
             &mut Always(1000),
             &mut piece,
             99,
         );
-        (replies, ledgers.rounds())
+        (replies, frail.rounds())
     }
 
     /// Serves clients while batches of more than so many bytes are put off, so many times. Says how
@@ -158,7 +164,7 @@ impl Firms {
             self.alloc,
             peers,
             &mut seats,
-            &mut self.book,
+            &mut self.ledgers,
             &mut steward,
             &mut Always(1000),
             &mut piece,
@@ -172,7 +178,7 @@ impl Firms {
             self.alloc,
             peers,
             seats,
-            &mut self.book,
+            &mut self.ledgers,
             &mut Never,
             &mut Always(1000),
             &mut piece,

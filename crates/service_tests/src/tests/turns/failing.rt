@@ -1,8 +1,8 @@
 //! Rounds that are refused, and rounds that are lost with the disk.
-use super::frail::Fate;
 use super::rounds::{clients, has_heard, written_at};
 use super::scripted::Scripted;
 use crate::tests::firms::Firms;
+use crate::tests::frail::Fate;
 use crate::tests::messages::{
     FIRST, OF_FIRST, OF_SECOND, SECOND, TO_SECOND, TWICE_OF_FIRST, TWICE_OF_SECOND, UNAVAILABLE,
 };

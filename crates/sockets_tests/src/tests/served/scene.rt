@@ -181,11 +181,21 @@ impl Operator for Notes {
 pub struct Allowed(pub usize, pub usize, pub u64, pub u64, pub u64);
 
 /// Those who are connected, and the clients at the other end.
-#[derive(Drop)]
 pub struct Scene<'a> {
     pub sockets: Sockets<'a, Ticking, Notes>,
     pub clients: Vec<TcpStream>,
     pub piece: Vec<u8>,
+}
+
+// It is written out, so that who lets a scene go does not prove again how each part is dropped.
+impl Drop for Scene<'_> {
+    fn drop(self) {
+        let Scene {
+            sockets: _,
+            clients: _,
+            piece: _,
+        } = self;
+    }
 }
 
 impl<'a> Scene<'a> {

@@ -1,7 +1,7 @@
-//! A store that may be called at any time. What its clauses ask of a caller ends here.
+//! A store in use, as tests call it.
 
 use super::taken_rows::TakenRows;
-use chain::{BatchFault, Ledgers, Listed, ReadFault, RoundWork, Rounds, Work};
+use chain::{BatchFault, InUse, Ledgers, Listed, ReadFault, RoundWork, Rounds, Work};
 use records::{
     AccountFilter, AccountWithBalances, BalanceAt, Order, StatementRow, Transfer, Unavailable,
 };
@@ -10,24 +10,13 @@ use sqlite::{Files, Options};
 use sqlite_disk::{Disk, Start};
 use sqlite_std_file::FileFrom;
 use std::alloc::Global;
-use std::marker::Model;
 use store::{AddTenant, Audit, ChangeKey, FullAudit, OpenFault, Overdue, Refused, Search, Store};
 use tenants::TenantName;
 
-/// A store that tests call.
+/// A store in use.
 #[derive(Drop)]
 pub struct Driven<D: Disk + Drop> {
-    store: Store<D>,
-}
-
-impl<D: Disk + Drop> Model for Driven<D> {
-    ghost use Rattle.store.specs.Stores.{IsUsable};
-
-    ghost Value = { Unit {0} };
-
-    ghost view = { λ _. tt };
-
-    ghost invariant = { λ driven. IsUsable driven.store };
+    store: InUse<Store<D>>,
 }
 
 impl<D: Disk + Drop> Driven<D> {
@@ -40,7 +29,9 @@ impl<D: Disk + Drop> Driven<D> {
             return Err((OpenFault::Unavailable(Unavailable::Disk), files));
         }
         match Store::create(alloc, files, options) {
-            Ok(store) => Ok(Driven { store }),
+            Ok(backend) => Ok(Driven {
+                store: InUse { backend },
+            }),
             Err(refused) => Err(refused),
         }
     }
@@ -55,7 +46,9 @@ impl<D: Disk + Drop> Driven<D> {
             return Err((OpenFault::Unavailable(Unavailable::Disk), files));
         }
         match Store::open(alloc, files, options, audit) {
-            Ok(store) => Ok(Driven { store }),
+            Ok(backend) => Ok(Driven {
+                store: InUse { backend },
+            }),
             Err(refused) => Err(refused),
         }
     }
@@ -64,23 +57,23 @@ impl<D: Disk + Drop> Driven<D> {
     pub fn end(self) {}
 
     pub fn close(self) -> Files<D> {
-        self.store.close()
+        self.store.into_backend().close()
     }
 
     pub fn reopen<A: Audit>(&mut self, audit: &A) -> Result<(), Refused> {
-        self.store.reopen(audit)
+        self.store.backend.reopen(audit)
     }
 
     pub fn add(&mut self, name: &TenantName, digest: &[u8; 32]) -> Result<(), AddTenant> {
-        self.store.add_tenant(name, digest)
+        self.store.backend.add_tenant(name, digest)
     }
 
     pub fn change_key(&mut self, name: &TenantName, digest: &[u8; 32]) -> Result<(), ChangeKey> {
-        self.store.change_key(name, digest)
+        self.store.backend.change_key(name, digest)
     }
 
     pub fn digest_of(&mut self, name: &TenantName) -> Result<Option<[u8; 32]>, Unavailable> {
-        self.store.digest_of(name)
+        self.store.backend.digest_of(name)
     }
 
     pub fn knows(&mut self, digest: &[u8; 32]) -> Result<bool, Unavailable> {
@@ -92,15 +85,15 @@ impl<D: Disk + Drop> Driven<D> {
         search: &mut Search,
         moment: u64,
     ) -> Result<Option<Overdue>, Unavailable> {
-        self.store.overdue(search, moment)
+        self.store.backend.overdue(search, moment)
     }
 
     pub fn all_rows(&mut self) -> Result<AllRows, Unavailable> {
-        self.store.all_rows()
+        self.store.backend.all_rows()
     }
 
     pub fn rows_of(&mut self, digest: &[u8; 32]) -> Result<Option<TenantRows>, Unavailable> {
-        self.store.rows_of(digest)
+        self.store.backend.rows_of(digest)
     }
 
     pub fn run<W: Work + Drop>(
@@ -115,7 +108,7 @@ impl<D: Disk + Drop> Driven<D> {
     }
 
     pub fn run_round<W: RoundWork + Drop>(&mut self, work: W) -> Result<W::Output, Unavailable> {
-        Rounds::in_round(&mut self.store, work)
+        self.store.in_round(work)
     }
 
     pub fn lookup_accounts(
@@ -170,7 +163,7 @@ impl<D: Disk + Drop> Driven<D> {
 
     /// Whether it answers calls, and the version of its schema.
     pub fn is_ready(&self) -> (bool, u32) {
-        (self.store.is_ready(), self.store.schema())
+        (self.store.backend.is_ready(), self.store.backend.schema())
     }
 }
 
@@ -182,7 +175,9 @@ impl<St: Start> Driven<FileFrom<St>> {
         options: Options,
     ) -> Result<Driven<FileFrom<St>>, OpenFault> {
         match Store::create_at(rt, path, start, options) {
-            Ok(store) => Ok(Driven { store }),
+            Ok(backend) => Ok(Driven {
+                store: InUse { backend },
+            }),
             Err((fault, _files)) => Err(fault),
         }
     }
@@ -194,7 +189,9 @@ impl<St: Start> Driven<FileFrom<St>> {
         options: Options,
     ) -> Result<Driven<FileFrom<St>>, OpenFault> {
         match Store::open_at(rt, path, start, options, &FullAudit) {
-            Ok(store) => Ok(Driven { store }),
+            Ok(backend) => Ok(Driven {
+                store: InUse { backend },
+            }),
             Err((fault, _files)) => Err(fault),
         }
     }
@@ -207,7 +204,9 @@ impl<St: Start> Driven<FileFrom<St>> {
         options: Options,
     ) -> Result<Driven<FileFrom<St>>, OpenFault> {
         match Store::open_at(rt, path, start, options, &FullAudit) {
-            Ok(store) => Ok(Driven { store }),
+            Ok(backend) => Ok(Driven {
+                store: InUse { backend },
+            }),
             Err((OpenFault::NotALedger, Some(files))) => {
                 Driven::make(rt.alloc(), files, options).map_err(|(fault, _files)| fault)
             }

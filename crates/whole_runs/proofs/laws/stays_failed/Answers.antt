@@ -11,9 +11,9 @@ returns-clause-valid g c digest batch moment m now asked =
     (asked_in_course digest (Transfers batch) moment m now asked)
 
 pub returns-clause-live : goal.returns-clause-live
-returns-clause-live g c ledgers live usable digest batch moment m now asked here =
+returns-clause-live g c ledgers live digest batch moment m now asked here =
     let known = digest_since digest asked.events in
     let held = ap (λ (tenants : Tenants). tenants known) (sym here) ∙ asked.held in
     c.failed_in_course_stays_failed.ensures digest batch moment m now
     (asked_in_course digest (Transfers batch) moment m now asked)
-    (g.met.L.Reopening.valid ledgers live usable known now held)
+    (g.met.L.Reopening.valid ledgers live known now held)

@@ -16,7 +16,6 @@ loop-step-init g c = record {
   answered = rw c.in_ok-answers.ensures.items tt;
   count = c.in_ok-answers.ensures.len;
   room = c.in_ok-answers.ensures.exact;
-  usable = c.requires;
   settled = c.is_settled.ensures;
 }
 
@@ -40,13 +39,11 @@ loop-step-preserved g c = record {
       c.loop-step.invariant.answered c.run_step-answer.ensures.answer;
   count = c.push_reserved.ensures.len ∙ ap (λ (n : ℕ). n + 1) c.loop-step.invariant.count;
   room = c.push_reserved.ensures.capacity ∙ c.loop-step.invariant.room;
-  usable = c.run_step-answer.ensures.usable;
   settled = c.is_settled-in-loop-step.ensures;
 }
 
 pub returns-clause-ends : goal.returns-clause-ends
 returns-clause-ends g c = record {
   settled = c.loop-step.invariant.settled;
-  valid = λ live. g.met.L.Reopening.valid _ live c.loop-step.invariant.usable;
-  usable = c.loop-step.invariant.usable;
+  valid = λ live. g.met.L.Reopening.valid _ live;
 }

@@ -21,6 +21,5 @@ invariant-loop-step g l = record {
   answered : AllZip IsAnswerTo (take l.step-index l.steps) l.answers.items;
   count : vec_len l.answers ≡ l.step-index;
   room : vec_capacity l.answers ≡ length l.steps;
-  usable : g.L.Reopening.means.is_usable l.ledgers;
   settled : IsInOrder g.L.Reopening.means g.L.Reopening.names l.ledgers;
 }

@@ -16,9 +16,9 @@ pub pieces-init : goal.pieces-init
 pieces-init g c = (
   subst (λ span. IsReading g.Self.Ledgers.means g.S.RowSink.takes c.args.digest.now c.args.account c.args.order c.args.self.now c.args.self.now span c.args.sink.now c.args.sink.now)
       (sym c.first_piece-span.ensures)
-      (reading_begins g.Self.Ledgers.means g.S.RowSink.takes c.args.digest.now c.args.account c.args.order c.args.self.now c.args.sink.now c.requires.usable
-      (g.met.Self.Ledgers.stays c.args.self.now) (λ live. g.met.Self.Ledgers.valid c.args.self.now live c.requires.usable)),
-  c.requires.open,
+      (reading_begins g.Self.Ledgers.means g.S.RowSink.takes c.args.digest.now c.args.account c.args.order c.args.self.now c.args.sink.now
+      (g.met.Self.Ledgers.stays c.args.self.now) (λ live. g.met.Self.Ledgers.valid c.args.self.now live)),
+  c.requires,
   λ failed. refl,
 )
 
@@ -29,14 +29,14 @@ returns-in_err-found-clause-told g c live =
     (sym (p.1 ∙ ap Err p.2))
     (broken g.Self.Ledgers.means g.S.RowSink.takes c.args.digest.now c.args.account c.args.order
     c.args.self.now c.pieces.self c.in_batch.new.self c.pieces.span c.in_batch.result g.met.Self.Ledgers.then g.met.Self.Ledgers.lived
-    c.in_batch.ensures.run c.in_batch.ensures.usable c.in_batch.ensures.follows c.in_batch.ensures.finds g.S.RowSink.refuses c.args.sink.now c.pieces.sink c.pieces.invariant.0 _ (sym c.account_answer.ensures ∙ c.in_err-found.was) live)
+    c.in_batch.ensures.run c.in_batch.ensures.follows c.in_batch.ensures.finds g.S.RowSink.refuses c.args.sink.now c.pieces.sink c.pieces.invariant.0 _ (sym c.account_answer.ensures ∙ c.in_err-found.was) live)
 
 pub returns-in_err-found-clause-finds : goal.returns-in_err-found-clause-finds
 returns-in_err-found-clause-finds g c =
     let p = err_from_is_err_and c.from_residual.result c.from_residual.ensures.1 in
     read_finds g.Self.Ledgers.means g.S.RowSink.takes c.args.digest.now c.args.account c.args.order
     c.args.self.now c.pieces.self c.in_batch.new.self c.pieces.span c.in_batch.result g.met.Self.Ledgers.then g.met.Self.Ledgers.lived
-    c.in_batch.ensures.run c.in_batch.ensures.usable c.in_batch.ensures.follows c.in_batch.ensures.finds c.pieces.invariant.0.read
+    c.in_batch.ensures.run c.in_batch.ensures.follows c.in_batch.ensures.finds c.pieces.invariant.0.read
     (λ told. account_answered c.in_batch.result c.account_answer.result c.account_answer.ensures
     (same_fault c.from_residual.result c.account_answer.result _ (p.1 ∙ ap Err p.2) c.in_err-found.was told))
 
@@ -44,7 +44,7 @@ pub returns-in_err-found-clause-reads : goal.returns-in_err-found-clause-reads
 returns-in_err-found-clause-reads g c =
     as_reads g.Self.Ledgers.means c.args.self.now c.in_batch.new.self (read_on g.Self.Ledgers.means g.S.RowSink.takes c.args.digest.now c.args.account c.args.order
     c.args.self.now c.pieces.self c.in_batch.new.self c.pieces.span c.in_batch.result g.met.Self.Ledgers.then g.met.Self.Ledgers.lived
-    c.in_batch.ensures.run c.in_batch.ensures.usable c.in_batch.ensures.follows c.in_batch.ensures.finds c.pieces.invariant.0.read)
+    c.in_batch.ensures.run c.in_batch.ensures.follows c.in_batch.ensures.finds c.pieces.invariant.0.read)
 
 pub returns-in_err-next-clause-told : goal.returns-in_err-next-clause-told
 returns-in_err-next-clause-told g c live =
@@ -53,31 +53,31 @@ returns-in_err-next-clause-told g c live =
     (sym (p.1 ∙ ap Err p.2))
     (sink_refused g.Self.Ledgers.means g.S.RowSink.takes c.args.digest.now c.args.account c.args.order
     c.args.self.now c.pieces.self c.in_batch.new.self c.pieces.span c.in_batch.result g.met.Self.Ledgers.then g.met.Self.Ledgers.lived
-    c.in_batch.ensures.run c.in_batch.ensures.usable c.in_batch.ensures.follows c.in_batch.ensures.finds g.S.RowSink.refuses c.args.sink.now c.pieces.sink c.pieces.invariant.0
+    c.in_batch.ensures.run c.in_batch.ensures.follows c.in_batch.ensures.finds g.S.RowSink.refuses c.args.sink.now c.pieces.sink c.pieces.invariant.0
     c.in_ok-found.found (sym c.account_answer.ensures ∙ c.in_ok-found.was)
-    (λ live. g.met.Self.Ledgers.valid c.pieces.self live c.pieces.invariant.0.read.usable) _ c.hand_piece.new.sink
+    (λ live. g.met.Self.Ledgers.valid c.pieces.self live) _ c.hand_piece.new.sink
     (subst (λ (es : List AccountEntry). RefusesNext g.S.RowSink.takes g.S.RowSink.refuses (map (row_of c.args.account) es) c.in_err-next.field-0.0 c.pieces.sink c.hand_piece.new.sink) c.deref.ensures.value c.in_err-next.ensures.err) live)
 
 pub returns-in_err-next-clause-finds : goal.returns-in_err-next-clause-finds
 returns-in_err-next-clause-finds g c =
     read_finds g.Self.Ledgers.means g.S.RowSink.takes c.args.digest.now c.args.account c.args.order
     c.args.self.now c.pieces.self c.in_batch.new.self c.pieces.span c.in_batch.result g.met.Self.Ledgers.then g.met.Self.Ledgers.lived
-    c.in_batch.ensures.run c.in_batch.ensures.usable c.in_batch.ensures.follows c.in_batch.ensures.finds c.pieces.invariant.0.read
+    c.in_batch.ensures.run c.in_batch.ensures.follows c.in_batch.ensures.finds c.pieces.invariant.0.read
     (λ told. told_answered g.Self.Ledgers.means g.S.RowSink.takes c.args.digest.now c.args.account c.args.order c.in_batch.result c.in_ok-found.found (sym c.account_answer.ensures ∙ c.in_ok-found.was))
 
 pub returns-in_err-next-clause-reads : goal.returns-in_err-next-clause-reads
 returns-in_err-next-clause-reads g c =
     as_reads g.Self.Ledgers.means c.args.self.now c.in_batch.new.self (read_on g.Self.Ledgers.means g.S.RowSink.takes c.args.digest.now c.args.account c.args.order
     c.args.self.now c.pieces.self c.in_batch.new.self c.pieces.span c.in_batch.result g.met.Self.Ledgers.then g.met.Self.Ledgers.lived
-    c.in_batch.ensures.run c.in_batch.ensures.usable c.in_batch.ensures.follows c.in_batch.ensures.finds c.pieces.invariant.0.read)
+    c.in_batch.ensures.run c.in_batch.ensures.follows c.in_batch.ensures.finds c.pieces.invariant.0.read)
 
 pub returns-in_default-clause-told : goal.returns-in_default-clause-told
 returns-in_default-clause-told g c live =
     all_handed g.Self.Ledgers.means g.S.RowSink.takes c.args.digest.now c.args.account c.args.order
     c.args.self.now c.pieces.self c.in_batch.new.self c.pieces.span c.in_batch.result g.met.Self.Ledgers.then g.met.Self.Ledgers.lived
-    c.in_batch.ensures.run c.in_batch.ensures.usable c.in_batch.ensures.follows c.in_batch.ensures.finds g.S.RowSink.refuses c.args.sink.now c.pieces.sink c.pieces.invariant.0
+    c.in_batch.ensures.run c.in_batch.ensures.follows c.in_batch.ensures.finds g.S.RowSink.refuses c.args.sink.now c.pieces.sink c.pieces.invariant.0
     c.in_ok-found.found (sym c.account_answer.ensures ∙ c.in_ok-found.was)
-    (λ live. g.met.Self.Ledgers.valid c.pieces.self live c.pieces.invariant.0.read.usable)
+    (λ live. g.met.Self.Ledgers.valid c.pieces.self live)
     c.in_ok-next.field-0 c.hand_piece.new.sink
     (subst (λ (es : List AccountEntry). All (λ entry. entry_time entry ≤ max_clock) es → c.in_ok-next.field-0 ≡ piece_behind c.pieces.span es) c.deref.ensures.value c.in_ok-next.ensures.next)
     c.in_default.is
@@ -88,22 +88,22 @@ pub returns-in_default-clause-finds : goal.returns-in_default-clause-finds
 returns-in_default-clause-finds g c =
     read_finds g.Self.Ledgers.means g.S.RowSink.takes c.args.digest.now c.args.account c.args.order
     c.args.self.now c.pieces.self c.in_batch.new.self c.pieces.span c.in_batch.result g.met.Self.Ledgers.then g.met.Self.Ledgers.lived
-    c.in_batch.ensures.run c.in_batch.ensures.usable c.in_batch.ensures.follows c.in_batch.ensures.finds c.pieces.invariant.0.read
+    c.in_batch.ensures.run c.in_batch.ensures.follows c.in_batch.ensures.finds c.pieces.invariant.0.read
     (λ told. told_answered g.Self.Ledgers.means g.S.RowSink.takes c.args.digest.now c.args.account c.args.order c.in_batch.result c.in_ok-found.found (sym c.account_answer.ensures ∙ c.in_ok-found.was))
 
 pub returns-in_default-clause-reads : goal.returns-in_default-clause-reads
 returns-in_default-clause-reads g c =
     as_reads g.Self.Ledgers.means c.args.self.now c.in_batch.new.self (read_on g.Self.Ledgers.means g.S.RowSink.takes c.args.digest.now c.args.account c.args.order
     c.args.self.now c.pieces.self c.in_batch.new.self c.pieces.span c.in_batch.result g.met.Self.Ledgers.then g.met.Self.Ledgers.lived
-    c.in_batch.ensures.run c.in_batch.ensures.usable c.in_batch.ensures.follows c.in_batch.ensures.finds c.pieces.invariant.0.read)
+    c.in_batch.ensures.run c.in_batch.ensures.follows c.in_batch.ensures.finds c.pieces.invariant.0.read)
 
 pub pieces-preserved : goal.pieces-preserved
 pieces-preserved g c = (
   goes_on g.Self.Ledgers.means g.S.RowSink.takes c.args.digest.now c.args.account c.args.order
       c.args.self.now c.pieces.self c.in_batch.new.self c.pieces.span c.in_batch.result g.met.Self.Ledgers.then g.met.Self.Ledgers.lived
-      c.in_batch.ensures.run c.in_batch.ensures.usable c.in_batch.ensures.follows c.in_batch.ensures.finds g.S.RowSink.refuses c.args.sink.now c.pieces.sink c.pieces.invariant.0
+      c.in_batch.ensures.run c.in_batch.ensures.follows c.in_batch.ensures.finds g.S.RowSink.refuses c.args.sink.now c.pieces.sink c.pieces.invariant.0
       c.in_ok-found.found (sym c.account_answer.ensures ∙ c.in_ok-found.was)
-      (λ live. g.met.Self.Ledgers.valid c.pieces.self live c.pieces.invariant.0.read.usable)
+      (λ live. g.met.Self.Ledgers.valid c.pieces.self live)
       c.in_ok-next.field-0 c.in-Some.next c.hand_piece.new.sink
       (subst (λ (es : List AccountEntry). All (λ entry. entry_time entry ≤ max_clock) es → c.in_ok-next.field-0 ≡ piece_behind c.pieces.span es) c.deref.ensures.value c.in_ok-next.ensures.next)
       c.in-Some.is

@@ -7,4 +7,4 @@ pub returns : goal.returns
 returns g c =
     account_read seen_of_list (λ m. history_answer m c.args.asked.now) g.Self.Ledgers.means c.args.digest.now c.args.self.now
     c.in_batch.new.self c.in_batch.result c.account_answer.result c.account_answer.ensures c.in_batch.ensures.run
-    c.in_batch.ensures.failed c.in_batch.ensures.finds c.in_batch.ensures.usable c.in_batch.ensures.follows
+    c.in_batch.ensures.failed c.in_batch.ensures.finds c.in_batch.ensures.follows

@@ -10,7 +10,7 @@ returns-in-Answered g c = record {
       let exchanged = rw c.in-Answered.is at c.exchange.ensures.answers in
       let goes_on =
       goes_on_still c.args.self.now c.self.inside.inbox c.self.inside.outbox c.self.inside.rest
-      c.self.inside.goes_on c.self.view_is c.requires.may in
+      c.self.inside.goes_on c.self.view_is c.requires in
       let tenants = g.L.Ledgers.means.tenants c.exchange.new.ledgers in
       let reply = reply_of tenants c.in-Answered.begun in (
         reply,
@@ -26,7 +26,6 @@ returns-in-Answered g c = record {
               exchanged.1,
             ),
       );
-  usable = c.exchange.ensures.usable;
   follows = c.exchange.ensures.follows;
 }
 
@@ -38,7 +37,6 @@ returns-in-Refused g c = record {
         c.self.inside.rest _ c.self.inside.goes_on _ _ c.self.view_is (append-nil _ ∙ c.put-in-Refused.ensures) tt
         (rw c.in-Refused.is at c.exchange.ensures.answers),
   );
-  usable = c.exchange.ensures.usable;
   follows = c.exchange.ensures.follows;
 }
 
@@ -47,7 +45,6 @@ returns-in-Wanting g c = record {
   answers =
       is_unmoved IsWanting _ _ _ _ c.args.self.now _ _ c.self.inside.outbox c.self.inside.rest c.self.inside.goes_on
       c.self.view_is (rw c.in-Wanting.is at c.exchange.ensures.answers);
-  usable = c.exchange.ensures.usable;
   follows = c.exchange.ensures.follows;
 }
 
@@ -56,6 +53,5 @@ returns-in-Over g c = record {
   answers =
       is_unmoved IsAllAnswered _ _ _ _ c.args.self.now _ _ c.self.inside.outbox c.self.inside.rest c.self.inside.goes_on
       c.self.view_is (rw c.in-Over.is at c.exchange.ensures.answers);
-  usable = c.exchange.ensures.usable;
   follows = c.exchange.ensures.follows;
 }

@@ -1,7 +1,7 @@
 use Rattle.commands.proofs.settling.Settler.settle.Goals as goal
 
-pub returns-clause-settles : goal.returns-clause-settles
-returns-clause-settles g c = (
+pub returns : goal.returns
+returns g c = (
   c.moment_of-moment.result,
   record {
     by = c.settle_next-settled.ensures.settles;

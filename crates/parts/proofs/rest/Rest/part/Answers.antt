@@ -18,7 +18,7 @@ returns-in-Ok g c = record {
       let m = told.0 in
       let piece = told.2 in
       let old = g.met.L.Ledgers.lived c.args.ledgers.now c.read_piece.new.ledgers c.in_ok-listed.ensures.reads.follows live in
-      let valid = g.met.L.Ledgers.valid c.args.ledgers.now old c.requires c.args.self.now.digest m told.1 in
+      let valid = g.met.L.Ledgers.valid c.args.ledgers.now old c.args.self.now.digest m told.1 in
       let so = parted m valid c.args.self.now c.in_ok-listed.listed.entries.items
       (piece.entries ∙ ap (account_entries_within m c.args.self.now.account) c.span.ensures) c.args.before.now c.in-Ok.part piece.there
       (subst (λ (clock : ℕ). IsPartOf c.args.before.now c.args.self.now clock c.in_ok-listed.listed.entries.items c.in-Ok.part) piece.clock c.in-Ok.ensures) in

@@ -7,7 +7,6 @@ loop-message-init g c = record {
   turns = λ live. rw c.in_ok-replies.ensures.items (no_turns _);
   count = c.in_ok-replies.ensures.len;
   room = c.in_ok-replies.ensures.exact;
-  usable = c.requires.usable;
   follows = g.met.L.Ledgers.stays c.args.ledgers.now;
 }
 
@@ -20,7 +19,6 @@ loop-message-preserved g c = record {
       (c.respond-reply.ensures.responds live) (sym c.is_unavailable.ensures ∙ c.if-is_unavailable.false);
   count = c.push_reserved.ensures.len ∙ ap (λ (n : ℕ). n + 1) c.loop-message.invariant.count;
   room = c.push_reserved.ensures.capacity ∙ c.loop-message.invariant.room;
-  usable = c.respond-reply.ensures.usable;
   follows = g.met.L.Ledgers.then _ _ _ c.loop-message.invariant.follows
       c.respond-reply.ensures.follows;
 }

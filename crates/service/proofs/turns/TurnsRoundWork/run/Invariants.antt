@@ -11,6 +11,5 @@ invariant-loop-message g l = record {
       l.replies.items (g.L.Ledgers.means.tenants l.ledgers);
   count : vec_len l.replies ≡ l.message-index;
   room : vec_capacity l.replies ≡ length l.self.messages.now;
-  usable : g.L.Ledgers.means.is_usable l.ledgers;
   follows : g.L.Ledgers.means.follows l.fn.ledgers l.ledgers;
 }

@@ -4,5 +4,5 @@ pub returns : goal.returns
 returns c = record {
   machines = λ live found keeps. keeps;
   names = λ live found keeps. keeps;
-  named = λ live. c.requires.1;
+  named = λ live. live.1;
 }

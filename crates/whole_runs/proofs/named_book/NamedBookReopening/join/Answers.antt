@@ -1,6 +1,11 @@
-use Rattle.std.proofs.Common.{is_some, refl, sym, ap, ◌∙◌}
+use Rattle.std.proofs.Common.{◌≡◌, false, List, Some, None, option_map, is_some, refl, sym, ap, subst, ◌∙◌}
 use Rattle.std.specs.List.{position}
+use Rattle.chain.specs.Tables.{State}
+use Rattle.plain.specs.declared.book.Tenant.{Tenant}
+use Rattle.plain.specs.Book.{machine_with, ChangesOne}
 use Rattle.plain.specs.BookLedgers.{machines_in}
+use Rattle.service.specs.Deeds.{joined as after_joining}
+use Rattle.service.specs.Openings.{As_now}
 use Rattle.whole_runs.specs.BookNames.{has_name, names_among}
 use Rattle.whole_runs.specs.Names.{AddsName}
 use Rattle.whole_runs.proofs.BookLemmas.{added_others, added_own, none_of}
@@ -9,55 +14,78 @@ use Rattle.whole_runs.proofs.NamedLemmas.{is_named, joined_named, joins_name, un
 use Rattle.whole_runs.proofs.named_book.NamedBookReopening.join.Goals as goal
 
 pub returns-then-is_some-clause-named : goal.returns-then-is_some-clause-named
-returns-then-is_some-clause-named c = record {
+returns-then-is_some-clause-named c = rw (← c.self.view_is) (record {
   told = λ live. (
-    is_named c.args.name.now c.args.self.now.names.items
+    is_named c.args.name.now c.self.inside.names.items
         (sym (c.is_some.ensures ∙ ap is_some (c.place_of.ensures
         ∙ ap (position (has_name c.args.name.now)) c.deref.ensures.value)) ∙ c.if-is_some.true),
     λ name. refl,
   );
   found = λ found keeps. ∣ keeps ∣₁;
-}
+})
 
 pub returns-then-holds-clause-named : goal.returns-then-holds-clause-named
-returns-then-holds-clause-named c = record {
+returns-then-holds-clause-named c = rw (← c.self.view_is) (record {
   told = λ live. (
-    unnamed c.args.name.now c.args.self.now.names.items
+    unnamed c.args.name.now c.self.inside.names.items
         (sym (c.is_some.ensures ∙ ap is_some (c.place_of.ensures
         ∙ ap (position (has_name c.args.name.now)) c.deref.ensures.value)) ∙ c.if-is_some.false),
     λ name. refl,
   );
   found = λ found keeps. ∣ keeps ∣₁;
-}
+})
 
-joined : (c : goal.After-push_reserved) → AddsName c.args.name.now c.args.digest.now
-    (names_among c.args.self.now.names.items) (names_among c.push_reserved.new.self.items)
-joined c =
-    let none =
-    unnamed c.args.name.now c.args.self.now.names.items
-    (sym (c.is_some.ensures ∙ ap is_some (c.place_of.ensures
-    ∙ ap (position (has_name c.args.name.now)) c.deref.ensures.value)) ∙ c.if-is_some.false) in (
-      none,
-      rw (c.push_reserved.ensures.items, c.reserve.ensures.items)
-          (joins_name c.args.name.now c.args.digest.now c.args.self.now.names.items none),
-    )
+module _ (c : goal.After-push_reserved) where
+  joined : AddsName c.args.name.now c.args.digest.now (names_among c.self.inside.names.items)
+      (names_among c.push_reserved.new.self.items)
+  joined =
+      let none =
+      unnamed c.args.name.now c.self.inside.names.items
+      (sym (c.is_some.ensures ∙ ap is_some (c.place_of.ensures
+      ∙ ap (position (has_name c.args.name.now)) c.deref.ensures.value)) ∙ c.if-is_some.false) in (
+        none,
+        rw (c.push_reserved.ensures.items, c.reserve.ensures.items)
+            (joins_name c.args.name.now c.args.digest.now c.self.inside.names.items none),
+      )
+
+  added : ChangesOne c.args.digest.now c.new.result c.self.inside.book c.add.new.self
+  added =
+      subst (λ (book : List Tenant). ChangesOne c.args.digest.now c.new.result book c.add.new.self)
+      c.book.view_is c.in-Ok.ensures.ok
+
+  free : machines_in c.self.inside.book c.args.digest.now ≡ None
+  free =
+      none_of _ (sym (c.holds.ensures
+      ∙ ap (λ (book : List Tenant). is_some (machine_with c.args.digest.now book)) c.book.view_is)
+      ∙ c.if-holds.false)
+
+pub invariant_of-self-in-Ok : goal.invariant_of-self-in-Ok
+invariant_of-self-in-Ok c = (
+  c.in-Ok.ensures.usable c.new.ensures.usable c.book.invariant,
+  joined_named c.args.name.now c.args.digest.now _ _ (machines_in c.self.inside.book)
+      (machines_in c.add.new.self) (joined c).1 c.self.invariant.1
+      (added_own c.args.digest.now c.new.result c.self.inside.book c.add.new.self (added c))
+      (joined c).0 (free c)
+      (added_others c.args.digest.now c.new.result c.self.inside.book c.add.new.self (added c)),
+)
+
+pub returns-in-Ok-clause-moves : goal.returns-in-Ok-clause-moves
+returns-in-Ok-clause-moves c = rw (← c.self.view_is) (record {
+  happens = λ live. record {
+    may = free c;
+    own = ap (option_map (λ (s : State). s.now)) (added c).own
+        ∙ ap (λ (s : State). Some s.now) c.new.ensures.state ∙ sym (ap after_joining (free c));
+    others = added_others c.args.digest.now c.new.result c.self.inside.book c.add.new.self (added c);
+  };
+  lived = λ live. c.self.invariant;
+  found = λ found keeps. As_now (invariant_of-self-in-Ok c) keeps;
+})
 
 pub returns-in-Ok-clause-named : goal.returns-in-Ok-clause-named
-returns-in-Ok-clause-named c = record {
+returns-in-Ok-clause-named c = rw (← c.self.view_is) (record {
   told = λ live. joined c;
   found = λ found keeps. ∣ (
-    tt,
+    c.self.invariant,
     ((joined c).0, gives_on c.args.name.now c.args.digest.now _ _ found (joined c).1 keeps),
   ) ∣₁;
-}
-
-pub returns-in-Ok-clause-usable : goal.returns-in-Ok-clause-usable
-returns-in-Ok-clause-usable c = (
-  c.in-Ok.ensures.usable c.new.ensures.usable c.requires.0,
-  joined_named c.args.name.now c.args.digest.now _ _ (machines_in c.args.self.now.book)
-      (machines_in c.add.new.self) (joined c).1 c.requires.1
-      (added_own c.args.digest.now c.new.result c.args.self.now.book c.add.new.self c.in-Ok.ensures.ok)
-      (joined c).0 (none_of _ (sym c.holds.ensures ∙ c.if-holds.false))
-      (added_others c.args.digest.now c.new.result c.args.self.now.book c.add.new.self
-      c.in-Ok.ensures.ok),
-)
+})

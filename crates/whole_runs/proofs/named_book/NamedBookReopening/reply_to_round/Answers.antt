@@ -15,18 +15,6 @@ if_ok_on :
 if_ok_on P Q (Ok x) on p = on x p
 if_ok_on P Q (Err e) on p = p
 
-pub returns-clause-moves : goal.returns-clause-moves
-returns-clause-moves c =
-    if_ok_on _ _ c.respond_round.result
-    (λ replies moves. record {
-      respond = moves.respond;
-      lived = λ live. tt;
-      found = λ found keeps.
-          let all = replies_happen _ replies.items _ _ (moves.respond tt) in
-          (all.events, all.are, All_as_now tt keeps);
-    })
-    c.respond_round.ensures.moves
-
 -- the names are those of the tenants behind the round
 named_behind :
     {X E : Type 0} (P : X → Type 0) (names : Names) (old new : List Tenant) (result : Result X E) →
@@ -37,11 +25,25 @@ named_behind P names old new (Ok x) named on moved same = on x moved
 named_behind P names old new (Err why) named on moved same =
     subst (λ (book : List Tenant). AreNamed names (machines_in book)) (sym same) named
 
-pub returns-clause-usable : goal.returns-clause-usable
-returns-clause-usable c = (
-  c.respond_round.ensures.usable,
-  named_behind _ _ c.args.self.now.book c.respond_round.new.ledgers c.respond_round.result c.requires.1
+pub invariant_of-self : goal.invariant_of-self
+invariant_of-self c = (
+  c.are_valid.ensures,
+  named_behind _ _ c.self.inside.book c.respond_round-replies.new.ledgers c.respond_round-replies.result
+      c.self.invariant.1
       (λ replies moves.
-      named_still _ _ _ c.requires.1 (in_turn_stay _ _ _ replies.items (moves.respond tt)))
-      c.respond_round.ensures.moves c.respond_round.ensures.undone,
+      named_still _ _ _ c.self.invariant.1
+      (in_turn_stay _ _ _ replies.items (moves.respond (tt, c.are_valid.ensures))))
+      c.respond_round-replies.ensures.moves c.respond_round-replies.ensures.undone,
 )
+
+pub returns-clause-moves : goal.returns-clause-moves
+returns-clause-moves c =
+    rw (← c.self.view_is) (if_ok_on _ _ c.respond_round-replies.result
+    (λ replies moves. record {
+      respond = λ live. moves.respond (tt, c.are_valid.ensures);
+      lived = λ live. c.self.invariant;
+      found = λ found keeps.
+          let all = replies_happen _ replies.items _ _ (moves.respond (tt, c.are_valid.ensures)) in
+          (all.events, all.are, All_as_now (invariant_of-self c) keeps);
+    })
+    c.respond_round-replies.ensures.moves)

@@ -1,0 +1,16 @@
+use Rattle.std.proofs.Common.{sym, subst}
+use Rattle.service.specs.Courses.{Tried}
+use Rattle.store.specs.declared.store.Store.{Store}
+use Rattle.commands.specs.Kept.{Renews, Tries}
+use Rattle.commands.specs.declared.kept.Kept.{Kept}
+use Rattle.commands.specs.declared.kept.Kept.TheVariants.{Open}
+use Rattle.commands.proofs.OrderLemmas.{moves_kept}
+use Rattle.commands.proofs.renewing.RenewingStewardKeptInUseStore.reads.Goals as goal
+
+pub returns-in-Open-clause-renewed : goal.returns-in-Open-clause-renewed
+returns-in-Open-clause-renewed g c =
+    let tried = c.next_part.ensures.tried in
+    let new = c.next_part.new.store in
+    subst (λ (was : Kept (Store _ _)). Renews g.H.Home.opens was (Open new)) (sym c.in-Open.is)
+    (Tries tried.0 tried.1.0
+    (moves_kept c.in-Open.store (Tried tried.0 tried.1.0) new tried.1.1))

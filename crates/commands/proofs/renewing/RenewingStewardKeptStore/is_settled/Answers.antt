@@ -1,6 +1,0 @@
-use Rattle.commands.proofs.RenewLemmas.{kept_settled}
-use Rattle.commands.proofs.renewing.RenewingStewardKeptStore.is_settled.Goals as goal
-
-pub returns-in-Open : goal.returns-in-Open
-returns-in-Open g c =
-    kept_settled c.args.kept.now c.in-Open.store c.in-Open.is c.requires c.is_settled.ensures
