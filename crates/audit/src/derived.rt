@@ -14,12 +14,10 @@ ghost use Rattle.running.specs.Running.{IsRunning};
 ghost use Rattle.audit.specs.Order.{in_order};
 ghost use Rattle.audit.specs.Told.{told_at};
 
+use records::MAX_CLOCK;
 use rows::{BalanceRow, HistoryRow, StatusRow, keys_are_distinct, read_in_order, rows_fit};
 use running::Running;
 use std::alloc::{AllocError, Global};
-
-// The latest clock: 2^62 nanoseconds.
-const MAX_CLOCK: u64 = 1 << 62;
 
 /// The machine comes to the clock, if it can.
 pub(crate) fn settle_if_it_can(running: &mut Running, clock: u64) -> Result<bool, AllocError>

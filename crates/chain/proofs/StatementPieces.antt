@@ -27,7 +27,7 @@ use Rattle.chain.specs.declared.reads.Listed.{Listed}
 use Rattle.chain.specs.declared.reads.ReadFault.{ReadFault}
 use Rattle.chain.specs.declared.reads.ReadFault.TheVariants as fault
 use Rattle.chain.specs.AccountEntries.{account_entries, account_entries_within, account_entry, entry_time, first_piece, piece_behind, row_of}
-use Rattle.chain.specs.LedgerReads.{HandsOut, IsBegun, IsTold, ReadsOnly, RefusesNext, Seen, is_refused, rows_of, seen_by, seen_in, seen_of_list}
+use Rattle.chain.specs.LedgerReads.{HandsOut, IsBegun, IsTold, ReadsOnly, RefusesNext, Seen, rows_of, seen_by, seen_in, seen_of_list}
 use Rattle.chain.specs.Ledgers.{AreValid, Finds, IsAnswered, IsRun, KeepsAll, LeadsBy, LedgersMeaning, Tenants}
 use Rattle.chain.specs.Looks.{Answers, account_answer}
 use Rattle.chain.specs.Pages.{IsRecord, all_within, behind_last, span_behind}
@@ -262,15 +262,6 @@ module _ {S K : Type 0} (t : LedgersMeaning S) (takes : K → StatementRow → K
   piece_is span old new (Ok (Err account_fault.NoHistory)) piece told run valid = absurd (cc)
   piece_is span old new (Err batch_fault.UnknownKey) piece told run valid = absurd (cc)
   piece_is span old new (Err (batch_fault.Unavailable why)) piece told run valid = absurd (cc)
-
-  -- no batch tells that a sink refused
-  pub not_refused :
-      (result : Result (Result (Listed AccountEntry) AccountFault) BatchFault) (why : ReadFault) → account_answer result ≡ Err why → is_refused (Err why) ≡ false
-  not_refused (Ok (Ok found)) why told = absurd (cc)
-  not_refused (Ok (Err account_fault.NoAccount)) why told = ap (λ w. is_refused (Err w)) (sym (ap fault_in told))
-  not_refused (Ok (Err account_fault.NoHistory)) why told = ap (λ w. is_refused (Err w)) (sym (ap fault_in told))
-  not_refused (Err batch_fault.UnknownKey) why told = ap (λ w. is_refused (Err w)) (sym (ap fault_in told))
-  not_refused (Err (batch_fault.Unavailable because)) why told = ap (λ w. is_refused (Err w)) (sym (ap fault_in told))
 
   pub told_answered :
       (result : Result (Result (Listed AccountEntry) AccountFault) BatchFault) (piece : Listed AccountEntry) → account_answer result ≡ Ok piece → IsAnswered result

@@ -1,5 +1,5 @@
 -- What a read of one tenant's machine is told.
-use Rattle.std.specs.Prelude.{◌≡◌, ◌∷◌, ◌++◌, ℕ, Bool, true, false, List, [], take}
+use Rattle.std.specs.Prelude.{◌≡◌, ◌∷◌, ◌++◌, ℕ, true, List, [], take}
 use Rattle.std.specs.Prelude.{Option, Some, None}
 use Rattle.std.specs.Prelude.{Result, Ok, Err}
 use Rattle.records.specs.declared.unavailable.Unavailable.TheVariants.{Disk}
@@ -120,15 +120,6 @@ HandsOut takes refuses seen old new (Err fault.UnknownKey) =
 HandsOut takes refuses seen old new (Err fault.NoAccount) =
     (seen ≡ Err fault.NoAccount) × (new ≡ old)
 HandsOut takes refuses seen old new (Err fault.NoHistory) = ⊥
-
--- whether the sink refused a row
-abbrev pub is_refused : Result Unit ReadFault → Bool
-is_refused (Ok done) = false
-is_refused (Err (fault.Sink why)) = true
-is_refused (Err (fault.Unavailable why)) = false
-is_refused (Err fault.UnknownKey) = false
-is_refused (Err fault.NoAccount) = false
-is_refused (Err fault.NoHistory) = false
 
 -- a read is answered, if only by a fault of the tenant's own
 abbrev pub IsTold : {A : Type 0} → Result A ReadFault → Type 0

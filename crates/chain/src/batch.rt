@@ -13,11 +13,8 @@ ghost use Rattle.chain.specs.EventLaws.{IsUnused};
 use crate::Tables;
 use crate::chains::{CutChain, first_chain, push_results};
 use crate::events::BatchEvent;
-use records::{BatchReply, EventResult, Refusal, Unavailable};
+use records::{BatchReply, EventResult, MAX_CLOCK, Refusal, Unavailable};
 use std::alloc::Global;
-
-/// The latest clock, in nanoseconds: the due time of each transfer fits 64 bits.
-pub(crate) const MAX_CLOCK: u64 = 1 << 62;
 
 /// Runs a batch at a moment, in nanoseconds. All memory for the reply is taken before the first
 /// change.

@@ -5,7 +5,7 @@ ghost use Rattle.records.specs.Queries.{found_holds, open_holds, queried_account
 ghost use Rattle.records.specs.Queries.{queried_transfers};
 ghost use Rattle.records.specs.Reads.{history_answer, history_balances_answer, statement_answer};
 ghost use Rattle.chain.specs.Ledgers.{LedgersMeaning, AreValid, KeepsAll, Finds, RunsBatch, Knows};
-ghost use Rattle.chain.specs.LedgerReads.{seen_in, IsListOf, IsPageOf, HandsOut, is_refused};
+ghost use Rattle.chain.specs.LedgerReads.{seen_in, IsListOf, IsPageOf, HandsOut};
 ghost use Rattle.chain.specs.LedgerReads.{ReadsOnly, ReadsTenant, IsTold};
 ghost use Rattle.chain.specs.declared.ledgers.BatchFault.TheVariants as batch_fault;
 ghost use Rattle.chain.specs.declared.reads.ReadFault.TheVariants as read_fault;
@@ -191,11 +191,9 @@ pub trait Ledgers {
         order: Order,
         sink: &mut S,
     ) -> Result<(), ReadFault>
-        requires { S.refused sink.old ≡ false }
         ensures told { means.is_live self.new → HandsOut S.takes S.refuses
             (seen_in (λ m. statement_answer m account order) (means.tenants self.old digest.now))
             sink.old sink.new result }
-        ensures refused { S.refused sink.new ≡ is_refused result }
         ensures failed { means.has_failed self.old ≡ true
             → result ≡ Err (read_fault.Unavailable Disk) }
         ensures finds { Finds means (IsTold result) KeepsAll self.old self.new }

@@ -10,10 +10,9 @@ ghost use Rattle.records.specs.Step.{max_clock};
 ghost use Rattle.chain.specs.LedgerReads.{seen_of_list};
 ghost use Rattle.chain.specs.Looks.{Searches, Shows};
 
-use crate::batch::MAX_CLOCK;
 use crate::{Listed, Tables, Work};
 use engine::due;
-use records::{AccountWithBalances, Hold, Transfer, Unavailable};
+use records::{AccountWithBalances, Hold, MAX_CLOCK, Transfer, Unavailable};
 use std::alloc::Global;
 
 /// A kind of record that is looked up by its id.

@@ -11,7 +11,7 @@ ghost use Rattle.chain.specs.Pages.{is_full, page_of, span_behind};
 
 use crate::query::Query;
 use crate::{QueryPage, Tables, Work};
-use records::{MOST_LOOKED_AT, Order, Span, Unavailable};
+use records::{MOST_AT_ONCE, MOST_LOOKED_AT, Order, Span, Unavailable};
 use std::alloc::Global;
 
 /// Makes the page that a query asks for.
@@ -83,9 +83,6 @@ fn page<T: Tables, Q: Query>(
     }
     Ok(draft)
 }
-
-/// The most records that are read at once where the number that is looked at has no limit.
-const MOST_AT_ONCE: u32 = 1000;
 
 /// What is shown of the records in the span of a page, up to its limit. However many it looks at:
 /// first at as many as are asked for, and then at twice as many each time.

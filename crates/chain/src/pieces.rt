@@ -1,6 +1,6 @@
 //! The statement of an account, as pieces of work on one tenant's tables, one behind the other.
 
-ghost use Rattle.std.specs.Prelude.{◌≡◌, ◌≤◌, false, All, is_err, map, IfErr, IfOk, OnOk};
+ghost use Rattle.std.specs.Prelude.{◌≡◌, ◌≤◌, All, map, IfErr, IfOk, OnOk};
 ghost use Rattle.records.specs.Reads.{answer_by};
 ghost use Rattle.records.specs.Machine.{account_with};
 ghost use Rattle.records.specs.Step.{max_clock};
@@ -68,14 +68,12 @@ pub(crate) fn hand_piece<S: RowSink>(
     entries: &[AccountEntry],
     sink: &mut S,
 ) -> Result<Option<Span>, SinkFault>
-    requires { S.refused sink.old ≡ false }
     ensures next { All (λ entry. entry_time entry ≤ max_clock) entries.now →
         IfOk result (λ next. next ≡ piece_behind span.now entries.now) }
     ensures ok { OnOk result (TakesRows S.takes sink.old (map (row_of account) entries.now)
         sink.new) }
     ensures err { IfErr result (λ why. RefusesNext S.takes S.refuses
         (map (row_of account) entries.now) why sink.old sink.new) }
-    ensures refused { S.refused sink.new ≡ is_err result }
 {
     let mut behind = 0;
     for entry in entries {

@@ -1,6 +1,8 @@
 -- The faults of commands: the word that tells each, and the status with which the program ends.
 use Rattle.std.specs.Prelude.{ℕ, List, [], ◌∷◌, Option, bytes_eq, codes}
 use Rattle.std.specs.List.{find}
+use Rattle.records.specs.declared.row_sink.SinkFault.{SinkFault}
+use Rattle.records.specs.declared.row_sink.SinkFault.TheVariants as sink
 use Rattle.command_texts.specs.declared.fault.Fault.{Fault}
 use Rattle.command_texts.specs.declared.fault.Fault.TheVariants.{NameTaken, DigestTaken, NoTenant}
 use Rattle.command_texts.specs.declared.fault.Fault.TheVariants.{NoAccount, NotServed, Exists, BadName}
@@ -74,3 +76,8 @@ status_of OldSchema = 4
 status_of NewerSchema = 4
 status_of Damaged = 4
 status_of InUse = 5
+
+-- the fault that is told where a sink refuses a row
+abbrev pub sink_fault : SinkFault → Fault
+sink_fault sink.Write = Output
+sink_fault sink.Memory = Unavailable

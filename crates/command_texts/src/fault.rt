@@ -1,8 +1,9 @@
 ghost use Rattle.std.specs.Prelude.{◌≡◌};
-ghost use Rattle.command_texts.specs.Faults.{fault_of, status_of, word_of};
+ghost use Rattle.command_texts.specs.Faults.{fault_of, sink_fault, status_of, word_of};
 ghost use Rattle.command_texts.specs.Lines.{fault_line};
 ghost use Rattle.command_texts.specs.declared.fault.Fault.TheVariants.{Unavailable};
 
+use records::SinkFault;
 use std::alloc::AllocError;
 
 /// Why a command has not done what it was asked to do.
@@ -170,5 +171,16 @@ impl From<AllocError> for Fault {
 
     fn from(_error: AllocError) -> Fault {
         Fault::Unavailable
+    }
+}
+
+impl From<SinkFault> for Fault {
+    ghost from_gives = { λ why fault. fault ≡ sink_fault why };
+
+    fn from(why: SinkFault) -> Fault {
+        match why {
+            SinkFault::Write => Fault::Output,
+            SinkFault::Memory => Fault::Unavailable,
+        }
     }
 }

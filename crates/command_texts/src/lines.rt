@@ -17,7 +17,6 @@ use tenants::TenantName;
 
 /// Tells a fault on standard error, as far as that can be written, and says the status.
 pub fn tell_fault<E: Drain>(err: &mut E, fault: Fault) -> u8
-    requires { E.failed err.old ≡ false }
     ensures status { result ≡ status_of fault }
     ensures line { IsWritten (E.written err.old) (E.written err.new) (E.failed err.new)
         (fault_line fault) }
@@ -29,7 +28,6 @@ pub fn tell_fault<E: Drain>(err: &mut E, fault: Fault) -> u8
 /// Tells a fault and the reason for it, a line each, as far as that can be written, and says the
 /// status. Where memory is wanting the reason is left out.
 pub fn tell_fault_for<E: Drain>(alloc: Global, err: &mut E, fault: Fault, reason: &str) -> u8
-    requires { E.failed err.old ≡ false }
     ensures status { result ≡ status_of fault }
     ensures lines { IsFaultWritten (E.written err.old) (E.written err.new) (E.failed err.new) fault }
 {
@@ -45,7 +43,6 @@ pub fn tell_fault_for<E: Drain>(alloc: Global, err: &mut E, fault: Fault, reason
 
 /// Writes a text to standard output.
 pub fn put_text<O: Drain>(out: &mut O, text: &str) -> Result<(), Fault>
-    requires { O.failed out.old ≡ false }
     ensures { PutsText text.now O.written O.failed out.old out.new result }
 {
     put_all(out, text.as_bytes()).map_err(|_| Fault::Output)
@@ -53,7 +50,6 @@ pub fn put_text<O: Drain>(out: &mut O, text: &str) -> Result<(), Fault>
 
 // A line of a word and a text.
 fn put_line<O: Drain>(out: &mut O, word: &str, text: &str) -> Result<(), Fault>
-    requires { O.failed out.old ≡ false }
     ensures { PutsText (word.now ++ text.now ++ 10 ∷ []) O.written O.failed out.old out.new result }
 {
     put_text(out, word)?;
@@ -63,7 +59,6 @@ fn put_line<O: Drain>(out: &mut O, word: &str, text: &str) -> Result<(), Fault>
 
 /// Tells a new tenant.
 pub fn put_added<O: Drain>(out: &mut O, name: &TenantName) -> Result<(), Fault>
-    requires { O.failed out.old ≡ false }
     ensures { PutsText (added_line name.now) O.written O.failed out.old out.new result }
 {
     put_line(out, "added ", name.as_str())
@@ -71,7 +66,6 @@ pub fn put_added<O: Drain>(out: &mut O, name: &TenantName) -> Result<(), Fault>
 
 /// Tells that a tenant has another key.
 pub fn put_changed<O: Drain>(out: &mut O, name: &TenantName) -> Result<(), Fault>
-    requires { O.failed out.old ≡ false }
     ensures { PutsText (changed_line name.now) O.written O.failed out.old out.new result }
 {
     put_line(out, "changed ", name.as_str())
@@ -79,7 +73,6 @@ pub fn put_changed<O: Drain>(out: &mut O, name: &TenantName) -> Result<(), Fault
 
 /// Tells a key that was drawn, in hexadecimal digits.
 pub fn put_key<O: Drain>(out: &mut O, key: &str) -> Result<(), Fault>
-    requires { O.failed out.old ≡ false }
     ensures { PutsText (key_line key.now) O.written O.failed out.old out.new result }
 {
     put_line(out, "key ", key)
@@ -87,7 +80,6 @@ pub fn put_key<O: Drain>(out: &mut O, key: &str) -> Result<(), Fault>
 
 /// Tells how many bytes a copy has.
 pub fn put_copied<O: Drain>(out: &mut O, bytes: &str) -> Result<(), Fault>
-    requires { O.failed out.old ≡ false }
     ensures { PutsText (copied_line bytes.now) O.written O.failed out.old out.new result }
 {
     put_line(out, "copied ", bytes)
@@ -95,7 +87,6 @@ pub fn put_copied<O: Drain>(out: &mut O, bytes: &str) -> Result<(), Fault>
 
 /// Tells that the service of a file has ended.
 pub fn put_stopped<O: Drain>(out: &mut O) -> Result<(), Fault>
-    requires { O.failed out.old ≡ false }
     ensures { PutsText stopped_line O.written O.failed out.old out.new result }
 {
     put_text(out, "stopped\n")
@@ -103,7 +94,6 @@ pub fn put_stopped<O: Drain>(out: &mut O) -> Result<(), Fault>
 
 /// Begins a list of tenants, as CSV.
 pub fn put_tenants<O: Drain>(out: &mut O) -> Result<(), Fault>
-    requires { O.failed out.old ≡ false }
     ensures { PutsText tenants_line O.written O.failed out.old out.new result }
 {
     put_text(out, "name,digest,clock\n")
@@ -112,7 +102,6 @@ pub fn put_tenants<O: Drain>(out: &mut O) -> Result<(), Fault>
 /// Tells one of them: the name, the key's digest in hexadecimal digits, and the clock, the greatest
 /// timestamp so far, in decimal. None of them has a comma or a quote, so nothing is quoted.
 pub fn put_tenant<O: Drain>(out: &mut O, name: &str, digest: &str, clock: &str) -> Result<(), Fault>
-    requires { O.failed out.old ≡ false }
     ensures { PutsText (tenant_line name.now digest.now clock.now)
         O.written O.failed out.old out.new result }
 {
@@ -124,7 +113,6 @@ pub fn put_tenant<O: Drain>(out: &mut O, name: &str, digest: &str, clock: &str) 
 
 /// Tells a count of a service, in decimal.
 pub fn put_count<O: Drain>(out: &mut O, name: &str, count: &str) -> Result<(), Fault>
-    requires { O.failed out.old ≡ false }
     ensures { PutsText (count_line name.now count.now) O.written O.failed out.old out.new result }
 {
     put_text(out, name)?;
@@ -133,7 +121,6 @@ pub fn put_count<O: Drain>(out: &mut O, name: &str, count: &str) -> Result<(), F
 
 /// Tells a count of a service as Prometheus reads it.
 pub fn put_metric<O: Drain>(out: &mut O, name: &str, count: &str) -> Result<(), Fault>
-    requires { O.failed out.old ≡ false }
     ensures { PutsText (metric_line name.now count.now) O.written O.failed out.old out.new result }
 {
     put_text(out, "ledgerd_")?;
@@ -142,7 +129,6 @@ pub fn put_metric<O: Drain>(out: &mut O, name: &str, count: &str) -> Result<(), 
 
 /// Tells the version that a file has come to, as it was written.
 pub fn put_schema<O: Drain>(out: &mut O, version: &str) -> Result<(), Fault>
-    requires { O.failed out.old ≡ false }
     ensures { PutsText (schema_line version.now) O.written O.failed out.old out.new result }
 {
     put_line(out, "schema ", version)
@@ -150,7 +136,6 @@ pub fn put_schema<O: Drain>(out: &mut O, version: &str) -> Result<(), Fault>
 
 /// Tells on standard error that a file has become a new ledger, as far as that can be written.
 pub fn tell_new_ledger<E: Drain>(err: &mut E, path: &str)
-    requires { E.failed err.old ≡ false }
     ensures { E.failed err.new ≡ false
         → Appends (E.written err.old) (E.written err.new) (new_ledger_line path.now) }
 {

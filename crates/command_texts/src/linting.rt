@@ -1,5 +1,5 @@
 //! Bodies judged as the service judges them.
-ghost use Rattle.std.specs.Prelude.{◌≡◌, Err, false, IfOk};
+ghost use Rattle.std.specs.Prelude.{◌≡◌, Err, IfOk};
 ghost use Rattle.command_texts.specs.Linting.{Lints};
 ghost use Rattle.command_texts.specs.Routes.{posted_route};
 
@@ -15,7 +15,6 @@ use wire::fault_in;
 /// would take the body. Says the status with which the program ends: 0, or 1 where something is
 /// refused.
 pub fn lint<O: Drain>(alloc: Global, path: &str, body: &[u8], out: &mut O) -> Result<u8, Fault>
-    requires { O.failed out.old ≡ false }
     ensures path_first { posted_route path.now ≡ Err Fault.BadRoute
         → result ≡ Err Fault.BadRoute }
     ensures told { IfOk result (Lints path.now body.now (O.written out.old) (O.written out.new)) }

@@ -1,5 +1,7 @@
 -- What is made of entries that a sink takes one after the other.
-use Rattle.std.proofs.Common.{◌≡◌, ◌∙◌, ℕ, ◌+◌, ◌<◌, List, Option, [], ◌∷◌, ◌++◌, append_assoc, Some, None, ap, false, get_or, length, map, refl, subst, sym, take}
+use Rattle.std.proofs.Common.{◌≡◌, ◌∙◌, ◌||◌, ℕ, ◌+◌, ◌<◌, Bool, List, Option, [], ◌∷◌, ◌++◌, append_assoc, Some, None, ap, false, get_or, length, map, refl, subst, sym, take, true≢false}
+use Rattle.std.proofs.Common.{IfErr, Result, Ok, Err, inl, inr}
+use Rattle.std.specs.Result.{IsErrAnd}
 use Rattle.std.specs.List.{flat_map, last_or}
 use Rattle.std.specs.Option.{option_map}
 use Rattle.std.proofs.lemmas.List.{append-nil, take_more}
@@ -7,12 +9,18 @@ use Rattle.std.proofs.lemmas.List.Concat.{flat_map-append}
 use Rattle.chain.specs.AccountEntries.{entry_time, row_of}
 use Rattle.chain.specs.declared.account_entry.AccountEntry.{AccountEntry}
 use Rattle.control.specs.declared.entries.Entries.{Entries}
+use Rattle.command_texts.specs.Faults.{sink_fault}
+use Rattle.command_texts.specs.declared.fault.Fault.{Fault}
 use Rattle.records.specs.Streams.{TakesRows}
+use Rattle.records.specs.declared.row_sink.SinkFault.{SinkFault}
+use Rattle.records.specs.declared.row_sink.SinkFault.TheVariants.{Memory, Write}
 use Rattle.records.specs.declared.transfer.Transfer.{Transfer}
 use Rattle.statement.specs.Extract.{Keeps, closing_of, kept_of, opening_of}
+use Rattle.statement.specs.Fault.{is_sink_write}
 use Rattle.statement.specs.Written.{extract_text}
 use Rattle.statement.specs.Writer.{TakesRow}
-use Rattle.commands.specs.Served.{Gathers, IsGathered, WritesEntry, entries_of, last_time, text_by, transfer_within}
+use Rattle.commands.specs.Served.{Gathers, IsFailureTold, IsGathered, WritesEntry, entries_of, last_time, text_by, transfer_within}
+use Rattle.commands.specs.Undone.{IsUnserved}
 use Rattle.commands.specs.declared.asked.Asked.{Asked}
 use Rattle.commands.specs.declared.served_statements.Gathered.{Gathered}
 use Rattle.commands.specs.declared.served_statements.Whole.{Whole}
@@ -118,3 +126,36 @@ pub gathered_text :
     ≡ text_by false account asked entries
 gathered_text account asked entries g given is all =
     rw (is, all.transfers, all.found.opening, all.found.kept, all.found.closing) refl
+
+-- a refusal that is passed on tells the same of what is written to
+pub passed_on :
+    {A : Type 0} (result : Result A SinkFault) (why : SinkFault)
+    (behind last before : Bool) → IsErrAnd result (λ f. f ≡ why)
+    → behind ≡ (is_sink_write {T = A} (Err why) || last) → last ≡ before
+    → behind ≡ (is_sink_write result || before)
+passed_on (Ok value) why behind last before same failed kept = absurd same
+passed_on (Err Write) Write behind last before same failed kept = failed
+passed_on (Err Memory) Memory behind last before same failed kept = failed ∙ kept
+passed_on (Err Write) Memory behind last before same failed kept =
+    absurd (let e : Write ≡ Memory = same in cc)
+passed_on (Err Memory) Write behind last before same failed kept =
+    absurd (let e : Memory ≡ Write = same in cc)
+
+-- what is written to fails at a refusal, and the fault tells so
+pub failure_told :
+    {A : Type 0} (result : Result A Fault) (why : SinkFault)
+    (behind last before : Bool) → IsErrAnd result (λ f. f ≡ sink_fault why)
+    → behind ≡ (is_sink_write {T = A} (Err why) || last) → last ≡ before
+    → IsFailureTold before behind result
+failure_told (Ok value) why behind last before same failed kept = absurd same
+failure_told (Err f) Write behind last before same failed kept = λ well bad. ap Err same
+failure_told (Err f) Memory behind last before same failed kept = λ well bad.
+    absurd (true≢false (sym bad ∙ failed ∙ kept ∙ well))
+
+-- a refusal is why a service has not told more
+pub unserved_by :
+    {A : Type 0} (result : Result A Fault) (why : SinkFault)
+    → IsErrAnd result (λ f. f ≡ sink_fault why) → IfErr result IsUnserved
+unserved_by (Ok value) why same = absurd same
+unserved_by (Err f) Write same = inr same
+unserved_by (Err f) Memory same = inl (inl same)

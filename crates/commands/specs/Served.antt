@@ -1,17 +1,16 @@
 -- What a command asks a service for, piece by piece, and what it writes of the entries.
 use Rattle.std.specs.Prelude.{◌≡◌, ◌==◌, ◌&&◌, ◌+◌, ◌-◌, ◌^◌, ◌++◌, ◌∷◌, [], ℕ, Bool, true, false, List, Option, Some, None, if◌then◌else◌, map, max, min, option_map}
+use Rattle.std.specs.Prelude.{Result, Err}
 use Rattle.std.specs.List.{flat_map, last_or}
 use Rattle.std.specs.Io.KnownBytes.{Appends}
 use Rattle.records.specs.declared.filter.Order.{Order}
 use Rattle.records.specs.declared.filter.Order.TheVariants.{Oldest, Newest}
-use Rattle.records.specs.declared.row_sink.SinkFault.{SinkFault}
-use Rattle.records.specs.declared.row_sink.SinkFault.TheVariants.{Memory, Write}
 use Rattle.records.specs.declared.transfer.Transfer.{Transfer}
 use Rattle.records.specs.Reads.{in_order}
 use Rattle.chain.specs.AccountEntries.{entry_time, row_of}
 use Rattle.chain.specs.declared.account_entry.AccountEntry.{AccountEntry}
-use Rattle.chain.specs.declared.reads.ReadFault.TheVariants as read
 use Rattle.command_texts.specs.declared.fault.Fault.{Fault}
+use Rattle.command_texts.specs.declared.fault.Fault.TheVariants.{Output}
 use Rattle.statement.specs.Extract.{Keeps}
 use Rattle.statement.specs.Period.{closing, is_within, opening}
 use Rattle.statement.specs.Text.{statement_text}
@@ -24,7 +23,6 @@ use Rattle.control.specs.declared.entries.Entries.{Entries}
 use Rattle.control.specs.declared.piece_asked.PieceAsked.{PieceAsked}
 use Rattle.commands.specs.Asking.{is_whole}
 use Rattle.commands.specs.Extracts.{FindsExtract, rows_asked}
-use Rattle.commands.specs.Statements.{statement_fault}
 use Rattle.commands.specs.declared.asked.Asked.{Asked}
 use Rattle.commands.specs.declared.served_statements.First.{First}
 use Rattle.commands.specs.declared.served_statements.Gathered.{Gathered}
@@ -91,14 +89,9 @@ pub record IsFirstPiece (tenant : List ℕ) (account : ℕ) (asked : Asked) (fir
   pub piece : first.asked ≡ first_asked tenant account asked
   pub told : TellsEntries (first_asked tenant account asked) first.entries answer
 
--- why an entry is refused: what it is written to has failed, or else memory ran out
-abbrev pub why_refused : Bool → SinkFault
-why_refused true = Write
-why_refused false = Memory
-
--- the fault that is told of it
-abbrev pub sink_fault : SinkFault → Fault
-sink_fault why = statement_fault (read.Sink why)
+-- where what is written to fails, and had not failed before, that is the fault
+abbrev pub IsFailureTold : {A : Type 0} → Bool → Bool → Result A Fault → Type 0
+IsFailureTold before behind result = before ≡ false → behind ≡ true → result ≡ Err Output
 
 -- a whole statement takes an entry: the line of it goes out
 pub record WritesEntry {O : Type 0} (written : O → Option (List ℕ)) (old : Whole O)

@@ -2,7 +2,6 @@
 use Rattle.std.specs.Prelude.{◌≡◌, ℕ, List, take, Option, Result, Ok, Err}
 use Rattle.std.specs.Io.KnownBytes.{Appends}
 use Rattle.records.specs.declared.filter.Order.{Order}
-use Rattle.records.specs.declared.row_sink.SinkFault.TheVariants.{Write, Memory}
 use Rattle.records.specs.declared.statement_row.StatementRow.{StatementRow}
 use Rattle.records.specs.Machine.{Machine}
 use Rattle.records.specs.Reads.{statement_answer}
@@ -11,6 +10,7 @@ use Rattle.chain.specs.declared.reads.ReadFault.{ReadFault}
 use Rattle.chain.specs.declared.reads.ReadFault.TheVariants as read
 use Rattle.chain.specs.LedgerReads.{Seen, rows_of, seen_in}
 use Rattle.statement.specs.Text.{begun_text, statement_text}
+use Rattle.command_texts.specs.Faults.{sink_fault}
 use Rattle.command_texts.specs.declared.fault.Fault.{Fault}
 use Rattle.command_texts.specs.declared.fault.Fault.TheVariants.{NoTenant, NoAccount, Unavailable}
 use Rattle.command_texts.specs.declared.fault.Fault.TheVariants.{Output}
@@ -26,8 +26,7 @@ statement_fault read.UnknownKey = NoTenant
 statement_fault read.NoAccount = NoAccount
 statement_fault read.NoHistory = Unavailable
 statement_fault (read.Unavailable why) = Unavailable
-statement_fault (read.Sink Write) = Output
-statement_fault (read.Sink Memory) = Unavailable
+statement_fault (read.Sink why) = sink_fault why
 
 -- a beginning of a statement is written, up to the end of a line
 pub record HasBegunLines {O : Type 0} (written : O → Option (List ℕ)) (rows : List StatementRow)

@@ -9,7 +9,7 @@ use Rattle.command_line.specs.declared.commands.StatementWords.{StatementWords}
 use Rattle.command_texts.specs.declared.fault.Fault.{Fault}
 use Rattle.command_texts.specs.declared.fault.Fault.TheVariants.{BadAccount, BadKey, BadName}
 use Rattle.command_texts.specs.declared.fault.Fault.TheVariants.{BadVersion, Exists, NotServed}
-use Rattle.command_texts.specs.declared.fault.Fault.TheVariants.{Output, Unavailable}
+use Rattle.command_texts.specs.declared.fault.Fault.TheVariants.{Output}
 use Rattle.control.specs.Told.{IsCallFault}
 use Rattle.store.specs.declared.store.Store.{Store}
 use Rattle.commands.specs.Adding.{IsAdded}
@@ -31,11 +31,8 @@ IsNotCopied fault = fault ≡ Exists
 abbrev pub IsBadKey : Option (List ℕ) → Type 0
 IsBadKey word = (given : GivenKey) × IsGivenKey word given × (key_of (key_text given) ≡ None)
 
--- memory was wanting, or standard output could not be written
-abbrev pub IsUnwritten : Fault → Type 0
-IsUnwritten fault = (fault ≡ Unavailable) ⊎ (fault ≡ Output)
-
--- so it was, or the service that has the file was asked for more and has not answered
+-- the service that has the file was asked for more and has not answered, or standard output could
+-- not be written
 abbrev pub IsUnserved : Fault → Type 0
 IsUnserved fault = IsCallFault fault ⊎ (fault ≡ Output)
 

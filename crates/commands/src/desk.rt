@@ -68,7 +68,7 @@ fn body_of(alloc: Global, order: &Order, done: Result<Done, Fault>) -> Result<Ve
     ensures { IfOk result (λ body. IsBodyOf order.now done body.items) }
 {
     match (order, done?) {
-        (_, Done::Listed(tenants)) => listed(alloc, tenants.as_slice()),
+        (_, Done::Listed(tenants)) => Ok(listed(alloc, tenants.as_slice())?),
         (Order::ChangeKey { name, .. }, Done::Changed) => Ok(changed_body(alloc, name)?),
         (Order::AddTenant { name, .. }, Done::Changed) => Ok(added_body(alloc, name)?),
         (_, Done::Read(piece)) => Ok(entries_body(alloc, piece.clock, piece.entries.as_slice())?),

@@ -1,5 +1,5 @@
 //! The statement of a period, written to standard output.
-ghost use Rattle.std.specs.Prelude.{◌≡◌, false, IfErr, IfOk};
+ghost use Rattle.std.specs.Prelude.{◌≡◌, IfErr, IfOk};
 ghost use Rattle.chain.specs.LedgerReads.{ReadsOnly};
 ghost use Rattle.records.specs.Reads.{in_order};
 ghost use Rattle.records.specs.declared.filter.Order.TheVariants.{Oldest};
@@ -106,7 +106,6 @@ pub(crate) fn write_extract<L: Ledgers, O: Drain + Drop>(
     asked: &Asked,
     mut out: O,
 ) -> (O, Result<(), Fault>)
-    requires { O.failed out ≡ false }
     ensures told { L.means.is_live ledgers.new → IsExtractTold O.written
         (L.means.tenants ledgers.old digest.now) account asked.now out result.0 result.1 }
     ensures reads { ReadsOnly L.means ledgers.old ledgers.new }

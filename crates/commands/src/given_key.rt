@@ -1,5 +1,5 @@
 //! A tenant's key as a command has it: given, read from standard input, or drawn.
-ghost use Rattle.std.specs.Prelude.{◌≡◌, codes, false, None, Some, IfErr, IfOk, OnOk};
+ghost use Rattle.std.specs.Prelude.{◌≡◌, codes, None, Some, IfErr, IfOk, OnOk};
 ghost use Rattle.command_line.specs.Values.{text_in};
 ghost use Rattle.commands.specs.GivenKeys.{IsGivenKey, IsKeyTold, IsUnread, key_text};
 
@@ -46,7 +46,6 @@ impl<'a> GivenKey<'a> {
 
     /// Tells a key that was drawn, which nobody has seen.
     pub(crate) fn tell<O: Drain>(&self, out: &mut O) -> Result<(), Fault>
-        requires { O.failed out.old ≡ false }
         ensures told { OnOk result (IsKeyTold (O.written out.old) (O.written out.new) self.now) }
         ensures fault { IfErr result (λ fault. fault ≡ Fault.Output) }
     {

@@ -1,5 +1,5 @@
 //! Commands on a file as a whole, on the service that has it, and on one account.
-ghost use Rattle.std.specs.Prelude.{◌≡◌, ◌⊎◌, ◌≤◌, ℕ, decimal, false, IfErr, IfOk};
+ghost use Rattle.std.specs.Prelude.{◌≡◌, ◌⊎◌, ◌≤◌, ℕ, decimal, IfErr, IfOk};
 ghost use Rattle.std.specs.String.{string_bytes};
 ghost use Rattle.sqlite_wal.specs.Files.{image_at};
 ghost use Rattle.control.specs.Answers.{TellsCopied};
@@ -40,7 +40,6 @@ pub(crate) fn run_status<O: Drain + Drop, D: Disk + Drop>(
     as_metrics: bool,
     mut out: O,
 ) -> Result<Ended<'static, O, D>, Fault>
-    requires { O.failed out ≡ false }
     ensures { AsksStatus O.written as_metrics out result }
 {
     let answer = ask_served(rt, db, &Call::Status)?;
@@ -72,7 +71,6 @@ pub(crate) fn run_copy<St: Start, O: Drain + Drop>(
     start: St,
     mut out: O,
 ) -> Result<Ended<'static, O, FileFrom<St>>, Fault>
-    requires { O.failed out ≡ false }
     ensures { CopiesFile O.written (image_at St.Start) to.now out result }
 {
     let to = absolute(rt, to)?;
@@ -115,7 +113,6 @@ pub(crate) fn run_stop<O: Drain + Drop, D: Disk + Drop>(
     db: &str,
     mut out: O,
 ) -> Result<Ended<'static, O, D>, Fault>
-    requires { O.failed out ≡ false }
     ensures { Stops O.written out result }
 {
     let answer = ask_served(rt, db, &Call::Stop)?;
@@ -139,7 +136,6 @@ pub(crate) fn run_statement<St: Start, O: Drain + Drop>(
     start: St,
     out: O,
 ) -> Result<Ended<'static, O, FileFrom<St>>, Fault>
-    requires { O.failed out ≡ false }
     ensures { WritesStatement O.written (image_at St.Start) tenant.now account.now words.now out
         result }
 {
@@ -165,7 +161,6 @@ fn write<St: Start, O: Drain + Drop>(
     start: St,
     out: O,
 ) -> Result<(O, Held<FileFrom<St>>), Fault>
-    requires { O.failed out ≡ false }
     ensures written { IfOk result (λ done. HasToldOr
         (IsStatementServed tenant.now account asked.now (O.written out) (O.written done.0))
         (HasOpened (HasWrittenStatement (image_at St.Start)
@@ -196,7 +191,6 @@ fn write_unserved<St: Start, O: Drain + Drop>(
     start: St,
     out: O,
 ) -> Result<(O, InUse<Store<FileFrom<St>>>), Fault>
-    requires { O.failed out ≡ false }
     ensures written { IfOk result (λ done. HasWrittenStatement (image_at St.Start)
         (IsWrittenFrom O.written tenant.now account asked.now out done.0) done.1) }
     ensures fault { IfErr result (λ fault.
@@ -221,7 +215,6 @@ pub(crate) fn run_check<St: Start, O: Drain + Drop>(
     start: St,
     mut out: O,
 ) -> Result<Ended<'static, O, FileFrom<St>>, Fault>
-    requires { O.failed out ≡ false }
     ensures { Checks O.written (image_at St.Start) out result }
 {
     match examine(rt, db, start)? {
@@ -254,7 +247,6 @@ pub(crate) fn run_migrate<St: Start, O: Drain + Drop>(
     start: St,
     mut out: O,
 ) -> Result<Ended<'static, O, FileFrom<St>>, Fault>
-    requires { O.failed out ≡ false }
     ensures { Migrates O.written (image_at St.Start) to.now out result }
 {
     let version = version(to)?;

@@ -1,5 +1,5 @@
 //! Commands on the tenants of the ledger in a file.
-ghost use Rattle.std.specs.Prelude.{◌≡◌, ◌⊎◌, false, is_some, IfErr, IfOk};
+ghost use Rattle.std.specs.Prelude.{◌≡◌, ◌⊎◌, is_some, IfErr, IfOk};
 ghost use Rattle.sqlite_wal.specs.Files.{image_at};
 ghost use Rattle.command_line.specs.Values.{text_in};
 ghost use Rattle.control.specs.Answers.{TellsAdded, TellsChanged};
@@ -34,7 +34,6 @@ pub(crate) fn run_add_tenant<'a, St: Start, O: Drain + Drop>(
     start: St,
     mut out: O,
 ) -> Result<Ended<'a, O, FileFrom<St>>, Fault>
-    requires { O.failed out ≡ false }
     ensures { AddsNamedTenant O.written (image_at St.Start) db.now tenant.now (text_in key.entry)
         out result }
 {
@@ -117,7 +116,6 @@ pub(crate) fn run_change_key<St: Start, O: Drain + Drop>(
     start: St,
     mut out: O,
 ) -> Result<Ended<'static, O, FileFrom<St>>, Fault>
-    requires { O.failed out ≡ false }
     ensures { ChangesKey O.written (image_at St.Start) tenant.now (text_in key.entry) out result }
 {
     let tenant = name(tenant)?;
@@ -183,7 +181,6 @@ pub(crate) fn run_tenants<St: Start, O: Drain + Drop>(
     start: St,
     mut out: O,
 ) -> Result<Ended<'static, O, FileFrom<St>>, Fault>
-    requires { O.failed out ≡ false }
     ensures { ListsTenants O.written (image_at St.Start) out result }
 {
     let held = list(rt, db, start, &mut out)?;
@@ -202,7 +199,6 @@ fn list<St: Start, O: Drain>(
     start: St,
     out: &mut O,
 ) -> Result<Held<FileFrom<St>>, Fault>
-    requires { O.failed out.old ≡ false }
     ensures listed { IfOk result (HasToldOr (AreTenantsTold (O.written out.old) (O.written out.new))
         (HasOpened (HasListed (image_at St.Start) (O.written out.old) (O.written out.new)))) }
     ensures fault { IfErr result
@@ -223,7 +219,6 @@ fn list_in<St: Start, O: Drain>(
     start: St,
     out: &mut O,
 ) -> Result<InUse<Store<FileFrom<St>>>, Fault>
-    requires { O.failed out.old ≡ false }
     ensures listed { IfOk result
         (HasListed (image_at St.Start) (O.written out.old) (O.written out.new)) }
     ensures fault { IfErr result

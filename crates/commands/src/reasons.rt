@@ -1,5 +1,5 @@
 //! Why there is no file at a path, as the system tells it.
-ghost use Rattle.std.specs.Prelude.{◌≡◌, false};
+ghost use Rattle.std.specs.Prelude.{◌≡◌};
 ghost use Rattle.command_texts.specs.Faults.{status_of};
 ghost use Rattle.command_texts.specs.Lines.{IsFaultWritten};
 ghost use Rattle.commands.specs.Program.{TellsFileFault, told};
@@ -78,7 +78,6 @@ fn reason(rt: &HostRuntime, place: Option<Place<'_>>) -> Option<String> {
 
 // Tells a fault, and the system's reason, where it has one.
 fn tell_both<E: Drain>(rt: &HostRuntime, err: &mut E, fault: Fault, reason: Option<String>) -> u8
-    requires { E.failed err.old ≡ false }
     ensures status { result ≡ status_of fault }
     ensures lines { IsFaultWritten (E.written err.old) (E.written err.new)
         (E.failed err.new) fault }
@@ -96,7 +95,6 @@ pub fn tell_file_fault<E: Drain>(
     fault: Fault,
     place: Option<Place<'_>>,
 ) -> u8
-    requires { E.failed err.old ≡ false }
     ensures { TellsFileFault fault (told (E.written err.old)
         (E.written err.new) (E.failed err.new)) result }
 {

@@ -1,7 +1,6 @@
 //! Statements of a ledger that is served: the service is asked for one piece behind the other, of
 //! the entries up to the clock at which the first was read.
-ghost use Rattle.std.specs.Prelude.{◌≡◌, ◌⊎◌, ◌||◌, Bool, Err, false, is_err, map, true};
-ghost use Rattle.std.specs.Prelude.{IfErr, IfOk, IfSome, OnOk};
+ghost use Rattle.std.specs.Prelude.{◌≡◌, ◌||◌, Bool, false, map, IfErr, IfOk, IfSome, OnOk};
 ghost use Rattle.std.specs.Io.KnownBytes.{Appends};
 ghost use Rattle.chain.specs.AccountEntries.{row_of};
 ghost use Rattle.chain.specs.declared.account_entry.AccountEntry.{AccountEntry};
@@ -10,18 +9,17 @@ ghost use Rattle.control.specs.Told.{IsCallFault};
 ghost use Rattle.records.specs.Reads.{in_order};
 ghost use Rattle.records.specs.Streams.{TakesRows};
 ghost use Rattle.statement.specs.Extract.{closing_of, kept_of, opening_of};
-ghost use Rattle.statement.specs.Extract.{has_refused as has_refused_row};
+ghost use Rattle.statement.specs.Fault.{is_sink_write};
 ghost use Rattle.statement.specs.Text.{statement_text};
-ghost use Rattle.statement.specs.Writer.{drain_of, has_refused};
-ghost use Rattle.commands.specs.Served.{first_asked, last_time, piece_behind, served_text};
-ghost use Rattle.commands.specs.Served.{sink_fault, text_by, why_refused};
-ghost use Rattle.commands.specs.Undone.{IsUnserved, IsUnwritten};
-ghost use Rattle.commands.specs.Served.{Gathers, IsFirstPiece, IsGathered, OfAllPieces, WritesEntry};
+ghost use Rattle.statement.specs.Writer.{drain_of};
+ghost use Rattle.commands.specs.Served.{first_asked, last_time, piece_behind, served_text, text_by};
+ghost use Rattle.commands.specs.Served.{Gathers, IsFailureTold, IsFirstPiece, IsGathered, OfAllPieces};
+ghost use Rattle.commands.specs.Served.{WritesEntry};
+ghost use Rattle.commands.specs.Undone.{IsUnserved};
 
 use crate::asked::Asked;
 use crate::calling::ask;
-use crate::statements::statement_fault;
-use chain::{AccountEntry, ReadFault};
+use chain::AccountEntry;
 use command_texts::Fault;
 use control::{Answer, Call, Entries, PieceAsked, entries_in};
 use parts::row_of;
@@ -44,18 +42,13 @@ trait EntrySink {
     // What taking an entry makes of it.
     ghost takes: { Self → AccountEntry → Self → Type 0 };
 
-    // Whether it has refused one.
-    ghost refused: { Self → Bool };
-
     // Whether what it writes to has failed.
     ghost failed: { Self → Bool };
 
     /// Takes the next entry.
     fn entry(&mut self, entry: &AccountEntry) -> Result<(), SinkFault>
-        requires { refused self.old ≡ false }
         ensures taken { OnOk result (takes self.old entry.now self.new) }
-        ensures refused { refused self.new ≡ is_err result }
-        ensures why { IfErr result (λ why. why ≡ why_refused (failed self.new)) };
+        ensures failed { failed self.new ≡ (is_sink_write result || failed self.old) };
 }
 
 /// A whole statement, which is written entry by entry.
@@ -67,9 +60,6 @@ struct Whole<O: Drain> {
 
 impl<O: Drain> EntrySink for Whole<O> {
     ghost takes = { WritesEntry O.written };
-
-    ghost refused = { λ whole.
-        has_refused whole.writer || O.failed (drain_of whole.writer) };
 
     ghost failed = { λ whole. O.failed (drain_of whole.writer) };
 
@@ -87,15 +77,12 @@ struct Gathered {
     is_wide: bool,
     extract: Extract,
     transfers: Vec<Transfer>,
-    // Whether a transfer was refused.
-    has_refused: bool,
 }
 
 impl EntrySink for Gathered {
     ghost takes = { Gathers };
 
-    ghost refused = { λ gathered. gathered.has_refused || has_refused_row gathered.extract };
-
+    // It writes to memory alone.
     ghost failed = { λ gathered. false };
 
     fn entry(&mut self, entry: &AccountEntry) -> Result<(), SinkFault> {
@@ -105,7 +92,6 @@ impl EntrySink for Gathered {
             && self.period.is_within(&row)
             && self.transfers.push(entry.transfer).is_err()
         {
-            self.has_refused = true;
             return Err(SinkFault::Memory);
         }
         Ok(())
@@ -188,20 +174,18 @@ pub(crate) fn ask_first(
 }
 
 // Hands the entries of a piece to a sink, and tells the time of the last one.
-fn hand_entries<S: EntrySink>(entries: &[AccountEntry], sink: &mut S) -> Result<Option<u64>, Fault>
-    requires { S.refused sink.old ≡ false }
+fn hand_entries<S: EntrySink>(
+    entries: &[AccountEntry],
+    sink: &mut S,
+) -> Result<Option<u64>, SinkFault>
     ensures taken { OnOk result (TakesRows S.takes sink.old entries.now sink.new) }
     ensures last { IfOk result (λ last. last ≡ last_time entries.now) }
-    ensures refused { S.refused sink.new ≡ is_err result }
-    ensures fault { IfErr result (λ fault. fault ≡ sink_fault (why_refused (S.failed sink.new))) }
-    ensures written { IfErr result IsUnwritten }
+    ensures failed { S.failed sink.new ≡ (is_sink_write result || S.failed sink.old) }
 {
     let mut last = None;
     for entry in entries {
-        match sink.entry(entry) {
-            Ok(()) => last = Some(entry.transfer.timestamp),
-            Err(why) => return Err(statement_fault(ReadFault::Sink(why))),
-        }
+        sink.entry(entry)?;
+        last = Some(entry.transfer.timestamp);
     }
     Ok(last)
 }
@@ -213,13 +197,10 @@ fn hand_over<S: EntrySink>(
     first: First,
     sink: &mut S,
 ) -> Result<(), Fault>
-    requires { S.refused sink.old ≡ false }
     ensures taken { OnOk result (OfAllPieces first.asked first.entries
         (λ entries. TakesRows S.takes sink.old entries sink.new)) }
-    ensures ready { OnOk result (S.refused sink.new ≡ false) }
-    ensures fault { IfErr result (λ fault. S.refused sink.new ≡ true
-        → fault ≡ sink_fault (why_refused (S.failed sink.new))) }
-    ensures written { IfErr result IsUnserved }
+    ensures failed { IsFailureTold (S.failed sink.old) (S.failed sink.new) result }
+    ensures fault { IfErr result IsUnserved }
 {
     let First { asked, entries } = first;
     let mut asked = PieceAsked {
@@ -244,11 +225,10 @@ fn write_whole<O: Drain + Drop>(
     first: First,
     out: O,
 ) -> (O, Result<(), Fault>)
-    requires { O.failed out ≡ false }
     ensures written { OnOk result.1 (OfAllPieces first.asked first.entries
         (λ entries. Appends (O.written out) (O.written result.0)
         (statement_text (map (row_of first.asked.account) entries)))) }
-    ensures failed { O.failed result.0 ≡ true → result.1 ≡ Err Fault.Output }
+    ensures failed { IsFailureTold (O.failed out) (O.failed result.0) result.1 }
     ensures fault { IfErr result.1 IsUnserved }
 {
     rows_make_a_statement::<O>();
@@ -283,7 +263,6 @@ fn gather(rt: &HostRuntime, db: &str, first: First, asked: &Asked) -> Result<Gat
         is_wide: asked.layout.is_wide,
         extract,
         transfers,
-        has_refused: false,
     };
     hand_over(rt, db, first, &mut gathered)?;
     Ok(turned(gathered, asked.order))
@@ -326,11 +305,10 @@ pub(crate) fn write_served<O: Drain + Drop>(
     asked: &Asked,
     mut out: O,
 ) -> (O, Result<(), Fault>)
-    requires { O.failed out ≡ false }
     ensures written { OnOk result.1 (OfAllPieces first.asked first.entries
         (λ entries. Appends (O.written out) (O.written result.0)
         (served_text first.asked.account asked.now entries))) }
-    ensures failed { O.failed result.0 ≡ true → result.1 ≡ Err Fault.Output }
+    ensures failed { IsFailureTold (O.failed out) (O.failed result.0) result.1 }
     ensures fault { IfErr result.1 IsUnserved }
 {
     if asked.is_whole() {

@@ -1,5 +1,5 @@
 //! Statements written to standard output.
-ghost use Rattle.std.specs.Prelude.{◌≡◌, false};
+ghost use Rattle.std.specs.Prelude.{◌≡◌};
 ghost use Rattle.chain.specs.LedgerReads.{ReadsOnly};
 ghost use Rattle.commands.specs.Extracts.{IsAskedTold};
 ghost use Rattle.commands.specs.Statements.{IsGivenBack, IsStatementTold, answer_in};
@@ -9,7 +9,7 @@ use crate::asked::Asked;
 use crate::extracts::write_extract;
 use chain::{Ledgers, ReadFault};
 use command_texts::Fault;
-use records::{Drain, Order, SinkFault};
+use records::{Drain, Order};
 use statement::{StatementWriter, rows_begin_a_statement, rows_make_a_statement};
 use std::alloc::Global;
 
@@ -23,7 +23,6 @@ pub(crate) fn write_statement<L: Ledgers, O: Drain + Drop>(
     order: Order,
     out: O,
 ) -> (O, Result<(), Fault>)
-    requires { O.failed out ≡ false }
     ensures told { L.means.is_live ledgers.new → IsStatementTold O.written
         (answer_in (L.means.tenants ledgers.old digest.now) account order) out result.0 result.1 }
     ensures reads { ReadsOnly L.means ledgers.old ledgers.new }
@@ -51,7 +50,6 @@ pub(crate) fn write_asked<L: Ledgers, O: Drain + Drop>(
     asked: &Asked,
     out: O,
 ) -> Result<O, Fault>
-    requires { O.failed out ≡ false }
     ensures told { L.means.is_live ledgers.new → IsGivenBack (IsAskedTold O.written
         (L.means.tenants ledgers.old digest.now) account asked.now out) result }
     ensures reads { ReadsOnly L.means ledgers.old ledgers.new }
@@ -72,7 +70,6 @@ fn put_asked<L: Ledgers, O: Drain + Drop>(
     asked: &Asked,
     out: O,
 ) -> (O, Result<(), Fault>)
-    requires { O.failed out ≡ false }
     ensures told { L.means.is_live ledgers.new → IsAskedTold O.written
         (L.means.tenants ledgers.old digest.now) account asked.now out result.0 result.1 }
     ensures reads { ReadsOnly L.means ledgers.old ledgers.new }
@@ -90,9 +87,7 @@ pub(crate) fn statement_fault(why: ReadFault) -> Fault
     match why {
         ReadFault::UnknownKey => Fault::NoTenant,
         ReadFault::NoAccount => Fault::NoAccount,
-        ReadFault::Sink(SinkFault::Write) => Fault::Output,
-        ReadFault::NoHistory | ReadFault::Unavailable(_) | ReadFault::Sink(SinkFault::Memory) => {
-            Fault::Unavailable
-        }
+        ReadFault::Sink(why) => Fault::from(why),
+        ReadFault::NoHistory | ReadFault::Unavailable(_) => Fault::Unavailable,
     }
 }

@@ -1,5 +1,5 @@
 //! The program but for its sockets: words in, a text and a status out.
-ghost use Rattle.std.specs.Prelude.{◌≡◌, false, map};
+ghost use Rattle.std.specs.Prelude.{◌≡◌, map};
 ghost use Rattle.sqlite_wal.specs.Files.{image_at};
 ghost use Rattle.command_line.specs.Values.{text_in};
 ghost use Rattle.commands.specs.Program.{Performs, RunsProgram, IsMadeTold, IsRefusalTold, TellsEnded};
@@ -32,8 +32,6 @@ pub fn program<S: AsStr, St: Start, O: Drain + Drop, E: Drain>(
     out: O,
     err: &mut E,
 ) -> u8
-    requires out { O.failed out ≡ false }
-    requires err { E.failed err.old ≡ false }
     ensures { RunsProgram ⟦<FileFrom<St> as Disk>⟧ O.written (image_at St.Start)
         (map S.text words.now)
         out (told (E.written err.old) (E.written err.new) (E.failed err.new)) result }
@@ -48,7 +46,6 @@ pub fn program<S: AsStr, St: Start, O: Drain + Drop, E: Drain>(
 
 // What `version` and `--version` ask for.
 fn write_version<O: Drain + Drop, D: Disk + Drop>(mut out: O) -> Result<Ended<'static, O, D>, Fault>
-    requires { O.failed out ≡ false }
     ensures { TellsVersion O.written out result }
 {
     put_text(&mut out, version_text())?;
@@ -62,7 +59,6 @@ fn write_version<O: Drain + Drop, D: Disk + Drop>(mut out: O) -> Result<Ended<'s
 
 // Tells a file that has become a new ledger.
 fn tell_made<E: Drain>(err: &mut E, made: Option<&str>)
-    requires { E.failed err.old ≡ false }
     ensures { IsMadeTold (text_in made.entry) (told (E.written err.old)
         (E.written err.new) (E.failed err.new)) }
 {
@@ -78,7 +74,6 @@ fn tell<O: Drop, D: Disk + Drop, E: Drain>(
     ended: Result<Ended<'_, O, D>, Fault>,
     place: Option<Place<'_>>,
 ) -> u8
-    requires { E.failed err.old ≡ false }
     ensures { TellsEnded ended.entry (told (E.written err.old)
         (E.written err.new) (E.failed err.new)) result }
 {
@@ -97,7 +92,6 @@ fn tell<O: Drop, D: Disk + Drop, E: Drain>(
 
 // Why the words are refused, or the help that they ask for, as `clap` tells it.
 fn tell_refusal<T: Display, E: Drain>(alloc: Global, err: &mut E, error: &T) -> u8
-    requires { E.failed err.old ≡ false }
     ensures { IsRefusalTold (told (E.written err.old)
         (E.written err.new) (E.failed err.new)) result }
 {
@@ -117,7 +111,6 @@ fn run<'a, St: Start, O: Drain + Drop>(
     start: St,
     out: O,
 ) -> Result<Ended<'a, O, FileFrom<St>>, Fault>
-    requires { O.failed out ≡ false }
     ensures { Performs O.written (image_at St.Start) asked.entry out result }
 {
     match asked {

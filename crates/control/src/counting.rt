@@ -1,5 +1,5 @@
 //! The counts of a service, as a body and as lines.
-ghost use Rattle.std.specs.Prelude.{◌≡◌, ◌⊎◌, List, ℕ, Some, Err, IfOk, IfErr, OnOk, false, map};
+ghost use Rattle.std.specs.Prelude.{◌≡◌, ◌⊎◌, List, ℕ, Some, Err, IfOk, IfErr, OnOk, map};
 ghost use Rattle.std.specs.Io.KnownBytes.{Appends};
 ghost use Rattle.std.specs.String.{string_bytes};
 ghost use Rattle.serde_json.specs.View.{members_view, view};
@@ -108,7 +108,6 @@ pub fn put_counted<O: Drain>(
     form: CountForm,
     body: &[u8],
 ) -> Result<(), Fault>
-    requires { O.failed out.old ≡ false }
     ensures counted { OnOk result ((lines : List ℕ) × IsCounted form body.now lines
         × Appends (O.written out.old) (O.written out.new) lines) }
     ensures kept { result ≡ Err Fault.Unavailable → out.new ≡ out.old }

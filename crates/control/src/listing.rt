@@ -1,5 +1,5 @@
 //! The list of tenants, as a body and as lines.
-ghost use Rattle.std.specs.Prelude.{◌≡◌, ◌⊎◌, ◌++◌, List, ℕ, Some, Err, IfOk, IfErr, OnOk, false};
+ghost use Rattle.std.specs.Prelude.{◌≡◌, ◌⊎◌, ◌++◌, List, ℕ, Some, Err, IfOk, IfErr, OnOk};
 ghost use Rattle.std.specs.Io.KnownBytes.{Appends};
 ghost use Rattle.std.specs.String.{string_bytes};
 ghost use Rattle.serde_json.specs.View.{items_view, view};
@@ -101,7 +101,6 @@ fn lines_in(alloc: Global, body: &[u8]) -> Result<String, Fault>
 /// Writes the list of tenants in a body as CSV, with a line that names what stands in the others.
 /// Where the body has none it is `Unavailable`, and nothing is written.
 pub fn put_listed<O: Drain>(alloc: Global, out: &mut O, body: &[u8]) -> Result<(), Fault>
-    requires { O.failed out.old ≡ false }
     ensures listed { OnOk result ((lines : List ℕ) × HasLines body.now lines
         × Appends (O.written out.old) (O.written out.new) (tenants_line ++ lines)) }
     ensures kept { result ≡ Err Fault.Unavailable → out.new ≡ out.old }

@@ -5,9 +5,7 @@ ghost use Rattle.engine.specs.After.{balances_released};
 
 use crate::amounts::sums_without;
 use amount::Amount;
-use records::{Balances, Side, Transfer};
-
-const NANOSECONDS_PER_SECOND: u64 = 1_000_000_000;
+use records::{Balances, SECOND, Side, Transfer};
 
 /// When a pending transfer with a timeout expires, in nanoseconds: at a clock of this or later it
 /// can no longer be posted or voided. No other transfer expires.
@@ -16,7 +14,7 @@ pub fn due(transfer: &Transfer) -> Option<u64>
     ensures { result ≡ due_of transfer.now }
 {
     if transfer.flags.is_pending() && transfer.timeout > 0 {
-        Some(transfer.timestamp + u64::from(transfer.timeout) * NANOSECONDS_PER_SECOND)
+        Some(transfer.timestamp + u64::from(transfer.timeout) * SECOND)
     } else {
         None
     }

@@ -1,5 +1,5 @@
 //! Messages, as a reader gives them.
-ghost use Rattle.std.specs.Prelude.{◌≡◌, ◌≤◌, ◌+◌, ◌-◌, ℕ, List, Some, false, length, take, drop, is_err, IfOk, IfErr, OnOk, OnErr};
+ghost use Rattle.std.specs.Prelude.{◌≡◌, ◌≤◌, ◌+◌, ◌-◌, ◌||◌, ℕ, List, Some, length, take, drop, is_err, IfOk, IfErr, OnOk, OnErr};
 ghost use Rattle.httparse.specs.Grammar.{RequestHead};
 ghost use Rattle.ledger_http.specs.Limits.{max_head, max_body};
 ghost use Rattle.ledger_http.specs.Message.{length_of_body};
@@ -54,14 +54,13 @@ pub(crate) fn announced(head: &[u8]) -> Result<usize, Refusal>
 // Fills `room` with a head and the body behind it, or less of that at the end of the input. Says
 // how much of the body there was.
 fn fill_message<R: Source>(reader: &mut R, head: &[u8], room: &mut [u8]) -> Result<usize, Failed>
-    requires failed { R.failed reader.old ≡ false }
-    requires fits { length head.now ≤ length room.old }
+    requires { length head.now ≤ length room.old }
     ensures front { OnOk result (take (length head.now) room.new ≡ head.now) }
     ensures bytes { IfOk result (λ filled. (bytes : List ℕ) → R.left reader.old ≡ Some bytes
         → Fills bytes (R.left reader.new) (drop (length head.now) room.new) filled) }
     ensures broken { OnErr result ((bytes : List ℕ) → R.left reader.old ≡ Some bytes
         → FallsShort bytes (R.left reader.new) (length room.old - length head.now)) }
-    ensures failed { R.failed reader.new ≡ is_err result }
+    ensures failed { R.failed reader.new ≡ (is_err result || R.failed reader.old) }
 {
     room[..head.len()].copy_from_slice(head);
     fill(reader, &mut room[head.len()..])
@@ -74,7 +73,6 @@ fn read_body<R: Source>(
     head: &[u8],
     size: usize,
 ) -> Result<Message, ReadError>
-    requires failed { R.failed reader.old ≡ false }
     requires head { length head.now ≤ max_head }
     requires body { size ≤ max_body }
     ensures read { IfOk result (λ message. (bytes : List ℕ) → R.left reader.old ≡ Some bytes
@@ -82,7 +80,7 @@ fn read_body<R: Source>(
     ensures reading { IfOk result IsToldReading }
     ensures broken { OnErr result ((bytes : List ℕ) → R.left reader.old ≡ Some bytes
         → FallsShort bytes (R.left reader.new) size) }
-    ensures failed { R.failed reader.new ≡ is_err result }
+    ensures failed { R.failed reader.new ≡ (is_err result || R.failed reader.old) }
 {
     let Ok(mut message) = vec![in alloc; 0u8; head.len() + size] else {
         return Ok(Message::NoMemory);
@@ -99,13 +97,12 @@ fn read_body<R: Source>(
 /// A message that is whole, or refused, is told before the reader is asked for more: `ReadError`
 /// comes behind a beginning of one alone.
 pub fn read_message<R: Source>(alloc: Global, reader: &mut R) -> Result<Message, ReadError>
-    requires { R.failed reader.old ≡ false }
     ensures first { IfOk result (λ message. (unread : List ℕ) → R.left reader.old ≡ Some unread
         → IsFirst unread (R.left reader.new) message) }
     ensures reading { IfOk result IsToldReading }
     ensures broken { OnErr result ((unread : List ℕ) → R.left reader.old ≡ Some unread
         → IsBrokenOff unread (R.left reader.new)) }
-    ensures failed { R.failed reader.new ≡ is_err result }
+    ensures failed { R.failed reader.new ≡ (is_err result || R.failed reader.old) }
 {
     let mut room = [0u8; MAX_HEAD];
     let size = match read_head(reader, &mut room)? {

@@ -1,5 +1,5 @@
 //! Reads the bytes of a message, and none behind them.
-ghost use Rattle.std.specs.Prelude.{◌≡◌, ◌≤◌, ◌<◌, ℕ, List, Some, false, length, take, drop, is_err, slice_get, IfOk, OnErr};
+ghost use Rattle.std.specs.Prelude.{◌≡◌, ◌≤◌, ◌<◌, ◌||◌, ℕ, List, Some, length, take, drop, is_err, slice_get, IfOk, OnErr};
 ghost use Rattle.std.specs.Io.KnownBytes.{Keeps};
 ghost use Rattle.ledger_http.specs.Limits.{max_head};
 ghost use Rattle.ledger_http.specs.First.{IsBrokenOff};
@@ -12,11 +12,10 @@ use records::{Failed, Source};
 
 // The next byte; none at the end.
 fn take_byte<R: Source>(reader: &mut R) -> Result<Option<u8>, Failed>
-    requires { R.failed reader.old ≡ false }
     ensures byte { IfOk result (λ byte. (bytes : List ℕ) → R.left reader.old ≡ Some bytes
         → (byte ≡ slice_get bytes 0) × (R.left reader.new ≡ Some (drop 1 bytes))) }
     ensures kept { OnErr result (Keeps (R.left reader.old) (R.left reader.new)) }
-    ensures failed { R.failed reader.new ≡ is_err result }
+    ensures failed { R.failed reader.new ≡ (is_err result || R.failed reader.old) }
 {
     let mut piece = [0u8];
     if reader.take(&mut piece)? == 0 {
@@ -40,14 +39,13 @@ pub(crate) enum HeadEnd {
 /// Reads up to the end of a head, a byte at a time, since what is behind the head may belong to the
 /// next message.
 pub(crate) fn read_head<R: Source>(reader: &mut R, head: &mut [u8]) -> Result<HeadEnd, Failed>
-    requires failed { R.failed reader.old ≡ false }
-    requires room { length head.old ≡ max_head }
+    requires { length head.old ≡ max_head }
     ensures within { IfOk result (EndsWithin max_head) }
     ensures bytes { IfOk result (λ end. (bytes : List ℕ) → R.left reader.old ≡ Some bytes
         → IsHeadEnd bytes (R.left reader.new) head.new end) }
     ensures broken { OnErr result ((bytes : List ℕ) → R.left reader.old ≡ Some bytes
         → IsBrokenOff bytes (R.left reader.new)) }
-    ensures failed { R.failed reader.new ≡ is_err result }
+    ensures failed { R.failed reader.new ≡ (is_err result || R.failed reader.old) }
 {
     for at in 0..MAX_HEAD {
         let Some(byte) = take_byte(reader)? else {
@@ -67,13 +65,12 @@ pub(crate) fn read_head<R: Source>(reader: &mut R, head: &mut [u8]) -> Result<He
 
 /// Fills `room`, or less of it at the end of the input, and says how many bytes it read.
 pub(crate) fn fill<R: Source>(reader: &mut R, room: &mut [u8]) -> Result<usize, Failed>
-    requires { R.failed reader.old ≡ false }
     ensures within { IfOk result (λ filled. filled ≤ length room.new) }
     ensures bytes { IfOk result (λ filled. (bytes : List ℕ) → R.left reader.old ≡ Some bytes
         → Fills bytes (R.left reader.new) room.new filled) }
     ensures broken { OnErr result ((bytes : List ℕ) → R.left reader.old ≡ Some bytes
         → FallsShort bytes (R.left reader.new) (length room.old)) }
-    ensures failed { R.failed reader.new ≡ is_err result }
+    ensures failed { R.failed reader.new ≡ (is_err result || R.failed reader.old) }
 {
     let mut filled = 0;
     while filled < room.len() {

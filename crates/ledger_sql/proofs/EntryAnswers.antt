@@ -14,9 +14,10 @@ use Rattle.sqlite_sql.specs.Query.{output, output_cmp, as_count, limited}
 use Rattle.sqlite.specs.State.{State, HasCleanDisk, Shown, Begins}
 use Rattle.ledger_sql.specs.declared.entry_cells.EntryCells.{EntryCells}
 use Rattle.ledger_sql.specs.declared.table_fault.TableFault.{TableFault}
-use Rattle.ledger_sql.specs.Entries.{entry_values, entries_when, ReadsAll, ReadsFirst, HandsEntries, HandsUpTo}
+use Rattle.ledger_sql.specs.Effects.{IsLedger}
+use Rattle.ledger_sql.specs.Entries.{entry_values, entries_when, ReadsFirst, HandsUpTo}
 use Rattle.ledger_sql.specs.Handing.{HandsRows}
-use Rattle.ledger_sql.proofs.EntryTexts.{entry_query, unlimited, given_limit, IsEntryText}
+use Rattle.ledger_sql.proofs.EntryTexts.{entry_query, given_limit, IsEntryText}
 use Rattle.ledger_sql.proofs.EntryLemmas.{AreFirst, compares, keys, entries_shown, entries_begun}
 
 -- ---- the first of some entries
@@ -59,6 +60,9 @@ module _ (sql : List ℕ) (op : CompareOp) (descending : Bool) (limit : Term) (t
   abbrev IsText : Type 0
   IsText = IsEntryText sql old.now.schema op descending limit
 
+  abbrev Saw : Type 0
+  Saw = HasCleanDisk new × IsLedger old.now.schema
+
   all_first : IsText → (read : List EntryCells) → Shown sql key old new (map entry_values read) → AreFirst much entries cmp (map entry_values read)
   all_first text read shown =
       entries_shown sql old.now.schema op descending limit text old new refl tenant account time more in_time tests cmp same (map entry_values read) (subst (λ k. Shown sql k old new (map entry_values read)) is shown)
@@ -67,58 +71,33 @@ module _ (sql : List ℕ) (op : CompareOp) (descending : Bool) (limit : Term) (t
   some_first text read begun =
       entries_begun sql old.now.schema op descending limit text old new refl tenant account time more in_time tests cmp same (map entry_values read) (subst (λ k. Begins sql k old (map entry_values read)) is begun)
 
-  module _ {K : Type 0} (takes : K → EntryCells → K → Type 0) (is_full : K → Bool) (text : HasCleanDisk new → IsText) (before after : K)
+  module _ {K : Type 0} (takes : K → EntryCells → K → Type 0) (is_full : K → Bool) (text : IsLedger old.now.schema → IsText) (before after : K)
       (r : Result (Unit {0}) TableFault) (h : HandsRows takes is_full sql key old new before after r) (got : Result (Unit {0}) Unavailable) where
     still : (got : Result (Unit {0}) Unavailable) (r : Result (Unit {0}) TableFault) → OnErr got (IsErr r) → OnErr r (is_full after ≡ false) → OnErr got (is_full after ≡ false)
     still (Ok u) r failed wants = tt
     still (Err e) (Ok u) failed wants = absurd (cc)
     still (Err e) (Err f) failed wants = wants
 
-    begun : HasCleanDisk new → (h.handed ≡ []) ⊎ ReadsFirst entries (IsSorted cmp) h.handed
-    begun clean = elim (h.first clean) [
+    begun : Saw → (h.handed ≡ []) ⊎ ReadsFirst entries (IsSorted cmp) h.handed
+    begun saw = elim (h.first saw.0) [
       | inl none ↦ inl none
-      | inr some ↦ let it = some_first (text clean) h.handed some in inr (begins_first much entries cmp h.handed it.0 it.1)
+      | inr some ↦ let it = some_first (text saw.1) h.handed some in inr (begins_first much entries cmp h.handed it.0 it.1)
     ]
 
-    few : (n : ℕ) → much ≡ Some n → HasCleanDisk new → length h.handed ≤ n
-    few n is_n clean = elim (h.first clean) [
+    few : (n : ℕ) → much ≡ Some n → Saw → length h.handed ≤ n
+    few n is_n saw = elim (h.first saw.0) [
       | inl none ↦ subst (λ (xs : List EntryCells). length xs ≤ n) (sym none) (omega arith)
       | inr some ↦
-          let it = some_first (text clean) h.handed some in
+          let it = some_first (text saw.1) h.handed some in
           no_more_than n entries cmp h.handed it.0 (subst (λ o. AreFirst o entries cmp (map entry_values h.handed ++ it.0)) is_n it.1)
     ]
 
-    over : (got : Result (Unit {0}) Unavailable) → IfOk got (λ u. r ≡ Ok u) → HasCleanDisk new → OnOk got ((is_full after ≡ true) ⊎ AreFirst much entries cmp (map entry_values h.handed))
-    over (Err e) known clean = tt
-    over (Ok u) known clean = elim (subst (λ r. OnOk r ((is_full after ≡ true) ⊎ Shown sql key old new (map entry_values h.handed))) known (h.ended clean)) [
+    over : (got : Result (Unit {0}) Unavailable) → IfOk got (λ u. r ≡ Ok u) → Saw → OnOk got ((is_full after ≡ true) ⊎ AreFirst much entries cmp (map entry_values h.handed))
+    over (Err e) known saw = tt
+    over (Ok u) known saw = elim (subst (λ r. OnOk r ((is_full after ≡ true) ⊎ Shown sql key old new (map entry_values h.handed))) known (h.ended saw.0)) [
       | inl full ↦ inl full
-      | inr shown ↦ inr (all_first (text clean) h.handed shown)
+      | inr shown ↦ inr (all_first (text saw.1) h.handed shown)
     ]
-
--- ---- with no limit
-
-module _ (sql : List ℕ) (op : CompareOp) (descending : Bool) (tenant : ℤ) (account : List ℕ) (time : ℤ) (in_time : Value → Bool) (tests : (v : Value) → compares op time v ≡ in_time v)
-    (cmp : Row → Row → Ordering)
-    (same : (x y : Env) → output_cmp (entry_query op descending unlimited) (output (entry_query op descending unlimited) x) (output (entry_query op descending unlimited) y)
-    ≡ cmp (output (entry_query op descending unlimited) x).1 (output (entry_query op descending unlimited) y).1)
-    (old new : State) (key : Row) (is : key ≡ keys tenant account time [] op in_time tests) where
-  abbrev all_entries : List Row
-  all_entries = entries_when tenant account in_time old.now.trees
-
-  whole : (read : List EntryCells) → AreFirst None all_entries cmp (map entry_values read) → ReadsAll all_entries (IsSorted cmp) read
-  whole read it = record { all = subst (IsPermutation all_entries) (sym it.rows_are) it.all; order = subst (IsSorted cmp) (sym it.rows_are) it.order }
-
-  pub entries_handed : {K : Type 0} (takes : K → EntryCells → K → Type 0) (is_full : K → Bool) → (HasCleanDisk new → IsEntryText sql old.now.schema op descending unlimited) → (before after : K)
-      → (r : Result (Unit {0}) TableFault) → HandsRows takes is_full sql key old new before after r → (got : Result (Unit {0}) Unavailable) → IfOk got (λ u. r ≡ Ok u) → OnErr got (IsErr r)
-      → HandsEntries takes is_full (HasCleanDisk new) all_entries (IsSorted cmp) before after got
-  entries_handed takes is_full text before after r h got known failed = record {
-    handed = h.handed;
-    taken = h.taken;
-    first = begun sql op descending unlimited tenant account time [] in_time tests cmp same old new key is takes is_full text before after r h got;
-    ended = λ clean. over_so got (λ end. elim end [ inl full ↦ inl full | inr all ↦ inr (whole h.handed all) ])
-        (over sql op descending unlimited tenant account time [] in_time tests cmp same old new key is takes is_full text before after r h got got known clean);
-    wants = still sql op descending unlimited tenant account time [] in_time tests cmp same old new key is takes is_full text before after r h got got r failed h.wants;
-  }
 
 -- ---- so many at most
 
@@ -130,9 +109,9 @@ module _ (sql : List ℕ) (op : CompareOp) (descending : Bool) (tenant : ℤ) (a
   abbrev these : List Row
   these = entries_when tenant account in_time old.now.trees
 
-  pub entries_up_to : {K : Type 0} (takes : K → EntryCells → K → Type 0) (is_full : K → Bool) → (HasCleanDisk new → IsEntryText sql old.now.schema op descending given_limit) → (before after : K)
+  pub entries_up_to : {K : Type 0} (takes : K → EntryCells → K → Type 0) (is_full : K → Bool) → (IsLedger old.now.schema → IsEntryText sql old.now.schema op descending given_limit) → (before after : K)
       → (r : Result (Unit {0}) TableFault) → HandsRows takes is_full sql key old new before after r → (got : Result (Unit {0}) Unavailable) → IfOk got (λ u. r ≡ Ok u) → OnErr got (IsErr r)
-      → HandsUpTo takes is_full (HasCleanDisk new) count these (IsSorted cmp) before after got
+      → HandsUpTo takes is_full (HasCleanDisk new × IsLedger old.now.schema) count these (IsSorted cmp) before after got
   entries_up_to takes is_full text before after r h got known failed =
       let limits = Int (pos count) ∷ [] in
       record {
@@ -140,7 +119,7 @@ module _ (sql : List ℕ) (op : CompareOp) (descending : Bool) (tenant : ℤ) (a
         taken = h.taken;
         within = few sql op descending given_limit tenant account time limits in_time tests cmp same old new key is takes is_full text before after r h got count refl;
         first = begun sql op descending given_limit tenant account time limits in_time tests cmp same old new key is takes is_full text before after r h got;
-        ended = λ clean. over_so got (λ end. elim end [ inl full ↦ inl full | inr it ↦ inr (record { ordered = it.ordered; all = it.all; order = it.order; read_is = it.rows_are }) ])
-            (over sql op descending given_limit tenant account time limits in_time tests cmp same old new key is takes is_full text before after r h got got known clean);
+        ended = λ saw. over_so got (λ end. elim end [ inl full ↦ inl full | inr it ↦ inr (record { ordered = it.ordered; all = it.all; order = it.order; read_is = it.rows_are }) ])
+            (over sql op descending given_limit tenant account time limits in_time tests cmp same old new key is takes is_full text before after r h got got known saw);
         wants = still sql op descending given_limit tenant account time limits in_time tests cmp same old new key is takes is_full text before after r h got got r failed h.wants;
       }

@@ -1,5 +1,5 @@
 -- What the texts mean that read an account's entries.
-use Rattle.std.proofs.Common.{◌≡◌, ℕ, zero, suc, ◌+◌, None, List, [], ◌∷◌, ◌++◌, codes, true, false, Bool, pos, negsuc, refl, sym, subst}
+use Rattle.std.proofs.Common.{◌≡◌, ℕ, zero, suc, ◌+◌, None, List, [], ◌∷◌, ◌++◌, codes, true, false, Bool, pos, refl, sym, subst}
 use Rattle.sqlite_value.specs.declared.keys.Collation.TheVariants.{Binary}
 use Rattle.sqlite_value.specs.declared.value.Value.TheVariants.{Int}
 use Rattle.sqlite_trees.specs.Tree.{Trees}
@@ -36,10 +36,7 @@ entry_terms bound =
     ∷ op2 (Compare bound Binary) (col 1 3) (col 0 2)
     ∷ []
 
--- no limit; the one that is given behind the keys
-abbrev pub unlimited : Term
-unlimited = lit (Int (negsuc 0))
-
+-- the limit that is given behind the keys
 abbrev pub given_limit : Term
 given_limit = col 0 3
 
@@ -63,36 +60,6 @@ pub record IsEntryText (sql : List ℕ) (schema : Schema) (bound : CompareOp) (d
   pub unlisted : reads_listing schema sql ≡ false
   pub history : (db : Trees) → overlay db [] 15 ≡ db 15
   pub transfers : (db : Trees) → overlay db [] 8 ≡ db 8
-
-abbrev pub from_text : List ℕ
-from_text = codes "SELECT history.account, history.timestamp, history.dp, history.dd, history.cp, history.cc, transfer.id, transfer.debit, transfer.credit, transfer.amount, transfer.pending_id, transfer.user_data_128, transfer.user_data_64, transfer.user_data_32, transfer.timeout, transfer.ledger, transfer.code, transfer.flags, transfer.timestamp, transfer.at_clock FROM history JOIN transfer ON transfer.tenant = ?1 AND transfer.timestamp = history.timestamp WHERE history.tenant = ?1 AND history.account = ?2 AND history.timestamp >= ?3 ORDER BY history.timestamp"
-
-pub from_reads : IsReading from_text
-unfolding everything IsReading
-from_reads = (tt, refl)
-
-from_means : (more : List Table) (indexes : List Index) (views : List View) → IsEntryText from_text (ledger_with more indexes views) Ge false unlimited
-unfolding understood everything
-from_means more indexes views = record { names = _; is = refl; plain = (refl, refl); unlisted = refl; history = λ _. refl; transfers = λ _. refl }
-
-pub from_is : (s : Schema) → IsLedger s → IsEntryText from_text s Ge false unlimited
-from_is s h = subst (λ s. IsEntryText from_text s Ge false unlimited) (sym (ledger_is s h)) (from_means h.more s.indexes s.views)
-
-abbrev pub until_text : List ℕ
-until_text = codes "SELECT history.account, history.timestamp, history.dp, history.dd, history.cp, history.cc, transfer.id, transfer.debit, transfer.credit, transfer.amount, transfer.pending_id, transfer.user_data_128, transfer.user_data_64, transfer.user_data_32, transfer.timeout, transfer.ledger, transfer.code, transfer.flags, transfer.timestamp, transfer.at_clock FROM history JOIN transfer ON transfer.tenant = ?1 AND transfer.timestamp = history.timestamp WHERE history.tenant = ?1 AND history.account = ?2 AND history.timestamp <= ?3 ORDER BY history.timestamp DESC"
-
-pub until_reads : IsReading until_text
-unfolding everything IsReading
-until_reads = (tt, refl)
-
-until_means : (more : List Table) (indexes : List Index) (views : List View) → IsEntryText until_text (ledger_with more indexes views) Le true unlimited
-unfolding understood everything
-until_means more indexes views = record { names = _; is = refl; plain = (refl, refl); unlisted = refl; history = λ _. refl; transfers = λ _. refl }
-
-pub until_is : (s : Schema) → IsLedger s → IsEntryText until_text s Le true unlimited
-until_is s h = subst (λ s. IsEntryText until_text s Le true unlimited) (sym (ledger_is s h)) (until_means h.more s.indexes s.views)
-
--- ---- the same, with so many entries at most
 
 abbrev pub first_from_text : List ℕ
 first_from_text = codes "SELECT history.account, history.timestamp, history.dp, history.dd, history.cp, history.cc, transfer.id, transfer.debit, transfer.credit, transfer.amount, transfer.pending_id, transfer.user_data_128, transfer.user_data_64, transfer.user_data_32, transfer.timeout, transfer.ledger, transfer.code, transfer.flags, transfer.timestamp, transfer.at_clock FROM history JOIN transfer ON transfer.tenant = ?1 AND transfer.timestamp = history.timestamp WHERE history.tenant = ?1 AND history.account = ?2 AND history.timestamp >= ?3 ORDER BY history.timestamp LIMIT ?4"

@@ -39,30 +39,12 @@ AreOldestFirst entries = IsSorted (λ a b. value_cmp (column a 1) (column b 1)) 
 abbrev pub AreNewestFirst : List Row → Type 0
 AreNewestFirst entries = IsSorted (λ a b. value_cmp (column b 1) (column a 1)) entries
 
--- all these entries were read, in order
-pub record ReadsAll (entries : List Row) (InOrder : List Row → Type 0)
-    (read : List EntryCells) : Type 0 where
-  pub all : IsPermutation entries (map entry_values read)
-  pub order : InOrder (map entry_values read)
-
 -- the first of these entries were read, in order
 pub record ReadsFirst (entries : List Row) (InOrder : List Row → Type 0)
     (read : List EntryCells) : Type 0 where
   pub rest : List Row
   pub all : IsPermutation entries (map entry_values read ++ rest)
   pub order : InOrder (map entry_values read ++ rest)
-
--- Entries were handed to a sink, one after the other. While the disk was honest they are none or
--- the first of these entries in order, and after Ok the sink is full or has all of them. After an
--- Err it wants more.
-pub record HandsEntries {K E : Type 0} (takes : K → EntryCells → K → Type 0)
-    (is_full : K → Bool) (IsHonest : Type 0) (entries : List Row) (InOrder : List Row → Type 0)
-    (old new : K) (result : Result (Unit {0}) E) : Type 0 where
-  pub handed : List EntryCells
-  pub taken : TakesRows takes old handed new
-  pub first : IsHonest → (handed ≡ []) ⊎ ReadsFirst entries InOrder handed
-  pub ended : IsHonest → OnOk result ((is_full new ≡ true) ⊎ ReadsAll entries InOrder handed)
-  pub wants : OnErr result (is_full new ≡ false)
 
 -- so many of these rows were read, the first in order, or all, if there are no more
 pub record ReadsUpTo {R : Type 0} (values : R → Row) (count : ℕ) (rows : List Row)

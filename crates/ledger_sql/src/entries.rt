@@ -3,12 +3,10 @@
 
 ghost use Rattle.std.specs.Prelude.{◌≡◌, false};
 ghost use Rattle.sqlite.specs.Values.{bound};
-ghost use Rattle.sqlite.specs.State.{HasCleanDisk};
 ghost use Rattle.sqlite.specs.Held.{state};
 ghost use Rattle.amount.specs.Column.{column_of};
-ghost use Rattle.ledger_sql.specs.Calls.{IfClean, Reads};
-ghost use Rattle.ledger_sql.specs.Effects.{IsLedger};
-ghost use Rattle.ledger_sql.specs.Entries.{entries_when, AreOldestFirst, AreNewestFirst, HandsEntries, HandsUpTo};
+ghost use Rattle.ledger_sql.specs.Calls.{Reads, SawLedger};
+ghost use Rattle.ledger_sql.specs.Entries.{entries_when, AreOldestFirst, AreNewestFirst, HandsUpTo};
 ghost use Rattle.ledger_sql.specs.Handing.{HandsRows};
 ghost use Rattle.ledger_sql.specs.Queries.{IsReading};
 ghost use Rattle.ledger_sql.specs.TableRows.{is_from, is_until};
@@ -20,27 +18,8 @@ use records::Unavailable;
 use sqlite::types::ValueRef;
 use sqlite::{Alter, Connection, params};
 
-/// The history of an account from a time on, with the transfers of these times, oldest first.
-const FROM: &str =
-    "SELECT history.account, history.timestamp, history.dp, history.dd, history.cp, history.cc, \
-        transfer.id, transfer.debit, transfer.credit, transfer.amount, transfer.pending_id, \
-        transfer.user_data_128, transfer.user_data_64, transfer.user_data_32, transfer.timeout, \
-        transfer.ledger, transfer.code, transfer.flags, transfer.timestamp, transfer.at_clock \
-        FROM history JOIN transfer ON transfer.tenant = ?1 AND transfer.timestamp = \
-        history.timestamp WHERE history.tenant = ?1 AND history.account = ?2 AND \
-        history.timestamp >= ?3 ORDER BY history.timestamp";
-
-/// The same up to a time, newest first.
-const UNTIL: &str =
-    "SELECT history.account, history.timestamp, history.dp, history.dd, history.cp, history.cc, \
-        transfer.id, transfer.debit, transfer.credit, transfer.amount, transfer.pending_id, \
-        transfer.user_data_128, transfer.user_data_64, transfer.user_data_32, transfer.timeout, \
-        transfer.ledger, transfer.code, transfer.flags, transfer.timestamp, transfer.at_clock \
-        FROM history JOIN transfer ON transfer.tenant = ?1 AND transfer.timestamp = \
-        history.timestamp WHERE history.tenant = ?1 AND history.account = ?2 AND \
-        history.timestamp <= ?3 ORDER BY history.timestamp DESC";
-
-/// The history from a time on, oldest first, with so many rows at most.
+/// The history of an account from a time on, with the transfers of these times, oldest first and so
+/// many at most.
 const FIRST_FROM: &str =
     "SELECT history.account, history.timestamp, history.dp, history.dd, history.cp, history.cc, \
         transfer.id, transfer.debit, transfer.credit, transfer.amount, transfer.pending_id, \
@@ -60,46 +39,6 @@ const FIRST_UNTIL: &str =
         history.timestamp WHERE history.tenant = ?1 AND history.account = ?2 AND \
         history.timestamp <= ?3 ORDER BY history.timestamp DESC LIMIT ?4";
 
-/// Hands the entries of a tenant's account from a time on, in nanoseconds, oldest first, to a sink
-/// until it is full. After an `Err` it has taken the first of them.
-pub fn each_entry_from<S: Alter, K: EntrySink>(
-    conn: &mut Connection<S>,
-    tenant: i64,
-    account: u128,
-    time: i64,
-    sink: &mut K,
-) -> Result<(), Unavailable>
-    requires ledger { IfClean (λ s. IsLedger s.now.schema) S.Store conn.old }
-    requires open { K.is_full sink.old ≡ false }
-    ensures handed { HandsEntries K.takes K.is_full (HasCleanDisk (state S.Store conn.new))
-        (entries_when tenant (column_of account) (is_from time) (state S.Store conn.old).now.trees)
-        AreOldestFirst sink.old sink.new result }
-    ensures reads { Reads S.Store conn.old conn.new result }
-{
-    let key = account.to_be_bytes();
-    known(hand_out(conn, FROM, params![tenant, key.as_slice(), time], sink))
-}
-
-/// Hands the entries of a tenant's account up to a time, in nanoseconds, newest first, to a sink
-/// until it is full. After an `Err` it has taken the first of them.
-pub fn each_entry_until<S: Alter, K: EntrySink>(
-    conn: &mut Connection<S>,
-    tenant: i64,
-    account: u128,
-    time: i64,
-    sink: &mut K,
-) -> Result<(), Unavailable>
-    requires ledger { IfClean (λ s. IsLedger s.now.schema) S.Store conn.old }
-    requires open { K.is_full sink.old ≡ false }
-    ensures handed { HandsEntries K.takes K.is_full (HasCleanDisk (state S.Store conn.new))
-        (entries_when tenant (column_of account) (is_until time) (state S.Store conn.old).now.trees)
-        AreNewestFirst sink.old sink.new result }
-    ensures reads { Reads S.Store conn.old conn.new result }
-{
-    let key = account.to_be_bytes();
-    known(hand_out(conn, UNTIL, params![tenant, key.as_slice(), time], sink))
-}
-
 /// Hands the entries of a tenant's account from a time on, in nanoseconds, oldest first and so many
 /// at most, to a sink until it is full. After an `Err` it has taken the first of them.
 pub fn first_entries_from<S: Alter, K: EntrySink>(
@@ -110,9 +49,8 @@ pub fn first_entries_from<S: Alter, K: EntrySink>(
     count: u32,
     sink: &mut K,
 ) -> Result<(), Unavailable>
-    requires ledger { IfClean (λ s. IsLedger s.now.schema) S.Store conn.old }
-    requires open { K.is_full sink.old ≡ false }
-    ensures handed { HandsUpTo K.takes K.is_full (HasCleanDisk (state S.Store conn.new)) count
+    requires { K.is_full sink.old ≡ false }
+    ensures handed { HandsUpTo K.takes K.is_full (SawLedger S.Store conn.old conn.new) count
         (entries_when tenant (column_of account) (is_from time) (state S.Store conn.old).now.trees)
         AreOldestFirst sink.old sink.new result }
     ensures reads { Reads S.Store conn.old conn.new result }
@@ -136,9 +74,8 @@ pub fn first_entries_until<S: Alter, K: EntrySink>(
     count: u32,
     sink: &mut K,
 ) -> Result<(), Unavailable>
-    requires ledger { IfClean (λ s. IsLedger s.now.schema) S.Store conn.old }
-    requires open { K.is_full sink.old ≡ false }
-    ensures handed { HandsUpTo K.takes K.is_full (HasCleanDisk (state S.Store conn.new)) count
+    requires { K.is_full sink.old ≡ false }
+    ensures handed { HandsUpTo K.takes K.is_full (SawLedger S.Store conn.old conn.new) count
         (entries_when tenant (column_of account) (is_until time) (state S.Store conn.old).now.trees)
         AreNewestFirst sink.old sink.new result }
     ensures reads { Reads S.Store conn.old conn.new result }

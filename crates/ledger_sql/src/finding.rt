@@ -7,8 +7,7 @@ ghost use Rattle.sqlite_value.specs.Order.{column};
 ghost use Rattle.amount.specs.Column.{column_of};
 ghost use Rattle.rows.specs.Cells.{account_cells, transfer_cells, balance_cells, status_cells};
 ghost use Rattle.rows.specs.Widths.{IsStorableAccount, IsStorableTransfer, IsStorableBalance, IsStorableStatus};
-ghost use Rattle.ledger_sql.specs.Calls.{AnyWidth, FindsRow, IfClean, Learns};
-ghost use Rattle.ledger_sql.specs.Effects.{IsLedger};
+ghost use Rattle.ledger_sql.specs.Calls.{AnyWidth, FindsRow, Learns, OverLedger};
 ghost use Rattle.ledger_sql.specs.TableRows.{clock_rows, is_int, numbers_with_digest, directory_rows, with_name, account_rows, transfer_rows, balance_rows, status_rows, failed_rows, has_id, with_id};
 ghost use Rattle.ledger_sql.specs.Values.{clock_values, directory_values, account_values, transfer_values, balance_values, status_values};
 
@@ -24,7 +23,6 @@ pub fn find_account<S: Alter>(
     tenant: i64,
     id: u128,
 ) -> Result<Option<Account>, Unavailable>
-    requires { IfClean (λ s. IsLedger s.now.schema) S.Store conn.old }
     ensures { FindsRow IsStorableAccount (λ row. account_values (account_cells row))
         (λ trees. with_id (column_of id) (account_rows tenant trees))
         S.Store conn.old conn.new result }
@@ -44,7 +42,6 @@ pub fn find_transfer<S: Alter>(
     tenant: i64,
     id: u128,
 ) -> Result<Option<Transfer>, Unavailable>
-    requires { IfClean (λ s. IsLedger s.now.schema) S.Store conn.old }
     ensures { FindsRow IsStorableTransfer (λ row. transfer_values (transfer_cells row))
         (λ trees. with_id (column_of id) (transfer_rows tenant trees))
         S.Store conn.old conn.new result }
@@ -65,7 +62,6 @@ pub fn find_balance<S: Alter>(
     tenant: i64,
     account: u128,
 ) -> Result<Option<BalanceRow>, Unavailable>
-    requires { IfClean (λ s. IsLedger s.now.schema) S.Store conn.old }
     ensures { FindsRow IsStorableBalance (λ row. balance_values (balance_cells row))
         (λ trees. with_id (column_of account) (balance_rows tenant trees))
         S.Store conn.old conn.new result }
@@ -84,7 +80,6 @@ pub fn find_status<S: Alter>(
     tenant: i64,
     transfer: u128,
 ) -> Result<Option<StatusRow>, Unavailable>
-    requires { IfClean (λ s. IsLedger s.now.schema) S.Store conn.old }
     ensures { FindsRow IsStorableStatus (λ row. status_values (status_cells row))
         (λ trees. with_id (column_of transfer) (status_rows tenant trees))
         S.Store conn.old conn.new result }
@@ -103,8 +98,7 @@ pub fn has_failed<S: Alter>(
     tenant: i64,
     id: u128,
 ) -> Result<bool, Unavailable>
-    requires { IfClean (λ s. IsLedger s.now.schema) S.Store conn.old }
-    ensures { Learns
+    ensures { Learns OverLedger
         (λ trees failed. failed ≡ list_any (has_id (column_of id)) (failed_rows tenant trees))
         S.Store conn.old conn.new result }
 {
@@ -121,7 +115,6 @@ pub fn find_clock<S: Alter>(
     conn: &mut Connection<S>,
     tenant: i64,
 ) -> Result<Option<u64>, Unavailable>
-    requires { IfClean (λ s. IsLedger s.now.schema) S.Store conn.old }
     ensures { FindsRow AnyWidth (λ clock. clock_values (pos clock))
         (λ trees. clock_rows tenant trees) S.Store conn.old conn.new result }
 {
@@ -137,7 +130,6 @@ pub fn find_tenant<S: Alter>(
     conn: &mut Connection<S>,
     digest: &[u8],
 ) -> Result<Option<i64>, Unavailable>
-    requires { IfClean (λ s. IsLedger s.now.schema) S.Store conn.old }
     ensures { FindsRow AnyWidth (λ number. Int number ∷ [])
         (λ trees. numbers_with_digest digest.now trees) S.Store conn.old conn.new result }
 {
@@ -153,7 +145,6 @@ pub fn find_tenant_by_name<S: Alter>(
     conn: &mut Connection<S>,
     name: &str,
 ) -> Result<Option<DirectoryRow>, Unavailable>
-    requires { IfClean (λ s. IsLedger s.now.schema) S.Store conn.old }
     ensures { FindsRow AnyWidth
         (λ row. directory_values row.number (string_bytes row.name) row.digest)
         (λ trees. with_name name.now (directory_rows trees))
@@ -171,7 +162,6 @@ pub fn find_tenant_by_number<S: Alter>(
     conn: &mut Connection<S>,
     number: i64,
 ) -> Result<Option<DirectoryRow>, Unavailable>
-    requires { IfClean (λ s. IsLedger s.now.schema) S.Store conn.old }
     ensures { FindsRow AnyWidth
         (λ row. directory_values row.number (string_bytes row.name) row.digest)
         (λ trees. filter (λ row. is_int number (column row 0)) (directory_rows trees))

@@ -9,8 +9,7 @@ ghost use Rattle.sqlite.specs.Held.{state};
 ghost use Rattle.sqlite.specs.State.{HasCleanDisk, Shown};
 ghost use Rattle.rows.specs.Cells.{account_cells, transfer_cells};
 ghost use Rattle.rows.specs.Widths.{IsStorableAccount, IsStorableTransfer};
-ghost use Rattle.ledger_sql.specs.Calls.{IfClean, Learns, Reads};
-ghost use Rattle.ledger_sql.specs.Effects.{IsLedger};
+ghost use Rattle.ledger_sql.specs.Calls.{FindsRows, Reads};
 ghost use Rattle.ledger_sql.specs.Entries.{ReadsUpTo};
 ghost use Rattle.ledger_sql.specs.Queries.{IsReading};
 ghost use Rattle.ledger_sql.specs.Spans.{accounts_between, transfers_between, span_params};
@@ -34,12 +33,10 @@ pub fn oldest_accounts<S: Alter>(
     last: i64,
     most: u32,
 ) -> Result<Vec<Account>, Unavailable>
-    requires { IfClean (λ s. IsLedger s.now.schema) S.Store conn.old }
-    ensures learns { Learns
+    ensures { FindsRows (λ read. All IsStorableAccount read.items)
         (λ trees read. ReadsUpTo (λ a. account_values (account_cells a)) most
         (accounts_between tenant first last trees) (AscendAt 7) read.items)
         S.Store conn.old conn.new result }
-    ensures fits { IfOk result (λ read. All IsStorableAccount read.items) }
 {
     in_span(
         alloc,
@@ -64,12 +61,10 @@ pub fn newest_accounts<S: Alter>(
     last: i64,
     most: u32,
 ) -> Result<Vec<Account>, Unavailable>
-    requires { IfClean (λ s. IsLedger s.now.schema) S.Store conn.old }
-    ensures learns { Learns
+    ensures { FindsRows (λ read. All IsStorableAccount read.items)
         (λ trees read. ReadsUpTo (λ a. account_values (account_cells a)) most
         (accounts_between tenant first last trees) (DescendAt 7) read.items)
         S.Store conn.old conn.new result }
-    ensures fits { IfOk result (λ read. All IsStorableAccount read.items) }
 {
     in_span(
         alloc,
@@ -94,12 +89,10 @@ pub fn oldest_transfers<S: Alter>(
     last: i64,
     most: u32,
 ) -> Result<Vec<Transfer>, Unavailable>
-    requires { IfClean (λ s. IsLedger s.now.schema) S.Store conn.old }
-    ensures learns { Learns
+    ensures { FindsRows (λ read. All IsStorableTransfer read.items)
         (λ trees read. ReadsUpTo (λ t. transfer_values (transfer_cells t)) most
         (transfers_between tenant first last trees) (AscendAt 12) read.items)
         S.Store conn.old conn.new result }
-    ensures fits { IfOk result (λ read. All IsStorableTransfer read.items) }
 {
     in_span(
         alloc,
@@ -124,12 +117,10 @@ pub fn newest_transfers<S: Alter>(
     last: i64,
     most: u32,
 ) -> Result<Vec<Transfer>, Unavailable>
-    requires { IfClean (λ s. IsLedger s.now.schema) S.Store conn.old }
-    ensures learns { Learns
+    ensures { FindsRows (λ read. All IsStorableTransfer read.items)
         (λ trees read. ReadsUpTo (λ t. transfer_values (transfer_cells t)) most
         (transfers_between tenant first last trees) (DescendAt 12) read.items)
         S.Store conn.old conn.new result }
-    ensures fits { IfOk result (λ read. All IsStorableTransfer read.items) }
 {
     in_span(
         alloc,

@@ -4,7 +4,8 @@
 ghost use Rattle.std.specs.Prelude.{◌≡◌, IsTrue, OnOk, OnErr};
 ghost use Rattle.sqlite.specs.State.{HasCleanDisk, IsRolledBack, Survives};
 ghost use Rattle.sqlite.specs.Held.{state};
-ghost use Rattle.ledger_sql.specs.Frames.{Live, IsKeptOrUndone, IsOver, Follows};
+ghost use Rattle.ledger_sql.specs.Calls.{GivesUp, IfClean, Writes};
+ghost use Rattle.ledger_sql.specs.Frames.{IsKeptOrUndone, Follows};
 ghost use Rattle.ledger_sql.specs.Stages.{HasBegun, HasCommitted, IsMarked, HasMarked, HasGoneBack, HasReleased, TellsOpen};
 
 use crate::cause::done;
@@ -13,11 +14,7 @@ use sqlite::{Alter, Connection, Error, ErrorCode};
 
 /// Opens a transaction.
 pub fn begin<S: Alter>(conn: &mut Connection<S>) -> Result<(), Unavailable>
-    ensures ok { HasCleanDisk (state S.Store conn.new) → OnOk result
-        (HasBegun (state S.Store conn.old) (state S.Store conn.new)) }
-    ensures err { HasCleanDisk (state S.Store conn.new) → OnErr result
-        (IsKeptOrUndone (state S.Store conn.old) (state S.Store conn.new)) }
-    ensures follows { Follows (state S.Store conn.old) (state S.Store conn.new) }
+    ensures { Writes HasBegun S.Store conn.old conn.new result }
 {
     done(conn.execute("BEGIN", &[]))
 }
@@ -46,9 +43,7 @@ pub fn rollback<S: Alter>(conn: &mut Connection<S>) -> Result<(), Unavailable>
 
 /// Ends the transaction, if one is open, with nothing of it kept.
 pub fn abandon<S: Alter>(conn: &mut Connection<S>)
-    ensures over { Live (state S.Store conn.new) → IsOver (state S.Store conn.old)
-        (state S.Store conn.new) }
-    ensures follows { Follows (state S.Store conn.old) (state S.Store conn.new) }
+    ensures { GivesUp S.Store conn.old conn.new }
 {
     if !conn.is_autocommit() {
         let _ = rollback(conn);
@@ -57,37 +52,24 @@ pub fn abandon<S: Alter>(conn: &mut Connection<S>)
 
 /// Marks in a transaction where to go back to.
 pub fn mark<S: Alter>(conn: &mut Connection<S>) -> Result<(), Unavailable>
-    requires { HasCleanDisk (state S.Store conn.old) → IsTrue
-        (state S.Store conn.old).in_transaction }
-    ensures ok { HasCleanDisk (state S.Store conn.new) → OnOk result
-        (HasMarked (state S.Store conn.old) (state S.Store conn.new)) }
-    ensures err { HasCleanDisk (state S.Store conn.new) → OnErr result
-        (IsKeptOrUndone (state S.Store conn.old) (state S.Store conn.new)) }
-    ensures follows { Follows (state S.Store conn.old) (state S.Store conn.new) }
+    requires { IfClean (λ s. IsTrue s.in_transaction) S.Store conn.old }
+    ensures { Writes HasMarked S.Store conn.old conn.new result }
 {
     done(conn.execute("SAVEPOINT mark", &[]))
 }
 
 /// Goes back to the newest mark, which stays.
 pub fn back_to_mark<S: Alter>(conn: &mut Connection<S>) -> Result<(), Unavailable>
-    requires { HasCleanDisk (state S.Store conn.old) → IsMarked (state S.Store conn.old) }
-    ensures ok { HasCleanDisk (state S.Store conn.new) → OnOk result
-        (HasGoneBack (state S.Store conn.old) (state S.Store conn.new)) }
-    ensures err { HasCleanDisk (state S.Store conn.new) → OnErr result
-        (IsKeptOrUndone (state S.Store conn.old) (state S.Store conn.new)) }
-    ensures follows { Follows (state S.Store conn.old) (state S.Store conn.new) }
+    requires { IfClean IsMarked S.Store conn.old }
+    ensures { Writes HasGoneBack S.Store conn.old conn.new result }
 {
     done(conn.execute("ROLLBACK TO mark", &[]))
 }
 
 /// Drops the newest mark, and keeps what was written since.
 pub fn release_mark<S: Alter>(conn: &mut Connection<S>) -> Result<(), Unavailable>
-    requires { HasCleanDisk (state S.Store conn.old) → IsMarked (state S.Store conn.old) }
-    ensures ok { HasCleanDisk (state S.Store conn.new) → OnOk result
-        (HasReleased (state S.Store conn.old) (state S.Store conn.new)) }
-    ensures err { HasCleanDisk (state S.Store conn.new) → OnErr result
-        (IsKeptOrUndone (state S.Store conn.old) (state S.Store conn.new)) }
-    ensures follows { Follows (state S.Store conn.old) (state S.Store conn.new) }
+    requires { IfClean IsMarked S.Store conn.old }
+    ensures { Writes HasReleased S.Store conn.old conn.new result }
 {
     done(conn.execute("RELEASE mark", &[]))
 }

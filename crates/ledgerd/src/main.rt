@@ -13,26 +13,17 @@ use std::env;
 use std::io::{self, ErrorKind};
 use std::process::ExitCode;
 
+// Does what the words ask for; the program ends with the status of what came of it.
 fn main(rt: HostRuntime) -> ExitCode {
-    ExitCode::from(match words(&rt) {
-        Ok(words) => status(&rt, &words),
-        Err(error) => refusal(&rt, error.kind()),
-    })
-}
-
-// The words after the program's name.
-fn words(rt: &HostRuntime) -> io::Result<Vec<String>> {
-    let mut words = env::args(rt)?;
-    let _name = words.next();
-    Ok(words.collect(rt.alloc())?)
-}
-
-// Does what the words ask for, and says the status with which the program ends.
-fn status(rt: &HostRuntime, words: &[String]) -> u8 {
-    match command(rt.alloc(), words) {
-        Ok(Command::Lists) => tell(rt, run::run(rt).map(|()| 0), None),
+    let words = match words(&rt) {
+        Ok(words) => words,
+        Err(error) => return ExitCode::from(refusal(&rt, error.kind())),
+    };
+    ExitCode::from(match command(rt.alloc(), &words) {
+        Ok(Command::Lists) => tell(&rt, run::run(&rt).map(|()| 0), None),
         Ok(Command::Lint { route }) => {
-            tell(rt, run::lint_input(rt, route.unwrap_or("/transfers")), None)
+            let route = route.unwrap_or("/transfers");
+            tell(&rt, run::lint_input(&rt, route), None)
         }
         Ok(
             Command::Serve {
@@ -44,7 +35,7 @@ fn status(rt: &HostRuntime, words: &[String]) -> u8 {
                 limits,
             },
         ) => {
-            let site = Site::new(rt);
+            let site = Site::new(&rt);
             let ended = match serve_file(&site, db, address, port, &limits, standby, requests) {
                 Ok(service) => {
                     service.close();
@@ -52,17 +43,21 @@ fn status(rt: &HostRuntime, words: &[String]) -> u8 {
                 }
                 Err(fault) => Err(fault),
             };
-            let place = Place {
-                path: db,
-                is_made: false,
-            };
-            tell(rt, ended, Some(place))
+            let is_made = false;
+            tell(&rt, ended, Some(Place { path: db, is_made }))
         }
         _ => {
             let (out, mut err) = (Streamed::new(rt.stdout()), Streamed::new(rt.stderr()));
-            program(rt, words, Unknown, out, &mut err)
+            program(&rt, &words, Unknown, out, &mut err)
         }
-    }
+    })
+}
+
+// The words after the program's name.
+fn words(rt: &HostRuntime) -> io::Result<Vec<String>> {
+    let mut words = env::args(rt)?;
+    let _name = words.next();
+    Ok(words.collect(rt.alloc())?)
 }
 
 // The status of what a command has come to, whose fault is told.

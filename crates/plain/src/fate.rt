@@ -3,14 +3,12 @@ ghost use Rattle.std.specs.List.{list_any};
 ghost use Rattle.records.specs.Due.{is_due};
 ghost use Rattle.records.specs.Fate.{posts, voids, fate_of};
 
-use records::{PendingState, Transfer};
-
-const NANOSECONDS: u128 = 1_000_000_000;
+use records::{PendingState, SECOND, Transfer};
 
 fn is_due(clock: u64, transfer: &Transfer) -> bool
     ensures { result ≡ is_due clock transfer.now }
 {
-    let due = transfer.timestamp as u128 + transfer.timeout as u128 * NANOSECONDS;
+    let due = transfer.timestamp as u128 + transfer.timeout as u128 * SECOND as u128;
     transfer.flags.is_pending() && transfer.timeout > 0 && due <= clock as u128
 }
 

@@ -13,33 +13,28 @@ none_wanted most none = grind (arith, nat_tests)
 not_answered : (most : ℕ) → most ≡ 0 → nat_lt 0 most ≡ false
 not_answered most none = grind (arith, nat_tests)
 
-few_of : (replied : Bool) (most : ℕ) → (nat_lt 0 most ≡ false → replied ≡ false) →
+-- where a message was replied to, one was wanted
+pub few_of : (replied : Bool) (most : ℕ) → (nat_lt 0 most ≡ false → replied ≡ false) →
     count_of replied ≤ most
 few_of false most few = omega arith
 few_of true most few = grind (arith, nat_tests, few)
 
--- where a message was replied to, one was wanted
-pub few_finished :
-    (replied is : Bool) (most : ℕ) → replied ≡ is → (nat_lt 0 most ≡ false → replied ≡ false) →
-    count_of is ≤ most
-few_finished replied is most same few =
-    subst (λ (b : Bool). count_of b ≤ most) same (few_of replied most few)
+-- to one message at most
+pub one_at_most : (replied : Bool) → count_of replied ≤ 1
+one_at_most false = omega arith
+one_at_most true = omega arith
 
 -- a client keeps its place alone only where as many were replied to as there were to be
 pub finished :
-    {S C P : Type 0} (r : Terms S C P) (client : ℕ) (replied is : Bool) (most : ℕ)
-    (old new : Held S C P) → replied ≡ is → (nat_lt 0 most ≡ false → replied ≡ false) →
+    {S C P : Type 0} (r : Terms S C P) (client : ℕ) (replied : Bool) (most : ℕ)
+    (old new : Held S C P) → (nat_lt 0 most ≡ false → replied ≡ false) →
     ServesOwed r (not (nat_lt 0 most) ≡ true) (owing A_turn client ∷ []) [] old new
     (count_of replied) →
-    ServesOwed r (count_of is ≡ most) (owing A_turn client ∷ []) [] old new (count_of is)
-finished r client replied is most old new same few serves =
-    subst
-    (λ (b : Bool).
-    ServesOwed r (count_of b ≡ most) (owing A_turn client ∷ []) [] old new (count_of b))
-    same
-    (owed_for r (not (nat_lt 0 most) ≡ true) (count_of replied ≡ most) (owing A_turn client ∷ []) []
+    ServesOwed r (count_of replied ≡ most) (owing A_turn client ∷ []) [] old new (count_of replied)
+finished r client replied most old new few serves =
+    owed_for r (not (nat_lt 0 most) ≡ true) (count_of replied ≡ most) (owing A_turn client ∷ []) []
     old new (count_of replied)
     (λ (none : not (nat_lt 0 most) ≡ true).
     let zero : most ≡ 0 = none_wanted most none in
     subst (λ (b : Bool). count_of b ≡ most) (sym (few (not_answered most zero))) (sym zero))
-    serves)
+    serves

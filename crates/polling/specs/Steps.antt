@@ -1,5 +1,5 @@
 -- What steps of serving ask for and leave.
-use Rattle.std.specs.Prelude.{◌≡◌, ◌≤◌, ◌<◌, ℕ, true, List, [], Option, Some, Contains, IfSome, IfNone, length}
+use Rattle.std.specs.Prelude.{◌≡◌, ◌≤◌, ℕ, true, List, [], Option, Some, Contains, IfSome, length}
 use Rattle.std.specs.BTreeMap.{BTreeMap}
 use Rattle.service.specs.declared.turns.Message.{Message}
 use Rattle.service.specs.Seen.{SeenAt}
@@ -31,12 +31,6 @@ pub record MayReadMore (talk : Talk) : Type 0 where
 pub record RepliesUpTo (most replies : ℕ) (Served : Type 0) : Type 0 where
   pub serves : Served
   pub few : replies ≤ most
-
--- who is seated was served so; where nobody is in that seat, this is so
-pub record ServesIfSeated {A : Type 0} (result : Option A) (Served : A → Type 0) (Nobody : Type 0) :
-    Type 0 where
-  pub turn : IfSome result Served
-  pub none : IfNone result Nobody
 
 -- this was served by writing alone: what is left to be read of the reply stays
 pub record WritesAlone (old new : Talk) (Served : Type 0) : Type 0 where

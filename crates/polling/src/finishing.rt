@@ -5,7 +5,7 @@ ghost use Rattle.polling.specs.Serving.{rules};
 ghost use Rattle.polling.specs.Standing.{A_seat, owing};
 ghost use Rattle.polling.specs.Seating.{HadTurn, HadNone, ServesOne, ServesAll, ServesOwed, seats_in, held_by};
 ghost use Rattle.polling.specs.Ending.{IsToldAs, HasTurn, IsIdleNow, NothingIsLeft};
-ghost use Rattle.polling.specs.Steps.{ServesIfSeated, WritesRest};
+ghost use Rattle.polling.specs.Steps.{WritesRest};
 
 use crate::seats::Seats;
 use crate::serving::{follow, let_go};
@@ -50,31 +50,8 @@ fn write_left<L: Ledgers, H: Steward<L>, C: Moments, P: Peers>(
     }
 }
 
-/// Writes what is left of the reply to the client with a number, where it is seated.
-fn write_in<L: Ledgers, H: Steward<L>, C: Moments, P: Peers>(
-    alloc: Global,
-    peers: &mut P,
-    clients: &mut BTreeMap<u64, Client>,
-    number: u64,
-    ledgers: &mut L,
-) -> Option<Step>
-    ensures { ServesIfSeated result
-        (λ step. (done : Step) × ((idle : Bool) ×
-        IsToldAs done idle step × ((moments : C) →
-        HadTurn (rules L.means C.gives H.renews H.waits P.does) number
-        (Whole ledgers.old) moments peers.old (seats_in clients.old)
-        (Whole ledgers.new) moments peers.new (seats_in clients.new) done idle 0)))
-        ((moments : C) → HadNone number
-        (Whole ledgers.old) moments peers.old (seats_in clients.old)
-        (Whole ledgers.new) moments peers.new (seats_in clients.new)) }
-{
-    match clients.get_mut(&number) {
-        Some(client) => { Some(write_left::<L, H, C, P>(alloc, peers, number, client, ledgers)) }
-        None => None,
-    }
-}
-
-/// Writes what is left of the reply to a client, and lets it go where its connection is broken.
+/// Writes what is left of the reply to a client that is seated, and lets it go where its connection
+/// is broken.
 fn write_one<L: Ledgers, H: Steward<L>, C: Moments, P: Peers>(
     alloc: Global,
     peers: &mut P,
@@ -87,8 +64,11 @@ fn write_one<L: Ledgers, H: Steward<L>, C: Moments, P: Peers>(
         (held_by ledgers.old moments peers.old seats.old)
         (held_by ledgers.new moments peers.new seats.new) 0 }
 {
-    match write_in::<L, H, C, P>(alloc, peers, &mut seats.clients, number, ledgers) {
-        Some(step) => follow::<L, H, C, P>(peers, &mut seats.clients, number, step),
+    match seats.clients.get_mut(&number) {
+        Some(client) => {
+            let step = write_left::<L, H, C, P>(alloc, peers, number, client, ledgers);
+            follow::<L, H, C, P>(peers, &mut seats.clients, number, step);
+        }
         None => {}
     }
 }

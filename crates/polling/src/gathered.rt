@@ -4,13 +4,13 @@ ghost use Rattle.service.specs.Seen.{Whole};
 ghost use Rattle.polling.specs.Serving.{rules};
 ghost use Rattle.polling.specs.Standing.{A_turn, owing, turns_of};
 ghost use Rattle.polling.specs.Seating.{HadTurn, HadNone, ServesOwed, ServesEach, count_of, held, held_by, seats_in};
-ghost use Rattle.polling.specs.Steps.{RepliesUpTo, ServesIfSeated};
+ghost use Rattle.polling.specs.Steps.{RepliesUpTo};
 
 use crate::gathering::Gathered;
 use crate::seats::Seats;
 use crate::serving::follow;
 use crate::sharing::share_round;
-use crate::turn::{Turned, finish};
+use crate::turn::finish;
 use crate::{Peers, Steward};
 use chain::Rounds;
 use clients::Client;
@@ -18,38 +18,9 @@ use service::Moments;
 use std::alloc::Global;
 use std::collections::BTreeMap;
 
-/// Writes what is left of the reply to the client with a number, where it is seated. Where nothing
-/// is, it has its turn, if it may be answered.
-fn finish_in<L: Rounds, H: Steward<L>, C: Moments, P: Peers>(
-    alloc: Global,
-    peers: &mut P,
-    clients: &mut BTreeMap<u64, Client>,
-    number: u64,
-    ledgers: &mut L,
-    moments: &mut C,
-    piece: &mut [u8],
-    answers: bool,
-) -> Option<Turned>
-    ensures found { ServesIfSeated result
-        (λ turned. HadTurn (rules L.means C.gives H.renews H.waits P.does) number
-        (Whole ledgers.old) moments.old peers.old (seats_in clients.old)
-        (Whole ledgers.new) moments.new peers.new (seats_in clients.new)
-        turned.step (not answers) (count_of turned.replied))
-        (HadNone number
-        (Whole ledgers.old) moments.old peers.old (seats_in clients.old)
-        (Whole ledgers.new) moments.new peers.new (seats_in clients.new)) }
-    ensures few { IfSome result (λ turned. answers ≡ false → turned.replied ≡ false) }
-{
-    match clients.get_mut(&number) {
-        Some(client) => Some(finish::<L, H, C, P>(
-            alloc, peers, number, client, ledgers, moments, piece, answers,
-        )),
-        None => None,
-    }
-}
-
-/// Does so, and lets the client go where it is to. Of so many replies that are wanted it says how
-/// many there were.
+/// Writes what is left of the reply to a client that is seated. Where nothing is, it has its turn,
+/// if a reply is wanted. Then the client goes, where it is to. Of so many replies that are wanted it
+/// says how many there were.
 fn finish_one<L: Rounds, H: Steward<L>, C: Moments, P: Peers>(
     alloc: Global,
     peers: &mut P,
@@ -66,19 +37,20 @@ fn finish_one<L: Rounds, H: Steward<L>, C: Moments, P: Peers>(
         (held_by ledgers.old moments.old peers.old seats.old)
         (held_by ledgers.new moments.new peers.new seats.new) result) }
 {
-    match finish_in::<L, H, C, P>(
-        alloc,
-        peers,
-        &mut seats.clients,
-        number,
-        ledgers,
-        moments,
-        piece,
-        most > 0,
-    ) {
-        Some(turned) => {
+    match seats.clients.get_mut(&number) {
+        Some(client) => {
+            let turned = finish::<L, H, C, P>(
+                alloc,
+                peers,
+                number,
+                client,
+                ledgers,
+                moments,
+                piece,
+                most > 0,
+            );
             follow::<L, H, C, P>(peers, &mut seats.clients, number, turned.step);
-            if turned.replied { 1 } else { 0 }
+            turned.replies()
         }
         None => 0,
     }

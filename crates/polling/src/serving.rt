@@ -6,46 +6,19 @@ ghost use Rattle.polling.specs.Standing.{A_seat, A_turn, An_end, owing, told_of,
 ghost use Rattle.polling.specs.Seating.{HadTurn, HadNone, IsFollowed, ServesOwed, ServesTold, count_of, seats_in, held_by};
 ghost use Rattle.polling.specs.Ending.{HasDone, replies_of};
 ghost use Rattle.polling.specs.declared.peers.Told.TheVariants.{Late, Nothing};
-ghost use Rattle.polling.specs.Steps.{RepliesUpTo, ServesIfSeated, ServesReady};
+ghost use Rattle.polling.specs.Steps.{RepliesUpTo, ServesReady};
 
 use crate::gathered::serve_due;
 use crate::gathering::{Gathered, Place};
 use crate::seats::{Seats, seat, unseat};
 use crate::step::Step;
-use crate::turn::{Turned, turn};
+use crate::turn::turn;
 use crate::{Peers, Steward, Told};
 use chain::{Ledgers, Rounds};
 use clients::Client;
 use service::Moments;
 use std::alloc::Global;
 use std::collections::BTreeMap;
-
-/// Gives the client with a number its turn, where it is seated.
-fn turn_in<L: Ledgers, H: Steward<L>, C: Moments, P: Peers>(
-    alloc: Global,
-    peers: &mut P,
-    clients: &mut BTreeMap<u64, Client>,
-    number: u64,
-    ledgers: &mut L,
-    moments: &mut C,
-    piece: &mut [u8],
-) -> Option<Turned>
-    ensures { ServesIfSeated result
-        (λ turned. HadTurn (rules L.means C.gives H.renews H.waits P.does) number
-        (Whole ledgers.old) moments.old peers.old (seats_in clients.old)
-        (Whole ledgers.new) moments.new peers.new (seats_in clients.new)
-        turned.step false (count_of turned.replied))
-        (HadNone number
-        (Whole ledgers.old) moments.old peers.old (seats_in clients.old)
-        (Whole ledgers.new) moments.new peers.new (seats_in clients.new)) }
-{
-    match clients.get_mut(&number) {
-        Some(client) => Some(turn::<L, H, C, P>(
-            alloc, peers, number, client, ledgers, moments, piece,
-        )),
-        None => None,
-    }
-}
 
 /// Does what a client's step asks for: it is told as ready again, or goes.
 pub(crate) fn follow<L: Ledgers, H: Steward<L>, C: Moments, P: Peers>(
@@ -68,7 +41,8 @@ pub(crate) fn follow<L: Ledgers, H: Steward<L>, C: Moments, P: Peers>(
     }
 }
 
-/// Gives a client its turn, and lets it go where it is to. Says whether a message was replied to.
+/// Gives a client that is seated its turn, and lets it go where it is to. Says how many messages
+/// were replied to.
 fn serve_one<L: Ledgers, H: Steward<L>, C: Moments, P: Peers>(
     alloc: Global,
     peers: &mut P,
@@ -77,26 +51,20 @@ fn serve_one<L: Ledgers, H: Steward<L>, C: Moments, P: Peers>(
     ledgers: &mut L,
     moments: &mut C,
     piece: &mut [u8],
-) -> bool
-    ensures { ServesOwed (rules L.means C.gives H.renews H.waits P.does) ⊥
+) -> u64
+    ensures { RepliesUpTo 1 result
+        (ServesOwed (rules L.means C.gives H.renews H.waits P.does) ⊥
         (owing A_turn number ∷ []) []
         (held_by ledgers.old moments.old peers.old seats.old)
-        (held_by ledgers.new moments.new peers.new seats.new) (count_of result) }
+        (held_by ledgers.new moments.new peers.new seats.new) result) }
 {
-    match turn_in::<L, H, C, P>(
-        alloc,
-        peers,
-        &mut seats.clients,
-        number,
-        ledgers,
-        moments,
-        piece,
-    ) {
-        Some(turned) => {
+    match seats.clients.get_mut(&number) {
+        Some(client) => {
+            let turned = turn::<L, H, C, P>(alloc, peers, number, client, ledgers, moments, piece);
             follow::<L, H, C, P>(peers, &mut seats.clients, number, turned.step);
-            turned.replied
+            turned.replies()
         }
-        None => false,
+        None => 0,
     }
 }
 
@@ -150,44 +118,9 @@ enum Done {
     Served(u64),
 }
 
-/// Gathers a client whose next message may share a round, puts one off where enough records are
-/// looked at in this turn or the steward says so, and gives any other its turn. Says how many
-/// messages were replied to.
-fn serve_or_gather<L: Rounds, H: Steward<L>, C: Moments, P: Peers>(
-    alloc: Global,
-    peers: &mut P,
-    seats: &mut Seats,
-    number: u64,
-    ledgers: &mut L,
-    steward: &H,
-    moments: &mut C,
-    piece: &mut [u8],
-    gathered: &mut Gathered,
-) -> u64
-    ensures { RepliesUpTo 1 result
-        (ServesOwed (rules L.means C.gives H.renews H.waits P.does) ⊥
-        (owing A_turn number ∷ turns_of gathered.old.numbers.items)
-        (turns_of gathered.new.numbers.items)
-        (held_by ledgers.old moments.old peers.old seats.old)
-        (held_by ledgers.new moments.new peers.new seats.new) result) }
-{
-    match gathered.place::<L, H>(&mut seats.clients, number, steward) {
-        Place::Gathered => 0,
-        Place::Later => {
-            peers.again(number);
-            0
-        }
-        Place::Now => {
-            if serve_one::<L, H, C, P>(alloc, peers, seats, number, ledgers, moments, piece) {
-                1
-            } else {
-                0
-            }
-        }
-    }
-}
-
-/// Does what was told, and says how many messages were replied to.
+/// Does what was told, and says how many messages were replied to. A client that is ready is
+/// gathered where its next message may share a round. It is put off where enough records are looked
+/// at in this turn, or the steward says so. Any other has its turn.
 fn serve_told<L: Rounds, H: Steward<L>, C: Moments, P: Peers>(
     alloc: Global,
     peers: &mut P,
@@ -211,9 +144,16 @@ fn serve_told<L: Rounds, H: Steward<L>, C: Moments, P: Peers>(
             join::<L, H, C, P>(alloc, peers, seats);
             0
         }
-        Told::Ready(number) => serve_or_gather::<L, H, C, P>(
-            alloc, peers, seats, number, ledgers, steward, moments, piece, gathered,
-        ),
+        Told::Ready(number) => match gathered.place::<L, H>(&mut seats.clients, number, steward) {
+            Place::Gathered => 0,
+            Place::Later => {
+                peers.again(number);
+                0
+            }
+            Place::Now => {
+                serve_one::<L, H, C, P>(alloc, peers, seats, number, ledgers, moments, piece)
+            }
+        },
         Told::Late(number) => {
             let_go::<L, H, C, P>(peers, seats, number);
             0

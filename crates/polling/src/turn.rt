@@ -25,6 +25,15 @@ pub(crate) struct Turned {
     pub(crate) replied: bool,
 }
 
+impl Turned {
+    /// How many messages were replied to.
+    pub(crate) fn replies(self) -> u64
+        ensures { result ≡ count_of self.replied }
+    {
+        if self.replied { 1 } else { 0 }
+    }
+}
+
 /// Writes until nothing is left of the reply, or it would wait, or it was written to often enough.
 pub(crate) fn write_all<L: Ledgers, H: Steward<L>, C: Moments, P: Peers>(
     peers: &mut P,

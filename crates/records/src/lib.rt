@@ -12,6 +12,7 @@ mod drain;
 mod facts;
 mod filter;
 mod hold;
+mod limits;
 mod query;
 mod reply;
 mod row_sink;
@@ -38,6 +39,7 @@ pub use facts::{
 };
 pub use filter::{AccountFilter, FilterFlags, Order};
 pub use hold::Hold;
+pub use limits::{MAX_CLOCK, MOST_AT_ONCE, SECOND};
 pub use query::{MOST_LOOKED_AT, PageFilter, PageFlags, QueryFilter, Span, Tags};
 pub use reply::{BatchReply, EventResult, Refusal};
 pub use row_sink::{RowSink, SinkFault};

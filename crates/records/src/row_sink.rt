@@ -1,5 +1,5 @@
 //! What takes an account's statement, row by row.
-ghost use Rattle.std.specs.Prelude.{◌≡◌, Bool, false, is_err, IfErr, OnOk};
+ghost use Rattle.std.specs.Prelude.{IfErr, OnOk};
 ghost use Rattle.records.specs.declared.row_sink.SinkFault.{SinkFault};
 ghost use Rattle.records.specs.declared.statement_row.StatementRow.{StatementRow};
 
@@ -14,7 +14,7 @@ pub enum SinkFault {
     Memory,
 }
 
-/// Takes the rows of a statement. It is not called again once it has refused one.
+/// Takes the rows of a statement.
 pub trait RowSink {
     // What taking a row makes of the sink.
     ghost takes: { Self → StatementRow → Self → Type 0 };
@@ -22,13 +22,8 @@ pub trait RowSink {
     // What refusing a row with this fault makes of it.
     ghost refuses: { Self → StatementRow → SinkFault → Self → Type 0 };
 
-    // Whether it has refused a row.
-    ghost refused: { Self → Bool };
-
     /// Takes the next row.
     fn row(&mut self, row: &StatementRow) -> Result<(), SinkFault>
-        requires { refused self.old ≡ false }
         ensures taken { OnOk result (takes self.old row.now self.new) }
-        ensures refusal { IfErr result (λ why. refuses self.old row.now why self.new) }
-        ensures refused { refused self.new ≡ is_err result };
+        ensures refusal { IfErr result (λ why. refuses self.old row.now why self.new) };
 }

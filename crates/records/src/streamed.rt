@@ -4,7 +4,7 @@ ghost use Rattle.std.specs.Prelude.{◌≡◌, false};
 use crate::{Drain, Failed, Source};
 use std::io::{Read, Write};
 
-/// A reader or writer of std that remembers whether it has failed.
+/// A reader or writer of std that is asked no more once a call of it has failed.
 #[derive(Drop)]
 pub struct Streamed<X> {
     inner: X,
@@ -40,6 +40,9 @@ impl<X: Read> Source for Streamed<X> {
     ghost failed = { λ s. stream_failed s };
 
     fn take(&mut self, piece: &mut [u8]) -> Result<usize, Failed> {
+        if self.failed {
+            return Err(Failed);
+        }
         match self.inner.read(piece) {
             Ok(count) => Ok(count),
             Err(_) => {
@@ -58,6 +61,9 @@ impl<X: Write> Drain for Streamed<X> {
     ghost failed = { λ s. stream_failed s };
 
     fn put(&mut self, piece: &[u8]) -> Result<usize, Failed> {
+        if self.failed {
+            return Err(Failed);
+        }
         match self.inner.write(piece) {
             // A writer that takes nothing of a piece will take no more.
             Ok(0) if !piece.is_empty() => {

@@ -14,15 +14,9 @@ use crate::events::{event_of_account, event_of_transfer};
 use crate::history::tell;
 use crate::{Entry, HistoryTaker, Running};
 use engine::{AccountDecision, Decision, decide_account, decide_transfer};
-use records::{Accepted, Account, AccountWithBalances, Transfer};
+use records::{Accepted, Account, AccountWithBalances, MAX_CLOCK, MOST_AT_ONCE, Transfer};
 use rows::transfer_rows;
 use std::alloc::AllocError;
-
-// The latest clock: 2^62 nanoseconds, so that every due time fits 64 bits.
-const MAX_CLOCK: u64 = 1 << 62;
-
-// The longest batch: a clock is less than this ahead of each timestamp that it gives.
-const BATCH: u64 = 1000;
 
 impl Running {
     /// One entry more, at its own clock: whether it is accepted behind those before it. Its history
@@ -131,7 +125,8 @@ impl Running {
         if clock < timestamp {
             return false;
         }
-        clock - timestamp < BATCH
+        // A clock is less than a batch ahead of each timestamp that it gives.
+        clock - timestamp < u64::from(MOST_AT_ONCE)
     }
 
     // Whether the account's own fields open it, at any clock.

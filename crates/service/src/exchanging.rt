@@ -1,7 +1,6 @@
 //! One message of a connection, and its reply.
-ghost use Rattle.std.specs.Prelude.{◌≡◌, ℕ, List, Some, true, false, is_err, IfOk, OnErr, OnOk};
-ghost use Rattle.std.specs.Io.KnownBytes.{Appends};
-ghost use Rattle.records.specs.Streams.{AppendsFront};
+ghost use Rattle.std.specs.Prelude.{◌≡◌, ◌||◌, ℕ, List, Some, true, false, is_err, IfOk, OnErr};
+ghost use Rattle.records.specs.Streams.{Puts};
 ghost use Rattle.ledger_http.specs.First.{IsBrokenOff};
 ghost use Rattle.ledger_http.specs.ReplyText.{reply_text};
 ghost use Rattle.service.specs.Connections.{connection, Exchanges};
@@ -35,12 +34,7 @@ impl Exchanged {
 
 /// Writes a reply, and lets it go.
 pub(crate) fn write<W: Drain>(writer: &mut W, reply: Reply) -> Result<(), WriteError>
-    requires { W.failed writer.old ≡ false }
-    ensures ok { OnOk result
-        (Appends (W.written writer.old) (W.written writer.new) (reply_text reply)) }
-    ensures err { OnErr result
-        (AppendsFront (W.written writer.old) (W.written writer.new) (reply_text reply)) }
-    ensures failed { W.failed writer.new ≡ is_err result }
+    ensures { Puts (reply_text reply) W.written W.failed writer.old writer.new result }
 {
     write_reply(writer, &reply)
 }
@@ -52,7 +46,6 @@ pub(crate) fn exchange<L: Ledgers, R: Source, C: Moments>(
     reader: &mut R,
     moments: &mut C,
 ) -> Result<Option<Exchanged>, ReadError>
-    requires reads { R.failed reader.old ≡ false }
     ensures exchanges { IfOk result (Exchanges L.means C.gives
         (connection ledgers.old (R.left reader.old) moments.old true)
         ledgers.new (R.left reader.new) moments.new) }
@@ -60,7 +53,7 @@ pub(crate) fn exchange<L: Ledgers, R: Source, C: Moments>(
     ensures unasked { OnErr result (moments.new ≡ moments.old) }
     ensures broken { OnErr result ((unread : List ℕ) → R.left reader.old ≡ Some unread
         → IsBrokenOff unread (R.left reader.new)) }
-    ensures failed { R.failed reader.new ≡ is_err result }
+    ensures failed { R.failed reader.new ≡ (is_err result || R.failed reader.old) }
     ensures stays { L.means.follows ledgers.old ledgers.new }
 {
     match read_message(alloc, reader)? {

@@ -1,5 +1,5 @@
 //! Serves a connection: one message after the other.
-ghost use Rattle.std.specs.Prelude.{◌≡◌, ◌≤◌, true, false};
+ghost use Rattle.std.specs.Prelude.{◌≡◌, ◌≤◌, ◌||◌, true};
 ghost use Rattle.service.specs.Connections.{connection, IsServed, replies_in};
 ghost use Rattle.service.specs.Connections.{is_read_fault, is_write_fault};
 
@@ -35,14 +35,12 @@ pub fn serve<L: Ledgers, R: Source, W: Drain, C: Moments>(
     moments: &mut C,
     most: u64,
 ) -> Result<u64, ServeFault>
-    requires reads { R.failed reader.old ≡ false }
-    requires writes { W.failed writer.old ≡ false }
     ensures served { IsServed L.means C.gives
         (connection ledgers.old (R.left reader.old) moments.old true) (W.written writer.old) most
         ledgers.new (R.left reader.new) moments.new (W.written writer.new) result }
     ensures few { replies_in result ≤ most }
-    ensures reader_failed { R.failed reader.new ≡ is_read_fault result }
-    ensures writer_failed { W.failed writer.new ≡ is_write_fault result }
+    ensures reader_failed { R.failed reader.new ≡ (is_read_fault result || R.failed reader.old) }
+    ensures writer_failed { W.failed writer.new ≡ (is_write_fault result || W.failed writer.old) }
     ensures stays { L.means.follows ledgers.old ledgers.new }
 {
     let mut replies = 0;

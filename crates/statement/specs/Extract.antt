@@ -1,5 +1,5 @@
 -- What is seen of an extract, and what it keeps of the entries that it takes.
-use Rattle.std.specs.Prelude.{◌≡◌, ◌++◌, ◌∷◌, [], Bool, true, List, if◌then◌else◌}
+use Rattle.std.specs.Prelude.{◌≡◌, ◌++◌, ◌∷◌, [], true, List, if◌then◌else◌}
 use Rattle.records.specs.Streams.{TakesRows}
 use Rattle.records.specs.declared.balances.Balances.{Balances}
 use Rattle.records.specs.declared.row_sink.SinkFault.{SinkFault}
@@ -24,10 +24,6 @@ closing_of e = e.closing
 -- the entries that it keeps
 abbrev pub kept_of : Extract → List StatementRow
 kept_of e = e.rows.items
-
--- whether it has refused an entry
-abbrev pub has_refused : Extract → Bool
-has_refused e = e.has_refused
 
 -- it has taken no entry
 pub record IsEmptyOver (p : Period) (e : Extract) : Type 0 where

@@ -16,10 +16,6 @@ drain_of s = s.writer
 abbrev pub has_begun : {W : Type 0} → StatementWriter W → Bool
 has_begun s = s.has_begun
 
--- whether it has refused a row
-abbrev pub has_refused : {W : Type 0} → StatementWriter W → Bool
-has_refused s = s.has_refused
-
 -- the line that it made last
 abbrev pub last_line : {W : Type 0} → StatementWriter W → List ℕ
 last_line s = s.line.items

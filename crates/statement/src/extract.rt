@@ -1,5 +1,5 @@
-ghost use Rattle.std.specs.Prelude.{◌≡◌, false, map, reverse, if◌then◌else◌, IfOk, [], Ok, is_err, OnOk};
-ghost use Rattle.statement.specs.Extract.{Keeps, IsEmptyOver, RefusesEntry, has_refused};
+ghost use Rattle.std.specs.Prelude.{◌≡◌, map, reverse, if◌then◌else◌, IfOk, [], Ok, OnOk};
+ghost use Rattle.statement.specs.Extract.{Keeps, IsEmptyOver, RefusesEntry};
 ghost use Rattle.statement.specs.Extract.{closing_of, kept_of, opening_of, period_of};
 
 use crate::Period;
@@ -14,21 +14,18 @@ pub struct Extract {
     opening: Balances,
     closing: Balances,
     rows: Vec<StatementRow>,
-    has_refused: bool,
 }
 
 impl Extract {
     /// Of no entries yet.
     pub fn new(alloc: Global, period: Period) -> Self
         ensures empty { IsEmptyOver period result }
-        ensures ready { has_refused result ≡ false }
     {
         Extract {
             period,
             opening: Balances::ZERO,
             closing: Balances::ZERO,
             rows: Vec::new(alloc),
-            has_refused: false,
         }
     }
 
@@ -79,15 +76,12 @@ impl RowSink for Extract {
 
     ghost refuses = { RefusesEntry };
 
-    ghost refused = { λ e. has_refused e };
-
     fn row(&mut self, row: &StatementRow) -> Result<(), SinkFault> {
         if self.period.is_before(row) {
             self.opening = row.balances;
             self.closing = row.balances;
         } else if self.period.is_within(row) {
             if self.rows.push(*row).is_err() {
-                self.has_refused = true;
                 return Err(SinkFault::Memory);
             }
             self.closing = row.balances;

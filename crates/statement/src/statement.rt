@@ -1,4 +1,4 @@
-ghost use Rattle.std.specs.Prelude.{◌≡◌, false, OnErr, OnOk};
+ghost use Rattle.std.specs.Prelude.{◌≡◌, ◌||◌, OnErr, OnOk};
 ghost use Rattle.std.specs.Io.KnownBytes.{Appends};
 ghost use Rattle.records.specs.Streams.{AppendsFront};
 ghost use Rattle.statement.specs.Fault.{is_write_fault};
@@ -16,12 +16,11 @@ pub fn write_statement<W: Drain>(
     writer: &mut W,
     rows: &[StatementRow],
 ) -> Result<(), StatementFault>
-    requires { W.failed writer.old ≡ false }
     ensures ok { OnOk result
         (Appends (W.written writer.old) (W.written writer.new) (statement_text rows.now)) }
     ensures err { OnErr result
         (AppendsFront (W.written writer.old) (W.written writer.new) (statement_text rows.now)) }
-    ensures failed { W.failed writer.new ≡ is_write_fault result }
+    ensures failed { W.failed writer.new ≡ (is_write_fault result || W.failed writer.old) }
 {
     put_all(writer, header_line())?;
     let mut line = Vec::new(alloc);

@@ -1,10 +1,10 @@
 ghost use Rattle.std.specs.Prelude.{◌≡◌, ◌||◌, ◌++◌, false, true, is_err, Err, IfErr, OnErr, OnOk};
 ghost use Rattle.std.specs.Io.KnownBytes.{Appends};
-ghost use Rattle.records.specs.Streams.{AppendsFront};
+ghost use Rattle.records.specs.Streams.{AppendsFront, Puts};
 ghost use Rattle.statement.specs.Fault.{is_sink_write, is_write_fault};
 ghost use Rattle.statement.specs.Text.{line_of};
-ghost use Rattle.statement.specs.Writer.{RefusesRow, TakesRow, drain_of, has_begun, has_refused};
-ghost use Rattle.statement.specs.Writer.{header_left, last_line};
+ghost use Rattle.statement.specs.Writer.{RefusesRow, TakesRow, drain_of, has_begun, header_left};
+ghost use Rattle.statement.specs.Writer.{last_line};
 
 use crate::StatementFault;
 use crate::line::line_of;
@@ -21,37 +21,31 @@ pub struct StatementWriter<W: Drain> {
     // The last line, whose memory the next one takes.
     line: Vec<u8>,
     has_begun: bool,
-    has_refused: bool,
 }
 
 impl<W: Drain> StatementWriter<W> {
     /// Writes nothing yet.
     pub fn new(alloc: Global, writer: W) -> Self
-        requires { W.failed writer ≡ false }
         ensures drain { drain_of result ≡ writer }
         ensures begun { has_begun result ≡ false }
-        ensures ready { has_refused result ≡ false }
     {
         StatementWriter {
             alloc,
             writer,
             line: Vec::new(alloc),
             has_begun: false,
-            has_refused: false,
         }
     }
 
     /// Ends the statement and gives the writer back. It is the last call, and the header goes out
     /// with it where no entry came.
     pub fn finish(mut self) -> (W, Result<(), StatementFault>)
-        requires fresh { has_refused self ≡ false }
-        requires open { W.failed (drain_of self) ≡ false }
         ensures ok { OnOk result.1
             (Appends (W.written (drain_of self)) (W.written result.0) (header_left self)) }
         ensures err { OnErr result.1
             (AppendsFront (W.written (drain_of self)) (W.written result.0) (header_left self)) }
         ensures write { IfErr result.1 (λ fault. fault ≡ StatementFault.Write) }
-        ensures failed { W.failed result.0 ≡ is_err result.1 }
+        ensures failed { W.failed result.0 ≡ (is_err result.1 || W.failed (drain_of self)) }
     {
         let ended = self.put_header();
         let writer = self.into_inner();
@@ -70,22 +64,16 @@ impl<W: Drain> StatementWriter<W> {
             alloc: _,
             line: _,
             has_begun: _,
-            has_refused: _,
         } = self;
         writer
     }
 
     // Writes the header, where it is still to go out.
     fn put_header(&mut self) -> Result<(), Failed>
-        requires { W.failed (drain_of self.old) ≡ false }
-        ensures ok { OnOk result (Appends (W.written (drain_of self.old))
-            (W.written (drain_of self.new)) (header_left self.old)) }
-        ensures err { OnErr result (AppendsFront (W.written (drain_of self.old))
-            (W.written (drain_of self.new)) (header_left self.old)) }
-        ensures failed { W.failed (drain_of self.new) ≡ is_err result }
+        ensures puts { Puts (header_left self.old) W.written W.failed (drain_of self.old)
+            (drain_of self.new) result }
         ensures begun { OnOk result (has_begun self.new ≡ true) }
         ensures line { last_line self.new ≡ last_line self.old }
-        ensures same { has_refused self.new ≡ has_refused self.old }
     {
         if self.has_begun {
             return Ok(());
@@ -98,14 +86,13 @@ impl<W: Drain> StatementWriter<W> {
     // Writes a row's line, behind the header where that is still to go out. The line is made first,
     // so that want of memory writes nothing.
     fn put_row(&mut self, row: &StatementRow) -> Result<(), StatementFault>
-        requires { W.failed (drain_of self.old) ≡ false }
         ensures ok { OnOk result (TakesRow W.written self.old row.now self.new) }
         ensures err { OnErr result (AppendsFront (W.written (drain_of self.old))
             (W.written (drain_of self.new)) (header_left self.old ++ line_of row.now)) }
         ensures memory { result ≡ Err StatementFault.Memory
             → drain_of self.new ≡ drain_of self.old }
-        ensures failed { W.failed (drain_of self.new) ≡ is_write_fault result }
-        ensures same { has_refused self.new ≡ has_refused self.old }
+        ensures failed { W.failed (drain_of self.new)
+            ≡ (is_write_fault result || W.failed (drain_of self.old)) }
     {
         let buffer = mem::replace(&mut self.line, Vec::new(self.alloc));
         self.line = line_of(buffer, row)?;
@@ -120,21 +107,13 @@ impl<W: Drain> RowSink for StatementWriter<W> {
 
     ghost refuses = { RefusesRow W.written };
 
-    ghost refused = { λ s. has_refused s || W.failed (drain_of s) };
-
     fn row(&mut self, row: &StatementRow) -> Result<(), SinkFault>
-        requires { (has_refused self.old || W.failed (drain_of self.old)) ≡ false }
         ensures taken { OnOk result (TakesRow W.written self.old row.now self.new) }
-        ensures refused { (has_refused self.new || W.failed (drain_of self.new)) ≡ is_err result }
         ensures refusal { IfErr result (λ why. RefusesRow W.written self.old row.now why self.new) }
-        ensures failed { W.failed (drain_of self.new) ≡ is_sink_write result }
+        ensures failed { W.failed (drain_of self.new)
+            ≡ (is_sink_write result || W.failed (drain_of self.old)) }
     {
-        match self.put_row(row) {
-            Ok(()) => Ok(()),
-            Err(fault) => {
-                self.has_refused = true;
-                Err(fault.into())
-            }
-        }
+        self.put_row(row)?;
+        Ok(())
     }
 }

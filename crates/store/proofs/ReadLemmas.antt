@@ -12,7 +12,8 @@ use Rattle.sqlite.specs.State.{State, HasCleanDisk}
 use Rattle.ledger_sql.specs.Frames.{Live, Follows}
 use Rattle.stored_ledgers.specs.Directory.{tenants_in}
 use Rattle.stored_ledgers.specs.DueSets.{DueSets}
-use Rattle.stored_ledgers.specs.Resting.{IsResting, IsSame, IsServing, HoldsHere}
+use Rattle.stored_ledgers.specs.Looks.{ReadsAtRest}
+use Rattle.stored_ledgers.specs.Resting.{IsResting, IsServing, HoldsHere}
 use Rattle.store.specs.Stores.{IsUsable, IsUsableAt, IsLiveAt, IsHonestAt, OfDatabaseAt, tenants_at, may_find_at, AnswersUnless, ReadsStore}
 use Rattle.store.specs.declared.place.Place.{Place}
 use Rattle.store.specs.declared.place.Place.TheVariants as at
@@ -38,6 +39,12 @@ module _ {D : Type 0} (g : disk.Ghosts D) where
       let here : IsUsableAt ready sets (at.Open conn) = subst (IsUsableAt ready sets) is usable in
       let is_open = here.1 answers clean in
       (is_open, here.0 (clean, is_open))
+
+  -- so it holds ledgers, which may be read
+  pub reads_here : (self : Store D g) (conn : Held (FileStore D g)) → self.place ≡ at.Open conn
+      → self.ready ≡ true → IsUsable self → HoldsHere (file_state conn)
+  reads_here self conn is answers usable =
+      holds_here self.due (file_state conn) (serves_open self.ready self.due self.place conn is answers usable)
 
   module _ {T : Type 0} (result : Result T Unavailable) (fault : Bool) (old new : Store D g)
       (conn conn' : Held (FileStore D g)) (old_is : old.place ≡ at.Open conn)
@@ -88,31 +95,30 @@ module _ {D : Type 0} (g : disk.Ghosts D) where
       (new_is : new.place ≡ at.Open conn') (same_due : new.due ≡ old.due)
       (was_ready : old.ready ≡ true)
       (now_ready : new.ready ≡ not fault) (told : IsTrue fault ↔ (result ≡ Err DiskFailed))
-      (usable : IsUsable old) (follows : Follows (file_state conn) (file_state conn'))
-      (same : Live (file_state conn') → IsSame (file_state conn) (file_state conn'))
-      (is_open : HasCleanDisk (file_state conn') → result ≢ Err DiskFailed → IsTrue (file_state conn').is_open) where
+      (usable : IsUsable old)
+      (reads : ReadsAtRest DiskFailed (file_state conn) (file_state conn') result) where
     still_resting : Live (file_state conn') → IsResting new.due (file_state conn')
     still_resting live =
         let was : IsUsableAt old.ready old.due (at.Open conn) =
         subst (IsUsableAt old.ready old.due) old_is usable in
         subst (λ sets. IsResting sets (file_state conn')) (sym same_due)
         (still_rests old.due (file_state conn) (file_state conn')
-        (was.0 (live_before (file_state conn) (file_state conn') follows live)) (same live))
+        (was.0 (live_before (file_state conn) (file_state conn') reads.follows live)) (reads.same live))
 
     -- a read of the open database
     pub reads_open : ReadsStore old new result
     reads_open = record {
-      answers = answers_open result fault old new conn conn' old_is new_is was_ready now_ready told usable is_open
-          (clean_before (file_state conn) (file_state conn') follows) still_resting;
+      answers = answers_open result fault old new conn conn' old_is new_is was_ready now_ready told usable reads.is_open
+          (clean_before (file_state conn) (file_state conn') reads.follows) still_resting;
       unchanged = λ live.
           subst (λ place. OfDatabaseAt (λ before. OfDatabaseAt (λ after. after ≡ before) new.place) place)
           (sym old_is) (subst (OfDatabaseAt (λ after. after ≡ (file_state conn).now)) (sym new_is)
-          (same (subst IsLiveAt new_is live)).now);
+          (reads.same (subst IsLiveAt new_is live)).now);
       same = λ live digest.
           ap (λ place. tenants_at place digest) new_is
-          ∙ ap (λ (db : Database). tenants_in db.trees digest) (same (subst IsLiveAt new_is live)).now
+          ∙ ap (λ (db : Database). tenants_in db.trees digest) (reads.same (subst IsLiveAt new_is live)).now
           ∙ sym (ap (λ place. tenants_at place digest) old_is);
       finds = λ honest db may. subst (λ place. may_find_at place db ⊎ ⊥) (sym old_is)
-          (follows.survives.crash (subst IsHonestAt new_is honest) db
+          (reads.follows.survives.crash (subst IsHonestAt new_is honest) db
           (subst (λ place. may_find_at place db) new_is may));
     }

@@ -6,6 +6,7 @@ ghost use Rattle.stored_ledgers.specs.Overdue.{BeginsSearch, settled_to, least_n
 ghost use Rattle.stored_ledgers.specs.Overdue.{FindsOverdue, FindsNone};
 
 use crate::batches::DueSets;
+use records::SECOND;
 use std::collections::BTreeSet;
 
 /// How many holds of a tenant are released at once, and those that are due with the last of them.
@@ -16,7 +17,7 @@ const LOOKS: usize = 256;
 
 /// For how many nanoseconds a few holds that are due are left to their tenant's own next batch,
 /// which releases them without a commit more.
-const LEFT: u64 = 1_000_000_000;
+const LEFT: u64 = SECOND;
 
 /// The first holds of a tenant that are due.
 #[derive(Clone, Copy)]

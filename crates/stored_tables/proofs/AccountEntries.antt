@@ -148,11 +148,11 @@ module _ {K : Type 0} (takes : K → EntryCells → K → Type 0) (is_full : K �
         inr (are_all account (take count es) handed (all_taken (IsStorableEntry account) count es (fits_all honest))
         (sym (take-map (λ e. entry_values (entry_cells account e)) count es) ∙ ap (take count) (read honest few.ordered few.all few.order) ∙ sym few.read_is))
 
-    pub hands_few : {E : Type 0} (result : Result (Unit {0}) E) → HandsUpTo takes is_full H count entries InOrder old new result → HandsAccount takes is_full H account (take count es) old new result
-    hands_few result h = record {
+    pub hands_few : {E : Type 0} (result : Result (Unit {0}) E) {G : Type 0} → (H → G) → HandsUpTo takes is_full G count entries InOrder old new result → HandsAccount takes is_full H account (take count es) old new result
+    hands_few result so h = record {
       handed = h.handed;
       taken = h.taken;
-      first = λ honest. first_within account count es h.handed (h.within honest) (begun_so h.handed honest (h.first honest));
-      ended = λ honest. ended_few result h.handed honest (h.ended honest);
+      first = λ honest. first_within account count es h.handed (h.within (so honest)) (begun_so h.handed honest (h.first (so honest)));
+      ended = λ honest. ended_few result h.handed honest (h.ended (so honest));
       wants = h.wants;
     }

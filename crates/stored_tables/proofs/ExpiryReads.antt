@@ -1,5 +1,5 @@
 -- What is read before a transfer expires.
-use Rattle.std.proofs.Common.{◌≡◌, ℕ, ◌<◌, ◌^◌, ℤ, eqb, List, Option, Some, None, option_map, Result, Ok, Err, IfOk, IfSome, inl, refl, sym, ap, subst, ◌∙◌}
+use Rattle.std.proofs.Common.{◌≡◌, ℕ, ◌<◌, ◌^◌, ℤ, eqb, List, Option, Some, None, option_map, Result, Ok, Err, IfOk, IfSome, IsTrue, inl, refl, sym, ap, subst, ◌∙◌}
 use Rattle.std.specs.Option.{ok_or, unwrap_or}
 use Rattle.std.proofs.lemmas.List.Elements.{recursion_from_All}
 use Rattle.std.proofs.lemmas.Option.{same_Some}
@@ -19,12 +19,11 @@ use Rattle.rows.specs.Cells.{balance_cells}
 use Rattle.rows.specs.Keyed.{row_with}
 use Rattle.rows.specs.Widths.{IsStorableBalance}
 use Rattle.ledger_sql.specs.Calls.{LeavesRead}
-use Rattle.ledger_sql.specs.Effects.{IsLedger, IsInside, Picks}
+use Rattle.ledger_sql.specs.Effects.{IsLedger, Picks}
 use Rattle.ledger_sql.specs.TableRows.{balance_rows, has_id, with_id}
 use Rattle.ledger_sql.specs.Values.{balance_values}
 use Rattle.stored_tables.specs.BatchLaws.{follows_itself}
 use Rattle.stored_tables.specs.Kept.{Kept}
-use Rattle.stored_tables.specs.Moves.{CanWrite}
 use Rattle.stored_tables.specs.Releasing.{HasAccounts, AreBalancesOf, AreKeptBalancesOf, IsTransferOf, IsExpiry}
 use Rattle.stored_tables.proofs.KeptRows.{look_under}
 use Rattle.stored_tables.proofs.RowMoves.{found_key, found_all, found_row, tells_id}
@@ -96,17 +95,14 @@ expiry_told tenant kept id s0 s1 s2 t debit credit less_debit less_credit same t
     λ i. record { transfer = is i; debit = left i; credit = right i }
 
 -- a look at what is kept reads nothing
-pub nothing_read : {A E : Type 0} (x : A) (s : State) → (HasCleanDisk s → CanWrite s) → LeavesRead {A = A} {E = E} s s (Ok x)
-nothing_read x s can =
-    let same : HasCleanDisk s → IsUnchanged s s = λ clean. let it = can clean in (record { was_open = it.is_open; is_open = it.is_open; now_is = refl; committed_is = refl; mode = refl }, record { changes = refl; last_rowid = refl }, refl) in
+pub nothing_read : {A E : Type 0} (x : A) (s : State) → (HasCleanDisk s → IsTrue s.is_open) → LeavesRead {A = A} {E = E} s s (Ok x)
+nothing_read x s opened =
+    let same : HasCleanDisk s → IsUnchanged s s = λ clean. let it = opened clean in (record { was_open = it; is_open = it; now_is = refl; committed_is = refl; mode = refl }, record { changes = refl; last_rowid = refl }, refl) in
     record { same = same; kept = λ clean. inl (same clean); follows = follows_itself s }
 
--- what was read leaves the transaction open
-pub still_open : (s0 s1 : State) → IsUnchanged s0 s1 → IsInside s0 → CanWrite s1
-still_open s0 s1 same inside = record {
-  inside = record { schema = subst (λ (db : Database). IsLedger db.schema) (sym same.0.now_is) inside.schema; mode = same.0.mode ∙ inside.mode };
-  is_open = same.0.is_open;
-}
+-- where a ledger was read there is one
+pub still_ledger : (s0 s1 : State) → IsUnchanged s0 s1 → IsLedger s0.now.schema → IsLedger s1.now.schema
+still_ledger s0 s1 same = subst (λ (db : Database). IsLedger db.schema) (sym same.0.now_is)
 
 -- so is what was found of an account of which nothing is kept
 pub told_stored : {E : Type 0} (tenant : ℤ) (kept : Kept) (account : ℕ) (trees : Trees) → kept account ≡ None → (r : Result Balances E) → IfOk r (AreBalancesOf tenant account trees) → IfOk r (AreKeptBalancesOf tenant kept account trees)

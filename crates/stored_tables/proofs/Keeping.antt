@@ -10,7 +10,7 @@ use Rattle.ledger_sql.specs.Frames.{Live, Follows}
 use Rattle.stored_tables.specs.BatchLaws.{live_before, follows_then, rest_itself}
 use Rattle.stored_tables.specs.Holds.{HoldsMachine}
 use Rattle.stored_tables.specs.InBatch.{HoldsOwn, KeepsRest, IsInBatchOf, AreMarks, IsInOwnBatch, shown, marked_in}
-use Rattle.stored_tables.specs.Idle.{CanRead}
+use Rattle.stored_tables.specs.Idle.{HoldsTenant}
 use Rattle.stored_tables.specs.MachineOf.{machine_of}
 use Rattle.stored_tables.specs.Meaning.{batch_meaning}
 
@@ -19,12 +19,6 @@ pub undone : (tenant : ℤ) (old mid new : State) → Follows old mid → Leaves
 unfolding shown
 undone tenant old mid new f end live =
     ap (λ db. machine_of tenant db.trees) ((end.over live).now ∙ f.committed (live_before mid new end.follows live))
-
--- what may be called in a batch may be read
-pub can_read : (tenant : ℤ) (s : State) → IsInOwnBatch tenant s → CanRead tenant s
-can_read tenant s usable clean =
-    let batch = usable clean in
-    record { is_open = batch.is_open; schema = batch.now.ledger; holds = batch.now.holds }
 
 -- where nothing changed, the machines are the same
 pub same_shown : (tenant : ℤ) (old new : State) → IsUnchanged old new → shown tenant new ≡ shown tenant old
@@ -70,7 +64,12 @@ module _ {S : Type 0} (store : Ghosts S) (tenant : ℤ) (old new : Held S) where
     };
   }
 
-  -- what was there before a call were the rows of the tenant's machine
+  -- before a call the tables were a ledger's, with the rows of the tenant's machine
+  pub tenant_before : IsInOwnBatch tenant (state store old) → Follows (state store old) (state store new) → HasCleanDisk (state store new) → HoldsTenant tenant (state store old)
+  tenant_before usable follows clean =
+      let batch = usable (omega (arith, follows.survives.clean, clean)) in
+      record { schema = batch.now.ledger; holds = batch.now.holds }
+
   pub held_before : IsInOwnBatch tenant (state store old) → Follows (state store old) (state store new) → Live (state store new)
       → HoldsMachine tenant (shown tenant (state store old)).now (state store old).now.trees
   unfolding shown

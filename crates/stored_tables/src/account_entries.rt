@@ -7,7 +7,7 @@ ghost use Rattle.sqlite.specs.Held.{state};
 ghost use Rattle.sqlite.specs.State.{HasCleanDisk};
 ghost use Rattle.ledger_sql.specs.Calls.{Learns, Reads};
 ghost use Rattle.stored_tables.specs.Handing.{HandsAccount, entries_behind};
-ghost use Rattle.stored_tables.specs.Idle.{CanRead, machine_at};
+ghost use Rattle.stored_tables.specs.Idle.{HoldsTenant, machine_at};
 ghost use Rattle.stored_tables.specs.MachineOf.{machine_of};
 ghost use Rattle.stored_tables.specs.Meaning.{batch_meaning};
 
@@ -53,8 +53,7 @@ fn read_entries<S: Alter>(
     account: u128,
     span: &Span,
 ) -> Result<Vec<AccountEntry>, Unavailable>
-    requires { CanRead tenant.0 (state S.Store conn.old) }
-    ensures { Learns (λ trees found. found.items
+    ensures { Learns (HoldsTenant tenant.0) (λ trees found. found.items
         ≡ account_entries_within (machine_of tenant.0 trees) account span.now)
         S.Store conn.old conn.new result }
 {
@@ -78,9 +77,9 @@ fn first_entries<S: Alter, K: EntrySink>(
     count: u32,
     sink: &mut K,
 ) -> Result<(), Unavailable>
-    requires reading { CanRead tenant.0 (state S.Store conn.old) }
-    requires open { K.is_full sink.old ≡ false }
-    ensures handed { HandsAccount K.takes K.is_full (HasCleanDisk (state S.Store conn.new)) account
+    requires { K.is_full sink.old ≡ false }
+    ensures handed { HandsAccount K.takes K.is_full
+        (HasCleanDisk (state S.Store conn.new) × HoldsTenant tenant.0 (state S.Store conn.old)) account
         (take count (entries_behind (machine_at tenant.0 (state S.Store conn.old)) account
         order bound)) sink.old sink.new result }
     ensures reads { Reads S.Store conn.old conn.new result }

@@ -1,11 +1,9 @@
 //! Rows of a tenant that change inside its batch.
 
-ghost use Rattle.std.specs.Prelude.{IfOk, IfSome};
-ghost use Rattle.sqlite.specs.State.{HasCleanDisk};
-ghost use Rattle.sqlite.specs.Held.{state};
+ghost use Rattle.std.specs.Prelude.{IfSome};
 ghost use Rattle.rows.specs.Changes.{set_balances, set_both, set_state};
 ghost use Rattle.rows.specs.Widths.{IsStorableStatus};
-ghost use Rattle.ledger_sql.specs.Calls.{Changes, IfClean, Reads};
+ghost use Rattle.ledger_sql.specs.Calls.{Changes, FindsRows, IfClean};
 ghost use Rattle.ledger_sql.specs.Effects.{IsInside};
 ghost use Rattle.stored_tables.specs.Moves.{ChangesRows, IsThere, HasBoth, HasStatus, IsStatusOf};
 
@@ -58,11 +56,8 @@ pub(crate) fn status<S: Alter>(
     tenant: TenantNumber,
     id: u128,
 ) -> Result<Option<StatusRow>, Unavailable>
-    requires { IfClean IsInside S.Store conn.old }
-    ensures ok { HasCleanDisk (state S.Store conn.new) → IfOk result
-        (IsStatusOf tenant.0 id (state S.Store conn.old).now.trees) }
-    ensures fits { IfOk result (λ found. IfSome found IsStorableStatus) }
-    ensures reads { Reads S.Store conn.old conn.new result }
+    ensures { FindsRows (λ found. IfSome found IsStorableStatus) (IsStatusOf tenant.0 id)
+        S.Store conn.old conn.new result }
 {
     columns_keep_order();
     cells_tell_rows();

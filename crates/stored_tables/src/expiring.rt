@@ -1,16 +1,16 @@
 //! A pending transfer of a tenant expires.
 
-ghost use Rattle.std.specs.Prelude.{◌≡◌, ℕ, ◌+◌, ◌≤◌, IfOk};
+ghost use Rattle.std.specs.Prelude.{◌≡◌, ℕ, ◌+◌, ◌≤◌, IfOk, IsTrue};
 ghost use Rattle.arrayvec.specs.ArrayVec.{array_vec_len};
 ghost use Rattle.records.specs.declared.facts.PendingState.TheVariants.{Expired};
 ghost use Rattle.records.specs.declared.side.Side.TheVariants.{Debit, Credit};
 ghost use Rattle.engine.specs.After.{balances_released};
 ghost use Rattle.rows.specs.Changes.{set_state};
 ghost use Rattle.rows.specs.Widths.{IsStorableStatus};
-ghost use Rattle.ledger_sql.specs.Calls.{Changes, IfClean, Learns};
+ghost use Rattle.ledger_sql.specs.Calls.{Changes, IfClean, Learns, OverLedger};
 ghost use Rattle.ledger_sql.specs.Effects.{IsInside};
 ghost use Rattle.stored_tables.specs.Kept.{kept_in};
-ghost use Rattle.stored_tables.specs.Moves.{CanWrite, ChangesRows, HasStatus};
+ghost use Rattle.stored_tables.specs.Moves.{ChangesRows, HasStatus};
 ghost use Rattle.stored_tables.specs.Releasing.{Expires, IsExpiry, IsTransferOf, AreBalancesOf};
 ghost use Rattle.stored_tables.specs.Releasing.{AreKeptBalancesOf, HasStatusRow, with_expiry};
 
@@ -54,8 +54,7 @@ fn expiry_of<S: Alter>(
     tenant: TenantNumber,
     id: u128,
 ) -> Result<Expiry, Unavailable>
-    requires { IfClean IsInside S.Store conn.old }
-    ensures { Learns (IsExpiry tenant.0 (kept_in kept.now.items) id)
+    ensures { Learns OverLedger (IsExpiry tenant.0 (kept_in kept.now.items) id)
         S.Store conn.old conn.new result }
 {
     let transfer = stored_transfer(conn, tenant, id)?;
@@ -75,8 +74,7 @@ fn stored_transfer<S: Alter>(
     tenant: TenantNumber,
     id: u128,
 ) -> Result<Transfer, Unavailable>
-    requires { IfClean IsInside S.Store conn.old }
-    ensures { Learns (IsTransferOf tenant.0 id) S.Store conn.old conn.new result }
+    ensures { Learns OverLedger (IsTransferOf tenant.0 id) S.Store conn.old conn.new result }
 {
     columns_keep_order();
     found_by_key::<Transfer>();
@@ -90,8 +88,8 @@ fn balances_of<S: Alter>(
     tenant: TenantNumber,
     account: u128,
 ) -> Result<Balances, Unavailable>
-    requires { IfClean CanWrite S.Store conn.old }
-    ensures { Learns (AreKeptBalancesOf tenant.0 (kept_in kept.now.items) account)
+    requires { IfClean (λ s. IsTrue s.is_open) S.Store conn.old }
+    ensures { Learns OverLedger (AreKeptBalancesOf tenant.0 (kept_in kept.now.items) account)
         S.Store conn.old conn.new result }
 {
     match kept_balances(kept, account) {
@@ -106,8 +104,7 @@ fn stored_balances<S: Alter>(
     tenant: TenantNumber,
     account: u128,
 ) -> Result<Balances, Unavailable>
-    requires { IfClean IsInside S.Store conn.old }
-    ensures { Learns (AreBalancesOf tenant.0 account) S.Store conn.old conn.new result }
+    ensures { Learns OverLedger (AreBalancesOf tenant.0 account) S.Store conn.old conn.new result }
 {
     columns_keep_order();
     cells_tell_rows();

@@ -5,9 +5,8 @@ ghost use Rattle.records.specs.Facts.{account_in};
 ghost use Rattle.records.specs.Machine.{account_with, transfer_with, has_id};
 ghost use Rattle.records.specs.Balances.{balances_in};
 ghost use Rattle.chain.specs.Tables.{pending_state_of};
-ghost use Rattle.sqlite.specs.Held.{state};
 ghost use Rattle.ledger_sql.specs.Calls.{Learns};
-ghost use Rattle.stored_tables.specs.Idle.{CanRead};
+ghost use Rattle.stored_tables.specs.Idle.{HoldsTenant};
 ghost use Rattle.stored_tables.specs.MachineOf.{machine_of};
 ghost use Rattle.stored_tables.specs.Meaning.{batch_meaning, OnlyTells};
 
@@ -36,8 +35,7 @@ pub(crate) fn clock<S: Alter>(
 
 /// The same, without giving up.
 fn read_clock<S: Alter>(conn: &mut Connection<S>, tenant: TenantNumber) -> Result<u64, Unavailable>
-    requires { CanRead tenant.0 (state S.Store conn.old) }
-    ensures { Learns (λ trees clock. clock ≡ (machine_of tenant.0 trees).clock)
+    ensures { Learns (HoldsTenant tenant.0) (λ trees clock. clock ≡ (machine_of tenant.0 trees).clock)
         S.Store conn.old conn.new result }
 {
     point_reads();
@@ -86,8 +84,7 @@ fn read_account<S: Alter>(
     tenant: TenantNumber,
     id: u128,
 ) -> Result<Option<Account>, Unavailable>
-    requires { CanRead tenant.0 (state S.Store conn.old) }
-    ensures { Learns
+    ensures { Learns (HoldsTenant tenant.0)
         (λ trees account. account ≡ account_with id (machine_of tenant.0 trees).accounts)
         S.Store conn.old conn.new result }
 {

@@ -1,11 +1,10 @@
 //! A tenant's accounts and transfers in a span of time, in its batch.
 
-ghost use Rattle.std.specs.Prelude.{◌≡◌, IfOk};
+ghost use Rattle.std.specs.Prelude.{◌≡◌, IfOk, IsTrue};
 ghost use Rattle.records.specs.Queries.{accounts_within, transfers_within};
 ghost use Rattle.chain.specs.Tables.{Leaves, same};
-ghost use Rattle.sqlite.specs.Held.{state};
-ghost use Rattle.ledger_sql.specs.Calls.{Learns};
-ghost use Rattle.stored_tables.specs.Idle.{CanRead};
+ghost use Rattle.ledger_sql.specs.Calls.{IfClean, Learns};
+ghost use Rattle.stored_tables.specs.Idle.{HoldsTenant};
 ghost use Rattle.stored_tables.specs.MachineOf.{machine_of};
 ghost use Rattle.stored_tables.specs.Meaning.{batch_meaning};
 
@@ -44,8 +43,8 @@ fn read_accounts<S: Alter>(
     tenant: TenantNumber,
     span: &Span,
 ) -> Result<Vec<Account>, Unavailable>
-    requires { CanRead tenant.0 (state S.Store conn.old) }
-    ensures { Learns (λ trees found. found.items ≡ accounts_within
+    requires { IfClean (λ s. IsTrue s.is_open) S.Store conn.old }
+    ensures { Learns (HoldsTenant tenant.0) (λ trees found. found.items ≡ accounts_within
         (machine_of tenant.0 trees) span.now)
         S.Store conn.old conn.new result }
 {
@@ -88,8 +87,8 @@ fn read_transfers<S: Alter>(
     tenant: TenantNumber,
     span: &Span,
 ) -> Result<Vec<Transfer>, Unavailable>
-    requires { CanRead tenant.0 (state S.Store conn.old) }
-    ensures { Learns (λ trees found. found.items ≡ transfers_within
+    requires { IfClean (λ s. IsTrue s.is_open) S.Store conn.old }
+    ensures { Learns (HoldsTenant tenant.0) (λ trees found. found.items ≡ transfers_within
         (machine_of tenant.0 trees) span.now)
         S.Store conn.old conn.new result }
 {

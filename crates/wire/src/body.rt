@@ -9,12 +9,12 @@ ghost use Rattle.wire.specs.Fields.{known_names, object_of};
 use crate::item::Item;
 use crate::object::{Object, read_object};
 use ledger_http::Refusal;
-use records::{AccountEvent, TransferEvent};
+use records::{AccountEvent, MOST_AT_ONCE, TransferEvent};
 use serde_json::Value;
 use std::alloc::Global;
 
 /// How many events or ids a list may have.
-pub(crate) const MAX_ITEMS: usize = 1000;
+pub(crate) const MAX_ITEMS: usize = MOST_AT_ONCE as usize;
 
 /// Reads the body of a batch of transfers: a JSON list of objects.
 pub fn read_transfers(alloc: Global, body: &[u8]) -> Result<Vec<TransferEvent>, Refusal>

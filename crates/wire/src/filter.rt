@@ -10,14 +10,11 @@ use crate::Wanted;
 use crate::fields::{u64_field, u128_field, whole_16, whole_32};
 use crate::misfit::Misfit;
 use crate::object::Object;
-use records::{AccountFilter, FilterFlags};
+use records::{AccountFilter, FilterFlags, MOST_AT_ONCE};
 use serde_json::Value;
 
 /// The flag bits that mean something: debits, credits, newest first.
 const KNOWN_FLAGS: u16 = 0b111;
-
-/// How many entries a filter may ask for.
-const MAX_LIMIT: u32 = 1000;
 
 impl Object for AccountFilter {
     ghost use Rattle.wire.specs.FilterBody.{filter_fields, filter_from};
@@ -77,7 +74,7 @@ fn limit_in(object: &Value) -> Option<u32>
     ensures { result ≡ limit_of (get (codes "limit") (view object.now)) }
 {
     let limit = whole_32(object, "limit")?;
-    if (1..=MAX_LIMIT).contains(&limit) {
+    if (1..=MOST_AT_ONCE).contains(&limit) {
         Some(limit)
     } else {
         None

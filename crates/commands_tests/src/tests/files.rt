@@ -1,5 +1,4 @@
 //! Steps on files of this machine: what is done to a file, and what the program tells of it.
-ghost use Rattle.std.specs.Prelude.{◌≡◌, false};
 
 use super::broken::breaks;
 use super::firms::{ADDING, Messages};
@@ -133,9 +132,7 @@ pub fn run_program<O: Drain + Drop>(
     rt: &HostRuntime,
     line: &str,
     out: O,
-) -> Result<(u8, Vec<u8>), Fail>
-    requires { O.failed out ≡ false }
-{
+) -> Result<(u8, Vec<u8>), Fail> {
     let words: Vec<&str> = line.split_whitespace().collect(rt.alloc())?;
     let mut err = Streamed::new(Vec::new(rt.alloc()));
     let status = program(rt, words.as_slice(), Unknown, out, &mut err);

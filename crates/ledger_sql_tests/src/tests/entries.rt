@@ -55,8 +55,12 @@ fn take_two<S: Unclaimed>(
 {
     claims_nothing(conn);
     match asked {
-        Asked::From(account, time) => entries::each_entry_from(conn, 1, *account, *time, two),
-        Asked::Until(account, time) => entries::each_entry_until(conn, 1, *account, *time, two),
+        Asked::From(account, time) => {
+            entries::first_entries_from(conn, 1, *account, *time, u32::MAX, two)
+        }
+        Asked::Until(account, time) => {
+            entries::first_entries_until(conn, 1, *account, *time, u32::MAX, two)
+        }
     }
 }
 
@@ -140,20 +144,6 @@ pub fn tells<S: Unclaimed>(
     told: &[(i64, u8)],
 ) -> Result<bool, Unavailable> {
     let mut taken = Taken::new(alloc);
-    take_all(conn, asked, &mut taken)?;
+    take_page(conn, asked, u32::MAX, &mut taken)?;
     Ok(taken.entries.as_slice() == told)
-}
-
-fn take_all<S: Unclaimed>(
-    conn: &mut Connection<S>,
-    asked: &Asked,
-    taken: &mut Taken,
-) -> Result<(), Unavailable>
-    requires { taken.old.is_out_of_memory ≡ false }
-{
-    claims_nothing(conn);
-    match asked {
-        Asked::From(account, time) => entries::each_entry_from(conn, 1, *account, *time, taken),
-        Asked::Until(account, time) => entries::each_entry_until(conn, 1, *account, *time, taken),
-    }
 }

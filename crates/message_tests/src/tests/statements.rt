@@ -1,6 +1,4 @@
 //! Statements as CSV, row by row and over a period, in other forms, and where the writer fails.
-ghost use Rattle.std.specs.Prelude.{◌≡◌, false, OnOk};
-ghost use Rattle.records.specs.Streamed.{stream_failed};
 
 use amount::Amount;
 use records::{Balances, Kind, RowSink, Side, SinkFault, StatementRow, Streamed, Sums, Transfer};
@@ -104,10 +102,7 @@ fn writes_the_widest_row(rt: HostRuntime) {
 }
 
 // Hands rows to a sink until it refuses one.
-fn hand<S: RowSink>(sink: &mut S, rows: &[StatementRow]) -> Result<(), SinkFault>
-    requires { S.refused sink.old ≡ false }
-    ensures { OnOk result (S.refused sink.new ≡ false) }
-{
+fn hand<S: RowSink>(sink: &mut S, rows: &[StatementRow]) -> Result<(), SinkFault> {
     for row in rows {
         sink.row(row)?;
     }
@@ -280,9 +275,7 @@ impl Write for Narrow {
     }
 }
 
-fn with_room(room: usize) -> Streamed<Narrow>
-    ensures { stream_failed result ≡ false }
-{
+fn with_room(room: usize) -> Streamed<Narrow> {
     Streamed::new(Narrow {
         bytes: [0; 200],
         len: 0,

@@ -13,7 +13,6 @@ loop-entry-preserved g c =
       one_row g.S.RowSink.takes c.args.sink.now c.loop-entry.sink c.row.new.self (row_of c.args.account)
           c.statement_row.result entries place entry c.loop-entry-test.true c.entry-item.is c.statement_row.ensures
           c.loop-entry.invariant.0 c.in_ok-row.ensures.taken,
-      c.in_ok-row.ensures.refused,
       λ bounded.
           c.time_behind-behind.ensures
           (subst (λ (e : AccountEntry). entry_time e ≤ max_clock) (sym c.entry-item.is) (bounded place entry c.loop-entry-test.true))

@@ -9,7 +9,7 @@ returns-in-Ok-clause-lines g c =
     let text = simp c.line-line.ensures at (c.in-Ok.ensures.ok) in (
       c.args.reason.now ++ 10 ∷ [],
       subst (IsWritten _ _ _) (c.as_bytes.ensures.value ∙ text)
-          (is_written _ _ _ _ c.put_all.result c.put_all.ensures.failed
+          (is_written _ _ _ _ _ c.put_all.result c.put_all.ensures.failed
           c.put_all.ensures.ok c.put_all.ensures.err),
     )
 

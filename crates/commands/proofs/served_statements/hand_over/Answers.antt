@@ -1,9 +1,9 @@
-use Rattle.std.proofs.Common.{◌++◌, ◌∷◌, ◌∙◌, List, ℕ, [], append_assoc, ap, inl, subst, sym, append-nil}
+use Rattle.std.proofs.Common.{◌++◌, ◌∷◌, ◌∙◌, List, ℕ, [], append_assoc, ap, inl, refl, subst, sym, append-nil}
 use Rattle.chain.specs.declared.account_entry.AccountEntry.{AccountEntry}
 use Rattle.control.specs.declared.entries.Entries.{Entries}
 use Rattle.records.specs.Streams.{TakesRows}
 use Rattle.commands.specs.Served.{ComeBehind, IsPieceAnswered, last_time, piece_behind, up_to}
-use Rattle.commands.proofs.ServedLemmas.{pieces_more, taken_then}
+use Rattle.commands.proofs.ServedLemmas.{failure_told, pieces_more, taken_then, unserved_by}
 use Rattle.commands.specs.Undone.{IsUnserved}
 use Rattle.commands.proofs.OpeningLemmas.{err_so}
 use Rattle.commands.proofs.served_statements.hand_over.Goals as goal
@@ -19,7 +19,7 @@ pieces-init g c = record {
       c.hand_entries.new.sink)
       (c.as_slice.ensures.value ∙ sym (append-nil c.args.first.entries.entries.items))
       c.in_ok-last.ensures.taken;
-  ready = c.in_ok-last.ensures.refused;
+  failed = c.in_ok-last.ensures.failed;
   behind = λ pieces come.
       subst
       (λ (to : ℕ). ComeBehind IsPieceAnswered (record c.args.first.asked { to = to })
@@ -45,7 +45,7 @@ pieces-preserved g c =
           (λ (entries : List AccountEntry). TakesRows g.S.EntrySink.takes c.pieces.sink entries
           c.hand_entries-in-pieces.new.sink)
           c.as_slice-in-pieces.ensures.value c.in_ok-last-2.ensures.taken));
-      ready = c.in_ok-last-2.ensures.refused;
+      failed = c.in_ok-last-2.ensures.failed ∙ before.failed;
       behind = λ pieces come.
           subst
           (λ (all : List Entries). ComeBehind IsPieceAnswered
@@ -74,7 +74,28 @@ returns-in_default-clause-taken g c =
       before.taken,
     )
 
-pub returns-in_err-ask_piece-clause-written : goal.returns-in_err-ask_piece-clause-written
-returns-in_err-ask_piece-clause-written g c =
+pub returns-in_err-last-clause-failed : goal.returns-in_err-last-clause-failed
+returns-in_err-last-clause-failed g c =
+    failure_told c.from_residual.result c.in_err-last.field-0.0 _ _ _
+    c.from_residual.ensures.1 c.in_err-last.ensures.failed refl
+
+pub returns-in_err-last-clause-fault : goal.returns-in_err-last-clause-fault
+returns-in_err-last-clause-fault g c =
+    unserved_by c.from_residual.result c.in_err-last.field-0.0
+    c.from_residual.ensures.1
+
+pub returns-in_err-last-2-clause-failed : goal.returns-in_err-last-2-clause-failed
+returns-in_err-last-2-clause-failed g c =
+    failure_told c.from_residual-in_err-last-2.result c.in_err-last-2.field-0.0 _ _ _
+    c.from_residual-in_err-last-2.ensures.1 c.in_err-last-2.ensures.failed
+    c.pieces.invariant.failed
+
+pub returns-in_err-last-2-clause-fault : goal.returns-in_err-last-2-clause-fault
+returns-in_err-last-2-clause-fault g c =
+    unserved_by c.from_residual-in_err-last-2.result c.in_err-last-2.field-0.0
+    c.from_residual-in_err-last-2.ensures.1
+
+pub returns-in_err-ask_piece-clause-fault : goal.returns-in_err-ask_piece-clause-fault
+returns-in_err-ask_piece-clause-fault g c =
     err_so IsUnserved c.from_residual-in_err-ask_piece.result c.in_err-ask_piece.field-0.0
     c.from_residual-in_err-ask_piece.ensures.1 (inl c.in_err-ask_piece.ensures.fault)

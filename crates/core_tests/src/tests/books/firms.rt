@@ -1,5 +1,4 @@
 //! Two firms whose ledgers are kept in memory, and what is sent to them and asked of them.
-ghost use Rattle.std.specs.Prelude.{◌≡◌, true, false, Err};
 
 use chain::{
     BatchFault, BatchReply, InUse, Ledgers, Listed, QueryPage, ReadFault, RoundWork, Rounds,
@@ -232,26 +231,14 @@ impl Firms {
 struct Rows {
     taken: Vec<StatementRow>,
     room: usize,
-    has_refused: bool,
 }
 
 impl Rows {
-    fn new(alloc: Global, room: usize) -> Rows
-        ensures { result.has_refused ≡ false }
-    {
+    fn new(alloc: Global, room: usize) -> Rows {
         Rows {
             taken: Vec::new(alloc),
             room,
-            has_refused: false,
         }
-    }
-
-    fn refuse(&mut self, why: SinkFault) -> Result<(), SinkFault>
-        ensures result { result ≡ Err why }
-        ensures refused { self.new.has_refused ≡ true }
-    {
-        self.has_refused = true;
-        Err(why)
     }
 }
 
@@ -260,15 +247,13 @@ impl RowSink for Rows {
 
     ghost refuses = { λ _ _ _ _. Unit {0} };
 
-    ghost refused = { λ rows. rows.has_refused };
-
     fn row(&mut self, row: &StatementRow) -> Result<(), SinkFault> {
         if self.taken.len() == self.room {
-            return self.refuse(SinkFault::Write);
+            return Err(SinkFault::Write);
         }
         match self.taken.push(*row) {
             Ok(()) => Ok(()),
-            Err(_) => self.refuse(SinkFault::Memory),
+            Err(_) => Err(SinkFault::Memory),
         }
     }
 }

@@ -7,7 +7,7 @@ use Rattle.ledger_http.proofs.reading.read_head.Given as goal
 -- So many bytes have been taken, and no beginning of them ends with a blank line.
 abbrev pub invariant-loop-at : goal.invariant-loop-at
 invariant-loop-at g l =
-    (g.R.Source.failed l.reader ≡ false)
+    (g.R.Source.failed l.reader ≡ g.R.Source.failed l.initial.reader)
     × (length l.head ≡ max_head)
     × ((j : ℕ) → j ≤ l.at → ends_with nat_eq (take j l.head) blank_line ≡ false)
     × ((bytes : List ℕ) → g.R.Source.left l.initial.reader ≡ Some bytes

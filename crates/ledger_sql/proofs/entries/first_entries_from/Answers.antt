@@ -1,4 +1,4 @@
-use Rattle.std.proofs.Common.{false, rules, arith}
+use Rattle.std.proofs.Common.{false, rules}
 use Rattle.sqlite_value.specs.Order.{column, value_cmp}
 use Rattle.sqlite_sql.specs.declared.ops.CompareOp.TheVariants.{Ge}
 use Rattle.amount.specs.Column.{column_of}
@@ -15,4 +15,4 @@ pub returns-clause-handed : goal.returns-clause-handed
 unfolding column_of
 returns-clause-handed g c =
     entries_up_to first_from_text Ge false c.args.tenant (column_of c.args.account) c.args.time c.args.count (is_from c.args.time) (compares_from c.args.time) (λ a b. value_cmp (column a 1) (column b 1)) (oldest_first Ge given_limit) _ _ _ (search rules) g.K.EntrySink.takes g.K.EntrySink.is_full
-    (λ clean. first_from_is c.args.conn.now.schema (c.requires.ledger (omega (arith, c.hand_out.ensures.reads.follows.survives.clean, clean)))) _ _ c.hand_out.result c.hand_out.ensures.handed c.known.result c.known.ensures.ok c.known.ensures.err
+    (first_from_is c.args.conn.now.schema) _ _ c.hand_out.result c.hand_out.ensures.handed c.known.result c.known.ensures.ok c.known.ensures.err

@@ -1,4 +1,4 @@
-use Rattle.std.proofs.Common.{true, rules, arith}
+use Rattle.std.proofs.Common.{true, rules}
 use Rattle.sqlite_value.specs.Order.{column, value_cmp}
 use Rattle.sqlite_sql.specs.declared.ops.CompareOp.TheVariants.{Le}
 use Rattle.amount.specs.Column.{column_of}
@@ -15,4 +15,4 @@ pub returns-clause-handed : goal.returns-clause-handed
 unfolding column_of
 returns-clause-handed g c =
     entries_up_to first_until_text Le true c.args.tenant (column_of c.args.account) c.args.time c.args.count (is_until c.args.time) (compares_until c.args.time) (λ a b. value_cmp (column b 1) (column a 1)) (newest_first Le given_limit) _ _ _ (search rules) g.K.EntrySink.takes g.K.EntrySink.is_full
-    (λ clean. first_until_is c.args.conn.now.schema (c.requires.ledger (omega (arith, c.hand_out.ensures.reads.follows.survives.clean, clean)))) _ _ c.hand_out.result c.hand_out.ensures.handed c.known.result c.known.ensures.ok c.known.ensures.err
+    (first_until_is c.args.conn.now.schema) _ _ c.hand_out.result c.hand_out.ensures.handed c.known.result c.known.ensures.ok c.known.ensures.err

@@ -1,4 +1,4 @@
-use Rattle.std.proofs.Common.{pos, [], ◌∷◌, refl, rules, arith}
+use Rattle.std.proofs.Common.{pos, [], ◌∷◌, refl, rules}
 use Rattle.sqlite_value.specs.declared.value.Value.TheVariants.{Int}
 use Rattle.ledger_sql.specs.Values.{clock_values}
 use Rattle.sqlite_sql.specs.Term.{col}
@@ -12,8 +12,8 @@ first_row-requires g c = find_clock_reads
 
 pub returns : goal.returns
 returns g c = record {
-  ok = λ clean.
-      let text = find_clock_is c.args.conn.now.schema (c.requires (omega (arith, c.first_row.ensures.reads.follows.survives.clean, clean))) in
+  ok = λ clean ledger.
+      let text = find_clock_is c.args.conn.now.schema ledger in
       view_read (λ clock. clock_values (pos clock)) find_clock_text _ 4 (is_param 0 0 ∷ []) (col 1 2 ∷ []) text (Int c.args.tenant ∷ []) _ _ refl _ (clock_view c.args.tenant (state g.S.Store c.args.conn.now).now.trees) _ (search rules)
       c.first_row.result (c.first_row.ensures.ok clean) c.read_found.result c.read_found.ensures.values;
   fits = search rules;

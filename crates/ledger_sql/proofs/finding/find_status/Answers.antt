@@ -1,4 +1,4 @@
-use Rattle.std.proofs.Common.{refl, rules, arith}
+use Rattle.std.proofs.Common.{refl, rules}
 use Rattle.amount.specs.Column.{column_of}
 use Rattle.rows.specs.Cells.{status_cells}
 use Rattle.ledger_sql.specs.Values.{status_values}
@@ -12,8 +12,8 @@ first_row-requires g c = find_status_reads
 pub returns : goal.returns
 unfolding column_of
 returns g c = record {
-  ok = λ clean.
-      let text = find_status_is c.args.conn.now.schema (c.requires (omega (arith, c.first_row.ensures.reads.follows.survives.clean, clean))) in
+  ok = λ clean ledger.
+      let text = find_status_is c.args.conn.now.schema ledger in
       point_read (λ row. status_values (status_cells row)) c.args.tenant (column_of c.args.transfer) find_status_text _ 13 2 text _ _ refl _ (search rules) c.first_row.result (c.first_row.ensures.ok clean) c.read_found.result c.read_found.ensures.values;
   fits = search rules;
   reads = search rules;

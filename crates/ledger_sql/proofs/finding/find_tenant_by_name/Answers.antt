@@ -1,4 +1,4 @@
-use Rattle.std.proofs.Common.{[], ◌∷◌, refl, rules, arith}
+use Rattle.std.proofs.Common.{[], ◌∷◌, refl, rules}
 use Rattle.std.specs.Prelude.{string_bytes}
 use Rattle.sqlite_value.specs.declared.value.Value.TheVariants.{Text}
 use Rattle.sqlite_sql.specs.Term.{col}
@@ -13,8 +13,8 @@ first_row-requires g c = find_name_reads
 
 pub returns : goal.returns
 returns g c = record {
-  ok = λ clean.
-      let text = find_name_is c.args.conn.now.schema (c.requires (omega (arith, c.first_row.ensures.reads.follows.survives.clean, clean))) in
+  ok = λ clean ledger.
+      let text = find_name_is c.args.conn.now.schema ledger in
       view_read (λ row. directory_values row.number (string_bytes row.name) row.digest) find_name_text _ 1 (is_param 2 0 ∷ []) (col 1 0 ∷ columns_from 2 2) text (Text c.args.name.now ∷ []) _ _ refl _ (name_view c.args.name.now (state g.S.Store c.args.conn.now).now.trees) _ (search rules)
       c.first_row.result (c.first_row.ensures.ok clean) c.read_found.result c.read_found.ensures.values;
   fits = search rules;

@@ -1,4 +1,4 @@
-use Rattle.std.proofs.Common.{false, refl, rules, arith}
+use Rattle.std.proofs.Common.{false, refl, rules}
 use Rattle.sqlite_value.specs.Order.{column, value_cmp}
 use Rattle.rows.specs.Cells.{transfer_cells}
 use Rattle.ledger_sql.specs.Values.{transfer_values}
@@ -9,11 +9,12 @@ use Rattle.ledger_sql.proofs.spans.oldest_transfers.Goals as goal
 pub in_span-requires : goal.in_span-requires
 in_span-requires g c = oldest_transfers_reads
 
-pub returns-clause-learns : goal.returns-clause-learns
-returns-clause-learns g c = record {
-  ok = λ clean.
-      let text = oldest_transfers_is c.args.conn.now.schema (c.requires (omega (arith, c.in_span.ensures.reads.follows.survives.clean, clean))) in
+pub returns : goal.returns
+returns g c = record {
+  ok = λ clean ledger.
+      let text = oldest_transfers_is c.args.conn.now.schema ledger in
       span_read 8 14 14 12 (λ _. refl) c.args.tenant c.args.first c.args.last c.args.most oldest_transfers_text _ false text _ _ refl (λ a b. value_cmp (column a 12) (column b 12)) transfers_ascend _ (search rules)
       (λ row. transfer_values (transfer_cells row)) (λ v. v.items) c.in_span.result (c.in_span.ensures.ok clean);
+  fits = c.in_span.ensures.fits;
   reads = c.in_span.ensures.reads;
 }

@@ -4,11 +4,9 @@ use Rattle.ledger_sql.proofs.StageLemmas.{release_text}
 use Rattle.ledger_sql.proofs.MarkLemmas.{released, release_follows}
 use Rattle.ledger_sql.proofs.stages.release_mark.Goals as goal
 
-pub returns-clause-ok : goal.returns-clause-ok
-returns-clause-ok g c clean = rw c.done.ensures (released _ _ c.requires c.execute.ensures.survives c.execute.result clean (c.execute.ensures.runs clean))
-
-pub returns-clause-err : goal.returns-clause-err
-returns-clause-err g c clean = rw c.done.ensures (done_err release_text [] _ _ c.execute.result (c.execute.ensures.runs clean))
-
-pub returns-clause-follows : goal.returns-clause-follows
-returns-clause-follows g c = release_follows _ _ c.requires c.execute.result c.execute.ensures.runs c.execute.ensures.survives
+pub returns : goal.returns
+returns g c = record {
+  ok = λ clean. rw c.done.ensures (released _ _ c.requires c.execute.ensures.survives c.execute.result clean (c.execute.ensures.runs clean));
+  err = λ clean. rw c.done.ensures (done_err release_text [] _ _ c.execute.result (c.execute.ensures.runs clean));
+  follows = release_follows _ _ c.requires c.execute.result c.execute.ensures.runs c.execute.ensures.survives;
+}

@@ -1,13 +1,10 @@
 //! The lines that commands write.
-ghost use Rattle.std.specs.Prelude.{◌≡◌, false};
 
 use command_texts::{Fault, put_count, put_key, put_metric, put_stopped, put_tenant, put_tenants};
 use records::{Drain, Streamed};
 
 // What the lines are together, and whether they were written.
-fn put_all<O: Drain>(out: &mut O) -> Result<(), Fault>
-    requires { O.failed out.old ≡ false }
-{
+fn put_all<O: Drain>(out: &mut O) -> Result<(), Fault> {
     put_key(out, "00ff")?;
     put_tenants(out)?;
     put_tenant(out, "north-desk", "ff00", "1764120000000000001")?;

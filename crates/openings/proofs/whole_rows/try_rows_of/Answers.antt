@@ -14,8 +14,9 @@ returns-in_default g c = record {
   value = λ clean.
       let before : HasCleanDisk (state g.S.Store c.args.conn.now) =
       omega (arith, c.in_ok-number.ensures.reads.follows.survives.clean, clean) in
+      let ledgers = (c.requires before).2 in
       found_number c.args.digest.now _ c.in_ok-number.field-0
-      ((c.requires before).2.distinct.digests c.args.digest.now) (c.in_ok-number.ensures.ok clean)
+      (ledgers.distinct.digests c.args.digest.now) (c.in_ok-number.ensures.ok clean ledgers.schema)
       ∙ c.in_default.is;
   looks = search rules;
 }
@@ -34,7 +35,7 @@ returns g c = record {
       let rows = rw (passed c.in-Some.number (search rules)) at (c.in_ok-read_tenant.ensures.whole clean there) in (
         c.in-Some.number,
         found_number c.args.digest.now _ c.in_ok-number.field-0 (ledgers.distinct.digests c.args.digest.now)
-            (c.in_ok-number.ensures.ok first) ∙ c.in-Some.is,
+            (c.in_ok-number.ensures.ok first ledgers.schema) ∙ c.in-Some.is,
         subst (λ (db : Database). AreTenantRows c.args.version c.in-Some.number db.trees
             (lists_of c.in_ok-read_tenant.field-0)) kept.0.now_is rows,
       );

@@ -1,4 +1,4 @@
-use Rattle.std.proofs.Common.{◌≡◌, Bool, true, refl, sym, ◌∙◌, subst, inl, inr, arith}
+use Rattle.std.proofs.Common.{◌≡◌, ◌||◌, Bool, true, refl, sym, ap, ◌∙◌, subst, inl, inr, arith}
 use Rattle.std.proofs.KnownBytes.{Keeps-refl}
 use Rattle.service.specs.Connections.{connection, Exchange}
 use Rattle.service.proofs.ConnectionRuns.{none_yet, one_reply_more, on_err_is, on_ok_is}
@@ -7,8 +7,8 @@ use Rattle.service.proofs.serving.serve.Goals as goal
 pub loop-replies-init : goal.loop-replies-init
 loop-replies-init g c = record {
   replied = none_yet g.L.Ledgers.means g.C.Moments.gives _ _;
-  reads = c.requires.reads;
-  writes = c.requires.writes;
+  reads = refl;
+  writes = refl;
   follows = g.met.L.Ledgers.stays c.args.ledgers.now;
   few = omega arith;
 }
@@ -92,8 +92,12 @@ loop-replies-preserved g c =
           goes_on (rw c.in-Ok-Some.field-0-is at (c.in-Ok-Some.ensures.exchanges)))
           (on_ok_is c.write.result _ (sym c.is_err.ensures.value ∙ c.if-is_err.false)
           c.write.ensures.ok);
-      reads = c.in-Ok-Some.ensures.failed;
-      writes = c.write.ensures.failed ∙ (sym c.is_err.ensures.value ∙ c.if-is_err.false);
+      reads = c.in-Ok-Some.ensures.failed ∙ c.loop-replies.invariant.reads;
+      writes =
+          c.write.ensures.failed
+          ∙ ap (λ (fails : Bool). fails || g.W.Drain.failed c.loop-replies.writer)
+          (sym c.is_err.ensures.value ∙ c.if-is_err.false)
+          ∙ c.loop-replies.invariant.writes;
       follows = g.met.L.Ledgers.then _ _ _ c.loop-replies.invariant.follows
           c.exchange.ensures.stays;
       few = omega arith;

@@ -1,5 +1,4 @@
 //! Firms in memory of which a batch is refused, as each piece of a statement is one.
-ghost use Rattle.std.specs.Prelude.{◌≡◌, true, false};
 
 use super::scripts::Answers;
 use crate::tests::frail::Frail;
@@ -15,18 +14,6 @@ use std::alloc::Global;
 #[derive(Drop)]
 struct Taken {
     rows: Vec<(u64, u128)>,
-    has_refused: bool,
-}
-
-impl Taken {
-    fn new(alloc: Global) -> Taken
-        ensures { result.has_refused ≡ false }
-    {
-        Taken {
-            rows: Vec::new(alloc),
-            has_refused: false,
-        }
-    }
 }
 
 impl RowSink for Taken {
@@ -34,15 +21,10 @@ impl RowSink for Taken {
 
     ghost refuses = { λ _ _ _ _. Unit {0} };
 
-    ghost refused = { λ taken. taken.has_refused };
-
     fn row(&mut self, row: &StatementRow) -> Result<(), SinkFault> {
         match self.rows.push((row.timestamp, row.transfer_id)) {
             Ok(()) => Ok(()),
-            Err(_) => {
-                self.has_refused = true;
-                Err(SinkFault::Memory)
-            }
+            Err(_) => Err(SinkFault::Memory),
         }
     }
 }
@@ -99,7 +81,9 @@ impl FrailFirms {
         account: u128,
         order: Order,
     ) -> (Vec<(u64, u128)>, Result<(), ReadFault>) {
-        let mut taken = Taken::new(self.alloc);
+        let mut taken = Taken {
+            rows: Vec::new(self.alloc),
+        };
         let ended = self
             .ledgers
             .each_statement_row(self.alloc, digest, account, order, &mut taken);

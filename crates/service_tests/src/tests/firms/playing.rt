@@ -1,5 +1,4 @@
 //! Firms that are sent what scripts tell.
-ghost use Rattle.std.specs.Prelude.{◌≡◌, false};
 
 use super::Firms;
 use crate::tests::answers::failing::FrailFirms;
@@ -71,10 +70,7 @@ impl Firms {
         writer: &mut W,
         moments: &mut C,
         most: u64,
-    ) -> Result<u64, ServeFault>
-        requires reads { R.failed reader.old ≡ false }
-        requires writes { W.failed writer.old ≡ false }
-    {
+    ) -> Result<u64, ServeFault> {
         serve(self.alloc, &mut self.ledgers, reader, writer, moments, most)
     }
 }

@@ -1,5 +1,3 @@
-ghost use Rattle.std.specs.Prelude.{◌≡◌, false, true, Err};
-
 use records::{RowSink, SinkFault, StatementRow};
 use std::alloc::Global;
 
@@ -8,26 +6,14 @@ use std::alloc::Global;
 pub struct TakenRows {
     pub taken: Vec<StatementRow>,
     room: usize,
-    has_refused: bool,
 }
 
 impl TakenRows {
-    pub fn new(alloc: Global, room: usize) -> TakenRows
-        ensures { result.has_refused ≡ false }
-    {
+    pub fn new(alloc: Global, room: usize) -> TakenRows {
         TakenRows {
             taken: Vec::new(alloc),
             room,
-            has_refused: false,
         }
-    }
-
-    fn refuse(&mut self, why: SinkFault) -> Result<(), SinkFault>
-        ensures result { result ≡ Err why }
-        ensures refused { self.new.has_refused ≡ true }
-    {
-        self.has_refused = true;
-        Err(why)
     }
 }
 
@@ -36,15 +22,13 @@ impl RowSink for TakenRows {
 
     ghost refuses = { λ _ _ _ _. Unit {0} };
 
-    ghost refused = { λ rows. rows.has_refused };
-
     fn row(&mut self, row: &StatementRow) -> Result<(), SinkFault> {
         if self.taken.len() == self.room {
-            return self.refuse(SinkFault::Write);
+            return Err(SinkFault::Write);
         }
         match self.taken.push(*row) {
             Ok(()) => Ok(()),
-            Err(_) => self.refuse(SinkFault::Memory),
+            Err(_) => Err(SinkFault::Memory),
         }
     }
 }

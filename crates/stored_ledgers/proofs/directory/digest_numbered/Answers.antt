@@ -13,10 +13,11 @@ returns g c = record {
       omega (arith, c.in_ok-judged.ensures.follows.survives.clean, clean) in
       let before : HasCleanDisk (state g.S.Store c.args.conn.now) =
       omega (arith, c.find_tenant_by_number-row.ensures.reads.follows.survives.clean, mid) in
+      let ledgers = (c.requires before).2 in
       let picks = MatchResult-at_ok _ _ _ c.in_ok-judged.ensures.ok.0
-      (c.find_tenant_by_number-row.ensures.ok mid) in
+      (c.find_tenant_by_number-row.ensures.ok mid ledgers.schema) in
       number_found c.args.number (state g.S.Store c.args.conn.now).now.trees c.in_ok-judged.field-0 c.digest_in.result
-      ((c.requires before).2.distinct.numbers c.args.number)
+      (ledgers.distinct.numbers c.args.number)
       (rw (to_z-of_z w64 c.args.number (search rules)) at picks) c.digest_in.ensures;
   reads = search rules;
 }

@@ -13,9 +13,11 @@ returns g c = record {
       omega (arith, c.in_ok-judged.ensures.follows.survives.clean, clean) in
       let before : HasCleanDisk (state g.S.Store c.args.conn.now) =
       omega (arith, c.find_tenant-number.ensures.reads.follows.survives.clean, mid) in
-      let picks = MatchResult-at_ok _ _ _ c.in_ok-judged.ensures.ok.0 (c.find_tenant-number.ensures.ok mid) in
+      let ledgers = (c.requires before).2 in
+      let picks = MatchResult-at_ok _ _ _ c.in_ok-judged.ensures.ok.0
+      (c.find_tenant-number.ensures.ok mid ledgers.schema) in
       c.is_some.ensures
       ∙ found_tenant c.args.digest.now _ c.in_ok-judged.field-0 (found_number c.args.digest.now _ _
-      ((c.requires before).2.distinct.digests c.args.digest.now) picks);
+      (ledgers.distinct.digests c.args.digest.now) picks);
   reads = search rules;
 }

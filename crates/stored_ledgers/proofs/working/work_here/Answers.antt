@@ -17,9 +17,9 @@ pub returns-in_default-clause-told : goal.returns-in_default-clause-told
 returns-in_default-clause-told g c live =
     let old = state g.S.Store c.args.conn.now in
     let before : HasCleanDisk old = omega (arith, c.in_ok-number.ensures.reads.follows.survives.clean, live.0) in
-    let found = found_number c.args.digest.now old.now.trees _
-    ((c.requires before).serves.ledgers.distinct.digests c.args.digest.now)
-    (c.in_ok-number.ensures.ok live.0) in (
+    let ledgers = (c.requires before).serves.ledgers in
+    let found = found_number c.args.digest.now old.now.trees _ (ledgers.distinct.digests c.args.digest.now)
+    (c.in_ok-number.ensures.ok live.0 ledgers.schema) in (
       ap (option_map (λ n. machine_of n old.now.trees)) (found ∙ c.in_default.is),
       (c.in_ok-number.ensures.reads.same live.0).0.now_is,
     )
@@ -29,6 +29,7 @@ run_work-requires g c clean =
     let old = state g.S.Store c.args.conn.now in
     let number = to_z w64 (of_z w64 c.in-Some.number) in
     let before : HasCleanDisk old = omega (arith, c.in_ok-number.ensures.reads.follows.survives.clean, clean) in
+    let serves = (c.requires before).serves in
     let same = c.in_ok-number.ensures.reads.same clean in
     let was = still_in_round c.args.due.now old _ same (c.requires before) in
     let fits : FitsSigned w64 c.in-Some.number = search rules in
@@ -43,10 +44,10 @@ run_work-requires g c clean =
       mode = was.mode;
       unmarked = was.unmarked;
       can = subst (CanWork number c.in-Some-get_mut.set.now) (sym same.0.now_is)
-          (can_work c.args.due.now number c.in-Some-get_mut.set.now old.now (c.requires before).serves (
+          (can_work c.args.due.now number c.in-Some-get_mut.set.now old.now serves (
             c.args.digest.now,
             found_after c.args.digest.now old.now _ c.in-Some.number
-                (c.requires before).serves.ledgers (c.in_ok-number.ensures.ok clean) c.in-Some.is fits,
+                serves.ledgers (c.in_ok-number.ensures.ok clean serves.ledgers.schema) c.in-Some.is fits,
           ) found);
     }
 
@@ -108,7 +109,7 @@ returns-clause-told g c live =
     (λ other apart. written.2 other (let a = apart in cc)) (g.W.Work.gives c.args.work) c.args.digest.now old mid
     new (c.in_ok-number.ensures.reads.same before).0.now_is serves
     (found_after c.args.digest.now old.now _ c.in-Some.number serves.ledgers
-    (c.in_ok-number.ensures.ok before) c.in-Some.is fits) c.in_ok-worked.worked.output
+    (c.in_ok-number.ensures.ok before serves.ledgers.schema) c.in-Some.is fits) c.in_ok-worked.worked.output
     c.in_ok-worked.worked.past (c.in_ok-worked.ensures.worked live.0)
 
 pub returns-clause-here : goal.returns-clause-here
@@ -133,5 +134,5 @@ returns-clause-here g c clean =
     (λ other apart. written.2 other (let a = apart in cc)) (g.W.Work.gives c.args.work) c.args.digest.now old mid
     new (c.in_ok-number.ensures.reads.same before).0.now_is serves
     (found_after c.args.digest.now old.now _ c.in-Some.number serves.ledgers
-    (c.in_ok-number.ensures.ok before) c.in-Some.is fits) c.in_ok-worked.worked.output
+    (c.in_ok-number.ensures.ok before serves.ledgers.schema) c.in-Some.is fits) c.in_ok-worked.worked.output
     c.in_ok-worked.worked.past (c.in_ok-worked.ensures.worked clean)

@@ -1,13 +1,10 @@
 use Rattle.stored_tables.specs.InBatch.{shown}
-use Rattle.stored_tables.proofs.Keeping.{can_read, reads, gives_up}
+use Rattle.stored_tables.proofs.Keeping.{tenant_before, reads, gives_up}
 use Rattle.stored_tables.proofs.account_entries.account_entries.Goals as goal
-
-pub read_entries-requires : goal.read_entries-requires
-read_entries-requires g c = can_read _ _ c.requires
 
 pub returns-in-Ok-clause-value : goal.returns-in-Ok-clause-value
 unfolding shown
-returns-in-Ok-clause-value g c live = c.in-Ok.ensures.ok live.0
+returns-in-Ok-clause-value g c live = c.in-Ok.ensures.ok live.0 (tenant_before g.S.Store c.args.tenant.0 c.args.conn.now c.read_entries.new.conn c.requires c.read_entries.ensures.reads.follows live.0)
 
 pub returns-in-Ok-clause-leaves : goal.returns-in-Ok-clause-leaves
 returns-in-Ok-clause-leaves g c = reads g.S.Store _ _ _ c.in-Ok.found c.requires c.read_entries.ensures.reads.follows c.in-Ok.ensures.reads.same

@@ -18,6 +18,6 @@ returns-in-Some g c = record {
       let clean1 : HasCleanDisk s1 = omega (arith, c.set_status.ensures.follows.survives.clean, clean) in
       let clean0 : HasCleanDisk s0 = omega (arith, c.status.ensures.reads.follows.survives.clean, clean1) in
       state_written t c.args.id c.args.to s0 s1 s2 (c.requires clean0) c.columns_keep_order.ensures.one_to_one c.found_by_key.ensures.alone c.found_by_key.ensures.replaced c.in-Some.row c.in_ok-row.field-0 c.in-Some.is
-      (c.in_ok-row.ensures.ok clean1) (c.in_ok-row.ensures.reads.same clean1) c.set_status.result (rw (passed t (search rules)) at (c.set_status.ensures.ok clean));
+      (c.in_ok-row.ensures.ok clean1 (c.requires clean0).schema) (c.in_ok-row.ensures.reads.same clean1) c.set_status.result (rw (passed t (search rules)) at (c.set_status.ensures.ok clean));
   follows = search rules;
 }

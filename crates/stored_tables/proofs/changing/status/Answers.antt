@@ -1,5 +1,4 @@
-use Rattle.std.proofs.Common.{arith, rules, IfSome}
-use Rattle.sqlite.specs.State.{HasCleanDisk}
+use Rattle.std.proofs.Common.{rules, IfSome}
 use Rattle.sqlite.specs.Held.{state}
 use Rattle.rows.specs.Widths.{IsStorableStatus}
 use Rattle.stored_tables.specs.Moves.{IsStatusOf}
@@ -8,13 +7,16 @@ use Rattle.stored_tables.proofs.Numbers.{passed}
 use Rattle.stored_tables.proofs.Statements.{status_found}
 use Rattle.stored_tables.proofs.changing.status.Goals as goal
 
-pub returns-clause-ok : goal.returns-clause-ok
-returns-clause-ok g c clean =
-    let t = c.args.tenant.0 in
-    let s0 = state g.S.Store c.args.conn.now in
-    let s1 = state g.S.Store c.find_status.new.conn in
-    let clean0 : HasCleanDisk s0 = omega (arith, c.find_status.ensures.reads.follows.survives.clean, clean) in
-    both_ok c.find_status.result (λ found. IfSome found IsStorableStatus) _ (IsStatusOf t c.args.id s0.now.trees)
-    (λ found fits picks. status_found t s0 s1 (c.requires clean0).schema c.columns_keep_order.ensures.one_to_one c.found_by_key.ensures.alone c.cells_tell_rows.ensures c.args.id found c.ranges.id.fits fits picks)
-    c.find_status.ensures.fits
-    (rw (passed t (search rules)) at (c.find_status.ensures.ok clean))
+pub returns : goal.returns
+returns g c = record {
+  ok = λ clean ledger.
+      let t = c.args.tenant.0 in
+      let s0 = state g.S.Store c.args.conn.now in
+      let s1 = state g.S.Store c.find_status.new.conn in
+      both_ok c.find_status.result (λ found. IfSome found IsStorableStatus) _ (IsStatusOf t c.args.id s0.now.trees)
+      (λ found fits picks. status_found t s0 s1 ledger c.columns_keep_order.ensures.one_to_one c.found_by_key.ensures.alone c.cells_tell_rows.ensures c.args.id found c.ranges.id.fits fits picks)
+      c.find_status.ensures.fits
+      (rw (passed t (search rules)) at (c.find_status.ensures.ok clean ledger));
+  fits = c.find_status.ensures.fits;
+  reads = c.find_status.ensures.reads;
+}

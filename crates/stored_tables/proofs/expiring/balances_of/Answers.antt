@@ -6,12 +6,12 @@ use Rattle.stored_tables.proofs.expiring.balances_of.Goals as goal
 
 pub returns-in-Some : goal.returns-in-Some
 returns-in-Some g c = record {
-  ok = λ clean. kept_told c.args.tenant.0 (kept_in c.args.kept.now.items) c.args.account (state g.S.Store c.args.conn.now).now.trees c.in-Some.balances (sym c.kept_balances.ensures ∙ c.in-Some.is);
+  ok = λ clean ledger. kept_told c.args.tenant.0 (kept_in c.args.kept.now.items) c.args.account (state g.S.Store c.args.conn.now).now.trees c.in-Some.balances (sym c.kept_balances.ensures ∙ c.in-Some.is);
   reads = nothing_read c.in-Some.balances (state g.S.Store c.args.conn.now) c.requires;
 }
 
 pub returns-in-None : goal.returns-in-None
 returns-in-None g c = record {
-  ok = λ clean. told_stored c.args.tenant.0 (kept_in c.args.kept.now.items) c.args.account (state g.S.Store c.args.conn.now).now.trees (sym c.kept_balances.ensures ∙ c.in-None.is) c.stored_balances.result (c.stored_balances.ensures.ok clean);
+  ok = λ clean ledger. told_stored c.args.tenant.0 (kept_in c.args.kept.now.items) c.args.account (state g.S.Store c.args.conn.now).now.trees (sym c.kept_balances.ensures ∙ c.in-None.is) c.stored_balances.result (c.stored_balances.ensures.ok clean ledger);
   reads = c.stored_balances.ensures.reads;
 }

@@ -18,7 +18,8 @@ returns g c = record {
       let s1 = state g.S.Store c.expiry_of.new.conn in
       let s2 = state g.S.Store c.set_expired.new.conn in
       let before : HasCleanDisk s1 = omega (arith, c.set_expired.ensures.follows.survives.clean, clean) in
-      expired c.args.tenant.0 c.args.row.now.transfer (kept_in c.args.kept.now.items) (kept_in c.keep_both.new.kept.items) c.in_ok-expiry.expiry s0 s1 s2 (c.in_ok-expiry.ensures.ok before) (c.in_ok-expiry.ensures.reads.same before) c.keep_both.ensures c.set_expired.result
+      let first : HasCleanDisk s0 = omega (arith, c.expiry_of.ensures.reads.follows.survives.clean, before) in
+      expired c.args.tenant.0 c.args.row.now.transfer (kept_in c.args.kept.now.items) (kept_in c.keep_both.new.kept.items) c.in_ok-expiry.expiry s0 s1 s2 (c.in_ok-expiry.ensures.ok before (c.requires.inside first).schema) (c.in_ok-expiry.ensures.reads.same before) c.keep_both.ensures c.set_expired.result
       (c.set_expired.ensures.ok clean);
   follows = search rules;
 }

@@ -1,15 +1,12 @@
 use Rattle.std.proofs.Common.{rules}
 use Rattle.stored_tables.specs.InBatch.{shown}
-use Rattle.stored_tables.proofs.Keeping.{can_read, reads, gives_up}
+use Rattle.stored_tables.proofs.Keeping.{tenant_before, reads, gives_up}
 use Rattle.stored_tables.proofs.reading.account_alone.Goals as goal
-
-pub read_account-requires : goal.read_account-requires
-read_account-requires g c = can_read _ _ c.requires
 
 pub returns-in-Ok : goal.returns-in-Ok
 unfolding shown
 returns-in-Ok g c = record {
-  value = λ live. c.in-Ok.ensures.ok live.0;
+  value = λ live. c.in-Ok.ensures.ok live.0 (tenant_before g.S.Store c.args.tenant.0 c.args.conn.now c.read_account.new.conn c.requires c.read_account.ensures.reads.follows live.0);
   leaves =
       reads g.S.Store _ _ _ c.in-Ok.found c.requires c.read_account.ensures.reads.follows c.in-Ok.ensures.reads.same;
 }

@@ -18,7 +18,6 @@ pieces-init g c = (
       (sym c.first_piece-span.ensures)
       (reading_begins g.Self.Ledgers.means g.S.RowSink.takes c.args.digest.now c.args.account c.args.order c.args.self.now c.args.sink.now
       (g.met.Self.Ledgers.stays c.args.self.now) (λ live. g.met.Self.Ledgers.valid c.args.self.now live)),
-  c.requires,
   λ failed. refl,
 )
 
@@ -108,7 +107,6 @@ pieces-preserved g c = (
       (subst (λ (es : List AccountEntry). All (λ entry. entry_time entry ≤ max_clock) es → c.in_ok-next.field-0 ≡ piece_behind c.pieces.span es) c.deref.ensures.value c.in_ok-next.ensures.next)
       c.in-Some.is
       (subst (λ (es : List AccountEntry). TakesRows g.S.RowSink.takes c.pieces.sink (map (row_of c.args.account) es) c.hand_piece.new.sink) c.deref.ensures.value c.in_ok-next.ensures.ok),
-  c.in_ok-next.ensures.refused,
   λ failed. absurd (not_answered c.account_answer.result c.in_ok-found.found c.in_ok-found.was
       (account_refused c.in_batch.result c.account_answer.result c.account_answer.ensures
       (c.in_batch.ensures.failed (g.met.Self.Ledgers.fails c.args.self.now c.pieces.self c.pieces.invariant.0.read.follows failed)))),
@@ -138,4 +136,4 @@ returns-in_default-clause-failed g c failed =
     (c.in_batch.ensures.failed (g.met.Self.Ledgers.fails c.args.self.now c.pieces.self c.pieces.invariant.0.read.follows failed))))
 
 pub returns-clause-failed : goal.returns-clause-failed
-returns-clause-failed g c failed = absurd (omega (arith, c.pieces.invariant.2 failed))
+returns-clause-failed g c failed = absurd (omega (arith, c.pieces.invariant.1 failed))

@@ -1,16 +1,9 @@
-use Rattle.std.proofs.Common.{◌≡◌, true, refl, rules}
-use Rattle.store.proofs.ReadLemmas.{serves_open, holds_here, reads_open}
+use Rattle.std.proofs.Common.{refl, rules}
+use Rattle.store.proofs.ReadLemmas.{reads_here, reads_open}
 use Rattle.store.proofs.store.Store.digest_of.Goals as goal
 
 pub digest_of-digest-requires : goal.digest_of-digest-requires
-digest_of-digest-requires g c =
-    let answers : c.args.self.now.ready ≡ true = search rules in
-    holds_here _ _ (serves_open g.D.Disk _ c.args.self.now.due c.args.self.now.place _ c.in-Open.is
-    answers c.requires)
+digest_of-digest-requires g c = reads_here g.D.Disk c.args.self.now _ c.in-Open.is (search rules) c.requires
 
 pub returns-clause-reads : goal.returns-clause-reads
-returns-clause-reads g c =
-    let answers : c.args.self.now.ready ≡ true = search rules in
-    reads_open g.D.Disk c.digest_of-digest.result c.is_disk_fault.result c.args.self.now _ c.in-Open.conn
-    c.digest_of-digest.new.conn c.in-Open.is refl refl answers refl c.is_disk_fault.ensures c.requires
-    c.digest_of-digest.ensures.reads.follows c.digest_of-digest.ensures.reads.same c.digest_of-digest.ensures.reads.is_open
+returns-clause-reads g c = reads_open g.D.Disk c.digest_of-digest.result c.is_disk_fault.result c.args.self.now _ c.in-Open.conn c.digest_of-digest.new.conn c.in-Open.is refl refl (search rules) refl c.is_disk_fault.ensures c.requires c.digest_of-digest.ensures.reads

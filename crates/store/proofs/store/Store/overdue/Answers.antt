@@ -1,4 +1,4 @@
-use Rattle.std.proofs.Common.{◌≡◌, None, true, refl, sym, subst, rules}
+use Rattle.std.proofs.Common.{◌≡◌, None, refl, sym, subst, rules}
 use Rattle.sqlite.specs.Files.{file_state}
 use Rattle.sqlite.specs.State.{HasCleanDisk}
 use Rattle.ledger_sql.specs.Frames.{Live}
@@ -6,21 +6,14 @@ use Rattle.stored_ledgers.specs.Directory.{first_digest, with_number}
 use Rattle.stored_ledgers.specs.Overdue.{FindsOverdue, FindsNone}
 use Rattle.store.specs.Stores.{OfDatabaseAt}
 use Rattle.store.proofs.OverdueLemmas.{told_so}
-use Rattle.store.proofs.ReadLemmas.{serves_open, holds_here, reads_open}
+use Rattle.store.proofs.ReadLemmas.{reads_here, reads_open}
 use Rattle.store.proofs.store.Store.overdue.Goals as goal
 
 pub find_overdue-found-requires : goal.find_overdue-found-requires
-find_overdue-found-requires g c =
-    let answers : c.args.self.now.ready ≡ true = search rules in
-    holds_here _ _ (serves_open g.D.Disk _ c.args.self.now.due c.args.self.now.place _ c.in-Open.is
-    answers c.requires)
+find_overdue-found-requires g c = reads_here g.D.Disk c.args.self.now _ c.in-Open.is (search rules) c.requires
 
 pub returns-clause-reads : goal.returns-clause-reads
-returns-clause-reads g c =
-    let answers : c.args.self.now.ready ≡ true = search rules in
-    reads_open g.D.Disk c.find_overdue-found.result c.is_disk_fault.result c.args.self.now _ c.in-Open.conn
-    c.find_overdue-found.new.conn c.in-Open.is refl refl answers refl c.is_disk_fault.ensures c.requires
-    c.find_overdue-found.ensures.reads.follows c.find_overdue-found.ensures.reads.same c.find_overdue-found.ensures.reads.is_open
+returns-clause-reads g c = reads_open g.D.Disk c.find_overdue-found.result c.is_disk_fault.result c.args.self.now _ c.in-Open.conn c.find_overdue-found.new.conn c.in-Open.is refl refl (search rules) refl c.is_disk_fault.ensures c.requires c.find_overdue-found.ensures.reads
 
 pub returns-clause-none : goal.returns-clause-none
 returns-clause-none g c =

@@ -5,7 +5,7 @@ use Rattle.std.specs.String.{string_bytes}
 use Rattle.sqlite.specs.Effect.{Database}
 use Rattle.sqlite.specs.Held.{state}
 use Rattle.sqlite.specs.State.{HasCleanDisk}
-use Rattle.ledger_sql.specs.Effects.{Picks}
+use Rattle.ledger_sql.specs.Effects.{IsLedger, Picks}
 use Rattle.ledger_sql.specs.Values.{directory_values}
 use Rattle.stored_tables.specs.BatchLaws.{follows_then}
 use Rattle.stored_ledgers.specs.Directory.{with_name, with_digest}
@@ -25,7 +25,7 @@ returns-then-eq-clause-told g c live =
     let serves = (c.requires clean0).needs in
     let named = named_row name old.now.trees row (serves.ledgers.distinct.names name)
     (subst (λ found. Picks (with_name name old.now.trees) (option_map (λ row. directory_values row.number (string_bytes row.name) row.digest) found))
-    c.in-Some.is (rw c.as_str.ensures.same at (c.in_ok-row.ensures.ok live.0))) in
+    c.in-Some.is (rw c.as_str.ensures.same at (c.in_ok-row.ensures.ok live.0 serves.ledgers.schema))) in
     let same = (bytes_eq-Decides row.digest digest).0 (sym c.eq.ensures ∙ c.if-eq.true) in
     subst (λ (db : Database). IsKeyed name digest old.now db × CanServe c.args.due.now db)
     (sym (c.in_ok-row.ensures.reads.same live.0).0.now_is)
@@ -40,13 +40,16 @@ returns-then-is_some-clause-told g c live =
     let row = c.in-Some.row in
     let clean1 : HasCleanDisk read = omega (arith, c.in_ok-find_tenant.ensures.reads.follows.survives.clean, live.0) in
     let clean0 : HasCleanDisk old = omega (arith, c.in_ok-row.ensures.reads.follows.survives.clean, clean1) in
-    let named = named_row name old.now.trees row ((c.requires clean0).needs.ledgers.distinct.names name)
+    let ledgers = (c.requires clean0).needs.ledgers in
+    let same = (c.in_ok-row.ensures.reads.same clean1).0.now_is in
+    let still = subst (λ (db : Database). IsLedger db.schema) (sym same) ledgers.schema in
+    let named = named_row name old.now.trees row (ledgers.distinct.names name)
     (subst (λ found. Picks (with_name name old.now.trees) (option_map (λ row. directory_values row.number (string_bytes row.name) row.digest) found))
-    c.in-Some.is (rw c.as_str.ensures.same at (c.in_ok-row.ensures.ok clean1))) in
-    let differs : row.digest ≢ digest = λ same. absurd (let e = c.eq.ensures ∙ (bytes_eq-Decides row.digest digest).1 same in let f = c.if-eq.false in cc) in (
-      subst (λ (db : Database). with_digest digest db.trees ≢ []) (c.in_ok-row.ensures.reads.same clean1).0.now_is
+    c.in-Some.is (rw c.as_str.ensures.same at (c.in_ok-row.ensures.ok clean1 ledgers.schema))) in
+    let differs : row.digest ≢ digest = λ equal. absurd (let e = c.eq.ensures ∙ (bytes_eq-Decides row.digest digest).1 equal in let f = c.if-eq.false in cc) in (
+      subst (λ (db : Database). with_digest digest db.trees ≢ []) same
           (digest_some digest read.now.trees (picked_some _ _ c.in_ok-find_tenant.field-0
-          (c.in_ok-find_tenant.ensures.ok live.0) (sym c.is_some.ensures ∙ c.if-is_some.true))),
+          (c.in_ok-find_tenant.ensures.ok live.0 still) (sym c.is_some.ensures ∙ c.if-is_some.true))),
       other_digest name digest old.now.trees row.number row.digest named differs,
     )
 
@@ -68,18 +71,20 @@ returns-clause-told g c live =
     let clean1 : HasCleanDisk read = omega (arith, c.in_ok-find_tenant.ensures.reads.follows.survives.clean, clean2) in
     let clean0 : HasCleanDisk old = omega (arith, c.in_ok-row.ensures.reads.follows.survives.clean, clean1) in
     let serves = (c.requires clean0).needs in
+    let ledgers = serves.ledgers in
     let same1 = (c.in_ok-row.ensures.reads.same clean1).0.now_is in
+    let still = subst (λ (db : Database). IsLedger db.schema) (sym same1) ledgers.schema in
     let same2 = (c.in_ok-find_tenant.ensures.reads.same clean2).0.now_is in
-    let named = named_row name old.now.trees row (serves.ledgers.distinct.names name)
+    let named = named_row name old.now.trees row (ledgers.distinct.names name)
     (subst (λ found. Picks (with_name name old.now.trees) (option_map (λ row. directory_values row.number (string_bytes row.name) row.digest) found))
-    c.in-Some.is (rw c.as_str.ensures.same at (c.in_ok-row.ensures.ok clean1))) in
-    let differs : row.digest ≢ digest = λ same. absurd (let e = c.eq.ensures ∙ (bytes_eq-Decides row.digest digest).1 same in let f = c.if-eq.false in cc) in
+    c.in-Some.is (rw c.as_str.ensures.same at (c.in_ok-row.ensures.ok clean1 ledgers.schema))) in
+    let differs : row.digest ≢ digest = λ equal. absurd (let e = c.eq.ensures ∙ (bytes_eq-Decides row.digest digest).1 equal in let f = c.if-eq.false in cc) in
     let none = subst (λ (db : Database). with_digest digest db.trees ≡ []) same1
     (digest_none digest read.now.trees (picked_none _ _ c.in_ok-find_tenant.field-0
-    (c.in_ok-find_tenant.ensures.ok clean2) (sym c.is_some.ensures ∙ c.if-is_some.false))) in
+    (c.in_ok-find_tenant.ensures.ok clean2 still) (sym c.is_some.ensures ∙ c.if-is_some.false))) in
     let fits : FitsSigned w64 row.number = search rules in
     let passed : to_z w64 (of_z w64 row.number) ≡ row.number = to_z-of_z w64 row.number fits in
-    let keyed = new_key name digest old found new row.number row.digest (same2 ∙ same1) serves.ledgers named
+    let keyed = new_key name digest old found new row.number row.digest (same2 ∙ same1) ledgers named
     differs none (rw passed at (c.in_ok-set_digest.ensures.ok live.0)) in
     (keyed, serves_keyed name digest c.args.due.now old.now new.now serves keyed)
 

@@ -14,7 +14,7 @@ returns-in-Ok-clause-knows g c = record {
       let serves = (c.requires live.0 before).0.serves in
       c.is_some.ensures
       ∙ found_tenant c.args.digest.now old.now.trees c.in-Ok.number (found_number c.args.digest.now
-      old.now.trees _ (serves.ledgers.distinct.digests c.args.digest.now) (c.in-Ok.ensures.ok live.1.0));
+      old.now.trees _ (serves.ledgers.distinct.digests c.args.digest.now) (c.in-Ok.ensures.ok live.1.0 serves.ledgers.schema));
   same = search rules;
   failed = search rules;
   finds = search rules;
