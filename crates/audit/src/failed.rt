@@ -1,6 +1,6 @@
 //! Failed ids that cannot have failed.
 
-ghost use Rattle.std.specs.Prelude.{◌≡◌, ℕ, ◌<◌, Option, IfSome};
+ghost use Rattle.std.specs.Prelude.{◌<◌, Option, IfSome};
 ghost use Rattle.std.specs.Bool.{Decides};
 ghost use Rattle.records.specs.Machine.{Machine};
 ghost use Rattle.records.specs.Valid.{IsNextFailed};

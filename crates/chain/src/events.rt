@@ -1,5 +1,4 @@
-ghost use Rattle.std.specs.Prelude.{◌≡◌, ◌≤◌, ◌+◌, ℕ, length, IfOk};
-ghost use Rattle.records.specs.Machine.{Machine};
+ghost use Rattle.std.specs.Prelude.{◌≡◌, ◌≤◌, length, IfOk};
 ghost use Rattle.records.specs.Chains.{Rules};
 ghost use Rattle.records.specs.Step.{account_rules, transfer_rules, step_outcome, step_machine};
 ghost use Rattle.records.specs.Step.{IsReply};

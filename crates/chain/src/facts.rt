@@ -2,7 +2,7 @@ ghost use Rattle.std.specs.Prelude.{◌≡◌};
 ghost use Rattle.std.specs.Option.{option_map, option_and_then};
 ghost use Rattle.records.specs.Machine.{transfer_with};
 ghost use Rattle.records.specs.Facts.{facts_of, with_pending_amount, pending_amount_in};
-ghost use Rattle.records.specs.Facts.{pending_transfer_in, account_id_of, account_in};
+ghost use Rattle.records.specs.Facts.{pending_transfer_in, account_in};
 ghost use Rattle.chain.specs.Tables.{LooksUp};
 
 use crate::Tables;

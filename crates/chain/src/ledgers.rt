@@ -1,4 +1,4 @@
-ghost use Rattle.std.specs.Prelude.{◌≡◌, true, false, Err};
+ghost use Rattle.std.specs.Prelude.{◌≡◌, true, Err};
 ghost use Rattle.records.specs.declared.unavailable.Unavailable.TheVariants.{Disk};
 ghost use Rattle.records.specs.Reads.{Found, found_accounts, found_transfers};
 ghost use Rattle.records.specs.Queries.{found_holds, open_holds, queried_accounts};

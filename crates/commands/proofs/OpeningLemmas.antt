@@ -1,5 +1,5 @@
 -- What a refused opening has found, where the program tells its fault.
-use Rattle.std.proofs.Common.{◌≡◌, ◌⊎◌, inl, inr, IfErr, Option, None, Some, Result, Ok, Err, refl, subst, sym}
+use Rattle.std.proofs.Common.{◌≡◌, ◌⊎◌, inl, inr, IfErr, MatchResult, Option, None, Some, Result, Ok, Err, refl, subst, sym}
 use Rattle.std.proofs.Math.Logic.{∥∥₁_map₂}
 use Rattle.std.specs.Result.{IsErrAnd}
 use Rattle.sqlite_disk.specs.declared.Disk as disk
@@ -211,3 +211,10 @@ pub err_so :
     IsErrAnd result (λ f. f ≡ fault) → P fault → IfErr result P
 err_so P (Ok value) fault same holds = tt
 err_so P (Err f) fault same holds = subst P (sym same) holds
+
+-- the same, where it is said too what holds of a value
+pub err_told :
+    {T : Type 0} (P : T → Type 0) (Q : Fault → Type 0) (result : Result T Fault) (fault : Fault) →
+    IsErrAnd result (λ f. f ≡ fault) → Q fault → MatchResult result P Q
+err_told P Q (Ok value) fault same holds = absurd same
+err_told P Q (Err f) fault same holds = subst Q (sym same) holds

@@ -10,7 +10,7 @@ use Rattle.std.proofs.lemmas.Slice.Eq.{bytes_eq-Decides}
 use Rattle.amount.specs.Decimal.{decimal_of}
 use Rattle.chain.specs.declared.account_entry.AccountEntry.{AccountEntry}
 use Rattle.control.specs.Answers.{body_of}
-use Rattle.control.specs.Entries.{balances_in, entries_data, entries_of, entry_data, entry_in, listed_in, transfer_in}
+use Rattle.control.specs.Entries.{balances_in, sums_in, entries_data, entries_of, entry_data, entry_in, listed_in, transfer_in}
 use Rattle.control.specs.Numbers.{number_at, number_in}
 use Rattle.json.proofs.Printed.Tokens.{tokens-print}
 use Rattle.json.proofs.Printed.Trees.{ArePrintable-json_tokens, value-json_tokens}
@@ -179,7 +179,7 @@ module _ (e : AccountEntry) (fits : IsEntryInWidth e) where
       ) refl
 
   balances_are : balances_in (read_data e) ≡ Some e.balances
-  unfolding balances_in
+  unfolding sums_in
   balances_are = rw (debits_pending_is, debits_posted_is, credits_pending_is, credits_posted_is) refl
 
   entry_is : entry_in (read_data e) ≡ Some e

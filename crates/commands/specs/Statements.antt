@@ -8,7 +8,8 @@ use Rattle.records.specs.Reads.{statement_answer}
 use Rattle.records.specs.Streams.{AppendsFront}
 use Rattle.chain.specs.declared.reads.ReadFault.{ReadFault}
 use Rattle.chain.specs.declared.reads.ReadFault.TheVariants as read
-use Rattle.chain.specs.LedgerReads.{Seen, rows_of, seen_in}
+use Rattle.chain.specs.Ledgers.{LedgersMeaning}
+use Rattle.chain.specs.LedgerReads.{ReadsOnly, Seen, rows_of, seen_in}
 use Rattle.statement.specs.Text.{begun_text, statement_text}
 use Rattle.command_texts.specs.Faults.{sink_fault}
 use Rattle.command_texts.specs.declared.fault.Fault.{Fault}
@@ -19,6 +20,12 @@ use Rattle.command_texts.specs.declared.fault.Fault.TheVariants.{Output}
 abbrev pub answer_in :
     Option Machine → ℕ → Order → Result (Seen (List StatementRow)) ReadFault
 answer_in tenant account order = seen_in (λ m. statement_answer m account order) tenant
+
+-- what is told of a tenant is so, and no tenant changes
+pub record ReadsOf {S : Type 0} (t : LedgersMeaning S) (digest : List ℕ)
+    (IsSo : Option Machine → Type 0) (old new : S) : Type 0 where
+  pub told : t.is_live new → IsSo (t.tenants old digest)
+  pub reads : ReadsOnly t old new
 
 -- the fault that the program tells where a statement is not read, or not to its end
 abbrev pub statement_fault : ReadFault → Fault

@@ -1,5 +1,5 @@
 //! Calls to the service that has a file.
-ghost use Rattle.std.specs.Prelude.{◌≡◌, ◌⊎◌, IfErr, IfOk, IfSome};
+ghost use Rattle.std.specs.Prelude.{◌≡◌, ◌⊎◌, IfErr, IfOk, IfSome, MatchResult};
 ghost use Rattle.control.specs.Answers.{IsAnswerToCall};
 ghost use Rattle.control.specs.Told.{IsCallFault};
 
@@ -36,8 +36,7 @@ pub(crate) fn desk_path(rt: &HostRuntime, db: &str) -> Result<Option<String>, Fa
 /// What the service that has a file answers, if one has it and listens for its operator. It is
 /// `Unreadable` where a folder on the way to the file is another user's.
 pub(crate) fn ask(rt: &HostRuntime, db: &str, what: &Call<'_>) -> Result<Option<Answer>, Fault>
-    ensures answer { IfOk result (λ found. IfSome found (IsAnswerToCall what.now)) }
-    ensures fault { IfErr result IsCallFault }
+    ensures { MatchResult result (λ found. IfSome found (IsAnswerToCall what.now)) IsCallFault }
 {
     match desk_path(rt, db)? {
         Some(path) => call(rt, rt.alloc(), path.as_str(), what),

@@ -1,5 +1,5 @@
 //! Copies of files.
-ghost use Rattle.std.specs.Prelude.{◌≡◌, ◌⊎◌, IfErr, IfOk};
+ghost use Rattle.std.specs.Prelude.{◌≡◌, ◌⊎◌, IfErr, IfOk, MatchResult};
 ghost use Rattle.sqlite_wal.specs.Files.{image_at};
 ghost use Rattle.std.specs.String.{string_bytes};
 ghost use Rattle.commands.specs.Copying.{IsPathOf, copy_fault};
@@ -20,8 +20,8 @@ use store::Store;
 
 /// A path as any process finds it, whatever folder it is in.
 pub(crate) fn absolute(rt: &HostRuntime, path: &str) -> Result<String, Fault>
-    ensures path { IfOk result (λ found. IsPathOf path.now (string_bytes found)) }
-    ensures fault { IfErr result (λ fault. (fault ≡ Fault.Unavailable) ⊎ (fault ≡ Fault.Output)) }
+    ensures { MatchResult result (λ found. IsPathOf path.now (string_bytes found))
+        (λ fault. (fault ≡ Fault.Unavailable) ⊎ (fault ≡ Fault.Output)) }
 {
     if is_from_root(path) {
         return Ok(String::from_str(rt.alloc(), path)?);

@@ -1,12 +1,11 @@
 //! The statement of a period, written to standard output.
-ghost use Rattle.std.specs.Prelude.{◌≡◌, IfErr, IfOk};
-ghost use Rattle.chain.specs.LedgerReads.{ReadsOnly};
+ghost use Rattle.std.specs.Prelude.{◌≡◌, IfErr, IfOk, MatchResult};
 ghost use Rattle.records.specs.Reads.{in_order};
 ghost use Rattle.records.specs.declared.filter.Order.TheVariants.{Oldest};
 ghost use Rattle.statement.specs.Extract.{closing_of, kept_of, opening_of};
 ghost use Rattle.commands.specs.Extracts.{AreTransfersOf, IsAbsenceTold, IsExtractFound};
 ghost use Rattle.commands.specs.Extracts.{IsExtractTold, IsTextAsked};
-ghost use Rattle.commands.specs.Statements.{answer_in};
+ghost use Rattle.commands.specs.Statements.{ReadsOf, answer_in};
 
 use crate::asked::Asked;
 use crate::statements::statement_fault;
@@ -24,9 +23,8 @@ fn extract_of<L: Ledgers>(
     account: u128,
     asked: &Asked,
 ) -> Result<Extract, Fault>
-    ensures found { L.means.is_live ledgers.new → IsExtractFound
-        (L.means.tenants ledgers.old digest.now) account asked.now result }
-    ensures reads { ReadsOnly L.means ledgers.old ledgers.new }
+    ensures { ReadsOf L.means digest.now (λ tenant.
+        IsExtractFound tenant account asked.now result) ledgers.old ledgers.new }
 {
     rows_make_an_extract();
     let mut extract = Extract::new(alloc, asked.period);
@@ -60,10 +58,10 @@ fn transfers_of<L: Ledgers>(
     is_wide: bool,
     extract: &Extract,
 ) -> Result<Vec<Transfer>, Fault>
-    ensures told { L.means.is_live ledgers.new → IfOk result (λ found. AreTransfersOf
-        (L.means.tenants ledgers.old digest.now) is_wide (kept_of extract.now) found.items) }
+    ensures found { ReadsOf L.means digest.now (λ tenant. IfOk result (λ found.
+        AreTransfersOf tenant is_wide (kept_of extract.now) found.items))
+        ledgers.old ledgers.new }
     ensures fault { IfErr result (λ fault. fault ≡ Fault.Unavailable) }
-    ensures reads { ReadsOnly L.means ledgers.old ledgers.new }
 {
     if !is_wide {
         return Ok(Vec::new(alloc));
@@ -83,11 +81,9 @@ fn text_asked<L: Ledgers>(
     account: u128,
     asked: &Asked,
 ) -> Result<Vec<u8>, Fault>
-    ensures told { L.means.is_live ledgers.new → IfOk result (λ text. IsTextAsked
-        (L.means.tenants ledgers.old digest.now) account asked.now text.items) }
-    ensures fault { L.means.is_live ledgers.new → IfErr result (IsAbsenceTold
-        (answer_in (L.means.tenants ledgers.old digest.now) account Oldest)) }
-    ensures reads { ReadsOnly L.means ledgers.old ledgers.new }
+    ensures { ReadsOf L.means digest.now (λ tenant. MatchResult result
+        (λ text. IsTextAsked tenant account asked.now text.items)
+        (IsAbsenceTold (answer_in tenant account Oldest))) ledgers.old ledgers.new }
 {
     let extract = extract_of(alloc, ledgers, digest, account, asked)?;
     let is_wide = asked.layout.is_wide;
@@ -106,9 +102,9 @@ pub(crate) fn write_extract<L: Ledgers, O: Drain + Drop>(
     asked: &Asked,
     mut out: O,
 ) -> (O, Result<(), Fault>)
-    ensures told { L.means.is_live ledgers.new → IsExtractTold O.written
-        (L.means.tenants ledgers.old digest.now) account asked.now out result.0 result.1 }
-    ensures reads { ReadsOnly L.means ledgers.old ledgers.new }
+    ensures { ReadsOf L.means digest.now (λ tenant.
+        IsExtractTold O.written tenant account asked.now out result.0 result.1)
+        ledgers.old ledgers.new }
 {
     let text = match text_asked(alloc, ledgers, digest, account, asked) {
         Ok(text) => text,

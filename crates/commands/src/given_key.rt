@@ -1,5 +1,5 @@
 //! A tenant's key as a command has it: given, read from standard input, or drawn.
-ghost use Rattle.std.specs.Prelude.{◌≡◌, codes, None, Some, IfErr, IfOk, OnOk};
+ghost use Rattle.std.specs.Prelude.{◌≡◌, codes, None, Some, IfErr, IfOk, MatchResult, OnOk};
 ghost use Rattle.command_line.specs.Values.{text_in};
 ghost use Rattle.commands.specs.GivenKeys.{IsGivenKey, IsKeyTold, IsUnread, key_text};
 
@@ -70,8 +70,7 @@ fn given<'a>(rt: &HostRuntime, word: &'a str) -> Result<GivenKey<'a>, Fault>
 
 // A key that nobody has.
 fn draw<'a>(rt: &HostRuntime) -> Result<GivenKey<'a>, Fault>
-    ensures given { IfOk result (IsGivenKey None) }
-    ensures fault { IfErr result (λ fault. fault ≡ Fault.Unavailable) }
+    ensures { MatchResult result (IsGivenKey None) (λ fault. fault ≡ Fault.Unavailable) }
 {
     let mut bytes = [0; 32];
     if rt.fill_bytes(&mut bytes).is_err() {
@@ -82,8 +81,8 @@ fn draw<'a>(rt: &HostRuntime) -> Result<GivenKey<'a>, Fault>
 
 // A line of standard input as a key. What is no text is none.
 fn read_input<'a>(rt: &HostRuntime) -> Result<GivenKey<'a>, Fault>
-    ensures given { IfOk result (IsGivenKey (Some (codes "-"))) }
-    ensures fault { IfErr result (λ fault. fault ≡ Fault.Unavailable) }
+    ensures { MatchResult result (IsGivenKey (Some (codes "-")))
+        (λ fault. fault ≡ Fault.Unavailable) }
 {
     let mut line = String::new(rt.alloc());
     match rt.read_line(&mut line) {

@@ -1,5 +1,5 @@
 //! Those who connect at an address of this machine.
-ghost use Rattle.std.specs.Prelude.{◌≡◌, IfErr, IfOk, ⊤};
+ghost use Rattle.std.specs.Prelude.{◌≡◌, MatchResult, ⊤};
 ghost use Rattle.command_line.specs.Values.{text_in};
 ghost use Rattle.commands.specs.Listening.{ReadsListening};
 
@@ -34,8 +34,8 @@ impl<'a> Listening<'a> {
         asked: SocketAddr,
         limits: Limits,
     ) -> Result<Listening<'a>, Fault>
-        ensures there { IfOk result (λ listening. listening.asked ≡ asked) }
-        ensures fault { IfErr result (λ fault. fault ≡ Fault.Socket) }
+        ensures { MatchResult result (λ listening. listening.asked ≡ asked)
+            (λ fault. fault ≡ Fault.Socket) }
     {
         match Sockets::listen(site.rt, site.rt, site, asked, limits) {
             Ok(sockets) => Ok(Listening { asked, sockets }),

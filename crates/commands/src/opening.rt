@@ -1,5 +1,5 @@
 //! The ledger in a file.
-ghost use Rattle.std.specs.Prelude.{◌≡◌, IfErr, IfOk};
+ghost use Rattle.std.specs.Prelude.{◌≡◌, IfErr, IfOk, MatchResult};
 ghost use Rattle.sqlite_wal.specs.Files.{image_at};
 ghost use Rattle.sqlite_wal.specs.Recovery.{Image};
 ghost use Rattle.migrate.specs.Ledgers.{IsMigratable, IsOpenedToMigrate};
@@ -49,8 +49,8 @@ pub(crate) fn open_file<St: Start>(
     path: &str,
     start: St,
 ) -> Result<InUse<Store<FileFrom<St>>>, Fault>
-    ensures opened { IfOk result (IsFrom (image_at St.Start)) }
-    ensures fault { IfErr result (RefusesImage ⟦<FileFrom<St> as Disk>⟧ (image_at St.Start)) }
+    ensures { MatchResult result (IsFrom (image_at St.Start))
+        (RefusesImage ⟦<FileFrom<St> as Disk>⟧ (image_at St.Start)) }
 {
     let options = prepared(rt, path)?;
     match Store::open_at(rt, path, start, options, &FullAudit) {
@@ -109,9 +109,9 @@ pub(crate) fn open_or_make<St: Start>(
     path: &str,
     start: St,
 ) -> Result<Opened<FileFrom<St>>, Fault>
-    ensures begun { IfOk result (λ opened.
-        IsOpenedOrMade opened.is_new (image_at St.Start) opened.store) }
-    ensures fault { IfErr result (RefusesImage ⟦<FileFrom<St> as Disk>⟧ (image_at St.Start)) }
+    ensures { MatchResult result
+        (λ opened. IsOpenedOrMade opened.is_new (image_at St.Start) opened.store)
+        (RefusesImage ⟦<FileFrom<St> as Disk>⟧ (image_at St.Start)) }
 {
     match look(rt, path).map_err(open_fault)? {
         Found::Absent => {
@@ -155,8 +155,8 @@ pub(crate) fn examine<St: Start>(
     path: &str,
     start: St,
 ) -> Result<Audited<FileFrom<St>>, Fault>
-    ensures found { IfOk result (IsFoundAs (image_at St.Start)) }
-    ensures fault { IfErr result (RefusesImage ⟦<FileFrom<St> as Disk>⟧ (image_at St.Start)) }
+    ensures { MatchResult result (IsFoundAs (image_at St.Start))
+        (RefusesImage ⟦<FileFrom<St> as Disk>⟧ (image_at St.Start)) }
 {
     let options = prepared(rt, path)?;
     match Store::open_at(rt, path, start, options, &FullAudit) {
@@ -234,9 +234,9 @@ fn make_file(rt: &HostRuntime, path: &str) -> Result<(), Fault>
 }
 
 fn make<St: Start>(rt: &HostRuntime, path: &str, start: St) -> Result<Opened<FileFrom<St>>, Fault>
-    ensures begun { IfOk result (λ opened.
-        IsOpenedOrMade opened.is_new (image_at St.Start) opened.store) }
-    ensures fault { IfErr result (RefusesImage ⟦<FileFrom<St> as Disk>⟧ (image_at St.Start)) }
+    ensures { MatchResult result
+        (λ opened. IsOpenedOrMade opened.is_new (image_at St.Start) opened.store)
+        (RefusesImage ⟦<FileFrom<St> as Disk>⟧ (image_at St.Start)) }
 {
     let options = small_options(rt)?;
     match Store::create_at(rt, path, start, options) {
@@ -255,9 +255,9 @@ fn open_or_make_in<St: Start>(
     path: &str,
     start: St,
 ) -> Result<Opened<FileFrom<St>>, Fault>
-    ensures begun { IfOk result (λ opened.
-        IsOpenedOrMade opened.is_new (image_at St.Start) opened.store) }
-    ensures fault { IfErr result (RefusesImage ⟦<FileFrom<St> as Disk>⟧ (image_at St.Start)) }
+    ensures { MatchResult result
+        (λ opened. IsOpenedOrMade opened.is_new (image_at St.Start) opened.store)
+        (RefusesImage ⟦<FileFrom<St> as Disk>⟧ (image_at St.Start)) }
 {
     let options = small_options(rt)?;
     match Store::open_at(rt, path, start, options, &FullAudit) {

@@ -1,6 +1,6 @@
 //! A store that is seen to between turns: opened again where its disk fails, an operator's orders
 //! are carried out on it, and holds that are due are released.
-ghost use Rattle.std.specs.Prelude.{◌≡◌, ◌≤◌, ◌*◌, min, false, IfErr, IfOk, IsTrue, OnErr, OnOk};
+ghost use Rattle.std.specs.Prelude.{◌≡◌, ◌*◌, min, false, IfErr, IfOk, IsTrue, OnErr, OnOk};
 ghost use Rattle.chain.specs.Backends.{in_use};
 ghost use Rattle.service.specs.Openings.{run_meaning, IsSettled, IsOpened};
 ghost use Rattle.store.specs.Stores.{AnswersCalls};

@@ -1,6 +1,6 @@
 //! Statements of a ledger that is served: the service is asked for one piece behind the other, of
 //! the entries up to the clock at which the first was read.
-ghost use Rattle.std.specs.Prelude.{◌≡◌, ◌||◌, Bool, false, map, IfErr, IfOk, IfSome, OnOk};
+ghost use Rattle.std.specs.Prelude.{◌≡◌, ◌||◌, Bool, false, map, IfErr, IfOk, IfSome, MatchResult, OnOk};
 ghost use Rattle.std.specs.Io.KnownBytes.{Appends};
 ghost use Rattle.chain.specs.AccountEntries.{row_of};
 ghost use Rattle.chain.specs.declared.account_entry.AccountEntry.{AccountEntry};
@@ -144,9 +144,8 @@ fn ask_piece(
     db: &str,
     piece: &PieceAsked,
 ) -> Result<Option<(Entries, Answer)>, Fault>
-    ensures told { IfOk result
-        (λ found. IfSome found (λ told. TellsEntries piece.now told.0 told.1)) }
-    ensures fault { IfErr result IsCallFault }
+    ensures { MatchResult result
+        (λ found. IfSome found (λ told. TellsEntries piece.now told.0 told.1)) IsCallFault }
 {
     match ask(rt, db, &Call::Statement { piece: *piece })? {
         Some(answer) => Ok(Some((entries_in(rt.alloc(), answer.body())?, answer))),
@@ -162,9 +161,8 @@ pub(crate) fn ask_first(
     account: u128,
     asked: &Asked,
 ) -> Result<Option<(First, Answer)>, Fault>
-    ensures first { IfOk result (λ found. IfSome found (λ told.
-        IsFirstPiece tenant.now account asked.now told.0 told.1)) }
-    ensures fault { IfErr result IsCallFault }
+    ensures { MatchResult result (λ found. IfSome found (λ told.
+        IsFirstPiece tenant.now account asked.now told.0 told.1)) IsCallFault }
 {
     let asked = first_asked(tenant, account, asked);
     match ask_piece(rt, db, &asked)? {
@@ -225,11 +223,10 @@ fn write_whole<O: Drain + Drop>(
     first: First,
     out: O,
 ) -> (O, Result<(), Fault>)
-    ensures written { OnOk result.1 (OfAllPieces first.asked first.entries
+    ensures written { MatchResult result.1 (λ _. OfAllPieces first.asked first.entries
         (λ entries. Appends (O.written out) (O.written result.0)
-        (statement_text (map (row_of first.asked.account) entries)))) }
+        (statement_text (map (row_of first.asked.account) entries)))) IsUnserved }
     ensures failed { IsFailureTold (O.failed out) (O.failed result.0) result.1 }
-    ensures fault { IfErr result.1 IsUnserved }
 {
     rows_make_a_statement::<O>();
     let writer = StatementWriter::new(rt.alloc(), out);
@@ -250,9 +247,8 @@ fn write_whole<O: Drain + Drop>(
 }
 
 fn gather(rt: &HostRuntime, db: &str, first: First, asked: &Asked) -> Result<Gathered, Fault>
-    ensures gathered { IfOk result (λ gathered. OfAllPieces first.asked first.entries
-        (λ entries. IsGathered first.asked.account asked.now entries gathered)) }
-    ensures fault { IfErr result IsUnserved }
+    ensures { MatchResult result (λ gathered. OfAllPieces first.asked first.entries
+        (λ entries. IsGathered first.asked.account asked.now entries gathered)) IsUnserved }
 {
     rows_make_an_extract();
     let extract = Extract::new(rt.alloc(), asked.period);
@@ -287,9 +283,9 @@ fn turned(mut gathered: Gathered, order: Order) -> Gathered
 
 // What is asked for of a statement of a period.
 fn period_text(rt: &HostRuntime, db: &str, first: First, asked: &Asked) -> Result<Vec<u8>, Fault>
-    ensures text { IfOk result (λ text. OfAllPieces first.asked first.entries
-        (λ entries. text.items ≡ text_by false first.asked.account asked.now entries)) }
-    ensures fault { IfErr result IsUnserved }
+    ensures { MatchResult result (λ text. OfAllPieces first.asked first.entries
+        (λ entries. text.items ≡ text_by false first.asked.account asked.now entries))
+        IsUnserved }
 {
     let gathered = gather(rt, db, first, asked)?;
     let transfers = gathered.transfers.as_slice();
@@ -305,11 +301,10 @@ pub(crate) fn write_served<O: Drain + Drop>(
     asked: &Asked,
     mut out: O,
 ) -> (O, Result<(), Fault>)
-    ensures written { OnOk result.1 (OfAllPieces first.asked first.entries
+    ensures written { MatchResult result.1 (λ _. OfAllPieces first.asked first.entries
         (λ entries. Appends (O.written out) (O.written result.0)
-        (served_text first.asked.account asked.now entries))) }
+        (served_text first.asked.account asked.now entries))) IsUnserved }
     ensures failed { IsFailureTold (O.failed out) (O.failed result.0) result.1 }
-    ensures fault { IfErr result.1 IsUnserved }
 {
     if asked.is_whole() {
         return write_whole(rt, db, first, out);

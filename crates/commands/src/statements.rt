@@ -1,8 +1,7 @@
 //! Statements written to standard output.
 ghost use Rattle.std.specs.Prelude.{◌≡◌};
-ghost use Rattle.chain.specs.LedgerReads.{ReadsOnly};
 ghost use Rattle.commands.specs.Extracts.{IsAskedTold};
-ghost use Rattle.commands.specs.Statements.{IsGivenBack, IsStatementTold, answer_in};
+ghost use Rattle.commands.specs.Statements.{IsGivenBack, IsStatementTold, ReadsOf, answer_in};
 ghost use Rattle.commands.specs.Statements.{statement_fault};
 
 use crate::asked::Asked;
@@ -23,9 +22,9 @@ pub(crate) fn write_statement<L: Ledgers, O: Drain + Drop>(
     order: Order,
     out: O,
 ) -> (O, Result<(), Fault>)
-    ensures told { L.means.is_live ledgers.new → IsStatementTold O.written
-        (answer_in (L.means.tenants ledgers.old digest.now) account order) out result.0 result.1 }
-    ensures reads { ReadsOnly L.means ledgers.old ledgers.new }
+    ensures { ReadsOf L.means digest.now (λ tenant.
+        IsStatementTold O.written (answer_in tenant account order) out result.0 result.1)
+        ledgers.old ledgers.new }
 {
     rows_make_a_statement::<O>();
     rows_begin_a_statement::<O>();
@@ -50,9 +49,9 @@ pub(crate) fn write_asked<L: Ledgers, O: Drain + Drop>(
     asked: &Asked,
     out: O,
 ) -> Result<O, Fault>
-    ensures told { L.means.is_live ledgers.new → IsGivenBack (IsAskedTold O.written
-        (L.means.tenants ledgers.old digest.now) account asked.now out) result }
-    ensures reads { ReadsOnly L.means ledgers.old ledgers.new }
+    ensures { ReadsOf L.means digest.now (λ tenant.
+        IsGivenBack (IsAskedTold O.written tenant account asked.now out) result)
+        ledgers.old ledgers.new }
 {
     let (out, written) = put_asked(alloc, ledgers, digest, account, asked, out);
     match written {
@@ -70,9 +69,9 @@ fn put_asked<L: Ledgers, O: Drain + Drop>(
     asked: &Asked,
     out: O,
 ) -> (O, Result<(), Fault>)
-    ensures told { L.means.is_live ledgers.new → IsAskedTold O.written
-        (L.means.tenants ledgers.old digest.now) account asked.now out result.0 result.1 }
-    ensures reads { ReadsOnly L.means ledgers.old ledgers.new }
+    ensures { ReadsOf L.means digest.now (λ tenant.
+        IsAskedTold O.written tenant account asked.now out result.0 result.1)
+        ledgers.old ledgers.new }
 {
     if asked.is_whole() {
         return write_statement(alloc, ledgers, digest, account, asked.order, out);

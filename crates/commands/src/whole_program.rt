@@ -1,5 +1,5 @@
 //! The program but for its sockets: words in, a text and a status out.
-ghost use Rattle.std.specs.Prelude.{◌≡◌, map};
+ghost use Rattle.std.specs.Prelude.{map};
 ghost use Rattle.sqlite_wal.specs.Files.{image_at};
 ghost use Rattle.command_line.specs.Values.{text_in};
 ghost use Rattle.commands.specs.Program.{Performs, RunsProgram, IsMadeTold, IsRefusalTold, TellsEnded};

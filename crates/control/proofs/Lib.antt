@@ -1,4 +1,3 @@
 mod Lines
 mod MemberLemmas
-mod NumberLemmas
 mod Texts

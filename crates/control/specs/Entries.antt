@@ -4,6 +4,7 @@ use Rattle.std.specs.Prelude.{option_and_then}
 use Rattle.serde_json.specs.Data.{Data, string, Items, no_items, item}
 use Rattle.serde_json.specs.Find.{as_array, get}
 use Rattle.records.specs.declared.balances.Balances.{Balances}
+use Rattle.records.specs.declared.balances.Sums.{Sums}
 use Rattle.records.specs.declared.transfer.Transfer.{Transfer}
 use Rattle.chain.specs.declared.account_entry.AccountEntry.{AccountEntry}
 use Rattle.wire.specs.Body.{json_of}
@@ -79,17 +80,19 @@ transfer_in d =
       at = at;
     })))))))))))))))
 
--- the balances that these tell
-unfoldable pub balances_in : Data → Option Balances
+-- the sums that the members of these two names tell
+unfoldable pub sums_in : List ℕ → List ℕ → Data → Option Sums
+sums_in pending_name posted_name d =
+    given (number_at (2 ^ 128) pending_name d) (λ pending.
+    given (number_at (2 ^ 128) posted_name d) (λ posted.
+    Some (record { pending = pending; posted = posted })))
+
+-- the balances that an object tells
+abbrev pub balances_in : Data → Option Balances
 balances_in d =
-    given (number_at (2 ^ 128) (codes "debits_pending") d) (λ debits_pending.
-    given (number_at (2 ^ 128) (codes "debits_posted") d) (λ debits_posted.
-    given (number_at (2 ^ 128) (codes "credits_pending") d) (λ credits_pending.
-    given (number_at (2 ^ 128) (codes "credits_posted") d) (λ credits_posted.
-    Some (record {
-      debits = record { pending = debits_pending; posted = debits_posted };
-      credits = record { pending = credits_pending; posted = credits_posted };
-    })))))
+    given (sums_in (codes "debits_pending") (codes "debits_posted") d) (λ debits.
+    given (sums_in (codes "credits_pending") (codes "credits_posted") d) (λ credits.
+    Some (record { debits = debits; credits = credits })))
 
 -- the entry that an object tells
 abbrev pub entry_in : Data → Option AccountEntry

@@ -10,23 +10,14 @@ use Rattle.control.specs.declared.messages.Call.{Call}
 use Rattle.control.specs.declared.messages.Call.TheVariants.{Tenants, AddTenant, ChangeKey, Status, Copy, Statement, Stop}
 
 -- the method and the path of each call
-abbrev pub method_of : Call → List ℕ
-method_of Tenants = codes "GET"
-method_of (AddTenant name key) = codes "POST"
-method_of (ChangeKey name key) = codes "POST"
-method_of Status = codes "GET"
-method_of (Copy to) = codes "POST"
-method_of (Statement piece) = codes "POST"
-method_of Stop = codes "POST"
-
-abbrev pub path_of : Call → List ℕ
-path_of Tenants = codes "/control/tenants"
-path_of (AddTenant name key) = codes "/control/tenants"
-path_of (ChangeKey name key) = codes "/control/keys"
-path_of Status = codes "/control/status"
-path_of (Copy to) = codes "/control/copy"
-path_of (Statement piece) = codes "/control/statement"
-path_of Stop = codes "/control/stop"
+abbrev pub asked_by : Call → List ℕ × List ℕ
+asked_by Tenants = (codes "GET", codes "/control/tenants")
+asked_by (AddTenant name key) = (codes "POST", codes "/control/tenants")
+asked_by (ChangeKey name key) = (codes "POST", codes "/control/keys")
+asked_by Status = (codes "GET", codes "/control/status")
+asked_by (Copy to) = (codes "POST", codes "/control/copy")
+asked_by (Statement piece) = (codes "POST", codes "/control/statement")
+asked_by Stop = (codes "POST", codes "/control/stop")
 
 -- a tenant's name and key
 abbrev pub tenant_data : List ℕ → List ℕ → Data
@@ -55,4 +46,4 @@ head_text method path size =
 -- a whole message
 abbrev pub message_text : Call → List ℕ
 message_text call =
-    head_text (method_of call) (path_of call) (length (body_text call)) ++ body_text call
+    head_text (asked_by call).0 (asked_by call).1 (length (body_text call)) ++ body_text call

@@ -3,20 +3,15 @@ ghost use Rattle.std.specs.Prelude.{◌≡◌, IfOk};
 ghost use Rattle.serde_json.specs.Written.{compact_text};
 ghost use Rattle.control.specs.Bodies.{added_data, changed_data, named_data, stopped_data};
 
-use json::Writer;
 use std::alloc::{AllocError, Global};
 use tenants::TenantName;
+use wire::{Member, object_text};
 
 /// An object with one text.
 pub(crate) fn named_body(alloc: Global, member: &str, text: &str) -> Result<Vec<u8>, AllocError>
     ensures { IfOk result (λ body. body.items ≡ compact_text (named_data member.now text.now)) }
 {
-    let mut writer = Writer::new(Vec::new(alloc));
-    writer.begin_object()?;
-    writer.key(member)?;
-    writer.string(text)?;
-    writer.end_object()?;
-    Ok(writer.into_inner())
+    object_text(alloc, &[Member::text(member, text)])
 }
 
 /// Tells that a tenant was added.

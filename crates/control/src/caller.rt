@@ -1,5 +1,5 @@
 //! Who is connected to the operator's socket.
-ghost use Rattle.std.specs.Prelude.{◌≡◌, length};
+ghost use Rattle.std.specs.Prelude.{◌≡◌, ◌≤◌, IfOk, IfSome, length, ℕ};
 ghost use Rattle.control.specs.Moves.{IsAtMost};
 
 use crate::Order;
@@ -10,7 +10,7 @@ use crate::stage::Stage;
 use ledger_http::{Inbox, Next};
 use mio::net::UnixStream;
 use std::alloc::{AllocError, Global};
-use std::io::{ErrorKind, Read, Write};
+use std::io::{self, ErrorKind, Read, Write};
 use std::time::Duration;
 
 /// Bytes of the longest message, with its head.
@@ -166,16 +166,9 @@ fn read_from(stream: &mut UnixStream, piece: &mut [u8]) -> Moved
     ensures few { IsAtMost (length piece.new) result }
     ensures size { length piece.new ≡ length piece.old }
 {
-    // A signal breaks a call off.
     for _ in 0..u32::MAX {
-        match stream.read(piece) {
-            Ok(0) => return Moved::Ended,
-            Ok(count) => return Moved::Bytes(count),
-            Err(error) => match error.kind() {
-                ErrorKind::Interrupted => {}
-                ErrorKind::WouldBlock => return Moved::Waits,
-                _ => return Moved::Broken,
-            },
+        if let Some(moved) = moved_by(stream.read(piece), Moved::Ended) {
+            return moved;
         }
     }
     Moved::Broken
@@ -185,15 +178,25 @@ fn write_to(stream: &mut UnixStream, bytes: &[u8]) -> Moved
     ensures { IsAtMost (length bytes.now) result }
 {
     for _ in 0..u32::MAX {
-        match stream.write(bytes) {
-            Ok(0) => return Moved::Broken,
-            Ok(count) => return Moved::Bytes(count),
-            Err(error) => match error.kind() {
-                ErrorKind::Interrupted => {}
-                ErrorKind::WouldBlock => return Moved::Waits,
-                _ => return Moved::Broken,
-            },
+        if let Some(moved) = moved_by(stream.write(bytes), Moved::Broken) {
+            return moved;
         }
     }
     Moved::Broken
+}
+
+// What came of a call to a socket, where no byte means this; nothing where a signal broke it off.
+fn moved_by(called: io::Result<usize>, at_none: Moved) -> Option<Moved>
+    ensures { (most : ℕ) → IfOk called (λ count. count ≤ most) → IsAtMost most at_none
+        → IfSome result (IsAtMost most) }
+{
+    match called {
+        Ok(0) => Some(at_none),
+        Ok(count) => Some(Moved::Bytes(count)),
+        Err(error) => match error.kind() {
+            ErrorKind::Interrupted => None,
+            ErrorKind::WouldBlock => Some(Moved::Waits),
+            _ => Some(Moved::Broken),
+        },
+    }
 }

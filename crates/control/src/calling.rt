@@ -1,5 +1,5 @@
 //! How a command calls a service.
-ghost use Rattle.std.specs.Prelude.{◌≡◌, ◌⊎◌, IfErr, IfOk, IfSome};
+ghost use Rattle.std.specs.Prelude.{◌≡◌, ◌⊎◌, IfErr, IfSome, MatchResult};
 ghost use Rattle.control.specs.Answers.{IsAnswerToCall};
 ghost use Rattle.control.specs.Told.{IsCallFault};
 
@@ -71,8 +71,7 @@ pub fn call<R: Net>(
     path: &str,
     call: &Call<'_>,
 ) -> Result<Option<Answer>, Fault>
-    ensures answer { IfOk result (λ found. IfSome found (IsAnswerToCall call.now)) }
-    ensures fault { IfErr result IsCallFault }
+    ensures { MatchResult result (λ found. IfSome found (IsAnswerToCall call.now)) IsCallFault }
 {
     let message = message(alloc, call)?;
     let Some(mut stream) = connect(rt, path)? else {

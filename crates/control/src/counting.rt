@@ -9,13 +9,13 @@ ghost use Rattle.wire.specs.Writing.{AddsData};
 ghost use Rattle.command_texts.specs.Answered.{TellsIfAvailable};
 ghost use Rattle.control.specs.Counting.{IsCounted, count_member, counts_data, line_in, lines_in, line_of};
 
-use crate::numbers::write_number;
 use crate::reading::value_in;
 use command_texts::{Fault, put_text};
 use json::Writer;
 use records::Drain;
 use serde_json::{Map, Value};
 use std::alloc::{AllocError, Global};
+use wire::{Member, write_member};
 
 /// A count of a service.
 #[derive(Clone, Copy, Debug, PartialEq, Eq)]
@@ -33,13 +33,13 @@ pub enum CountForm {
     Metric,
 }
 
-/// Writes an object that has counts as its members.
-pub(crate) fn write_counts(writer: &mut Writer, counts: &[Count<'_>]) -> Result<(), AllocError>
+// Writes an object that has counts as its members.
+fn write_counts(writer: &mut Writer, counts: &[Count<'_>]) -> Result<(), AllocError>
     ensures { AddsData (object_with (map count_member counts.now)) writer.old writer.new result }
 {
     writer.begin_object()?;
     for count in counts {
-        write_number(writer, count.name, count.value)?;
+        write_member(writer, &Member::u128(count.name, count.value))?;
     }
     writer.end_object()
 }

@@ -2,14 +2,11 @@
 ghost use Rattle.std.specs.Prelude.{◌≡◌, IfOk, map};
 ghost use Rattle.serde_json.specs.View.{items_view, view};
 ghost use Rattle.serde_json.specs.Written.{compact_text};
-ghost use Rattle.wire.specs.Reply.{list_data};
-ghost use Rattle.wire.specs.Writing.{AddsData};
+ghost use Rattle.wire.specs.Reply.{member_of};
 ghost use Rattle.command_texts.specs.Answered.{TellsIfAvailable};
-ghost use Rattle.control.specs.Counting.{count_member};
-ghost use Rattle.control.specs.Entries.{balances_in, entry_in, transfer_in};
+ghost use Rattle.control.specs.Entries.{balances_in, entry_in, sums_in, transfer_in};
 ghost use Rattle.control.specs.Entries.{AreEntriesTold, entries_data, entries_of, entry_data, entry_members};
 
-use crate::counting::{Count, write_counts};
 use crate::numbers::{number_16_at, number_32_at, number_64_at, number_at};
 use crate::reading::value_in;
 use amount::Amount;
@@ -19,6 +16,7 @@ use json::Writer;
 use records::{Balances, Sums, Transfer, TransferFlags};
 use serde_json::Value;
 use std::alloc::{AllocError, Global};
+use wire::{Form, Member, list_text, write_object};
 
 /// Entries of an account, and its tenant's clock when they were read, in nanoseconds.
 #[derive(Drop)]
@@ -27,48 +25,42 @@ pub struct Entries {
     pub entries: Vec<AccountEntry>,
 }
 
+/// An entry with the account's balances after it, each number as a text.
+struct Told;
+
+impl Form<AccountEntry> for Told {
+    ghost shows = { entry_data };
+
+    fn write(entry: &AccountEntry, writer: &mut Writer) -> Result<(), AllocError> {
+        write_object(writer, members_of(entry).as_slice())
+    }
+}
+
 // All that an entry has.
-fn counts_of(entry: &AccountEntry) -> [Count<'static>; 18]
-    ensures { map count_member result ≡ entry_members entry.now }
+fn members_of(entry: &AccountEntry) -> [Member<'static>; 18]
+    ensures { map member_of result ≡ entry_members entry.now }
 {
     let AccountEntry { transfer, balances } = entry;
-    let count = |name, value| Count { name, value };
     [
-        count("id", transfer.id),
-        count("debit_account_id", transfer.debit_account_id),
-        count("credit_account_id", transfer.credit_account_id),
-        count("amount", transfer.amount.value()),
-        count("pending_id", transfer.pending_id),
-        count("user_data_128", transfer.user_data_128),
-        count("user_data_64", u128::from(transfer.user_data_64)),
-        count("user_data_32", u128::from(transfer.user_data_32)),
-        count("timeout", u128::from(transfer.timeout)),
-        count("ledger", u128::from(transfer.ledger)),
-        count("code", u128::from(transfer.code)),
-        count("flags", u128::from(transfer.flags.0)),
-        count("timestamp", u128::from(transfer.timestamp)),
-        count("at", u128::from(transfer.at)),
-        count("debits_pending", balances.debits.pending.value()),
-        count("debits_posted", balances.debits.posted.value()),
-        count("credits_pending", balances.credits.pending.value()),
-        count("credits_posted", balances.credits.posted.value()),
+        Member::u128("id", transfer.id),
+        Member::u128("debit_account_id", transfer.debit_account_id),
+        Member::u128("credit_account_id", transfer.credit_account_id),
+        Member::u128("amount", transfer.amount.value()),
+        Member::u128("pending_id", transfer.pending_id),
+        Member::u128("user_data_128", transfer.user_data_128),
+        Member::u64("user_data_64", transfer.user_data_64),
+        Member::u64("user_data_32", u64::from(transfer.user_data_32)),
+        Member::u64("timeout", u64::from(transfer.timeout)),
+        Member::u64("ledger", u64::from(transfer.ledger)),
+        Member::u64("code", u64::from(transfer.code)),
+        Member::u64("flags", u64::from(transfer.flags.0)),
+        Member::u64("timestamp", transfer.timestamp),
+        Member::u64("at", transfer.at),
+        Member::u128("debits_pending", balances.debits.pending.value()),
+        Member::u128("debits_posted", balances.debits.posted.value()),
+        Member::u128("credits_pending", balances.credits.pending.value()),
+        Member::u128("credits_posted", balances.credits.posted.value()),
     ]
-}
-
-fn write_entry(writer: &mut Writer, entry: &AccountEntry) -> Result<(), AllocError>
-    ensures { AddsData (entry_data entry.now) writer.old writer.new result }
-{
-    write_counts(writer, counts_of(entry).as_slice())
-}
-
-fn write_entries(writer: &mut Writer, entries: &[AccountEntry]) -> Result<(), AllocError>
-    ensures { AddsData (list_data entry_data entries.now) writer.old writer.new result }
-{
-    writer.begin_array()?;
-    for entry in entries {
-        write_entry(writer, entry)?;
-    }
-    writer.end_array()
 }
 
 /// The body that tells entries, and the clock at which they were read.
@@ -79,14 +71,8 @@ pub fn entries_body(
 ) -> Result<Vec<u8>, AllocError>
     ensures { IfOk result (λ body. body.items ≡ compact_text (entries_data clock entries.now)) }
 {
-    let mut writer = Writer::new(Vec::new(alloc));
-    writer.begin_object()?;
-    writer.key("clock")?;
-    writer.quoted_u64(clock)?;
-    writer.key("entries")?;
-    write_entries(&mut writer, entries)?;
-    writer.end_object()?;
-    Ok(writer.into_inner())
+    let clock = [Member::u64("clock", clock)];
+    list_text::<_, Told>(alloc, &clock, "entries", entries, &[])
 }
 
 // The transfer that an object tells.
@@ -112,20 +98,24 @@ fn transfer_in(value: &Value) -> Option<Transfer>
     })
 }
 
+// The sums that two of its members tell.
+#[tactic(auto, unfolding(crate::specs::Entries::sums_in))]
+fn sums_in(value: &Value, pending: &str, posted: &str) -> Option<Sums>
+    ensures { result ≡ sums_in pending.now posted.now (view value.now) }
+{
+    Some(Sums {
+        pending: Amount::new(number_at(value, pending)?),
+        posted: Amount::new(number_at(value, posted)?),
+    })
+}
+
 // The balances that it tells.
-#[tactic(auto, unfolding(crate::specs::Entries::balances_in))]
 fn balances_in(value: &Value) -> Option<Balances>
     ensures { result ≡ balances_in (view value.now) }
 {
     Some(Balances {
-        debits: Sums {
-            pending: Amount::new(number_at(value, "debits_pending")?),
-            posted: Amount::new(number_at(value, "debits_posted")?),
-        },
-        credits: Sums {
-            pending: Amount::new(number_at(value, "credits_pending")?),
-            posted: Amount::new(number_at(value, "credits_posted")?),
-        },
+        debits: sums_in(value, "debits_pending", "debits_posted")?,
+        credits: sums_in(value, "credits_pending", "credits_posted")?,
     })
 }
 

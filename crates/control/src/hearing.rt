@@ -1,5 +1,5 @@
 //! What a reply tells.
-ghost use Rattle.std.specs.Prelude.{◌≡◌, IfSome, IfNone, IfOk, IfErr, option_map};
+ghost use Rattle.std.specs.Prelude.{◌≡◌, IfSome, IfOk, IfErr};
 ghost use Rattle.serde_json.specs.View.{view};
 ghost use Rattle.control.specs.Told.{HasReply, IsFaultIn, IsToldIn, fault_in};
 

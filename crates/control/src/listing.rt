@@ -18,6 +18,7 @@ use records::Drain;
 use serde_json::Value;
 use std::alloc::{AllocError, Global};
 use tenants::TenantName;
+use wire::{Member, write_object};
 
 /// A tenant in a list.
 #[derive(Clone, Copy, Debug, PartialEq, Eq)]
@@ -33,14 +34,12 @@ fn write_row(alloc: Global, writer: &mut Writer, row: &TenantRow) -> Result<(), 
     ensures { AddsData (row_data row.now) writer.old writer.new result }
 {
     let digest = hex::encode(alloc, row.digest.as_slice())?;
-    writer.begin_object()?;
-    writer.key("name")?;
-    writer.string(row.name.as_str())?;
-    writer.key("digest")?;
-    writer.string(digest.as_str())?;
-    writer.key("clock")?;
-    writer.quoted_u64(row.clock)?;
-    writer.end_object()
+    let members = [
+        Member::text("name", row.name.as_str()),
+        Member::text("digest", digest.as_str()),
+        Member::u64("clock", row.clock),
+    ];
+    write_object(writer, &members)
 }
 
 fn write_rows(alloc: Global, writer: &mut Writer, rows: &[TenantRow]) -> Result<(), AllocError>

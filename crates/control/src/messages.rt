@@ -2,13 +2,13 @@
 ghost use Rattle.std.specs.Prelude.{◌≡◌, IfOk};
 ghost use Rattle.serde_json.specs.Written.{compact_text};
 ghost use Rattle.std.specs.String.{string_bytes};
-ghost use Rattle.control.specs.Messages.{body_text, head_text, message_text, method_of, path_of};
+ghost use Rattle.control.specs.Messages.{asked_by, body_text, head_text, message_text};
 ghost use Rattle.control.specs.Messages.{tenant_data};
 
 use crate::body::named_body;
 use crate::piece_asked::{PieceAsked, piece_text};
-use json::Writer;
 use std::alloc::{AllocError, Global};
+use wire::{Member, object_text};
 
 /// What a command asks of a service. Names and keys stand as they were written: the service judges
 /// them.
@@ -32,7 +32,7 @@ pub enum Call<'a> {
 
 impl Call<'_> {
     fn method(&self) -> &'static str
-        ensures { result.now ≡ method_of self.now }
+        ensures { result.now ≡ (asked_by self.now).0 }
     {
         match self {
             Call::Tenants | Call::Status => "GET",
@@ -45,7 +45,7 @@ impl Call<'_> {
     }
 
     fn path(&self) -> &'static str
-        ensures { result.now ≡ path_of self.now }
+        ensures { result.now ≡ (asked_by self.now).1 }
     {
         match self {
             Call::Tenants | Call::AddTenant { .. } => "/control/tenants",
@@ -75,14 +75,10 @@ impl Call<'_> {
 fn tenant_text(alloc: Global, name: &str, key: &str) -> Result<Vec<u8>, AllocError>
     ensures { IfOk result (λ text. text.items ≡ compact_text (tenant_data name.now key.now)) }
 {
-    let mut writer = Writer::new(Vec::new(alloc));
-    writer.begin_object()?;
-    writer.key("name")?;
-    writer.string(name)?;
-    writer.key("key")?;
-    writer.string(key)?;
-    writer.end_object()?;
-    Ok(writer.into_inner())
+    object_text(
+        alloc,
+        &[Member::text("name", name), Member::text("key", key)],
+    )
 }
 
 // All of a message that stands before its body.

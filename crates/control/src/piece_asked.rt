@@ -5,14 +5,14 @@ ghost use Rattle.serde_json.specs.Written.{compact_text};
 ghost use Rattle.control.specs.PieceAsked.{IsNoPieceIn, IsPieceIn, all_in, piece_data, wanted_in};
 
 use crate::members::{members, text};
-use crate::numbers::{number_64_at, number_at, write_number};
+use crate::numbers::{number_64_at, number_at};
 use crate::reading::value_in;
 use crate::refusal::Refusal;
 use command_texts::name;
-use json::Writer;
 use serde_json::Value;
 use std::alloc::{AllocError, Global};
 use tenants::TenantName;
+use wire::{Member, object_text};
 
 /// A piece of an account's statement: its entries from a time up to another, both in nanoseconds
 /// and both included. The newest come first if it is reversed.
@@ -86,15 +86,12 @@ pub(crate) fn piece_of(alloc: Global, body: &[u8]) -> Result<PieceAsked, Refusal
 pub(crate) fn piece_text(alloc: Global, piece: &PieceAsked) -> Result<Vec<u8>, AllocError>
     ensures { IfOk result (λ text. text.items ≡ compact_text (piece_data piece.now)) }
 {
-    let mut writer = Writer::new(Vec::new(alloc));
-    writer.begin_object()?;
-    writer.key("tenant")?;
-    writer.string(piece.tenant.as_str())?;
-    write_number(&mut writer, "account", piece.account)?;
-    write_number(&mut writer, "from", u128::from(piece.from))?;
-    write_number(&mut writer, "to", u128::from(piece.to))?;
-    writer.key("reversed")?;
-    writer.boolean(piece.is_reversed)?;
-    writer.end_object()?;
-    Ok(writer.into_inner())
+    let members = [
+        Member::text("tenant", piece.tenant.as_str()),
+        Member::u128("account", piece.account),
+        Member::u64("from", piece.from),
+        Member::u64("to", piece.to),
+        Member::flag("reversed", piece.is_reversed),
+    ];
+    object_text(alloc, &members)
 }

@@ -1,5 +1,5 @@
 //! A file as a copy sees it.
-ghost use Rattle.std.specs.Prelude.{◌≡◌, ◌≤◌, ℕ, List, Option, None, length, IfOk, OnOk};
+ghost use Rattle.std.specs.Prelude.{◌≤◌, ℕ, List, Option, None, length, IfOk, OnOk};
 ghost use Rattle.copies.specs.Places.{HasRead, WritesPart, Cuts};
 
 use crate::fault::CopyFault;

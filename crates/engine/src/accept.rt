@@ -1,4 +1,4 @@
-ghost use Rattle.std.specs.Prelude.{◌≡◌, ℕ};
+ghost use Rattle.std.specs.Prelude.{◌≡◌};
 ghost use Rattle.records.specs.declared.side.Side.TheVariants.{Debit, Credit};
 ghost use Rattle.records.specs.Accepted.{ending_of};
 ghost use Rattle.records.specs.StoredRecord.{given_or, stored_transfer};

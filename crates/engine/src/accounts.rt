@@ -1,4 +1,4 @@
-ghost use Rattle.std.specs.Prelude.{◌≡◌, ℕ};
+ghost use Rattle.std.specs.Prelude.{◌≡◌};
 ghost use Rattle.records.specs.Machine.{Machine, account_with};
 ghost use Rattle.records.specs.Valid.{IsNextTimestamp, IsNextAccount};
 ghost use Rattle.records.specs.Widths.{IsAccountInWidth};

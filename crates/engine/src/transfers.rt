@@ -1,4 +1,4 @@
-ghost use Rattle.std.specs.Prelude.{◌≡◌, ℕ, ◌+◌, ◌<◌, ◌≤◌};
+ghost use Rattle.std.specs.Prelude.{◌≡◌, ◌+◌, ◌<◌, ◌≤◌};
 ghost use Rattle.records.specs.declared.side.Side.TheVariants.{Debit, Credit};
 ghost use Rattle.records.specs.Machine.{Machine};
 ghost use Rattle.records.specs.Facts.{facts_of};

@@ -2,7 +2,6 @@
 ghost use Rattle.std.specs.Prelude.{◌≡◌, ◌≤◌, ◌<◌, length, nat_eq, Err, IfOk, IfSome, IfNone};
 ghost use Rattle.std.specs.List.{ends_with};
 ghost use Rattle.ledger_http.specs.declared.refusal.Refusal.TheVariants.{Truncated};
-ghost use Rattle.ledger_http.specs.Limits.{max_head};
 ghost use Rattle.ledger_http.specs.Message.{blank_line, end_of_head, length_of_head};
 ghost use Rattle.ledger_http.specs.Progress.{HasNoEnd, IsOpen};
 

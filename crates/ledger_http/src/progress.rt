@@ -1,5 +1,5 @@
 //! How far the first message of some bytes has been looked at, so that no byte is looked at twice.
-ghost use Rattle.std.specs.Prelude.{◌≡◌, ◌≢◌, IfOk, IfErr};
+ghost use Rattle.std.specs.Prelude.{◌≢◌, IfOk, IfErr};
 ghost use Rattle.ledger_http.specs.declared.refusal.Refusal.TheVariants.{Truncated};
 ghost use Rattle.ledger_http.specs.Message.{IsRefused};
 ghost use Rattle.ledger_http.specs.Progress.{IsOpen, IsProgress, IsLooked};

@@ -1,5 +1,5 @@
 //! Reads the bytes of a message, and none behind them.
-ghost use Rattle.std.specs.Prelude.{◌≡◌, ◌≤◌, ◌<◌, ◌||◌, ℕ, List, Some, length, take, drop, is_err, slice_get, IfOk, OnErr};
+ghost use Rattle.std.specs.Prelude.{◌≡◌, ◌≤◌, ◌<◌, ◌||◌, ℕ, List, Some, length, drop, is_err, slice_get, IfOk, OnErr};
 ghost use Rattle.std.specs.Io.KnownBytes.{Keeps};
 ghost use Rattle.ledger_http.specs.Limits.{max_head};
 ghost use Rattle.ledger_http.specs.First.{IsBrokenOff};

@@ -1,5 +1,5 @@
 -- What an INSERT of one tenant's rows adds.
-use Rattle.std.proofs.Common.{◌≡◌, ◌≢◌, ℕ, ℤ, List, [], ◌∷◌, ◌++◌, ◌/◌, length, map, filter, slice_get, Bool, true, false, cond, IsTrue, Some, Option, Ok, Result, OnOk, refl, sym, ap, subst, ◌∙◌}
+use Rattle.std.proofs.Common.{◌≡◌, ◌≢◌, ℕ, ℤ, List, [], ◌∷◌, ◌++◌, ◌/◌, length, map, filter, slice_get, Bool, true, false, cond, IsTrue, Some, Option, Ok, refl, sym, ap, subst, ◌∙◌}
 use Rattle.std.specs.List.{AllByRecursion}
 use Rattle.std.specs.List.Sorted.{IsPermutation}
 use Rattle.sqlite_value.specs.declared.value.Value.{Value}
@@ -18,16 +18,14 @@ use Rattle.sqlite_rules.specs.Edit.{edit_of, put_all, numbered, are_fresh}
 use Rattle.sqlite_rules.specs.Cast.{cast_row, cast_all}
 use Rattle.sqlite.specs.Listing.{understood}
 use Rattle.sqlite.specs.Effect.{value_rows}
-use Rattle.sqlite.specs.State.{State, HasCleanDisk, Survives, CommitsBy, Executes}
-use Rattle.sqlite.specs.declared.error.Error.{Error}
+use Rattle.sqlite.specs.State.{State, HasCleanDisk, Executes}
 use Rattle.std.proofs.lemmas.Bool.Decides.{Decides-int_eq}
 use Rattle.std.specs.Bool.{Decides}
 use Rattle.std.proofs.lemmas.List.{map-append}
 use Rattle.std.proofs.lemmas.List.Elements.{filter-append}
 use Rattle.std.proofs.lemmas.List.Sorted.{IsPermutation-map}
 use Rattle.sqlite_trees.proofs.ListLemmas.{IsPermutation-filter}
-use Rattle.ledger_sql.specs.Causes.{done_of}
-use Rattle.ledger_sql.specs.Frames.{Follows}
+use Rattle.ledger_sql.specs.Creating.{IsMaking}
 use Rattle.sqlite_schema.specs.declared.schema.Kind.TheVariants.{Integer}
 use Rattle.sqlite_rules.specs.Cast.{cast}
 use Rattle.sqlite_sql.specs.Ops.{unary}
@@ -42,7 +40,7 @@ use Rattle.ledger_sql.proofs.PutLemmas.{AreNumbered, chosen, put_more, put_aside
 use Rattle.sqlite.proofs.Callers.{IsPlain, command_of}
 use Rattle.ledger_sql.specs.Schema.{table}
 use Rattle.ledger_sql.proofs.InsertLemmas.{placed, inserted}
-use Rattle.ledger_sql.proofs.WriteLemmas.{wrote_inside, writes_stay, statement_ok, statement_follows}
+use Rattle.ledger_sql.proofs.WriteLemmas.{Means, WritesBy, wrote_inside, writes_stay, statement_writes}
 
 pub cast_null : cast Integer Null ≡ Null
 unfolding unary
@@ -114,9 +112,7 @@ module _ (sql : List ℕ) (params : Row) (old new : State) (schema : Schema) (ha
     (inside : IsTrue old.in_transaction) where
   pub adds : (count : ℕ) → Executes sql params old new (Ok count) → AddsRows (rows_in tree many) tree tenant added old new
   adds count h =
-      let both = inserted sql params old new schema has at terms width is plain name tree columns key primary uniques checks references listed count h in
-      let put = both.0 in
-      let w = both.1 in
+      let put = inserted sql params old new schema has at terms width is plain name tree columns key primary uniques checks references listed count h in
       let it = placed tree (table name columns key primary uniques checks references) in
       let db = old.now.trees in
       let cast_all_of = λ (sources : List Row). map (λ s. cast_row it (drop 0 s)) sources in
@@ -138,7 +134,7 @@ module _ (sql : List ℕ) (params : Row) (old new : State) (schema : Schema) (ha
         others = λ other ne. ap (λ xs. map cells (filter (is_own other) xs)) rows ∙ ap (map cells) (put_aside (is_own other) news (db tree) fresh (other_news tenant many other ne news added numbers));
         tables = subst (λ (t : Trees). AllByRecursion (λ u. u.tree ≢ tree → t u.tree ≡ db u.tree) old.now.schema.tables) (sym put.trees)
             (subst (λ (s : Schema). AllByRecursion (λ u. u.tree ≢ tree → put.next u.tree ≡ db u.tree) s.tables) (sym has) put.applies.tables);
-        inside = wrote_inside old new _ _ _ _ w inside put.schema_is;
+        inside = wrote_inside old new _ _ _ _ put.wrote inside put.schema_is;
         numbered = λ num. subst IsNumbered (sym rows) (numbered_news tenant many news (map (λ v. Int tenant ∷ v) added) numbers (db tree) num);
       }
 
@@ -148,24 +144,31 @@ pub record IsInsertText (sql : List ℕ) (schema : Schema) (at : ℕ) (terms : L
   pub plain : IsPlain (understood schema sql)
   pub listed : slice_get schema.tables at ≡ Some (placed tree (table t.name t.columns t.key t.primary t.uniques t.checks t.references))
 
-module _ (sql : List ℕ) (at : ℕ) (terms : List Term) (width tree : ℕ) (t : Table) (means : (s : Schema) → IsLedger s → IsInsertText sql s at terms width tree t) (tenant : ℤ) (many : ℕ)
-    (added : List Row) (good params : Row) (same : params ≡ good) (gives : value_rows good width (length terms / width) terms ≡ map (λ v. Null ∷ Int tenant ∷ v) added)
-    (taken : AreTaken t.columns tenant many added) (old new : State) (inside : HasCleanDisk old → IsInside old) (survives : Survives old new (CommitsBy sql params old)) where
-  abbrev Added : Type 0
-  Added = AddsRows (rows_in tree many) tree tenant added old new
+-- a transaction is open, and over its schema the text does so
+pub record IsInserting (sql : List ℕ) (at : ℕ) (terms : List Term) (width tree : ℕ) (t : Table) (s : State) : Type 0 where
+  pub mode : IsTrue s.in_transaction
+  pub text : IsInsertText sql s.now.schema at terms width tree t
 
-  meant : HasCleanDisk old → IsTrue old.in_transaction × ((schema : Schema) × (old.now.schema ≡ schema) × (command_of (understood schema sql) ≡ Insert at (Values terms width)) × IsPlain (understood schema sql))
-  meant clean = let it = inside clean in let text = means old.now.schema it.schema in (it.mode, (old.now.schema, refl, text.is, text.plain))
+-- the command that it means then
+pub inserting_means : {sql : List ℕ} {at : ℕ} {terms : List Term} {width tree : ℕ} {t : Table} {s : State} → IsInserting sql at terms width tree t s → Means sql (Insert at (Values terms width)) s
+inserting_means it = (it.mode, (_, refl, it.text.is, it.text.plain))
 
-  added_by : HasCleanDisk old → (count : ℕ) → Executes sql params old new (Ok count) → Added
-  added_by clean count h =
-      let it = inside clean in
-      let text = means old.now.schema it.schema in
-      adds sql good old new old.now.schema refl at terms width text.is text.plain t.name tree t.columns t.key t.primary t.uniques t.checks t.references text.listed tenant many added gives taken it.mode count
-      (subst (λ p. Executes sql p old new (Ok count)) same h)
+-- so it is over a ledger, and over the schema that an upgrade makes
+pub in_ledger : {sql : List ℕ} {at : ℕ} {terms : List Term} {width tree : ℕ} {t : Table} → ((s : Schema) → IsLedger s → IsInsertText sql s at terms width tree t) → (s : State) → (HasCleanDisk s → IsInside s)
+    → HasCleanDisk s → IsInserting sql at terms width tree t s
+in_ledger text s inside clean = record { mode = (inside clean).mode; text = text s.now.schema (inside clean).schema }
 
-  pub add_ok : (r : Result ℕ Error) → HasCleanDisk new → Executes sql params old new r → OnOk (done_of r) Added
-  add_ok = statement_ok sql params old new Added added_by survives
+pub in_making : {sql : List ℕ} {schema : Schema} {at : ℕ} {terms : List Term} {width tree : ℕ} {t : Table} → IsInsertText sql schema at terms width tree t → (s : State) → (HasCleanDisk s → IsMaking schema s)
+    → HasCleanDisk s → IsInserting sql at terms width tree t s
+in_making {sql} {schema} {at} {terms} {width} {tree} {t} text s making clean =
+    record { mode = (making clean).mode; text = subst (λ schema. IsInsertText sql schema at terms width tree t) (sym (making clean).schema_is) text }
 
-  pub add_follows : (r : Result ℕ Error) → (HasCleanDisk new → Executes sql params old new r) → Follows old new
-  add_follows = statement_follows sql params old new (Insert at (Values terms width)) tt Added (λ a. writes_stay old new a.inside) meant added_by survives
+-- the contract of a function that adds one tenant's rows
+pub add_writes : (sql : List ℕ) (at : ℕ) (terms : List Term) (width tree : ℕ) (t : Table) (tenant : ℤ) (many : ℕ) (added : List Row) (good params : Row) → params ≡ good
+    → value_rows good width (length terms / width) terms ≡ map (λ v. Null ∷ Int tenant ∷ v) added → AreTaken t.columns tenant many added → (old new : State)
+    → (HasCleanDisk old → IsInserting sql at terms width tree t old) → WritesBy sql params (AddsRows (rows_in tree many) tree tenant added) old new
+add_writes sql at terms width tree t tenant many added good params same gives taken old new inserting =
+    statement_writes sql params old new (AddsRows (rows_in tree many) tree tenant added) (Insert at (Values terms width)) tt (λ a. writes_stay old new a.inside) (λ clean. inserting_means (inserting clean))
+    (λ clean count h. let it = inserting clean in
+    adds sql good old new old.now.schema refl at terms width it.text.is it.text.plain t.name tree t.columns t.key t.primary t.uniques t.checks t.references it.text.listed tenant many added gives taken it.mode count
+    (subst (λ p. Executes sql p old new (Ok count)) same h))

@@ -107,14 +107,15 @@ module _ (tree : ℕ) (terms shown : List Term) (order : List (Term × Key)) (he
       (subst (IsPermutation (map (λ (o : Output). o.1) outputs)) (sym a.shown) moved)
 
 -- each output is that of one way to fill the slots
-pub made_by : {A B : Type 0} (f : A → B) (x : A) (xs : List A) → All (λ y. (z : A) × (y ≡ f z)) (map f xs)
+made_by : {A B : Type 0} (f : A → B) (x : A) (xs : List A) → All (λ y. (z : A) × (y ≡ f z)) (map f xs)
 made_by f x xs k d low = (get_or xs k x, get_or-map f xs k x d (rw length-map at low))
 
 -- and the rows that it shows are sorted by what it is sorted by
 pub sorted_shown : (q : Query) (db : Trees) (params : Row) (cmp : Row → Row → Ordering)
-    → ((x y : Env) → output_cmp q (output q x) (output q y) ≡ cmp (output q x).1 (output q y).1) → (kept ordered : List Output)
-    → All (λ o. (env : Env) × (o ≡ output q env)) kept → IsPermutation kept ordered → IsSorted (output_cmp q) ordered → IsSorted cmp (map (λ (o : Output). o.1) ordered)
-sorted_shown q db params cmp same kept ordered made moved sorted =
+    → ((x y : Env) → output_cmp q (output q x) (output q y) ≡ cmp (output q x).1 (output q y).1) → (staged : List Env) (kept ordered : List Output)
+    → kept ≡ map (output q) staged → IsPermutation kept ordered → IsSorted (output_cmp q) ordered → IsSorted cmp (map (λ (o : Output). o.1) ordered)
+sorted_shown q db params cmp same staged kept ordered is moved sorted =
+    let made = subst (All (λ (o : Output). (env : Env) × (o ≡ output q env))) (sym is) (made_by (output q) [] staged) in
     IsSorted-map cmp (λ (o : Output). o.1) ordered (λ k d low high.
     let all : All (λ (o : Output). (env : Env) × (o ≡ output q env)) ordered = All-permutation (λ (o : Output). (env : Env) × (o ≡ output q env)) kept ordered moved made in
     let next = all (k + 1) d high in
@@ -150,9 +151,7 @@ module _ (sql : List ℕ) (schema : Schema) (tree : ℕ) (terms shown : List Ter
       let got = reads_as sql params old new schema has (Select (record { lets = []; body = plain_query tree terms shown order }) text.names) text.is text.plain text.unlisted rows h in
       let a = got.answer Null in
       let q = plain_query tree terms shown order in
-      let kept : a.kept ≡ map (output q) a.staged = a.distinct in
-      let made = subst (All (λ (o : Output). (env : Env) × (o ≡ output q env))) (sym kept) (made_by (output q) [] a.staged) in
-      subst (IsSorted cmp) (sym a.shown) (sorted_shown q old.now.trees params cmp same a.kept a.ordered made a.same a.sorted)
+      subst (IsSorted cmp) (sym a.shown) (sorted_shown q old.now.trees params cmp same a.staged a.kept a.ordered a.distinct a.same a.sorted)
 
   -- the row that was found, or that there is none
   pub found_shown : (found : Option Row) → FindsFirst sql params old new found

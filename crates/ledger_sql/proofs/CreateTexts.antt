@@ -1,23 +1,20 @@
 -- What the CREATEs do.
-use Rattle.std.proofs.Common.{◌≡◌, ℕ, List, [], codes, false, cond, None, Ok, Result, OnOk, refl, sym, ap, subst, ◌∙◌}
+use Rattle.std.proofs.Common.{◌≡◌, ℕ, List, [], codes, false, cond, None, Ok, refl, sym, ap, subst, ◌∙◌}
 use Rattle.sqlite_tied.specs.Compute.{everything}
 use Rattle.sqlite_resolve.specs.Compile.{table_defined_by}
 use Rattle.sqlite_schema.specs.declared.schema.Schema.{Schema}
 use Rattle.sqlite_schema.specs.declared.schema.Table.{Table}
 use Rattle.sqlite_schema.specs.declared.command.Command.TheVariants.{CreateTable}
 use Rattle.sqlite_catalog.specs.Change.{created, next_tree, KeepsRows}
-use Rattle.sqlite.specs.declared.error.Error.{Error}
 use Rattle.sqlite.specs.Effect.{Database}
 use Rattle.sqlite.specs.Does.{Tally, lacks_sequence}
 use Rattle.sqlite.specs.Listing.{understood}
-use Rattle.sqlite.specs.State.{State, HasCleanDisk, Survives, CommitsBy, Writes, Executes}
+use Rattle.sqlite.specs.State.{State, HasCleanDisk, Writes, Executes}
 use Rattle.sqlite.proofs.Callers.{IsPlain, command_of, statement_of, runs_as}
-use Rattle.ledger_sql.specs.Causes.{done_of}
 use Rattle.ledger_sql.specs.Creating.{IsMaking, Makes}
-use Rattle.ledger_sql.specs.Frames.{Follows}
 use Rattle.ledger_sql.specs.Schema.{no_schema, after_schema, after_tenant, after_clock, after_account, list_schema, after_balance, after_status, balance_schema, schema_table, tenant_table, clock_table, account_table, transfer_table, balance_table, status_table, history_table, failed_table}
-use Rattle.ledger_sql.proofs.WriteLemmas.{statement_follows, statement_ok}
-use Rattle.ledger_sql.proofs.RunLemmas.{went, same_value, Stays}
+use Rattle.ledger_sql.proofs.WriteLemmas.{WritesBy, statement_writes}
+use Rattle.ledger_sql.proofs.RunLemmas.{went, same_value}
 
 -- the text makes this table over that schema
 pub record IsCreateText (sql : List ℕ) (was : Schema) (table : Table) : Type 0 where
@@ -48,15 +45,11 @@ module _ (sql : List ℕ) (was : Schema) (table : Table) (text : IsCreateText sq
         marks = w.marks;
       }
 
-  module _ (over : HasCleanDisk old → IsMaking was old) (survives : Survives old new (CommitsBy sql [] old)) where
-    pub create_ok : (r : Result ℕ Error) → HasCleanDisk new → Executes sql [] old new r → OnOk (done_of r) (Makes was table old new)
-    create_ok = statement_ok sql [] old new (Makes was table old new) (λ clean. makes (over clean)) survives
-
-    stays : Makes was table old new → Stays old new
-    stays m = record { was_open = m.shown.was_open; committed = m.shown.committed_is; unmarked = λ _ outside. absurd (let e = sym m.shown.mode ∙ outside in cc) }
-
-    pub create_follows : (r : Result ℕ Error) → (HasCleanDisk new → Executes sql [] old new r) → Follows old new
-    create_follows = statement_follows sql [] old new CreateTable tt (Makes was table old new) stays (λ clean. ((over clean).mode, (was, (over clean).schema_is, text.is, text.plain))) (λ clean. makes (over clean)) survives
+  -- the contract of a function that makes a table
+  pub table_made : (HasCleanDisk old → IsMaking was old) → WritesBy sql [] (Makes was table) old new
+  table_made over =
+      statement_writes sql [] old new (Makes was table) CreateTable tt (λ m. record { was_open = m.shown.was_open; committed = m.shown.committed_is; unmarked = λ _ outside. absurd (let e = sym m.shown.mode ∙ outside in cc) })
+      (λ clean. ((over clean).mode, (was, (over clean).schema_is, text.is, text.plain))) (λ clean. makes (over clean))
 
 abbrev pub make_schema_text : List ℕ
 make_schema_text = codes "CREATE TABLE schema (one INTEGER PRIMARY KEY NOT NULL CHECK (one = 1), version INTEGER NOT NULL) STRICT"

@@ -1,5 +1,5 @@
 -- What the UPDATE of a tenant's digest means, and what it replaces.
-use Rattle.std.proofs.Common.{◌≡◌, ◌≢◌, ℕ, ℤ, List, [], ◌∷◌, map, filter, not, codes, true, Bool, ◌&&◌, IsTrue, None, Ok, Result, OnOk, refl, sym, ap, subst, ◌∙◌}
+use Rattle.std.proofs.Common.{◌≡◌, ◌≢◌, ℕ, ℤ, List, [], ◌∷◌, map, filter, not, codes, true, Bool, ◌&&◌, None, Ok, refl, sym, ap, subst, ◌∙◌}
 use Rattle.std.specs.List.{AllByRecursion, list_all}
 use Rattle.std.specs.List.Sorted.{IsPermutation}
 use Rattle.std.proofs.lemmas.List.Sorted.{IsPermutation-map}
@@ -12,20 +12,14 @@ use Rattle.sqlite_schema.specs.declared.command.Command.TheVariants.{Update}
 use Rattle.sqlite_schema.specs.declared.schema.Keys.TheVariants.{Enforced}
 use Rattle.sqlite_schema.specs.declared.schema.Kind.TheVariants.{Integer, Text as IsText}
 use Rattle.sqlite_schema.specs.declared.schema.Schema.{Schema}
-use Rattle.sqlite_schema.specs.declared.schema.Table.{Table}
-use Rattle.sqlite_schema.specs.declared.schema.Index.{Index}
-use Rattle.sqlite_schema.specs.declared.schema.View.{View}
 use Rattle.sqlite_rules.specs.Cast.{cast, cast_all}
 use Rattle.sqlite_rules.specs.Edit.{id_in, are_fresh}
 use Rattle.sqlite_rules.specs.Action.{works}
 use Rattle.sqlite_tied.specs.Compute.{everything}
-use Rattle.sqlite.specs.declared.error.Error.{Error}
 use Rattle.sqlite.specs.Listing.{understood}
-use Rattle.sqlite.specs.State.{State, HasCleanDisk, Survives, CommitsBy, Writes, Executes}
-use Rattle.sqlite.proofs.Callers.{IsPlain, command_of, statement_of}
-use Rattle.ledger_sql.specs.Causes.{done_of}
+use Rattle.sqlite.specs.State.{State, HasCleanDisk, Writes, Executes}
+use Rattle.sqlite.proofs.Callers.{statement_of}
 use Rattle.ledger_sql.specs.Effects.{IsLedger, IsInside, WritesInside, HasDigest, SetsDigest}
-use Rattle.ledger_sql.specs.Frames.{Follows}
 use Rattle.ledger_sql.specs.Rowids.{IsNumbered}
 use Rattle.ledger_sql.specs.Schema.{tenant_table}
 use Rattle.ledger_sql.specs.TableRows.{cells_from, directory_rows, is_int}
@@ -35,10 +29,10 @@ use Rattle.ledger_sql.proofs.AnswerLemmas.{plain_query, equals_int}
 use Rattle.ledger_sql.proofs.KeyLemmas.{is_param, and_true}
 use Rattle.ledger_sql.proofs.PutLemmas.{put_more}
 use Rattle.ledger_sql.proofs.ReplaceLemmas.{taken_out, numbered_put, numbered_out, one_mapped}
-use Rattle.ledger_sql.proofs.SelectTexts.{ledger_with, ledger_is}
+use Rattle.ledger_sql.proofs.SelectTexts.{over_ledger}
 use Rattle.ledger_sql.proofs.SetLemmas.{IsUpdateText}
 use Rattle.ledger_sql.proofs.UpdateLemmas.{HasUpdated, no_works, updated, update_schema}
-use Rattle.ledger_sql.proofs.WriteLemmas.{wrote_inside, statement_ok, statement_follows, writes_stay}
+use Rattle.ledger_sql.proofs.WriteLemmas.{WritesBy, wrote_inside, writes_stay, statement_writes}
 
 abbrev pub set_digest_text : List ℕ
 set_digest_text = codes "UPDATE tenant SET digest = ?2 WHERE no = ?1"
@@ -52,12 +46,9 @@ digest_set = lit Null ∷ col 1 2 ∷ col 0 1 ∷ []
 abbrev IsDigestText : Schema → Type 0
 IsDigestText schema = IsUpdateText set_digest_text schema 1 by_number digest_set 1 tenant_table
 
-set_digest_means : (more : List Table) (indexes : List Index) (views : List View) → IsUpdateText set_digest_text (ledger_with more indexes views) 1 (is_param 0 0 ∷ []) (lit Null ∷ col 1 2 ∷ col 0 1 ∷ []) 1 tenant_table
-unfolding understood everything
-set_digest_means more indexes views = record { is = refl; plain = (refl, refl); listed = refl }
-
 set_digest_is : (s : Schema) → IsLedger s → IsDigestText s
-set_digest_is s h = subst IsDigestText (sym (ledger_is s h)) (set_digest_means h.more s.indexes s.views)
+unfolding understood everything
+set_digest_is = over_ledger (λ s. IsDigestText s) (λ more indexes views. record { is = refl; plain = (refl, refl); listed = refl })
 
 module _ (number : ℤ) (digest : List ℕ) (old new : State) (inside : IsInside old) (count : ℕ) (ran : Executes set_digest_text (Int number ∷ Blob digest ∷ []) old new (Ok count)) where
   abbrev good : Row
@@ -140,18 +131,9 @@ module _ (number : ℤ) (digest : List ℕ) (old new : State) (inside : IsInside
   sets_digest : SetsDigest number digest old new
   sets_digest = record { inside = digest_inside; one = has_digest }
 
-module _ (number : ℤ) (digest : List ℕ) (params : Row) (same : params ≡ Int number ∷ Blob digest ∷ []) (old new : State) (inside : HasCleanDisk old → IsInside old)
-    (survives : Survives old new (CommitsBy set_digest_text params old)) where
-  digest_by : HasCleanDisk old → (count : ℕ) → Executes set_digest_text params old new (Ok count) → SetsDigest number digest old new
-  digest_by clean count ran = sets_digest number digest old new (inside clean) count (subst (λ q. Executes set_digest_text q old new (Ok count)) same ran)
-
-  meant : HasCleanDisk old → IsTrue old.in_transaction
-      × ((schema : Schema) × (old.now.schema ≡ schema) × (command_of (understood schema set_digest_text) ≡ Update 1 (record { lets = []; body = plain_query 1 by_number (col 1 0 ∷ col 1 0 ∷ digest_set) [] })) × IsPlain (understood schema set_digest_text))
-  meant clean = let it = inside clean in let text = set_digest_is old.now.schema it.schema in (it.mode, (old.now.schema, refl, text.is, text.plain))
-
-  pub set_digest_ok : (r : Result ℕ Error) → HasCleanDisk new → Executes set_digest_text params old new r → OnOk (done_of r) (SetsDigest number digest old new)
-  set_digest_ok = statement_ok set_digest_text params old new (SetsDigest number digest old new) digest_by survives
-
-  pub set_digest_follows : (r : Result ℕ Error) → (HasCleanDisk new → Executes set_digest_text params old new r) → Follows old new
-  set_digest_follows = statement_follows set_digest_text params old new (Update 1 (record { lets = []; body = plain_query 1 by_number (col 1 0 ∷ col 1 0 ∷ digest_set) [] })) tt (SetsDigest number digest old new)
-      (λ a. writes_stay old new a.inside) meant digest_by survives
+-- the contract of the function that sets it
+pub digest_written : (number : ℤ) (digest : List ℕ) (params : Row) → params ≡ Int number ∷ Blob digest ∷ [] → (old new : State) → (HasCleanDisk old → IsInside old) → WritesBy set_digest_text params (SetsDigest number digest) old new
+digest_written number digest params same old new inside =
+    statement_writes set_digest_text params old new (SetsDigest number digest) (Update 1 (record { lets = []; body = plain_query 1 by_number (col 1 0 ∷ col 1 0 ∷ digest_set) [] })) tt (λ a. writes_stay old new a.inside)
+    (λ clean. let it = inside clean in let text = set_digest_is old.now.schema it.schema in (it.mode, (old.now.schema, refl, text.is, text.plain)))
+    (λ clean count ran. sets_digest number digest old new (inside clean) count (subst (λ q. Executes set_digest_text q old new (Ok count)) same ran))

@@ -6,9 +6,12 @@ use Rattle.std.specs.List.Sorted.{IsPermutation, IsSorted}
 use Rattle.std.proofs.lemmas.List.{append-nil, length-append, length-map, length-take, take-append-drop}
 use Rattle.records.specs.declared.unavailable.Unavailable.{Unavailable}
 use Rattle.sqlite_value.specs.declared.value.Value.{Value}
-use Rattle.sqlite_value.specs.declared.value.Value.TheVariants.{Int}
-use Rattle.sqlite_value.specs.Order.{Row}
+use Rattle.sqlite_value.specs.declared.value.Value.TheVariants.{Int, Blob}
+use Rattle.sqlite_value.specs.Order.{Row, column, value_cmp}
+use Rattle.sqlite_value.proofs.OrderLemmas.{then-Equal}
+use Rattle.sqlite_schema.specs.declared.schema.Schema.{Schema}
 use Rattle.sqlite_sql.specs.declared.ops.CompareOp.{CompareOp}
+use Rattle.sqlite_sql.specs.declared.ops.CompareOp.TheVariants.{Ge, Le}
 use Rattle.sqlite_sql.specs.Term.{Term, Env, eval}
 use Rattle.sqlite_sql.specs.Query.{output, output_cmp, as_count, limited}
 use Rattle.sqlite.specs.State.{State, HasCleanDisk, Shown, Begins}
@@ -17,8 +20,9 @@ use Rattle.ledger_sql.specs.declared.table_fault.TableFault.{TableFault}
 use Rattle.ledger_sql.specs.Effects.{IsLedger}
 use Rattle.ledger_sql.specs.Entries.{entry_values, entries_when, ReadsFirst, HandsUpTo}
 use Rattle.ledger_sql.specs.Handing.{HandsRows}
-use Rattle.ledger_sql.proofs.EntryTexts.{entry_query, given_limit, IsEntryText}
-use Rattle.ledger_sql.proofs.EntryLemmas.{AreFirst, compares, keys, entries_shown, entries_begun}
+use Rattle.ledger_sql.specs.TableRows.{is_from, is_until}
+use Rattle.ledger_sql.proofs.EntryTexts.{entry_query, given_limit, IsEntryText, first_from_text, first_from_query, first_until_text, first_until_query}
+use Rattle.ledger_sql.proofs.EntryLemmas.{AreFirst, compares, compares_from, compares_until, keys, entries_shown, entries_begun}
 
 -- ---- the first of some entries
 
@@ -101,25 +105,33 @@ module _ (sql : List ℕ) (op : CompareOp) (descending : Bool) (limit : Term) (t
 
 -- ---- so many at most
 
-module _ (sql : List ℕ) (op : CompareOp) (descending : Bool) (tenant : ℤ) (account : List ℕ) (time : ℤ) (count : ℕ) (in_time : Value → Bool) (tests : (v : Value) → compares op time v ≡ in_time v)
-    (cmp : Row → Row → Ordering)
-    (same : (x y : Env) → output_cmp (entry_query op descending given_limit) (output (entry_query op descending given_limit) x) (output (entry_query op descending given_limit) y)
-    ≡ cmp (output (entry_query op descending given_limit) x).1 (output (entry_query op descending given_limit) y).1)
-    (old new : State) (key : Row) (is : key ≡ keys tenant account time (Int (pos count) ∷ []) op in_time tests) where
-  abbrev these : List Row
-  these = entries_when tenant account in_time old.now.trees
+-- a text that reads the entries on one side of a time, which is told by a test, in an order
+pub record ReadsSide (sql : List ℕ) (in_time : ℤ → Value → Bool) (cmp : Row → Row → Ordering) : Type 0 where
+  pub op : CompareOp
+  pub descending : Bool
+  pub tests : (time : ℤ) (v : Value) → compares op time v ≡ in_time time v
+  pub same : (x y : Env) → output_cmp (entry_query op descending given_limit) (output (entry_query op descending given_limit) x) (output (entry_query op descending given_limit) y)
+      ≡ cmp (output (entry_query op descending given_limit) x).1 (output (entry_query op descending given_limit) y).1
+  pub means : (s : Schema) → IsLedger s → IsEntryText sql s op descending given_limit
 
-  pub entries_up_to : {K : Type 0} (takes : K → EntryCells → K → Type 0) (is_full : K → Bool) → (IsLedger old.now.schema → IsEntryText sql old.now.schema op descending given_limit) → (before after : K)
-      → (r : Result (Unit {0}) TableFault) → HandsRows takes is_full sql key old new before after r → (got : Result (Unit {0}) Unavailable) → IfOk got (λ u. r ≡ Ok u) → OnErr got (IsErr r)
-      → HandsUpTo takes is_full (HasCleanDisk new × IsLedger old.now.schema) count these (IsSorted cmp) before after got
-  entries_up_to takes is_full text before after r h got known failed =
-      let limits = Int (pos count) ∷ [] in
-      record {
-        handed = h.handed;
-        taken = h.taken;
-        within = few sql op descending given_limit tenant account time limits in_time tests cmp same old new key is takes is_full text before after r h got count refl;
-        first = begun sql op descending given_limit tenant account time limits in_time tests cmp same old new key is takes is_full text before after r h got;
-        ended = λ saw. over_so got (λ end. elim end [ inl full ↦ inl full | inr it ↦ inr (record { ordered = it.ordered; all = it.all; order = it.order; read_is = it.rows_are }) ])
-            (over sql op descending given_limit tenant account time limits in_time tests cmp same old new key is takes is_full text before after r h got got known saw);
-        wants = still sql op descending given_limit tenant account time limits in_time tests cmp same old new key is takes is_full text before after r h got got r failed h.wants;
-      }
+pub oldest : ReadsSide first_from_text is_from (λ a b. value_cmp (column a 1) (column b 1))
+oldest = record { op = Ge; descending = false; tests = compares_from; same = λ x y. then-Equal _; means = first_from_query.means }
+
+pub newest : ReadsSide first_until_text is_until (λ a b. value_cmp (column b 1) (column a 1))
+newest = record { op = Le; descending = true; tests = compares_until; same = λ x y. then-Equal _; means = first_until_query.means }
+
+pub entries_up_to : {sql : List ℕ} {in_time : ℤ → Value → Bool} {cmp : Row → Row → Ordering} {K : Type 0} (side : ReadsSide sql in_time cmp) (tenant : ℤ) (account : List ℕ) (time : ℤ) (count : ℕ) (old new : State) (key : Row)
+    → key ≡ Int tenant ∷ Blob account ∷ Int time ∷ Int (pos count) ∷ [] → (takes : K → EntryCells → K → Type 0) (is_full : K → Bool) (before after : K) (r : Result (Unit {0}) TableFault) → HandsRows takes is_full sql key old new before after r
+    → (got : Result (Unit {0}) Unavailable) → IfOk got (λ u. r ≡ Ok u) → OnErr got (IsErr r) → HandsUpTo takes is_full (HasCleanDisk new × IsLedger old.now.schema) count (entries_when tenant account (in_time time) old.now.trees) (IsSorted cmp) before after got
+entries_up_to {sql} {in_time} {cmp} side tenant account time count old new key is takes is_full before after r h got known failed =
+    let limits = Int (pos count) ∷ [] in
+    let text = side.means old.now.schema in
+    record {
+      handed = h.handed;
+      taken = h.taken;
+      within = few sql side.op side.descending given_limit tenant account time limits (in_time time) (side.tests time) cmp side.same old new key is takes is_full text before after r h got count refl;
+      first = begun sql side.op side.descending given_limit tenant account time limits (in_time time) (side.tests time) cmp side.same old new key is takes is_full text before after r h got;
+      ended = λ saw. over_so got (λ end. elim end [ inl full ↦ inl full | inr it ↦ inr (record { ordered = it.ordered; all = it.all; order = it.order; read_is = it.rows_are }) ])
+          (over sql side.op side.descending given_limit tenant account time limits (in_time time) (side.tests time) cmp side.same old new key is takes is_full text before after r h got got known saw);
+      wants = still sql side.op side.descending given_limit tenant account time limits (in_time time) (side.tests time) cmp side.same old new key is takes is_full text before after r h got got r failed h.wants;
+    }

@@ -1,21 +1,21 @@
 -- What a text that reads an account's entries answers.
 use Rattle.std.proofs.Common.{◌≡◌, ℕ, ℤ, List, [], ◌∷◌, ◌++◌, map, filter, Option, Bool, true, false, cond, ◌&&◌, refl, sym, ap, subst, ◌∙◌}
 use Rattle.std.specs.declared.cmp.Ordering.{Ordering}
-use Rattle.std.specs.Ordering.{is_eq, is_ge, is_le}
-use Rattle.std.specs.List.{All, flat_map, list_all}
+use Rattle.std.specs.Ordering.{is_eq}
+use Rattle.std.specs.List.{flat_map, list_all}
 use Rattle.std.specs.List.Sorted.{IsPermutation, IsSorted}
 use Rattle.std.proofs.lemmas.List.Sorted.{IsPermutation-map}
 use Rattle.sqlite_value.specs.declared.value.Value.{Value}
 use Rattle.sqlite_value.specs.declared.value.Value.TheVariants.{Null, Int, Real, Text, Blob}
 use Rattle.sqlite_value.specs.declared.keys.Collation.TheVariants.{Binary}
 use Rattle.sqlite_value.specs.Order.{Row, column, value_cmp}
-use Rattle.sqlite_value.proofs.OrderLemmas.{value_cmp-Int, then-Equal}
+use Rattle.sqlite_value.proofs.OrderLemmas.{value_cmp-Int}
 use Rattle.sqlite_trees.specs.Tree.{Trees}
 use Rattle.sqlite_trees.proofs.ListLemmas.{map-map, map-flat_map, flat_map-map, filter-map, filter_same, filter_none, flat_map_same_on, all_of}
 use Rattle.sqlite_sql.specs.declared.ops.BinaryOp.TheVariants.{Compare}
 use Rattle.sqlite_sql.specs.declared.ops.CompareOp.{CompareOp}
 use Rattle.sqlite_sql.specs.declared.ops.CompareOp.TheVariants.{Ge, Le}
-use Rattle.sqlite_sql.specs.Ops.{binary, is_true}
+use Rattle.sqlite_sql.specs.Ops.{binary, is_true, test}
 use Rattle.sqlite_sql.specs.Term.{Term, Env, eval, eval_all, holds}
 use Rattle.sqlite_sql.specs.Query.{Query, IsAnswer, output, Output, output_cmp, as_count, limited}
 use Rattle.sqlite_sql.specs.Program.{overlay}
@@ -24,8 +24,8 @@ use Rattle.sqlite_schema.specs.declared.command.Command.TheVariants.{Select}
 use Rattle.sqlite.specs.State.{State, Shown, Begins}
 use Rattle.sqlite.proofs.Callers.{reads_as, begins_as}
 use Rattle.ledger_sql.specs.Entries.{entries_when}
-use Rattle.ledger_sql.specs.TableRows.{cells_from, is_own, is_blob, is_same, is_from, is_until, transfer_rows}
-use Rattle.ledger_sql.proofs.AnswerLemmas.{truth_of, equals, equals_int, equals_text, equals_blob, made_by, sorted_shown}
+use Rattle.ledger_sql.specs.TableRows.{cells_from, is_own, is_blob, is_same, is_beside, is_from, is_until, transfer_rows}
+use Rattle.ledger_sql.proofs.AnswerLemmas.{truth_of, equals, equals_int, equals_text, equals_blob, sorted_shown}
 use Rattle.ledger_sql.proofs.KeyLemmas.{filter_both, and_true}
 use Rattle.ledger_sql.proofs.EntryTexts.{entry_terms, entry_query, IsEntryText}
 
@@ -50,21 +50,20 @@ equals_same a (Blob b) = equals_blob a b
 abbrev pub compares : CompareOp → ℤ → Value → Bool
 compares op n v = is_true (binary (Compare op Binary) v (Int n))
 
-pub compares_from : (n : ℤ) (v : Value) → compares Ge n v ≡ is_from n v
+-- what SQL compares by is told by the definitions
+compares_as : (op : CompareOp) (n : ℤ) (v : Value) → compares op n v ≡ is_beside (test op) n v
 unfolding binary
-compares_from n Null = refl
-compares_from n (Int m) = truth_of (is_ge (value_cmp (Int m) (Int n))) ∙ ap is_ge (value_cmp-Int m n)
-compares_from n (Real x) = truth_of (is_ge (value_cmp (Real x) (Int n)))
-compares_from n (Text t) = truth_of (is_ge (value_cmp (Text t) (Int n)))
-compares_from n (Blob b) = truth_of (is_ge (value_cmp (Blob b) (Int n)))
+compares_as op n Null = refl
+compares_as op n (Int m) = truth_of (test op (value_cmp (Int m) (Int n))) ∙ ap (test op) (value_cmp-Int m n)
+compares_as op n (Real x) = truth_of (test op (value_cmp (Real x) (Int n)))
+compares_as op n (Text t) = truth_of (test op (value_cmp (Text t) (Int n)))
+compares_as op n (Blob b) = truth_of (test op (value_cmp (Blob b) (Int n)))
+
+pub compares_from : (n : ℤ) (v : Value) → compares Ge n v ≡ is_from n v
+compares_from = compares_as Ge
 
 pub compares_until : (n : ℤ) (v : Value) → compares Le n v ≡ is_until n v
-unfolding binary
-compares_until n Null = refl
-compares_until n (Int m) = truth_of (is_le (value_cmp (Int m) (Int n))) ∙ ap is_le (value_cmp-Int m n)
-compares_until n (Real x) = truth_of (is_le (value_cmp (Real x) (Int n)))
-compares_until n (Text t) = truth_of (is_le (value_cmp (Text t) (Int n)))
-compares_until n (Blob b) = truth_of (is_le (value_cmp (Blob b) (Int n)))
+compares_until = compares_as Le
 
 -- ---- two tables
 
@@ -184,24 +183,12 @@ module _ (tenant : ℤ) (account : List ℕ) (time : ℤ) (more : Row) (op : Com
 
     pub entries_answered : (cmp : Row → Row → Ordering) → ((x y : Env) → output_cmp query (output query x) (output query y) ≡ cmp (output query x).1 (output query y).1)
         → (rows : List Row) → IsAnswer query (overlay db []) keys rows → AreFirst cut (entries_when tenant account in_time db) cmp rows
-    entries_answered cmp same rows a =
-        let kept : a.kept ≡ map (output query) a.staged = a.distinct in
-        let made = subst (All (λ (o : Output). (env : Env) × (o ≡ output query env))) (sym kept) (made_by (output query) [] a.staged) in
-        record {
-          ordered = map (λ (o : Output). o.1) a.ordered;
-          all = ordered_all rows a;
-          order = sorted_shown query db keys cmp same a.kept a.ordered made a.same a.sorted;
-          rows_are = a.shown;
-        }
-
--- both orders are those of the timestamps
-pub oldest_first : (op : CompareOp) (limit : Term) (x y : Env) → output_cmp (entry_query op false limit) (output (entry_query op false limit) x) (output (entry_query op false limit) y)
-    ≡ value_cmp (column (output (entry_query op false limit) x).1 1) (column (output (entry_query op false limit) y).1 1)
-oldest_first op limit x y = then-Equal _
-
-pub newest_first : (op : CompareOp) (limit : Term) (x y : Env) → output_cmp (entry_query op true limit) (output (entry_query op true limit) x) (output (entry_query op true limit) y)
-    ≡ value_cmp (column (output (entry_query op true limit) y).1 1) (column (output (entry_query op true limit) x).1 1)
-newest_first op limit x y = then-Equal _
+    entries_answered cmp same rows a = record {
+      ordered = map (λ (o : Output). o.1) a.ordered;
+      all = ordered_all rows a;
+      order = sorted_shown query db keys cmp same a.staged a.kept a.ordered a.distinct a.same a.sorted;
+      rows_are = a.shown;
+    }
 
 module _ (sql : List ℕ) (schema : Schema) (op : CompareOp) (descending : Bool) (limit : Term) (text : IsEntryText sql schema op descending limit) (old new : State) (has : old.now.schema ≡ schema)
     (tenant : ℤ) (account : List ℕ) (time : ℤ) (more : Row) (in_time : Value → Bool) (tests : (v : Value) → compares op time v ≡ in_time v) (cmp : Row → Row → Ordering)

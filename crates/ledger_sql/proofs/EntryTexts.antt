@@ -1,12 +1,9 @@
 -- What the texts mean that read an account's entries.
-use Rattle.std.proofs.Common.{◌≡◌, ℕ, zero, suc, ◌+◌, None, List, [], ◌∷◌, ◌++◌, codes, true, false, Bool, pos, refl, sym, subst}
+use Rattle.std.proofs.Common.{◌≡◌, ℕ, zero, suc, ◌+◌, None, List, [], ◌∷◌, ◌++◌, codes, true, false, Bool, pos, refl}
 use Rattle.sqlite_value.specs.declared.keys.Collation.TheVariants.{Binary}
 use Rattle.sqlite_value.specs.declared.value.Value.TheVariants.{Int}
 use Rattle.sqlite_trees.specs.Tree.{Trees}
 use Rattle.sqlite_schema.specs.declared.schema.Schema.{Schema}
-use Rattle.sqlite_schema.specs.declared.schema.Table.{Table}
-use Rattle.sqlite_schema.specs.declared.schema.Index.{Index}
-use Rattle.sqlite_schema.specs.declared.schema.View.{View}
 use Rattle.sqlite_schema.specs.declared.command.Command.TheVariants.{Select}
 use Rattle.sqlite_sql.specs.declared.ops.BinaryOp.TheVariants.{Compare}
 use Rattle.sqlite_sql.specs.declared.ops.CompareOp.{CompareOp}
@@ -19,7 +16,8 @@ use Rattle.sqlite.specs.Listing.{understood, reads_listing}
 use Rattle.sqlite.proofs.Callers.{IsPlain, command_of}
 use Rattle.ledger_sql.specs.Effects.{IsLedger}
 use Rattle.ledger_sql.specs.Queries.{IsReading}
-use Rattle.ledger_sql.proofs.SelectTexts.{ledger_with, ledger_is}
+use Rattle.ledger_sql.proofs.SelectTexts.{over_ledger}
+use Rattle.ledger_sql.proofs.ReadingTexts.{IsQuery}
 
 -- so many columns of a table's row, from a place on
 abbrev pub columns_at : ℕ → ℕ → ℕ → List Term
@@ -64,27 +62,13 @@ pub record IsEntryText (sql : List ℕ) (schema : Schema) (bound : CompareOp) (d
 abbrev pub first_from_text : List ℕ
 first_from_text = codes "SELECT history.account, history.timestamp, history.dp, history.dd, history.cp, history.cc, transfer.id, transfer.debit, transfer.credit, transfer.amount, transfer.pending_id, transfer.user_data_128, transfer.user_data_64, transfer.user_data_32, transfer.timeout, transfer.ledger, transfer.code, transfer.flags, transfer.timestamp, transfer.at_clock FROM history JOIN transfer ON transfer.tenant = ?1 AND transfer.timestamp = history.timestamp WHERE history.tenant = ?1 AND history.account = ?2 AND history.timestamp >= ?3 ORDER BY history.timestamp LIMIT ?4"
 
-pub first_from_reads : IsReading first_from_text
-unfolding everything IsReading
-first_from_reads = (tt, refl)
-
-first_from_means : (more : List Table) (indexes : List Index) (views : List View) → IsEntryText first_from_text (ledger_with more indexes views) Ge false given_limit
-unfolding understood everything
-first_from_means more indexes views = record { names = _; is = refl; plain = (refl, refl); unlisted = refl; history = λ _. refl; transfers = λ _. refl }
-
-pub first_from_is : (s : Schema) → IsLedger s → IsEntryText first_from_text s Ge false given_limit
-first_from_is s h = subst (λ s. IsEntryText first_from_text s Ge false given_limit) (sym (ledger_is s h)) (first_from_means h.more s.indexes s.views)
+pub first_from_query : IsQuery first_from_text IsLedger (λ s. IsEntryText first_from_text s Ge false given_limit)
+unfolding understood everything IsReading
+first_from_query = record { reads = (tt, refl); means = over_ledger (λ s. IsEntryText first_from_text s Ge false given_limit) (λ more indexes views. record { names = _; is = refl; plain = (refl, refl); unlisted = refl; history = λ _. refl; transfers = λ _. refl }) }
 
 abbrev pub first_until_text : List ℕ
 first_until_text = codes "SELECT history.account, history.timestamp, history.dp, history.dd, history.cp, history.cc, transfer.id, transfer.debit, transfer.credit, transfer.amount, transfer.pending_id, transfer.user_data_128, transfer.user_data_64, transfer.user_data_32, transfer.timeout, transfer.ledger, transfer.code, transfer.flags, transfer.timestamp, transfer.at_clock FROM history JOIN transfer ON transfer.tenant = ?1 AND transfer.timestamp = history.timestamp WHERE history.tenant = ?1 AND history.account = ?2 AND history.timestamp <= ?3 ORDER BY history.timestamp DESC LIMIT ?4"
 
-pub first_until_reads : IsReading first_until_text
-unfolding everything IsReading
-first_until_reads = (tt, refl)
-
-first_until_means : (more : List Table) (indexes : List Index) (views : List View) → IsEntryText first_until_text (ledger_with more indexes views) Le true given_limit
-unfolding understood everything
-first_until_means more indexes views = record { names = _; is = refl; plain = (refl, refl); unlisted = refl; history = λ _. refl; transfers = λ _. refl }
-
-pub first_until_is : (s : Schema) → IsLedger s → IsEntryText first_until_text s Le true given_limit
-first_until_is s h = subst (λ s. IsEntryText first_until_text s Le true given_limit) (sym (ledger_is s h)) (first_until_means h.more s.indexes s.views)
+pub first_until_query : IsQuery first_until_text IsLedger (λ s. IsEntryText first_until_text s Le true given_limit)
+unfolding understood everything IsReading
+first_until_query = record { reads = (tt, refl); means = over_ledger (λ s. IsEntryText first_until_text s Le true given_limit) (λ more indexes views. record { names = _; is = refl; plain = (refl, refl); unlisted = refl; history = λ _. refl; transfers = λ _. refl }) }

@@ -56,7 +56,8 @@ module _ (sql : List ℕ) (params : Row) (old new : State) (schema : Schema) (ha
   it = placed tree (table name columns key primary uniques checks references)
 
   -- the rows that were put in, and what stays
-  pub record HasInserted : Type 0 where
+  pub record HasInserted (count : ℕ) : Type 0 where
+    pub wrote : Writes old new None (Insert at (Values terms width)) (statement_of sql (understood schema sql)) params count
     pub sources : List Row
     pub given : sources ≡ value_rows params width (length terms / width) terms
     pub next : Trees
@@ -64,7 +65,7 @@ module _ (sql : List ℕ) (params : Row) (old new : State) (schema : Schema) (ha
     pub schema_is : new.now.schema ≡ old.now.schema
     pub trees : new.now.trees ≡ next
 
-  pub inserted : (count : ℕ) → Executes sql params old new (Ok count) → HasInserted × Writes old new None (Insert at (Values terms width)) (statement_of sql (understood schema sql)) params count
+  pub inserted : (count : ℕ) → Executes sql params old new (Ok count) → HasInserted count
   inserted count h =
       let db = old.now.trees in
       let command = Insert at (Values terms width) in
@@ -77,14 +78,13 @@ module _ (sql : List ℕ) (params : Row) (old new : State) (schema : Schema) (ha
       let written = went (went given.2).2 in
       let counted = went written.2 in
       let trees : done.0.trees ≡ written.0 = ap (λ (x : Written). x.trees) (same_value counted.2) ∙ same_value counted.1 in
-      let none : works schema Enforced 0 tree [] (edit_of db it [] Chosen 0 given.0).news ≡ [] = no_works schema Enforced tree (edit_of db it [] Chosen 0 given.0).news schema.tables in (
-        record {
-          sources = given.0;
-          given = given.1.1 ∙ ap (λ p. value_rows p width (length terms / width) terms) (append-nil params);
-          next = written.0;
-          applies = one_step schema Enforced db written.0 (edit_of db it [] Chosen 0 given.0) none written.1;
-          schema_is = ap (λ (d : Database). d.schema) now ∙ sym has;
-          trees = ap (λ (d : Database). d.trees) now ∙ trees;
-        },
-        w,
-      )
+      let none : works schema Enforced 0 tree [] (edit_of db it [] Chosen 0 given.0).news ≡ [] = no_works schema Enforced tree (edit_of db it [] Chosen 0 given.0).news schema.tables in
+      record {
+        wrote = w;
+        sources = given.0;
+        given = given.1.1 ∙ ap (λ p. value_rows p width (length terms / width) terms) (append-nil params);
+        next = written.0;
+        applies = one_step schema Enforced db written.0 (edit_of db it [] Chosen 0 given.0) none written.1;
+        schema_is = ap (λ (d : Database). d.schema) now ∙ sym has;
+        trees = ap (λ (d : Database). d.trees) now ∙ trees;
+      }

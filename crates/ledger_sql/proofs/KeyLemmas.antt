@@ -1,5 +1,5 @@
 -- What a query by tenant and id answers.
-use Rattle.std.proofs.Common.{◌≡◌, ℕ, zero, suc, ℤ, ◌+◌, List, [], ◌∷◌, map, filter, Bool, true, false, cond, ◌&&◌, ◌||◌, is_some, Some, None, Option, option_map, Ok, Err, Result, IfOk, length, refl, sym, ap, subst, ◌∙◌, arith}
+use Rattle.std.proofs.Common.{◌≡◌, ℕ, zero, suc, ℤ, ◌+◌, List, [], ◌∷◌, map, filter, Bool, true, false, cond, ◌&&◌, ◌||◌, is_some, Some, None, Option, option_map, Ok, Err, Result, IfOk, IfSome, OnOk, length, refl, sym, ap, subst, ◌∙◌, arith}
 use Rattle.std.specs.List.{list_all, list_any}
 use Rattle.records.specs.declared.unavailable.Unavailable.{Unavailable}
 use Rattle.std.proofs.lemmas.List.Sorted.{length_permutation}
@@ -11,12 +11,14 @@ use Rattle.sqlite_trees.proofs.ListLemmas.{filter-map, all_of, filter_same}
 use Rattle.sqlite_sql.specs.declared.ops.BinaryOp.TheVariants.{Compare}
 use Rattle.sqlite_sql.specs.declared.ops.CompareOp.TheVariants.{Eq}
 use Rattle.sqlite_sql.specs.Term.{Term, col, op2, eval_all, holds}
+use Rattle.sqlite_sql.specs.Program.{overlay}
 use Rattle.sqlite_schema.specs.declared.schema.Schema.{Schema}
-use Rattle.sqlite.specs.State.{State}
+use Rattle.sqlite.specs.State.{State, HasCleanDisk, IsUnchanged}
+use Rattle.ledger_sql.specs.Calls.{LeavesRead, LeavesLearnt, LeavesFound, OverLedger}
 use Rattle.ledger_sql.specs.Schema.{clock_tree, tenant_tree}
 use Rattle.ledger_sql.specs.TableRows.{clock_rows, numbers_with_digest, is_int, is_blob, is_text, is_own, cells_from, rows_in, directory_rows, with_name, has_id, with_id}
 use Rattle.ledger_sql.specs.declared.table_fault.TableFault.{TableFault}
-use Rattle.ledger_sql.specs.Effects.{Picks}
+use Rattle.ledger_sql.specs.Effects.{IsLedger, Picks}
 use Rattle.ledger_sql.specs.Queries.{FindsFirst}
 use Rattle.ledger_sql.proofs.AnswerLemmas.{equals_int, equals_blob, equals_text, IsPlainText, passes, show, found_shown}
 
@@ -75,15 +77,36 @@ module _ (tenant : ℤ) (id : List ℕ) where
     point_found found h =
         subst (λ rows. Picks rows found) same_rows (found_shown sql schema tree (is_param 1 0 ∷ is_param 2 1 ∷ []) (columns_from 2 (suc width)) [] text keys old new has found h)
 
--- the same, read
-pub point_read : {X : Type 0} (values : X → Row) (tenant : ℤ) (id : List ℕ) (sql : List ℕ) (schema : Schema) (tree width : ℕ)
-    → IsPlainText sql schema tree (is_param 1 0 ∷ is_param 2 1 ∷ []) (columns_from 2 (suc width)) [] → (old new : State) → old.now.schema ≡ schema → (key : Row) → key ≡ Int tenant ∷ Blob id ∷ []
-    → (found : Result (Option Row) TableFault) → IfOk found (FindsFirst sql key old new) → (read : Result (Option X) Unavailable) → IfOk read (λ x. found ≡ Ok (option_map values x))
-    → IfOk read (λ x. Picks (with_id id (rows_in tree (suc width) tenant old.now.trees)) (option_map values x))
-point_read values tenant id sql schema tree width text old new has key is found finds (Err e) same = tt
-point_read values tenant id sql schema tree width text old new has key is found finds (Ok x) same =
-    let it : FindsFirst sql key old new (option_map values x) = subst (λ f. IfOk f (FindsFirst sql key old new)) same finds in
-    point_found tenant id sql schema tree width text old new has (option_map values x) (subst (λ k. FindsFirst sql k old new (option_map values x)) is it)
+-- what was found and then read leaves the connection as the query did
+pub read_on : {A B E F : Type 0} (old new : State) (found : Result A E) (got : Result B F) → IfOk got (λ b. (a : A) × (found ≡ Ok a)) → LeavesRead old new found → LeavesRead old new got
+read_on old new found (Err e) same it = record { same = λ clean. tt; kept = it.kept; follows = it.follows }
+read_on old new found (Ok b) same it = record { same = λ clean. subst (λ f. OnOk f (IsUnchanged old new)) same.1 (it.same clean); kept = it.kept; follows = it.follows }
+
+-- the contract of a function that reads the first row of a text's answer
+module _ {X : Type 0} (values : X → Row) (Fits : X → Type 0) (rows : Trees → List Row) (sql : List ℕ) (key : Row) (old new : State)
+    (picks : IsLedger old.now.schema → (row : Option Row) → FindsFirst sql key old new row → Picks (rows old.now.trees) row) (found : Result (Option Row) TableFault) where
+  told : HasCleanDisk new → IsLedger old.now.schema → IfOk found (FindsFirst sql key old new) → (got : Result (Option X) Unavailable) → IfOk got (λ x. found ≡ Ok (option_map values x))
+      → IfOk got (λ x. Picks (rows old.now.trees) (option_map values x))
+  told clean ledger finds (Err e) same = tt
+  told clean ledger finds (Ok x) same = picks ledger (option_map values x) (subst (λ f. IfOk f (FindsFirst sql key old new)) same finds)
+
+  known : (got : Result (Option X) Unavailable) → IfOk got (λ x. found ≡ Ok (option_map values x)) → IfOk got (λ x. (row : Option Row) × (found ≡ Ok row))
+  known (Err e) same = tt
+  known (Ok x) same = (option_map values x, same)
+
+  pub row_read : (HasCleanDisk new → IfOk found (FindsFirst sql key old new)) → LeavesRead old new found → (got : Result (Option X) Unavailable) → IfOk got (λ x. found ≡ Ok (option_map values x)) → IfOk got (λ x. IfSome x Fits)
+      → LeavesFound (λ x. IfSome x Fits) (λ trees x. Picks (rows trees) (option_map values x)) old new got
+  row_read finds reads got same fits = record {
+    ok = λ clean ledger. told clean ledger (finds clean) got same;
+    fits = fits;
+    reads = read_on old new found got (known got same) reads;
+  }
+
+-- a text that finds by tenant and id
+pub point_picks : (tenant : ℤ) (id : List ℕ) (sql : List ℕ) (tree width : ℕ) → ((s : Schema) → IsLedger s → IsPlainText sql s tree (is_param 1 0 ∷ is_param 2 1 ∷ []) (columns_from 2 (suc width)) []) → (old new : State) (key : Row)
+    → key ≡ Int tenant ∷ Blob id ∷ [] → IsLedger old.now.schema → (row : Option Row) → FindsFirst sql key old new row → Picks (with_id id (rows_in tree (suc width) tenant old.now.trees)) row
+point_picks tenant id sql tree width text old new key is ledger row finds =
+    point_found tenant id sql old.now.schema tree width (text old.now.schema ledger) old new refl row (subst (λ k. FindsFirst sql k old new row) is finds)
 
 none_passes : {A : Type 0} (p : A → Bool) (xs : List A) → list_any p xs ≡ false → filter p xs ≡ []
 none_passes p [] none = refl
@@ -110,26 +133,25 @@ picks_any p xs (Some row) some = at (list_any p xs) refl
     at true is = refl
     at false is = absurd (omega (arith, length_permutation (filter p xs) (row ∷ some.0) some.1, ap length (none_passes p xs is)))
 
-pub there_read : (tenant : ℤ) (id : List ℕ) (sql : List ℕ) (schema : Schema) (tree width : ℕ)
-    → IsPlainText sql schema tree (is_param 1 0 ∷ is_param 2 1 ∷ []) (columns_from 2 (suc width)) [] → (old new : State) → old.now.schema ≡ schema → (key : Row) → key ≡ Int tenant ∷ Blob id ∷ []
-    → (found : Result (Option Row) TableFault) → IfOk found (FindsFirst sql key old new) → (read : Result Bool Unavailable)
-    → IfOk read (λ there. (row : Option Row) × (found ≡ Ok row) × (there ≡ is_some row)) → IfOk read (λ there. there ≡ list_any (has_id id) (rows_in tree (suc width) tenant old.now.trees))
-there_read tenant id sql schema tree width text old new has key is found finds (Err e) same = tt
-there_read tenant id sql schema tree width text old new has key is found finds (Ok there) same =
-    let it : FindsFirst sql key old new same.0 = subst (λ f. IfOk f (FindsFirst sql key old new)) same.1 finds in
-    let picks = point_found tenant id sql schema tree width text old new has same.0 (subst (λ k. FindsFirst sql k old new same.0) is it) in
-    same.2 ∙ picks_any (has_id id) (rows_in tree (suc width) tenant old.now.trees) same.0 picks
+-- the contract of a function that tells whether a text finds a row
+pub there_read : (tenant : ℤ) (id : List ℕ) (sql : List ℕ) (tree width : ℕ) → ((s : Schema) → IsLedger s → IsPlainText sql s tree (is_param 1 0 ∷ is_param 2 1 ∷ []) (columns_from 2 (suc width)) []) → (old new : State) (key : Row)
+    → key ≡ Int tenant ∷ Blob id ∷ [] → (found : Result (Option Row) TableFault) → (HasCleanDisk new → IfOk found (FindsFirst sql key old new)) → LeavesRead old new found → (got : Result Bool Unavailable)
+    → IfOk got (λ there. (row : Option Row) × (found ≡ Ok row) × (there ≡ is_some row)) → LeavesLearnt OverLedger (λ trees there. there ≡ list_any (has_id id) (rows_in tree (suc width) tenant trees)) old new got
+there_read tenant id sql tree width text old new key is found finds reads (Err e) same = record { ok = λ clean ledger. tt; reads = read_on old new found (Err e) tt reads }
+there_read tenant id sql tree width text old new key is found finds reads (Ok there) same = record {
+  ok = λ clean ledger.
+      let picks = point_picks tenant id sql tree width text old new key is ledger same.0 (subst (λ f. IfOk f (FindsFirst sql key old new)) same.1 (finds clean)) in
+      same.2 ∙ picks_any (has_id id) (rows_in tree (suc width) tenant old.now.trees) same.0 picks;
+  reads = read_on old new found (Ok there) (same.0, same.1) reads;
+}
 
--- a query over one table, read, whatever it looks for
-pub view_read : {X E : Type 0} (values : X → Row) (sql : List ℕ) (schema : Schema) (tree : ℕ) (terms shown : List Term) (text : IsPlainText sql schema tree terms shown []) (good : Row) (old new : State)
-    → old.now.schema ≡ schema → (view : List Row)
-    → map (show tree terms shown [] text.here old.now.trees good) (filter (passes tree terms shown [] text.here old.now.trees good) (old.now.trees tree)) ≡ view
-    → (key : Row) → key ≡ good → (found : Result (Option Row) TableFault) → IfOk found (FindsFirst sql key old new)
-    → (got : Result (Option X) E) → IfOk got (λ x. found ≡ Ok (option_map values x)) → IfOk got (λ x. Picks view (option_map values x))
-view_read values sql schema tree terms shown text good old new has view is key given found finds (Err e) same = tt
-view_read values sql schema tree terms shown text good old new has view is key given found finds (Ok x) same =
-    let it : FindsFirst sql key old new (option_map values x) = subst (λ f. IfOk f (FindsFirst sql key old new)) same finds in
-    subst (λ rows. Picks rows (option_map values x)) is (found_shown sql schema tree terms shown [] text good old new has (option_map values x) (subst (λ k. FindsFirst sql k old new (option_map values x)) given it))
+-- a text over one table, whatever it looks for
+pub view_picks : (rows : Trees → List Row) (sql : List ℕ) (tree : ℕ) (terms shown : List Term) (text : (s : Schema) → IsLedger s → IsPlainText sql s tree terms shown []) (good : Row) (old new : State)
+    → ((here : (db : Trees) → overlay db [] tree ≡ db tree) (db : Trees) → map (show tree terms shown [] here db good) (filter (passes tree terms shown [] here db good) (db tree)) ≡ rows db) → (key : Row) → key ≡ good
+    → IsLedger old.now.schema → (row : Option Row) → FindsFirst sql key old new row → Picks (rows old.now.trees) row
+view_picks rows sql tree terms shown text good old new is key given ledger row finds =
+    let it = text old.now.schema ledger in
+    subst (λ xs. Picks xs row) (is it.here old.now.trees) (found_shown sql old.now.schema tree terms shown [] it good old new refl row (subst (λ k. FindsFirst sql k old new row) given finds))
 
 pub clock_view : (tenant : ℤ) (db : Trees) → map (λ (r : Row). column r 2 ∷ []) (filter (λ r. list_all (holds ((Int tenant ∷ []) ∷ r ∷ [])) (is_param 0 0 ∷ [])) (db clock_tree)) ≡ clock_rows tenant db
 clock_view tenant db =
@@ -148,3 +170,15 @@ name_view name db =
     let point : (r : Row) → list_all (holds ((Text name ∷ []) ∷ r ∷ [])) (is_param 2 0 ∷ []) ≡ is_text name (column r 2) = λ r. (λ i. equals_text (column r 2) name i && true) ∙ and_true (is_text name (column r 2)) in
     ap (map (λ (r : Row). column r 0 ∷ cells_from 2 2 r)) (filter_same (λ r. list_all (holds ((Text name ∷ []) ∷ r ∷ [])) (is_param 2 0 ∷ [])) (λ r. is_text name (column r 2)) (db tenant_tree) (all_of _ point (db tenant_tree)))
     ∙ sym (filter-map (λ row. is_text name (column row 1)) (λ (r : Row). column r 0 ∷ cells_from 2 2 r) (db tenant_tree))
+
+pub number_view : (number : ℤ) (db : Trees)
+    → map (λ (r : Row). eval_all (col 1 0 ∷ columns_from 2 2) ((Int number ∷ []) ∷ r ∷ []))
+    (filter (λ r. list_all (holds ((Int number ∷ []) ∷ r ∷ [])) (is_param 0 0 ∷ [])) (db tenant_tree))
+    ≡ filter (λ row. is_int number (column row 0)) (directory_rows db)
+number_view number db =
+    let point : (r : Row) → list_all (holds ((Int number ∷ []) ∷ r ∷ [])) (is_param 0 0 ∷ []) ≡ is_int number (column r 0) =
+    λ r. (λ i. equals_int (column r 0) number i && true) ∙ and_true (is_int number (column r 0)) in
+    ap (map (λ (r : Row). column r 0 ∷ cells_from 2 2 r))
+    (filter_same (λ r. list_all (holds ((Int number ∷ []) ∷ r ∷ [])) (is_param 0 0 ∷ []))
+    (λ r. is_int number (column r 0)) (db tenant_tree) (all_of _ point (db tenant_tree)))
+    ∙ sym (filter-map (λ row. is_int number (column row 0)) (λ (r : Row). column r 0 ∷ cells_from 2 2 r) (db tenant_tree))

@@ -20,7 +20,6 @@ pub mod ReplaceLemmas
 pub mod SetLemmas
 pub mod UpdateTexts
 pub mod DigestText
-pub mod NumberText
 pub mod WholeTexts
 pub mod WholeLemmas
 pub mod OwnTexts
@@ -33,5 +32,4 @@ pub mod SpanTexts
 pub mod SpanLemmas
 pub mod VersionText
 pub mod StreamLemmas
-pub mod FillLemmas
 pub mod FillTexts

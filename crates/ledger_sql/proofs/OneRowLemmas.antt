@@ -1,5 +1,5 @@
 -- What an INSERT of one row does to a table of ours, with the rowid that the row has or gets.
-use Rattle.std.proofs.Common.{◌≡◌, ◌≢◌, ℕ, ℤ, List, [], ◌∷◌, ◌/◌, length, map, filter, drop, slice_get, Bool, true, cond, IsTrue, Option, Some, Ok, Result, OnOk, refl, sym, ap, subst, ◌∙◌}
+use Rattle.std.proofs.Common.{◌≡◌, ◌≢◌, ℕ, ℤ, List, [], ◌∷◌, ◌/◌, length, map, filter, drop, slice_get, Bool, true, cond, IsTrue, Option, Some, Ok, refl, sym, ap, subst, ◌∙◌}
 use Rattle.std.specs.List.{AllByRecursion}
 use Rattle.std.specs.List.Sorted.{IsPermutation}
 use Rattle.std.proofs.lemmas.List.Sorted.{IsPermutation-map}
@@ -18,20 +18,17 @@ use Rattle.sqlite_schema.specs.declared.command.Source.TheVariants.{Values}
 use Rattle.sqlite_rules.specs.declared.error.Rowids.TheVariants.{Chosen}
 use Rattle.sqlite_rules.specs.Cast.{cast_row}
 use Rattle.sqlite_rules.specs.Edit.{edit_of, numbered, are_fresh, put_all, with_rowid}
-use Rattle.sqlite.specs.declared.error.Error.{Error}
 use Rattle.sqlite.specs.Listing.{understood}
 use Rattle.sqlite.specs.Effect.{value_rows}
-use Rattle.sqlite.specs.State.{State, HasCleanDisk, Survives, CommitsBy, Executes}
+use Rattle.sqlite.specs.State.{State, HasCleanDisk, Executes}
 use Rattle.sqlite.proofs.Callers.{IsPlain, command_of}
-use Rattle.ledger_sql.specs.Causes.{done_of}
-use Rattle.ledger_sql.specs.Effects.{IsLedger, IsInside, OthersStay, WritesInside, AddsRows, AddsFileRow}
-use Rattle.ledger_sql.specs.Frames.{Follows}
+use Rattle.ledger_sql.specs.Effects.{OthersStay, WritesInside, AddsRows, AddsFileRow}
 use Rattle.ledger_sql.specs.Rowids.{IsNumbered}
 use Rattle.ledger_sql.specs.Schema.{table}
 use Rattle.ledger_sql.specs.TableRows.{is_int, cells_from}
 use Rattle.ledger_sql.proofs.InsertLemmas.{placed, inserted}
-use Rattle.ledger_sql.proofs.AddLemmas.{same_int, other_int, IsInsertText}
-use Rattle.ledger_sql.proofs.WriteLemmas.{wrote_inside, statement_ok, statement_follows, writes_stay}
+use Rattle.ledger_sql.proofs.AddLemmas.{same_int, other_int, IsInserting, inserting_means}
+use Rattle.ledger_sql.proofs.WriteLemmas.{WritesBy, wrote_inside, writes_stay, statement_writes}
 use Rattle.ledger_sql.proofs.PutLemmas.{put_more, put_aside}
 use Rattle.ledger_sql.proofs.ReplaceLemmas.{numbered_put}
 
@@ -97,9 +94,7 @@ module _ (sql : List ℕ) (params : Row) (old new : State) (schema : Schema) (ha
     (row : List Row → Row) (numbers : (rows : List Row) → with_rowid Chosen rows cast ≡ row rows) (inside : IsTrue old.in_transaction) where
   puts : (count : ℕ) → Executes sql params old new (Ok count) → HasPut tree (row (old.now.trees tree)) old new
   puts count h =
-      let both = inserted sql params old new schema has at terms width is plain name tree columns key primary uniques checks references listed count h in
-      let put = both.0 in
-      let w = both.1 in
+      let put = inserted sql params old new schema has at terms width is plain name tree columns key primary uniques checks references listed count h in
       let it = placed tree (table name columns key primary uniques checks references) in
       let db = old.now.trees in
       let news_are : (edit_of db it [] Chosen 0 put.sources).news ≡ row (db tree) ∷ [] =
@@ -109,28 +104,16 @@ module _ (sql : List ℕ) (params : Row) (old new : State) (schema : Schema) (ha
         rows = ap (λ (t : Trees). t tree) put.trees ∙ put.applies.rows ∙ ap (put_all (db tree)) news_are;
         tables = subst (λ (t : Trees). AllByRecursion (λ u. u.tree ≢ tree → t u.tree ≡ db u.tree) old.now.schema.tables) (sym put.trees)
             (subst (λ (s : Schema). AllByRecursion (λ u. u.tree ≢ tree → put.next u.tree ≡ db u.tree) s.tables) (sym has) put.applies.tables);
-        inside = wrote_inside old new _ _ _ _ w inside put.schema_is;
+        inside = wrote_inside old new _ _ _ _ put.wrote inside put.schema_is;
       }
 
-module _ (sql : List ℕ) (at : ℕ) (terms : List Term) (width tree : ℕ) (t : Table) (means : (s : Schema) → IsLedger s → IsInsertText sql s at terms width tree t) (good params : Row) (same : params ≡ good)
-    (source cast : Row) (gives : value_rows good width (length terms / width) terms ≡ source ∷ [])
-    (casts : cast_row (placed tree (table t.name t.columns t.key t.primary t.uniques t.checks t.references)) source ≡ cast)
-    (row : List Row → Row) (numbers : (rows : List Row) → with_rowid Chosen rows cast ≡ row rows) (old new : State) (inside : HasCleanDisk old → IsInside old) (survives : Survives old new (CommitsBy sql params old)) where
-  abbrev Put : Type 0
-  Put = HasPut tree (row (old.now.trees tree)) old new
-
-  meant : HasCleanDisk old → IsTrue old.in_transaction × ((schema : Schema) × (old.now.schema ≡ schema) × (command_of (understood schema sql) ≡ Insert at (Values terms width)) × IsPlain (understood schema sql))
-  meant clean = let it = inside clean in let text = means old.now.schema it.schema in (it.mode, (old.now.schema, refl, text.is, text.plain))
-
-  put_by : HasCleanDisk old → (count : ℕ) → Executes sql params old new (Ok count) → Put
-  put_by clean count h =
-      let it = inside clean in
-      let text = means old.now.schema it.schema in
-      puts sql good old new old.now.schema refl at terms width text.is text.plain t.name tree t.columns t.key t.primary t.uniques t.checks t.references text.listed source cast gives casts row numbers it.mode count
-      (subst (λ p. Executes sql p old new (Ok count)) same h)
-
-  pub put_ok : (P : Type 0) → (Put → P) → (r : Result ℕ Error) → HasCleanDisk new → Executes sql params old new r → OnOk (done_of r) P
-  put_ok P of = statement_ok sql params old new P (λ clean count h. of (put_by clean count h)) survives
-
-  pub put_follows : (r : Result ℕ Error) → (HasCleanDisk new → Executes sql params old new r) → Follows old new
-  put_follows = statement_follows sql params old new (Insert at (Values terms width)) tt Put (λ a. writes_stay old new a.inside) meant put_by survives
+-- the contract of a function that adds one row
+pub put_writes : (sql : List ℕ) (at : ℕ) (terms : List Term) (width tree : ℕ) (t : Table) (good params : Row) → params ≡ good → (source cast : Row) → value_rows good width (length terms / width) terms ≡ source ∷ []
+    → cast_row (placed tree (table t.name t.columns t.key t.primary t.uniques t.checks t.references)) source ≡ cast → (row : List Row → Row) → ((rows : List Row) → with_rowid Chosen rows cast ≡ row rows)
+    → (old new : State) → (HasCleanDisk old → IsInserting sql at terms width tree t old) → (Effect : State → State → Type 0) → (HasPut tree (row (old.now.trees tree)) old new → Effect old new)
+    → (Effect old new → WritesInside old new) → WritesBy sql params Effect old new
+put_writes sql at terms width tree t good params same source cast gives casts row numbers old new inserting Effect of within =
+    statement_writes sql params old new Effect (Insert at (Values terms width)) tt (λ a. writes_stay old new (within a)) (λ clean. inserting_means (inserting clean))
+    (λ clean count h. let it = inserting clean in
+    of (puts sql good old new old.now.schema refl at terms width it.text.is it.text.plain t.name tree t.columns t.key t.primary t.uniques t.checks t.references it.text.listed source cast gives casts row numbers it.mode count
+    (subst (λ p. Executes sql p old new (Ok count)) same h)))

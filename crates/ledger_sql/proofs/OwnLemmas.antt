@@ -1,5 +1,5 @@
 -- What a text that reads a tenant's rows of a table answers.
-use Rattle.std.proofs.Common.{◌≡◌, ℕ, ℤ, List, [], ◌∷◌, ◌+◌, get_or, false, true, map, filter, ◌&&◌, Ok, Err, Result, IfOk, ap, subst, ◌∙◌}
+use Rattle.std.proofs.Common.{◌≡◌, ℕ, ℤ, List, [], ◌∷◌, ◌+◌, get_or, false, true, map, filter, ◌&&◌, Ok, Err, Result, IfOk, refl, ap, subst, ◌∙◌}
 use Rattle.std.specs.declared.cmp.Ordering.{Ordering}
 use Rattle.std.specs.Ordering.{int_cmp, is_lt, ordering_then}
 use Rattle.std.specs.Prelude.{take}
@@ -13,7 +13,9 @@ use Rattle.sqlite_exec.proofs.PartitionLemmas.{IsSorted-from_map}
 use Rattle.sqlite_trees.proofs.ListLemmas.{all_of, filter_same}
 use Rattle.sqlite_sql.specs.Term.{Term, holds}
 use Rattle.sqlite_schema.specs.declared.schema.Schema.{Schema}
-use Rattle.sqlite.specs.State.{State, Shown}
+use Rattle.sqlite.specs.State.{State, HasCleanDisk, Shown}
+use Rattle.ledger_sql.specs.Calls.{LeavesRead, LeavesListed}
+use Rattle.ledger_sql.specs.Effects.{StartsAs}
 use Rattle.ledger_sql.specs.TableRows.{is_int, cells_from}
 use Rattle.ledger_sql.specs.Reading.{id_cmp, ReadsRows}
 use Rattle.ledger_sql.proofs.AnswerLemmas.{IsOrderedBy, equals_int, all_shown, all_ordered}
@@ -43,7 +45,7 @@ module _ (tenant : ℤ) (sql : List ℕ) (schema : Schema) (tree place width : �
     cmp_keys a b = row_cmp (take count a) (take count b)
 
     -- all of them are read, in order
-    pub own_read : {R Y E : Type 0} (values : R → Row) (cmp : R → R → Ordering) → ((a b : R) → cmp_keys (values a) (values b) ≡ cmp a b) → (items_of : Y → List R)
+    own_read : {R Y E : Type 0} (values : R → Row) (cmp : R → R → Ordering) → ((a b : R) → cmp_keys (values a) (values b) ≡ cmp a b) → (items_of : Y → List R)
         → (key : Row) → key ≡ Int tenant ∷ [] → (got : Result Y E) → IfOk got (λ y. Shown sql key old new (map values (items_of y))) → IfOk got (λ y. ReadsRows values cmp own (items_of y))
     own_read values cmp orders items_of key is (Err e) ok = tt
     own_read values cmp orders items_of key is (Ok y) ok =
@@ -54,6 +56,17 @@ module _ (tenant : ℤ) (sql : List ℕ) (schema : Schema) (tree place width : �
           all = own_shown rows shown;
           order = λ k d low high. subst (λ o. is_lt o ≡ false) (orders (get_or (items_of y) (k + 1) d) (get_or (items_of y) k d)) (IsSorted-from_map cmp_keys values (items_of y) sorted k d low high);
         }
+
+-- the contract of a function that reads them
+pub own_listed : {R Y E : Type 0} (values : R → Row) (cmp : R → R → Ordering) (items_of : Y → List R) (ours : Schema) (tenant : ℤ) (sql : List ℕ) (tree place width : ℕ) (order : List (Term × Key))
+    → ((s : Schema) → StartsAs ours.tables s → IsOwn sql s tree place width order) → (count : ℕ) → IsOrderedBy (columns_from 2 width) order (λ a b. row_cmp (take count a) (take count b))
+    → ((a b : R) → row_cmp (take count (values a)) (take count (values b)) ≡ cmp a b) → (old new : State) (key : Row) → key ≡ Int tenant ∷ [] → (got : Result Y E)
+    → (HasCleanDisk new → IfOk got (λ y. Shown sql key old new (map values (items_of y)))) → LeavesRead old new got
+    → LeavesListed ours (λ trees y. ReadsRows values cmp (map (cells_from 2 width) (filter (λ row. is_int tenant (column row place)) (trees tree))) (items_of y)) old new got
+own_listed values cmp items_of ours tenant sql tree place width order text count by_keys orders old new key is got shown reads = record {
+  whole = λ clean starts. own_read tenant sql old.now.schema tree place width order (text old.now.schema starts) old new refl count by_keys values cmp orders items_of key is got (shown clean);
+  reads = reads;
+}
 
 -- ---- the orders of keys
 

@@ -1,10 +1,8 @@
 -- What a query leaves of a connection, and what its first row tells.
-use Rattle.std.proofs.Common.{◌≡◌, ◌≢◌, ℕ, inl, inr, List, [], Option, Some, None, Ok, Err, Result, IfOk, OnOk, subst}
+use Rattle.std.proofs.Common.{◌≡◌, ℕ, inl, inr, List, [], Option, Some, None, Ok, Err, Result, IfOk, OnOk, refl, subst}
 use Rattle.std.specs.Prelude.{IsSome}
 use Rattle.sqlite_value.specs.Order.{Row}
 use Rattle.sqlite_trees.specs.Tree.{Trees}
-use Rattle.sqlite_trees.specs.declared.error.StoreError.{StoreError}
-use Rattle.sqlite_trees.specs.declared.error.StoreError.TheVariants.{OutOfMemory, Io, Corrupt, Full, Broken, Unstorable}
 use Rattle.sqlite_schema.specs.declared.command.Command.{Command}
 use Rattle.sqlite_schema.specs.declared.command.Command.TheVariants.{Select, Rows}
 use Rattle.sqlite_schema.specs.declared.command.Returning.{Returning}
@@ -12,12 +10,12 @@ use Rattle.sqlite.specs.declared.error.Error.{Error}
 use Rattle.sqlite.specs.declared.error.Error.TheVariants.{QueryReturnedNoRows}
 use Rattle.sqlite.specs.Effect.{Database, RefusesToRead}
 use Rattle.sqlite.specs.Listing.{understood}
-use Rattle.sqlite.specs.State.{State, HasCleanDisk, IsUnchanged, IsNotRun, IsNoStatement, FailsToQuery, QueriesRow, Shown, Survives, CommitsShowing, store_error}
+use Rattle.sqlite.specs.State.{State, HasCleanDisk, IsUnchanged, IsNotRun, IsNoStatement, FailsToQuery, QueriesRow, Shown, Survives, CommitsShowing}
 use Rattle.sqlite.proofs.StateLemmas.{survives_weaker}
 use Rattle.ledger_sql.specs.Frames.{IsKeptOrUndone, Follows}
 use Rattle.ledger_sql.specs.Queries.{IsReading, found_of, FindsFirst}
 use Rattle.ledger_sql.proofs.ReadingTexts.{IsCalm, calm_text}
-use Rattle.ledger_sql.proofs.RunLemmas.{stays_left, follows_from}
+use Rattle.ledger_sql.proofs.RunLemmas.{never_stored, stays_left, follows_from}
 
 pub never_returns : (o : Option Returning) → o ≡ None → ¬ IsSome o
 never_returns None e h = absurd (cc)
@@ -43,14 +41,6 @@ module _ (sql : List ℕ) (params : Row) (old new : State) (reading : IsReading 
   row_same row (inl h) = h.1
   row_same row (inr h) = shown_same h.0 h.1
 
-  no_store : (cause : StoreError) → QueryReturnedNoRows ≢ store_error cause
-  no_store OutOfMemory e = absurd (cc)
-  no_store Io e = absurd (cc)
-  no_store Corrupt e = absurd (cc)
-  no_store Full e = absurd (cc)
-  no_store Broken e = absurd (cc)
-  no_store Unstorable e = absurd (cc)
-
   no_misfit : ¬ IsNoStatement old sql params QueryReturnedNoRows
   no_misfit (inl it) = absurd (let e = it.2 in cc)
   no_misfit (inr it) = elim it.2 [
@@ -71,7 +61,7 @@ module _ (sql : List ℕ) (params : Row) (old new : State) (reading : IsReading 
   unfolding QueriesRow FailsToQuery IsNotRun
   none_shown (inr h) = h.1
   none_shown (inl (inl (inl refused))) = absurd (no_misfit refused.0)
-  none_shown (inl (inl (inr failed))) = absurd (no_store failed.0 failed.1)
+  none_shown (inl (inl (inr failed))) = absurd (never_stored QueryReturnedNoRows refl failed.0 failed.1)
   none_shown (inl (inr h)) = let none = (subst IsCalm h.1.is calm).0 in let it = rw none at h.2 in absurd (no_refusal old.step_limit h.0.command it.0 _ it.2)
 
   error_kept : (e : Error) → QueriesRow sql params old new (Err e) → IsKeptOrUndone old new

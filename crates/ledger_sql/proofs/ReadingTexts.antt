@@ -13,6 +13,11 @@ use Rattle.sqlite_resolve.specs.Compile.{compiled, first, planned, meaning, retu
 use Rattle.sqlite.specs.Listing.{understood, reads_listing, if_select, is_select, listing_schema}
 use Rattle.ledger_sql.specs.Queries.{IsSelect, IsTimelessSelect, IsReading}
 
+-- the text only reads, and over some schemas it means this
+pub record IsQuery (text : List ℕ) (Over Is : Schema → Type 0) : Type 0 where
+  pub reads : IsReading text
+  pub means : (s : Schema) → Over s → Is s
+
 -- it has no RETURNING and does not read the time, or it is not understood
 abbrev pub IsCalm : Result Compiled CompileError → Type 0
 IsCalm (Ok c) = (c.returning ≡ None) × (c.formats ≡ [])

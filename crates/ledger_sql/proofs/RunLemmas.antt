@@ -1,5 +1,5 @@
 -- What a statement does, whatever its text is.
-use Rattle.std.proofs.Common.{◌≡◌, ◌≢◌, ◌⊎◌, ℕ, length, Some, inl, inr, append-nil, List, false, IsTrue, None, Ok, Err, Result, OnOk, OnErr, refl, sym, ap, subst, subst₂, ◌∙◌, arith}
+use Rattle.std.proofs.Common.{◌≡◌, ◌≢◌, ◌⊎◌, ℕ, length, Some, inl, inr, append-nil, List, Bool, true, false, IsTrue, None, Ok, Err, Result, OnOk, OnErr, refl, sym, ap, subst, subst₂, ◌∙◌, arith}
 use Rattle.std.proofs.lemmas.Bool.{cases_Bool}
 use Rattle.sqlite_value.specs.Order.{Row}
 use Rattle.sqlite_trees.specs.Tree.{Trees}
@@ -13,6 +13,8 @@ use Rattle.sqlite.specs.Effect.{is_query}
 use Rattle.sqlite.specs.Calls.{IsWrite}
 use Rattle.sqlite.specs.Does.{Does}
 use Rattle.sqlite.specs.declared.error.Error.{Error}
+use Rattle.sqlite.specs.declared.error.Error.TheVariants.{SqliteFailure}
+use Rattle.sqlite.specs.declared.error.ErrorCode.TheVariants.{TransactionState}
 use Rattle.sqlite.specs.Listing.{understood}
 use Rattle.sqlite.specs.State.{State, IsUnchanged, IsNotRun, IsMisplaced, HasCause, Fails, Survives, Executes, ExecutesIn, RunsCommand, MayCommit, CommitsBy, mode_of, text_of, is_pragma, shows_rows, store_error}
 use Rattle.sqlite.proofs.Callers.{IsPlain, command_of, statement_of}
@@ -105,6 +107,23 @@ fails_other sql params old new e other (inr ran) = elim (cases_Bool (shows_rows 
   | inl shows ↦ (rw shows at ran.2).1
   | inr runs ↦ elim (rw runs at ran.2) [ inl refused ↦ refused.1 | inr failed ↦ absurd (other failed.0 failed.1) ]
 ]
+
+-- the errors that may be the store's, and that all of the store's are among them
+abbrev pub may_be_stored : Error → Bool
+may_be_stored (SqliteFailure TransactionState) = false
+may_be_stored (SqliteFailure code) = true
+may_be_stored e = false
+
+stored : (cause : StoreError) → may_be_stored (store_error cause) ≡ true
+stored OutOfMemory = refl
+stored Io = refl
+stored Corrupt = refl
+stored Full = refl
+stored Broken = refl
+stored Unstorable = refl
+
+pub never_stored : (e : Error) → may_be_stored e ≡ false → (cause : StoreError) → e ≢ store_error cause
+never_stored e never cause same = absurd (let both = sym (stored cause) ∙ ap may_be_stored (sym same) ∙ never in cc)
 
 -- what a call without a commit keeps, beside what a crash may leave
 pub record Stays (old new : State) : Type 0 where

@@ -1,5 +1,5 @@
 -- What an UPDATE of one tenant's row does to the tenants' rows.
-use Rattle.std.proofs.Common.{◌≡◌, ◌≢◌, ℕ, ℤ, List, [], ◌∷◌, map, filter, slice_get, Bool, true, false, not, cond, ◌&&◌, ◌==◌, IsTrue, Some, Ok, Result, OnOk, refl, sym, ap, subst, ◌∙◌}
+use Rattle.std.proofs.Common.{◌≡◌, ◌≢◌, ℕ, ℤ, List, [], ◌∷◌, map, filter, slice_get, Bool, true, false, not, cond, ◌&&◌, ◌==◌, IsTrue, Some, Ok, refl, sym, ap, subst, ◌∙◌}
 use Rattle.std.proofs.lemmas.Bool.Decides.{Decides-int_eq}
 use Rattle.std.specs.List.{AllByRecursion, list_any, list_all}
 use Rattle.std.specs.List.Sorted.{IsPermutation}
@@ -22,19 +22,16 @@ use Rattle.sqlite_schema.specs.declared.command.Command.TheVariants.{Update}
 use Rattle.sqlite_rules.specs.Edit.{id_in, are_fresh}
 use Rattle.sqlite_rules.specs.Cast.{cast, cast_all}
 use Rattle.sqlite_schema.specs.declared.schema.Kind.TheVariants.{Integer}
-use Rattle.sqlite.specs.declared.error.Error.{Error}
 use Rattle.sqlite.specs.Listing.{understood}
-use Rattle.sqlite.specs.State.{State, HasCleanDisk, Survives, CommitsBy, Executes}
+use Rattle.sqlite.specs.State.{State, HasCleanDisk, Executes}
 use Rattle.sqlite.proofs.Callers.{IsPlain, command_of}
-use Rattle.ledger_sql.specs.Causes.{done_of}
 use Rattle.ledger_sql.specs.Effects.{IsLedger, IsInside, WritesInside, SetsRow, SetsOne}
-use Rattle.ledger_sql.specs.Frames.{Follows}
 use Rattle.ledger_sql.specs.Rowids.{IsNumbered}
 use Rattle.ledger_sql.specs.Schema.{ledger_schema, table}
 use Rattle.ledger_sql.specs.TableRows.{is_int, cells_from}
 use Rattle.ledger_sql.proofs.InsertLemmas.{placed}
 use Rattle.ledger_sql.proofs.AddLemmas.{cast_whole, same_int, other_int}
-use Rattle.ledger_sql.proofs.WriteLemmas.{wrote_inside, statement_ok, statement_follows, writes_stay}
+use Rattle.ledger_sql.proofs.WriteLemmas.{WritesBy, wrote_inside, writes_stay, statement_writes}
 use Rattle.ledger_sql.proofs.AnswerLemmas.{plain_query}
 use Rattle.ledger_sql.proofs.KeyLemmas.{filter_both}
 use Rattle.ledger_sql.proofs.PutLemmas.{put_more, put_aside}
@@ -191,12 +188,8 @@ module _ (sql : List ℕ) (at : ℕ) (terms set : List Term) (tree : ℕ) (t : T
       let good_ran = subst (λ q. Executes sql q old new (Ok count)) same ran in
       record { inside = set_inside (inside clean) count good_ran; one = λ row one num. sets_row (inside clean) count good_ran row one num }
 
-  module _ (inside : HasCleanDisk old → IsInside old) (survives : Survives old new (CommitsBy sql params old)) where
-    meant : HasCleanDisk old → IsTrue old.in_transaction × ((schema : Schema) × (old.now.schema ≡ schema) × (command_of (understood schema sql) ≡ Update at (record { lets = []; body = plain_query tree terms (col 1 0 ∷ col 1 0 ∷ set) [] })) × IsPlain (understood schema sql))
-    meant clean = let it = inside clean in let text = means old.now.schema it.schema in (it.mode, (old.now.schema, refl, text.is, text.plain))
-
-    pub set_ok : (r : Result ℕ Error) → HasCleanDisk new → Executes sql params old new r → OnOk (done_of r) Set
-    set_ok = statement_ok sql params old new Set (λ clean. set_by clean inside) survives
-
-    pub set_follows : (r : Result ℕ Error) → (HasCleanDisk new → Executes sql params old new r) → Follows old new
-    set_follows = statement_follows sql params old new (Update at (record { lets = []; body = plain_query tree terms (col 1 0 ∷ col 1 0 ∷ set) [] })) tt Set (λ a. writes_stay old new a.inside) meant (λ clean. set_by clean inside) survives
+  -- the contract of a function that replaces one row of a tenant
+  pub set_writes : (HasCleanDisk old → IsInside old) → WritesBy sql params (SetsOne view tree tenant test values) old new
+  set_writes inside =
+      statement_writes sql params old new (SetsOne view tree tenant test values) (Update at (record { lets = []; body = plain_query tree terms (col 1 0 ∷ col 1 0 ∷ set) [] })) tt (λ a. writes_stay old new a.inside)
+      (λ clean. let it = inside clean in let text = means old.now.schema it.schema in (it.mode, (old.now.schema, refl, text.is, text.plain))) (λ clean. set_by clean inside)

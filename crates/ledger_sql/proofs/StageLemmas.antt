@@ -1,5 +1,5 @@
 -- What the texts of a transaction and its marks mean, and what begin, commit and roll back do.
-use Rattle.std.proofs.Common.{◌≡◌, ◌≢◌, ℕ, inl, inr, List, [], codes, IsTrue, Ok, Err, Result, None, OnOk, refl, sym, ◌∙◌}
+use Rattle.std.proofs.Common.{◌≡◌, ℕ, inl, inr, List, [], codes, IsTrue, Ok, Err, Result, None, OnOk, refl, sym, ◌∙◌}
 use Rattle.std.proofs.lemmas.Bool.{both_ways}
 use Rattle.sqlite_trees.specs.Tree.{Trees}
 use Rattle.sqlite_schema.specs.declared.schema.Schema.{Schema}
@@ -9,16 +9,14 @@ use Rattle.sqlite_tied.specs.Compute.{everything}
 use Rattle.sqlite.specs.declared.error.Error.{Error}
 use Rattle.sqlite.specs.declared.error.Error.TheVariants.{SqliteFailure}
 use Rattle.sqlite.specs.declared.error.ErrorCode.TheVariants.{TransactionState}
-use Rattle.sqlite_trees.specs.declared.error.StoreError.{StoreError}
-use Rattle.sqlite_trees.specs.declared.error.StoreError.TheVariants.{OutOfMemory, Io, Corrupt, Full, Broken, Unstorable}
 use Rattle.sqlite.specs.Listing.{understood}
-use Rattle.sqlite.specs.State.{State, HasCleanDisk, IsRolledBack, IsUnchanged, IsMisplaced, store_error, Survives, Executes, Runs, MayCommit, CommitsBy}
+use Rattle.sqlite.specs.State.{State, HasCleanDisk, IsRolledBack, IsUnchanged, IsMisplaced, Survives, Executes, Runs, MayCommit, CommitsBy}
 use Rattle.sqlite.proofs.Callers.{IsPlain, command_of, statement_of, runs_as}
 use Rattle.sqlite.proofs.StateLemmas.{survives_weaker}
 use Rattle.ledger_sql.specs.Causes.{done_of}
 use Rattle.ledger_sql.specs.Frames.{Follows}
 use Rattle.ledger_sql.specs.Stages.{HasBegun, HasCommitted}
-use Rattle.ledger_sql.proofs.RunLemmas.{Suits, commits_as, fails_as, fails_other, Stays, stays_left, follows_from, done_ok, done_stays}
+use Rattle.ledger_sql.proofs.RunLemmas.{Suits, commits_as, fails_as, fails_other, never_stored, Stays, stays_left, follows_from, done_ok, done_stays}
 
 abbrev pub begin_text : List ℕ
 begin_text = codes "BEGIN"
@@ -131,14 +129,6 @@ module _ (old new : State) where
 
 -- ---- rollback
 
-is_another : (cause : StoreError) → SqliteFailure TransactionState ≢ store_error cause
-is_another OutOfMemory e = absurd (cc)
-is_another Io e = absurd (cc)
-is_another Corrupt e = absurd (cc)
-is_another Full e = absurd (cc)
-is_another Broken e = absurd (cc)
-is_another Unstorable e = absurd (cc)
-
 rollback_suits : (schema : Schema) → Suits rollback_text 0 (understood schema rollback_text)
 unfolding understood everything
 rollback_suits schema = (refl, refl)
@@ -162,7 +152,7 @@ module _ (old new : State) where
         ]
 
   pub told_outside : Executes rollback_text [] old new (Err (SqliteFailure TransactionState)) → IsUnchanged old new
-  told_outside h = fails_other rollback_text [] old new (SqliteFailure TransactionState) (λ cause. is_another cause) h
+  told_outside h = fails_other rollback_text [] old new (SqliteFailure TransactionState) (never_stored (SqliteFailure TransactionState) refl) h
 
   rolls_back : (count : ℕ) → Executes rollback_text [] old new (Ok count) → IsRolledBack old new
   rolls_back count h = (ran rollback_text Rollback rollback_is old new count h).1

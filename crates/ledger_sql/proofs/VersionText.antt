@@ -1,5 +1,5 @@
 -- What the UPDATEs of the version mean, and what they replace.
-use Rattle.std.proofs.Common.{◌≡◌, ◌≢◌, ℕ, ℤ, pos, List, [], ◌∷◌, map, filter, not, codes, true, cond, IsTrue, None, Ok, Result, OnOk, refl, sym, ap, subst, ◌∙◌}
+use Rattle.std.proofs.Common.{◌≡◌, ◌≢◌, ℕ, ℤ, pos, List, [], ◌∷◌, map, filter, not, codes, true, cond, IsTrue, None, Ok, refl, sym, ap, subst, ◌∙◌}
 use Rattle.std.specs.List.{AllByRecursion}
 use Rattle.std.proofs.lemmas.Cmp.{tied_itself}
 use Rattle.std.specs.Ordering.{is_eq}
@@ -13,29 +13,23 @@ use Rattle.sqlite_schema.specs.declared.command.Command.TheVariants.{Update}
 use Rattle.sqlite_schema.specs.declared.schema.Keys.TheVariants.{Enforced}
 use Rattle.sqlite_schema.specs.declared.schema.Kind.TheVariants.{Integer}
 use Rattle.sqlite_schema.specs.declared.schema.Schema.{Schema}
-use Rattle.sqlite_schema.specs.declared.schema.Table.{Table}
-use Rattle.sqlite_schema.specs.declared.schema.Index.{Index}
-use Rattle.sqlite_schema.specs.declared.schema.View.{View}
 use Rattle.sqlite_rules.specs.Cast.{cast, cast_all}
 use Rattle.sqlite_rules.specs.Edit.{id_in}
 use Rattle.sqlite_rules.specs.Action.{works}
 use Rattle.sqlite_tied.specs.Compute.{everything}
-use Rattle.sqlite.specs.declared.error.Error.{Error}
 use Rattle.sqlite.specs.Listing.{understood}
-use Rattle.sqlite.specs.State.{State, HasCleanDisk, Survives, CommitsBy, Writes, Executes}
-use Rattle.sqlite.proofs.Callers.{IsPlain, command_of, statement_of}
-use Rattle.ledger_sql.specs.Causes.{done_of}
+use Rattle.sqlite.specs.State.{State, HasCleanDisk, Writes, Executes}
+use Rattle.sqlite.proofs.Callers.{statement_of}
 use Rattle.ledger_sql.specs.Creating.{IsMaking}
 use Rattle.ledger_sql.specs.Effects.{IsLedger, IsInside, WritesInside, HasVersion, SetsVersion}
-use Rattle.ledger_sql.specs.Frames.{Follows}
 use Rattle.ledger_sql.specs.Rowids.{IsNumbered}
 use Rattle.ledger_sql.specs.Schema.{schema_table, balance_schema}
 use Rattle.ledger_sql.specs.TableRows.{cells_from, version_rows}
 use Rattle.ledger_sql.proofs.AddLemmas.{cast_null, cast_whole}
-use Rattle.ledger_sql.proofs.WriteLemmas.{wrote_inside, statement_ok, statement_follows, writes_stay}
+use Rattle.ledger_sql.proofs.WriteLemmas.{WritesBy, wrote_inside, writes_stay, statement_writes}
 use Rattle.ledger_sql.proofs.AnswerLemmas.{plain_query}
 use Rattle.ledger_sql.proofs.ReplaceLemmas.{numbered_put, numbered_out, one_mapped, int_of}
-use Rattle.ledger_sql.proofs.SelectTexts.{ledger_with, ledger_is}
+use Rattle.ledger_sql.proofs.SelectTexts.{over_ledger}
 use Rattle.ledger_sql.proofs.SetLemmas.{IsUpdateText}
 use Rattle.ledger_sql.proofs.UpdateLemmas.{HasUpdated, no_works, no_older_works, updated, update_schema}
 
@@ -95,43 +89,24 @@ module _ (sql : List ℕ) (version : ℤ) (old new : State) (text : IsVersionTex
   sets_version : SetsVersion version old new
   sets_version = record { inside = version_inside; sound = wrote.1.sound; one = has_version }
 
--- the clauses of a function of such a text, over the schemas that it is meant for
-module _ (sql : List ℕ) (version : ℤ) (Over : Schema → Type 0) (means : (s : Schema) → Over s → IsVersionText sql version s) (idle : (s : Schema) → Over s → (olds news : List Row) → works s Enforced 0 0 olds news ≡ [])
-    (old new : State) (inside : HasCleanDisk old → Over old.now.schema × IsTrue old.in_transaction) (survives : Survives old new (CommitsBy sql [] old)) where
-  version_by : HasCleanDisk old → (count : ℕ) → Executes sql [] old new (Ok count) → SetsVersion version old new
-  version_by clean count ran = let it = inside clean in sets_version sql version old new (means old.now.schema it.0) (idle old.now.schema it.0) it.1 count ran
-
-  meant : HasCleanDisk old → IsTrue old.in_transaction
-      × ((schema : Schema) × (old.now.schema ≡ schema) × (command_of (understood schema sql) ≡ Update 0 (record { lets = []; body = plain_query 0 [] (col 1 0 ∷ col 1 0 ∷ version_set version) [] })) × IsPlain (understood schema sql))
-  meant clean = let it = inside clean in let text = means old.now.schema it.0 in (it.1, (old.now.schema, refl, text.is, text.plain))
-
-  version_ok : (r : Result ℕ Error) → HasCleanDisk new → Executes sql [] old new r → OnOk (done_of r) (SetsVersion version old new)
-  version_ok = statement_ok sql [] old new (SetsVersion version old new) version_by survives
-
-  version_follows : (r : Result ℕ Error) → (HasCleanDisk new → Executes sql [] old new r) → Follows old new
-  version_follows = statement_follows sql [] old new (Update 0 (record { lets = []; body = plain_query 0 [] (col 1 0 ∷ col 1 0 ∷ version_set version) [] })) tt (SetsVersion version old new)
-      (λ a. writes_stay old new a.inside) meant version_by survives
+-- the contract of a function of such a text, over the schemas that it is meant for
+sets_by : (sql : List ℕ) (version : ℤ) (Over : Schema → Type 0) → ((s : Schema) → Over s → IsVersionText sql version s) → ((s : Schema) → Over s → (olds news : List Row) → works s Enforced 0 0 olds news ≡ [])
+    → (old new : State) → (HasCleanDisk old → Over old.now.schema × IsTrue old.in_transaction) → WritesBy sql [] (SetsVersion version) old new
+sets_by sql version Over means idle old new inside =
+    statement_writes sql [] old new (SetsVersion version) (Update 0 (record { lets = []; body = plain_query 0 [] (col 1 0 ∷ col 1 0 ∷ version_set version) [] })) tt (λ a. writes_stay old new a.inside)
+    (λ clean. let it = inside clean in let text = means old.now.schema it.0 in (it.1, (old.now.schema, refl, text.is, text.plain)))
+    (λ clean count ran. let it = inside clean in sets_version sql version old new (means old.now.schema it.0) (idle old.now.schema it.0) it.1 count ran)
 
 -- the current version
 abbrev pub set_version_text : List ℕ
 set_version_text = codes "UPDATE schema SET version = 3"
 
-set_version_means : (more : List Table) (indexes : List Index) (views : List View) → IsVersionText set_version_text (pos 3) (ledger_with more indexes views)
-unfolding understood everything
-set_version_means more indexes views = record { is = refl; plain = (refl, refl); listed = refl }
-
 set_version_is : (s : Schema) → IsLedger s → IsVersionText set_version_text (pos 3) s
-set_version_is s h = subst (IsVersionText set_version_text (pos 3)) (sym (ledger_is s h)) (set_version_means h.more s.indexes s.views)
+unfolding understood everything
+set_version_is = over_ledger (λ s. IsVersionText set_version_text (pos 3) s) (λ more indexes views. record { is = refl; plain = (refl, refl); listed = refl })
 
-module _ (old new : State) (inside : HasCleanDisk old → IsInside old) (survives : Survives old new (CommitsBy set_version_text [] old)) where
-  both : HasCleanDisk old → IsLedger old.now.schema × IsTrue old.in_transaction
-  both clean = let it = inside clean in (it.schema, it.mode)
-
-  pub set_version_ok : (r : Result ℕ Error) → HasCleanDisk new → Executes set_version_text [] old new r → OnOk (done_of r) (SetsVersion (pos 3) old new)
-  set_version_ok = version_ok set_version_text (pos 3) IsLedger set_version_is (λ s h. no_works s h 0 refl) old new both survives
-
-  pub set_version_follows : (r : Result ℕ Error) → (HasCleanDisk new → Executes set_version_text [] old new r) → Follows old new
-  set_version_follows = version_follows set_version_text (pos 3) IsLedger set_version_is (λ s h. no_works s h 0 refl) old new both survives
+pub current_version_set : (old new : State) → (HasCleanDisk old → IsInside old) → WritesBy set_version_text [] (SetsVersion (pos 3)) old new
+current_version_set old new inside = sets_by set_version_text (pos 3) IsLedger set_version_is (λ s h. no_works s h 0 refl) old new (λ clean. let it = inside clean in (it.schema, it.mode))
 
 -- the version of the balance schema
 abbrev pub balance_version_text : List ℕ
@@ -144,12 +119,5 @@ balance_version_means = record { is = refl; plain = (refl, refl); listed = refl 
 balance_version_is : (s : Schema) → s ≡ balance_schema → IsVersionText balance_version_text (pos 2) s
 balance_version_is s is = subst (IsVersionText balance_version_text (pos 2)) (sym is) balance_version_means
 
-module _ (old new : State) (making : HasCleanDisk old → IsMaking balance_schema old) (survives : Survives old new (CommitsBy balance_version_text [] old)) where
-  made : HasCleanDisk old → (old.now.schema ≡ balance_schema) × IsTrue old.in_transaction
-  made clean = let it = making clean in (it.schema_is, it.mode)
-
-  pub balance_version_ok : (r : Result ℕ Error) → HasCleanDisk new → Executes balance_version_text [] old new r → OnOk (done_of r) (SetsVersion (pos 2) old new)
-  balance_version_ok = version_ok balance_version_text (pos 2) (λ s. s ≡ balance_schema) balance_version_is no_older_works old new made survives
-
-  pub balance_version_follows : (r : Result ℕ Error) → (HasCleanDisk new → Executes balance_version_text [] old new r) → Follows old new
-  balance_version_follows = version_follows balance_version_text (pos 2) (λ s. s ≡ balance_schema) balance_version_is no_older_works old new made survives
+pub balance_version_set : (old new : State) → (HasCleanDisk old → IsMaking balance_schema old) → WritesBy balance_version_text [] (SetsVersion (pos 2)) old new
+balance_version_set old new making = sets_by balance_version_text (pos 2) (λ s. s ≡ balance_schema) balance_version_is no_older_works old new (λ clean. let it = making clean in (it.schema_is, it.mode))

@@ -1,5 +1,5 @@
 -- What a statement that writes rows or makes a table leaves, inside a transaction.
-use Rattle.std.proofs.Common.{◌≡◌, ℕ, inl, inr, List, cond, IsTrue, None, Ok, Result, OnOk, refl, sym, ap, ◌∙◌, arith}
+use Rattle.std.proofs.Common.{◌≡◌, ℕ, inl, inr, List, cond, IsTrue, None, Ok, Result, refl, sym, ap, ◌∙◌, arith}
 use Rattle.sqlite_value.specs.Order.{Row}
 use Rattle.sqlite_trees.specs.Tree.{Trees}
 use Rattle.sqlite_schema.specs.declared.schema.Schema.{Schema}
@@ -11,8 +11,8 @@ use Rattle.sqlite.specs.declared.error.Error.{Error}
 use Rattle.sqlite.proofs.StateLemmas.{survives_weaker}
 use Rattle.std.proofs.lemmas.Bool.{both_ways}
 use Rattle.ledger_sql.specs.Causes.{done_of}
-use Rattle.ledger_sql.specs.Frames.{Follows}
-use Rattle.ledger_sql.proofs.RunLemmas.{Stays, commits_as, done_ok, done_stays, follows_from}
+use Rattle.ledger_sql.specs.Calls.{LeavesWritten}
+use Rattle.ledger_sql.proofs.RunLemmas.{Stays, commits_as, done_ok, done_err, done_stays, follows_from}
 use Rattle.ledger_sql.specs.Effects.{WritesInside}
 use Rattle.sqlite.proofs.Callers.{IsPlain, command_of, statement_of}
 
@@ -53,18 +53,25 @@ rows_commit s CreateTable text params db inside on (inl (inr is, _)) = absurd (l
 rows_commit s CreateTable text params db inside on (inr w) = both_ways _ w.0 inside
 rows_commit s _ text params db inside on h = absurd on
 
--- the clauses of a function that writes inside a transaction
-module _ (sql : List ℕ) (params : Row) (old new : State) where
-  pub statement_ok : (P : Type 0) → (HasCleanDisk old → (count : ℕ) → Executes sql params old new (Ok count) → P) → Survives old new (CommitsBy sql params old)
-      → (r : Result ℕ Error) → HasCleanDisk new → Executes sql params old new r → OnOk (done_of r) P
-  statement_ok P ok survives r clean = done_ok sql params old new P (ok (omega (arith, survives.clean, clean))) r
+-- in a transaction, over a schema by which the text is this command
+abbrev pub Means : List ℕ → Command → State → Type 0
+Means sql command s = IsTrue s.in_transaction × ((schema : Schema) × (s.now.schema ≡ schema) × (command_of (understood schema sql) ≡ command) × IsPlain (understood schema sql))
 
-  module _ (command : Command) (on : IsOnRows command) (P : Type 0) (stays : P → Stays old new)
-      (means : HasCleanDisk old → IsTrue old.in_transaction × ((schema : Schema) × (old.now.schema ≡ schema) × (command_of (understood schema sql) ≡ command) × IsPlain (understood schema sql)))
-      (ok : HasCleanDisk old → (count : ℕ) → Executes sql params old new (Ok count) → P) (survives : Survives old new (CommitsBy sql params old)) where
-    pub statement_follows : (r : Result ℕ Error) → (HasCleanDisk new → Executes sql params old new r) → Follows old new
-    statement_follows r ran =
-        let quiet : Survives old new (λ _. ⊥) = survives_weaker old new _ _ (λ clean db h.
-        let it = means (omega (arith, survives.clean, clean)) in
-        rows_commit old command (statement_of sql (understood it.1.0 sql)) params db it.0 on (commits_as sql params old it.1.0 it.1.1 command it.1.2 it.1.3 db h)) survives in
-        follows_from old new quiet (λ live. done_stays sql params old new P (ok (omega (arith, survives.clean, live.0))) r stays live.1 (ran live.0))
+-- however the text was run, its call has written so
+abbrev pub WritesBy : List ℕ → Row → (State → State → Type 0) → State → State → Type 0
+WritesBy sql params Effect old new =
+    Survives old new (CommitsBy sql params old) → (r : Result ℕ Error) → (HasCleanDisk new → Executes sql params old new r) → LeavesWritten Effect old new (done_of r)
+
+-- the contract of a function that writes inside a transaction
+pub statement_writes : (sql : List ℕ) (params : Row) (old new : State) (Effect : State → State → Type 0) (command : Command) → IsOnRows command → (Effect old new → Stays old new) → (HasCleanDisk old → Means sql command old)
+    → (HasCleanDisk old → (count : ℕ) → Executes sql params old new (Ok count) → Effect old new) → WritesBy sql params Effect old new
+statement_writes sql params old new Effect command on stays means ok survives r ran =
+    let was : HasCleanDisk new → HasCleanDisk old = λ clean. omega (arith, survives.clean, clean) in
+    let quiet : Survives old new (λ _. ⊥) = survives_weaker old new _ _ (λ clean db h.
+    let it = means (was clean) in
+    rows_commit old command (statement_of sql (understood it.1.0 sql)) params db it.0 on (commits_as sql params old it.1.0 it.1.1 command it.1.2 it.1.3 db h)) survives in
+    record {
+      ok = λ clean. done_ok sql params old new (Effect old new) (ok (was clean)) r (ran clean);
+      err = λ clean. done_err sql params old new r (ran clean);
+      follows = follows_from old new quiet (λ live. done_stays sql params old new (Effect old new) (ok (was live.0)) r stays live.1 (ran live.0));
+    }

@@ -65,6 +65,12 @@ IfClean Is store held = HasCleanDisk (state store held) → Is (state store held
 abbrev pub Reads : {S A E : Type 0} → Ghosts S → Held S → Held S → Result A E → Type 0
 Reads store old new result = LeavesRead (state store old) (state store new) result
 
+-- where the disk was honest to the end, the answer is so of what was there before and after
+abbrev pub AnswersWith : {S A E : Type 0} → (State → State → A → Type 0) → Ghosts S → Held S → Held S
+    → Result A E → Type 0
+AnswersWith Answer store old new result =
+    HasCleanDisk (state store new) → IfOk result (Answer (state store old) (state store new))
+
 abbrev pub Learns : {S A E : Type 0} → (State → Type 0) → (Trees → A → Type 0) → Ghosts S → Held S
     → Held S → Result A E → Type 0
 Learns Over Answer store old new result =

@@ -2,6 +2,7 @@
 -- tenant.
 use Rattle.std.specs.Prelude.{ℕ, ℤ, zero, suc, ◌+◌, Bool, false, not, ◌&&◌, bytes_eq}
 use Rattle.std.specs.Prelude.{List, [], ◌∷◌, map, filter}
+use Rattle.std.specs.declared.cmp.Ordering.{Ordering}
 use Rattle.std.specs.Ordering.{int_cmp, int_eq, is_eq, is_ge, is_le}
 use Rattle.sqlite_value.specs.declared.value.Value.{Value}
 use Rattle.sqlite_value.specs.declared.value.Value.TheVariants.{Null, Int, Real, Text, Blob}
@@ -26,7 +27,7 @@ abbrev pub is_text : List ℕ → Value → Bool
 is_text text (Text t) = bytes_eq t text
 is_text text _ = false
 
--- the values are equal; the value is no less than this number; it is no greater
+-- the values are equal
 abbrev pub is_same : Value → Value → Bool
 is_same v Null = false
 is_same v (Int n) = is_int n v
@@ -34,15 +35,18 @@ is_same v (Real x) = not (is_null v) && is_eq (value_cmp v (Real x))
 is_same v (Text text) = is_text text v
 is_same v (Blob bytes) = is_blob bytes v
 
+-- how the value compares with this number passes a test; NULL never does
+abbrev pub is_beside : (Ordering → Bool) → ℤ → Value → Bool
+is_beside test n Null = false
+is_beside test n (Int m) = test (int_cmp m n)
+is_beside test n v = test (value_cmp v (Int n))
+
+-- the value is no less than this number; it is no greater
 abbrev pub is_from : ℤ → Value → Bool
-is_from n Null = false
-is_from n (Int m) = is_ge (int_cmp m n)
-is_from n v = is_ge (value_cmp v (Int n))
+is_from n v = is_beside is_ge n v
 
 abbrev pub is_until : ℤ → Value → Bool
-is_until n Null = false
-is_until n (Int m) = is_le (int_cmp m n)
-is_until n v = is_le (value_cmp v (Int n))
+is_until n v = is_beside is_le n v
 
 -- so many values of a row, from a place on
 abbrev pub cells_from : ℕ → ℕ → Row → Row

@@ -2,9 +2,8 @@
 
 ghost use Rattle.std.specs.Prelude.{◌≡◌, All, Err, map, IfOk};
 ghost use Rattle.sqlite.specs.Values.{bound};
-ghost use Rattle.sqlite.specs.State.{HasCleanDisk, Shown};
-ghost use Rattle.sqlite.specs.Held.{state};
-ghost use Rattle.ledger_sql.specs.Calls.{Reads};
+ghost use Rattle.sqlite.specs.State.{Shown};
+ghost use Rattle.ledger_sql.specs.Calls.{AnswersWith, Reads};
 ghost use Rattle.ledger_sql.specs.Queries.{IsReading, found_of, FindsFirst};
 
 use crate::cause::table_fault;
@@ -22,8 +21,8 @@ pub(crate) fn first_row<S: Alter>(
     params: &[ValueRef<'_>],
 ) -> Result<Option<Row>, TableFault>
     requires { IsReading text.now }
-    ensures ok { HasCleanDisk (state S.Store conn.new) → IfOk result
-        (FindsFirst text.now (bound params.now) (state S.Store conn.old) (state S.Store conn.new)) }
+    ensures ok { AnswersWith (FindsFirst text.now (bound params.now))
+        S.Store conn.old conn.new result }
     ensures reads { Reads S.Store conn.old conn.new result }
 {
     found(conn.query_row(text, params))
@@ -37,9 +36,9 @@ pub(crate) fn all_rows<S: Alter, T: ReadRow>(
     params: &[ValueRef<'_>],
 ) -> Result<Vec<T>, TableFault>
     requires { IsReading text.now }
-    ensures ok { HasCleanDisk (state S.Store conn.new) → IfOk result
-        (λ read. Shown text.now (bound params.now) (state S.Store conn.old) (state S.Store conn.new)
-        (map T.values read.items)) }
+    ensures ok { AnswersWith
+        (λ old new read. Shown text.now (bound params.now) old new (map T.values read.items))
+        S.Store conn.old conn.new result }
     ensures fits { IfOk result (λ read. All T.is_storable read.items) }
     ensures reads { Reads S.Store conn.old conn.new result }
 {

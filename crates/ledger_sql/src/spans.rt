@@ -5,11 +5,10 @@
 //! beyond the last one that is asked for.
 
 ghost use Rattle.std.specs.Prelude.{All, map, IfOk};
-ghost use Rattle.sqlite.specs.Held.{state};
-ghost use Rattle.sqlite.specs.State.{HasCleanDisk, Shown};
+ghost use Rattle.sqlite.specs.State.{Shown};
 ghost use Rattle.rows.specs.Cells.{account_cells, transfer_cells};
 ghost use Rattle.rows.specs.Widths.{IsStorableAccount, IsStorableTransfer};
-ghost use Rattle.ledger_sql.specs.Calls.{FindsRows, Reads};
+ghost use Rattle.ledger_sql.specs.Calls.{AnswersWith, FindsRows, Reads};
 ghost use Rattle.ledger_sql.specs.Entries.{ReadsUpTo};
 ghost use Rattle.ledger_sql.specs.Queries.{IsReading};
 ghost use Rattle.ledger_sql.specs.Spans.{accounts_between, transfers_between, span_params};
@@ -146,9 +145,9 @@ fn in_span<S: Alter, T: ReadRow>(
     most: u32,
 ) -> Result<Vec<T>, Unavailable>
     requires { IsReading text.now }
-    ensures ok { HasCleanDisk (state S.Store conn.new) → IfOk result
-        (λ read. Shown text.now (span_params tenant first last most) (state S.Store conn.old)
-        (state S.Store conn.new) (map T.values read.items)) }
+    ensures ok { AnswersWith (λ old new read. Shown text.now
+        (span_params tenant first last most) old new (map T.values read.items))
+        S.Store conn.old conn.new result }
     ensures fits { IfOk result (λ read. All T.is_storable read.items) }
     ensures reads { Reads S.Store conn.old conn.new result }
 {

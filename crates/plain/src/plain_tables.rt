@@ -1,7 +1,7 @@
 ghost use Rattle.std.specs.Prelude.{◌≡◌, IfOk};
 ghost use Rattle.std.proofs.Common.{refl, ◌∙◌};
 ghost use Rattle.records.specs.Balances.{balances_in};
-ghost use Rattle.records.specs.Machine.{new_machine, with_failed};
+ghost use Rattle.records.specs.Machine.{new_machine};
 ghost use Rattle.records.specs.Valid.{IsValid};
 ghost use Rattle.plain.specs.Beginning.{beginning_at};
 ghost use Rattle.plain.specs.PlainTables.{ascending, machine_copied, plain_meaning};

@@ -50,10 +50,11 @@ module _ {S C P : Type 0} where
       let before : (other : ℕ) → other ≢ client → seats_now other ≡ seats other =
       λ other differ. now.1 other differ ∙ mid.1 other differ in
       let empty : (seat : Talk) → seats_now client ≡ Some seat → ⊥ =
-      λ seat is. false≢true (ap is_some (sym now.0 ∙ is)) in (
-        deeds ++ [],
-        after,
-        Then deeds then_hall [] after
+      λ seat is. false≢true (ap is_some (sym now.0 ∙ is)) in record {
+        deeds = deeds ++ [];
+        last = after;
+        leads =
+            Then deeds then_hall [] after
             (subst (λ (from : Hall S C P). Proceeds S C P r from deeds then_hall)
             (same_hall ledgers moments peers client talk first keeps.ledgers keeps.moments
             keeps.peers (keeps.seated client talk was))
@@ -65,69 +66,73 @@ module _ {S C P : Type 0} where
             (standing-twice client going Away stood)
             (Stirs (Closed client) peers_now
             (subst MayClose (sym (standing-own client going stood)) (leaving_closes (stood client)))
-            closed)),
-        record {
-          ledgers = refl;
-          moments = refl;
-          peers = refl;
-          seated =
-              by_client
-              (λ each.
-              (seat : Talk) → seats_now each ≡ Some seat
-              → with_talk client talk_now talks each ≡ seat)
-              client (λ seat is. absurd (empty seat is))
-              (λ other differ seat is.
-              with_talk-other client other talk_now talks differ
-              ∙ keeps.seated other seat (sym (before other differ) ∙ is));
-          there =
-              by_client (λ each. (seat : Talk) → seats_now each ≡ Some seat → gone each ≡ false)
-              client (λ seat is. absurd (empty seat is))
-              (λ other differ seat is.
-              gone_with-other client other first.gone differ
-              ∙ keeps.there other seat (sym (before other differ) ∙ is));
-          below =
-              by_client (λ each. (seat : Talk) → seats_now each ≡ Some seat → each < next) client
-              (λ seat is. absurd (empty seat is))
-              (λ other differ seat is. keeps.below other seat (sym (before other differ) ∙ is));
-          unused =
-              λ other beyond.
-              with_talk-other client other talk_now talks
-              (used client next other (keeps.below client talk was) beyond)
-              ∙ keeps.unused other beyond;
-          not_gone =
-              λ other beyond.
-              gone_with-other client other first.gone
-              (used client next other (keeps.below client talk was) beyond)
-              ∙ keeps.not_gone other beyond;
-          stands =
-              one_stands seats_now stood client Away
-              (subst (λ (seat : Option Talk). StandsIn seat Away) (sym now.0) refl)
-              (λ other differ.
-              subst (λ (seat : Option Talk). StandsIn seat (stood other))
-              (sym (before other differ)) (stand other));
-        },
-        replies_both deeds [] replies 0 replies count refl (omega arith),
-        owes_then owed owed [] first.stands stood stands
+            closed));
+        keeps =
+            record {
+              ledgers = refl;
+              moments = refl;
+              peers = refl;
+              seated =
+                  by_client
+                  (λ each.
+                  (seat : Talk) → seats_now each ≡ Some seat
+                  → with_talk client talk_now talks each ≡ seat)
+                  client (λ seat is. absurd (empty seat is))
+                  (λ other differ seat is.
+                  with_talk-other client other talk_now talks differ
+                  ∙ keeps.seated other seat (sym (before other differ) ∙ is));
+              there =
+                  by_client (λ each. (seat : Talk) → seats_now each ≡ Some seat → gone each ≡ false)
+                  client (λ seat is. absurd (empty seat is))
+                  (λ other differ seat is.
+                  gone_with-other client other first.gone differ
+                  ∙ keeps.there other seat (sym (before other differ) ∙ is));
+              below =
+                  by_client (λ each. (seat : Talk) → seats_now each ≡ Some seat → each < next) client
+                  (λ seat is. absurd (empty seat is))
+                  (λ other differ seat is. keeps.below other seat (sym (before other differ) ∙ is));
+              unused =
+                  λ other beyond.
+                  with_talk-other client other talk_now talks
+                  (used client next other (keeps.below client talk was) beyond)
+                  ∙ keeps.unused other beyond;
+              not_gone =
+                  λ other beyond.
+                  gone_with-other client other first.gone
+                  (used client next other (keeps.below client talk was) beyond)
+                  ∙ keeps.not_gone other beyond;
+              stands =
+                  one_stands seats_now stood client Away
+                  (subst (λ (seat : Option Talk). StandsIn seat Away) (sym now.0) refl)
+                  (λ other differ.
+                  subst (λ (seat : Option Talk). StandsIn seat (stood other))
+                  (sym (before other differ)) (stand other));
+            };
+        count = replies_both deeds [] replies 0 replies count refl (omega arith);
+        owes =
+            owes_then owed owed [] first.stands stood stands
             (owes_beside [] [] owed first.stands stood (owes_after deeds first.stands))
-            (owes_none debt client Away stood (λ each is. is)),
-        keeps_then ⊥ first.stands stood stands (keeps_after ⊥ deeds first.stands)
-            (keeps_one ⊥ client Away stood (λ (kept : Away ≡ Kept). cc)),
-      )
+            (owes_none debt client Away stood (λ each is. is));
+        spares =
+            keeps_then ⊥ first.stands stood stands (keeps_after ⊥ deeds first.stands)
+            (keeps_one ⊥ client Away stood (λ (kept : Away ≡ Kept). cc));
+      }
 
   -- the client in one seat was served, has gone and is closed
   pub went_at :
-      (r : Terms S C P) (client : ℕ) (ledgers ledgers_now : S) (moments moments_now : C)
-      (peers peers_then peers_now : P) (seats seats_then seats_now : ℕ → Option Talk) (next : ℕ)
-      (talk talk_now : Talk) (idle : Bool) (replies : ℕ) → seats client ≡ Some talk →
+      {r : Terms S C P} {client : ℕ} {ledgers ledgers_now : S} {moments moments_now : C}
+      {peers peers_then peers_now : P} {seats seats_then seats_now : ℕ → Option Talk} {next : ℕ}
+      {talk talk_now : Talk} {idle : Bool} {replies : ℕ} → seats client ≡ Some talk →
       SeatsNow client (Some talk_now) seats seats_then → SeatsNow client None seats_then seats_now →
       ServesOne r client ledgers moments peers talk ledgers_now moments_now peers_then talk_now
       step.Goes idle replies →
       r.does peers_then (Closed client) peers_now →
       ServesOwed r ⊥ (owing A_turn client ∷ []) [] (held ledgers moments peers seats next)
       (held ledgers_now moments_now peers_now seats_now next) replies
-  went_at r client ledgers ledgers_now moments moments_now peers peers_then peers_now seats
-      seats_then seats_now next talk talk_now idle replies was mid now served closed first keeps =
-      let did = served first.room.talks first.gone first.stands (keeps.there client talk was) in
+  went_at {r} {client} {ledgers} {ledgers_now} {moments} {moments_now} {peers} {peers_then}
+      {peers_now} {seats} {seats_then} {seats_now} {next} {talk} {talk_now} {replies} was mid now
+      served closed first keeps =
+      let did = served.leads first.room.talks first.gone first.stands (keeps.there client talk was) in
       went_from r A_turn client ledgers ledgers_now moments moments_now peers peers_then peers_now
       seats seats_then seats_now next talk talk_now replies first did.0 was mid now did.1 did.2
       closed keeps

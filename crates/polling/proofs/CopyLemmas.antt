@@ -124,7 +124,7 @@ module _ {S C P : Type 0} (t : LedgersMeaning S) (gives : C → ℕ → C → Ty
       then_each r (held (Whole ledgers) moments peers seats next)
       (held (Whole ledgers) moments peers seats_now next)
       (held (Whole ledgers) moments_now peers seats_now next) 0 0 0 refl
-      (unchanged r ⊥ [] [] (Whole ledgers) moments peers seats seats_now next same (λ one found. found))
+      (unchanged same (λ one found. found))
       (passes_all r (Whole ledgers) moments moments_now (moments_of messages) peers seats_now next
       given)
 
@@ -144,7 +144,7 @@ module _ {S C P : Type 0} (t : LedgersMeaning S) (gives : C → ℕ → C → Ty
       then_each r (held (Whole ledgers) moments peers seats next)
       (held (Whole ledgers) moments peers seats_now next)
       (held (Whole ledgers_now) moments_now peers seats_now next) 0 0 0 refl
-      (unchanged r ⊥ [] [] (Whole ledgers) moments peers seats seats_now next same (λ one found. found))
+      (unchanged same (λ one found. found))
       (rests_all r (Whole ledgers) (Whole ledgers_now) moments moments_now (moments_of messages) peers
       seats_now next (record { lived = lived; same = kept; found = found }) given)
 
@@ -168,7 +168,7 @@ module _ {S C P : Type 0} (t : LedgersMeaning S) (gives : C → ℕ → C → Ty
       then_each r (held (Whole ledgers) moments peers seats next)
       (held (Whole ledgers) moments peers seats_now next)
       (held (Whole ledgers_now) moments_now peers seats_then next) 0 count count (omega arith)
-      (unchanged r ⊥ [] [] (Whole ledgers) moments peers seats seats_now next same (λ one found. found))
+      (unchanged same (λ one found. found))
       (then_each r (held (Whole ledgers) moments peers seats_now next)
       (held begun moments peers seats_now next)
       (held (Whole ledgers_now) moments_now peers seats_then next) 0 count count (omega arith)
@@ -193,5 +193,5 @@ module _ {S C P : Type 0} (t : LedgersMeaning S) (gives : C → ℕ → C → Ty
       then_each r (held (Whole ledgers) moments peers seats next)
       (held (Whole ledgers) moments peers seats_now next)
       (held (Whole ledgers_now) moments_now peers seats_then next) 0 count count (omega arith)
-      (unchanged r ⊥ [] [] (Whole ledgers) moments peers seats seats_now next same (λ one found. found))
+      (unchanged same (λ one found. found))
       (told ledgers ledgers_now moments moments_now peers next stays given lost)

@@ -32,9 +32,7 @@ pub finished :
     (count_of replied) →
     ServesOwed r (count_of replied ≡ most) (owing A_turn client ∷ []) [] old new (count_of replied)
 finished r client replied most old new few serves =
-    owed_for r (not (nat_lt 0 most) ≡ true) (count_of replied ≡ most) (owing A_turn client ∷ []) []
-    old new (count_of replied)
+    owed_for serves
     (λ (none : not (nat_lt 0 most) ≡ true).
     let zero : most ≡ 0 = none_wanted most none in
     subst (λ (b : Bool). count_of b ≡ most) (sym (few (not_answered most zero))) (sym zero))
-    serves

@@ -5,7 +5,7 @@ use Rattle.parts.specs.declared.rest.Rest.{Rest}
 use Rattle.std.proofs.Math.Path.{fun_ext}
 use Rattle.clients.specs.Answering.{IsAllAnswered}
 use Rattle.clients.specs.Talk.{HasNothingUnsent, Talk, is_empty, is_written, may_answer}
-use Rattle.polling.specs.Standing.{Standing, Away, New, Awaited, Owed, Begun, Kept, Overdue, Leaving}
+use Rattle.polling.specs.Standing.{Standing, Away, New, Overdue}
 use Rattle.polling.specs.Standing.{has_seat, expired, leaving, with_standing, stands_behind, StandTold, MayClose, IsFinished}
 use Rattle.polling.specs.Peers.{Said}
 use Rattle.polling.specs.declared.peers.Told.{Told}
@@ -15,35 +15,19 @@ use Rattle.polling.proofs.StandLemmas.{by_client, standing-own, standing-other}
 -- who goes may be closed
 pub leaving_closes : (standing : Standing) → MayClose (leaving standing)
 leaving_closes Away = tt
-leaving_closes New = tt
-leaving_closes Awaited = tt
-leaving_closes Owed = tt
-leaving_closes Begun = tt
-leaving_closes Kept = tt
-leaving_closes Overdue = tt
-leaving_closes Leaving = tt
+leaving_closes standing = tt
 
 -- so may who has no seat
 pub unseated_closes : (standing : Standing) → has_seat standing ≡ false → MayClose standing
 unseated_closes Away none = tt
 unseated_closes New none = tt
-unseated_closes Awaited none = absurd (true≢false none)
-unseated_closes Owed none = absurd (true≢false none)
-unseated_closes Begun none = absurd (true≢false none)
-unseated_closes Kept none = absurd (true≢false none)
-unseated_closes Overdue none = absurd (true≢false none)
-unseated_closes Leaving none = tt
+unseated_closes standing none = absurd (true≢false none)
 
 -- behind the telling that it is late, who has a seat is owed its end
 seated_expired : (standing : Standing) → has_seat standing ≡ true → expired standing ≡ Overdue
 seated_expired Away seated = absurd (false≢true seated)
 seated_expired New seated = absurd (false≢true seated)
-seated_expired Awaited seated = refl
-seated_expired Owed seated = refl
-seated_expired Begun seated = refl
-seated_expired Kept seated = refl
-seated_expired Overdue seated = refl
-seated_expired Leaving seated = refl
+seated_expired standing seated = refl
 
 pub late_overdue :
     (standing : Standing) → has_seat standing ≡ true → standing ≡ expired standing →
@@ -52,13 +36,7 @@ late_overdue standing seated late = late ∙ seated_expired standing seated
 
 expired_twice : (standing : Standing) → expired standing ≡ expired (expired standing)
 expired_twice Away = refl
-expired_twice New = refl
-expired_twice Awaited = refl
-expired_twice Owed = refl
-expired_twice Begun = refl
-expired_twice Kept = refl
-expired_twice Overdue = refl
-expired_twice Leaving = refl
+expired_twice standing = refl
 
 -- so all stand behind a telling
 pub stand_told :

@@ -32,8 +32,9 @@ use Rattle.polling.specs.declared.round.Member.{Member}
 use Rattle.polling.proofs.OneLemmas.{once, replies_both, with_talk-own, with_talk-other}
 use Rattle.polling.specs.Standing.{stands_after}
 use Rattle.polling.proofs.StandLemmas.{after_stand, owes_after, keeps_after}
+use Rattle.polling.proofs.AllLemmas.{keeps_room}
 use Rattle.polling.proofs.SeatLemmas.{keeps_at}
-use Rattle.polling.proofs.RoundLemmas.{copied_still}
+use Rattle.polling.proofs.RoundLemmas.{IsPutTo, was_next}
 
 -- what was answered was done
 deed_done :
@@ -186,17 +187,9 @@ module _ {S C P : Type 0} (t : LedgersMeaning S) (gives : C → ℕ → C → Ty
       moments = moments;
       lives = life.Begin;
       told = tt;
-      keeps = record {
-        ledgers = keeps.ledgers;
-        moments = keeps.moments;
-        peers = keeps.peers;
-        seated = keeps.seated;
-        there = keeps.there;
-        below = keeps.below;
-        unused = keeps.unused;
-        not_gone = keeps.not_gone;
-        stands = keeps.stands;
-      };
+      keeps =
+          keeps_room (held (Whole ledgers) moments peers seats next) first first.room first.stands
+          (Whole ledgers) moments keeps.ledgers keeps.moments refl keeps.stands keeps;
       replies = refl;
       given = given;
       done = λ machines found answers turns. (machines, answers, λ digest. refl, turns);
@@ -239,8 +232,7 @@ module _ {S C P : Type 0} (t : LedgersMeaning S) (gives : C → ℕ → C → Ty
       (seats_now seats_then : ℕ → Option Talk) (count : ℕ) (left : List Message)
       (so_far : AreToldSoFar t gives does messages seats (member ∷ members) seats_now count) →
       so_far.left ≡ left → AreCopied seats_now (member ∷ members) left →
-      ((talk : Talk) → seats_now member.number ≡ Some talk →
-      SeatsNow member.number (Some (replied_to member.size unavailable talk)) seats_now seats_then) →
+      IsPutTo member unavailable seats_now seats_then →
       AreToldSoFar t gives does messages seats members seats_then (count + 1)
   told_more_of unique tells messages seats member members seats_now seats_then count [] so_far is
       copied now =
@@ -248,16 +240,12 @@ module _ {S C P : Type 0} (t : LedgersMeaning S) (gives : C → ℕ → C → Ty
   told_more_of unique tells messages seats member members seats_now seats_then count (message ∷ left)
       so_far is copied now =
       let number = member.number in
-      let talk = copied.0.0 in
-      let copy = copied.0.2 in
-      let seated = now talk copied.0.1 in
-      let asks =
-      subst (λ (bytes : List ℕ). Asks bytes copy.question) (sym copy.copied) copy.ready.asks in
+      let next_one = was_next member members message left unavailable seats_now seats_then copied now in
+      let talk = next_one.talk in
+      let copy = next_one.copy in
       record {
         left = left;
-        copied =
-            copied_still seats_now seats_then number
-            (Some (replied_to member.size unavailable talk)) members left seated copied.1 copied.2;
+        copied = next_one.copied;
         told = λ ledgers moments last peers next first follows given keeps.
             let so = so_far.told ledgers moments last peers next first follows given keeps in
             let rest =
@@ -267,7 +255,7 @@ module _ {S C P : Type 0} (t : LedgersMeaning S) (gives : C → ℕ → C → Ty
             let here = record first { room = so.room } in
             let one =
             told_in t gives ledgers so.moments rest.0 peers seats_now seats_then next number talk
-            (replied_to member.size unavailable talk) (event ∷ []) here copied.0.1 seated
+            (replied_to member.size unavailable talk) (event ∷ []) here next_one.was next_one.now
             copy.ready.may
             (tells (Whole ledgers) so.moments rest.0 talk member.size copy.question message.moment
             copy.ready rest.1 follows)
@@ -279,7 +267,7 @@ module _ {S C P : Type 0} (t : LedgersMeaning S) (gives : C → ℕ → C → Ty
               room = one.room;
               moments = rest.0;
               lives = lives;
-              told = (so.told, (so.keeps.there number talk copied.0.1, refl));
+              told = (so.told, (so.keeps.there number talk next_one.was, refl));
               keeps = one.keeps;
               replies =
                   replies_both so.deeds (deed ∷ []) count 1 (count + 1) so.replies refl refl;
@@ -294,7 +282,7 @@ module _ {S C P : Type 0} (t : LedgersMeaning S) (gives : C → ℕ → C → Ty
                   × TakeTurns left mid behind found)
                   (sym one.are)
                   (untold_more unique message left copy.question (events_of so.lives) machines
-                  before.0 found before.1 asks before.2
+                  before.0 found before.1 next_one.asks before.2
                   (subst (λ (ms : List Message). TakeTurns ms before.0 before.1 found) is before.3));
             };
       }
@@ -305,8 +293,7 @@ module _ {S C P : Type 0} (t : LedgersMeaning S) (gives : C → ℕ → C → Ty
       (seats : ℕ → Option Talk) (before : List Member) (member : Member) (members : List Member)
       (seats_now seats_then : ℕ → Option Talk) (count : ℕ) → before ≡ member ∷ members →
       AreToldSoFar t gives does messages seats before seats_now count →
-      ((talk : Talk) → seats_now member.number ≡ Some talk →
-      SeatsNow member.number (Some (replied_to member.size unavailable talk)) seats_now seats_then) →
+      IsPutTo member unavailable seats_now seats_then →
       AreToldSoFar t gives does messages seats members seats_then (count + 1)
   told_more unique tells messages seats before member members seats_now seats_then count here so_far
       now =
@@ -352,10 +339,11 @@ module _ {S C P : Type 0} (t : LedgersMeaning S) (gives : C → ℕ → C → Ty
       let after =
       record first { room = record so.room { ledgers = Whole ledgers_now }; stands = stands } in
       let all_given =
-      subst (λ (ms : List Message). AreGiven gives so.moments (moments_of ms) last) over so.given in (
-        so.deeds,
-        after,
-        once (rules t gives renews waits does) first after so.deeds
+      subst (λ (ms : List Message). AreGiven gives so.moments (moments_of ms) last) over so.given in record {
+        deeds = so.deeds;
+        last = after;
+        leads =
+            once (rules t gives renews waits does) first after so.deeds
             (Fails so.deeds so.room (Whole ledgers_now) stands so.lives so.told
             (subst
             (λ (l : SeenAt S). HasFailed (seen t) l (events_of so.lives) (Whole ledgers_now))
@@ -374,19 +362,13 @@ module _ {S C P : Type 0} (t : LedgersMeaning S) (gives : C → ℕ → C → Ty
                   ))
                   (lost.found found may);
             }))
-            refl),
-        record {
-          ledgers = refl;
-          moments = so.keeps.moments ∙ sym all_given;
-          peers = so.keeps.peers;
-          seated = so.keeps.seated;
-          there = so.keeps.there;
-          below = so.keeps.below;
-          unused = so.keeps.unused;
-          not_gone = so.keeps.not_gone;
-          stands = after_stand so.deeds seats_now first.stands so.keeps.stands;
-        },
-        so.replies,
-        owes_after so.deeds first.stands,
-        keeps_after ⊥ so.deeds first.stands,
-      )
+            refl);
+        keeps =
+            keeps_room (held (Whole ledgers) so.moments peers seats_now next)
+            (record first { room = so.room }) (record so.room { ledgers = Whole ledgers_now }) stands
+            (Whole ledgers_now) last refl (so.keeps.moments ∙ sym all_given) refl
+            (after_stand so.deeds seats_now first.stands so.keeps.stands) so.keeps;
+        count = so.replies;
+        owes = owes_after so.deeds first.stands;
+        spares = keeps_after ⊥ so.deeds first.stands;
+      }

@@ -7,13 +7,13 @@ use Rattle.polling.specs.Standing.{owing, stands_behind, KeepsOnly}
 use Rattle.polling.specs.declared.peers.Told.{Told}
 use Rattle.polling.specs.declared.peers.Told.TheVariants as told
 use Rattle.polling.specs.Serving.{Hall, Terms, Tells, Proceeds, Begin, Then, tellings, tellings_of}
-use Rattle.polling.specs.Seating.{Held, HoldsHall, ServesAll, replies_in}
+use Rattle.polling.specs.Seating.{Held, HoldsHall, LeadsAll, ServesAll, replies_in}
 use Rattle.polling.specs.Ending.{HasTurn, IsIdleNow, Turns, Start, Turn, most_turns, GivesTurns, Ends, Enough, Quiet, Long}
 use Rattle.polling.specs.Laws.{ServedOn, OwesNobody}
 use Rattle.polling.proofs.OneLemmas.{replies_both}
 use Rattle.polling.proofs.StandLemmas.{told_stand, none_in}
 use Rattle.polling.proofs.GoingLemmas.{stand_told}
-use Rattle.polling.proofs.AllLemmas.{keeps_peers, next_free}
+use Rattle.polling.proofs.AllLemmas.{keeps_peers, leads_all, next_free}
 use Rattle.polling.proofs.ToldLemmas.{hall_told, keeps_hall}
 use Rattle.polling.proofs.TurnLemmas.{turns_serve}
 
@@ -37,12 +37,11 @@ module _ {S C P : Type 0} (r : Terms S C P) where
       (append_assoc before deeds behind)
       (Then (before ++ deeds) between behind next so_far.0 happens, omega (arith, so_far.1))
 
-  pub served_on :
+  -- so too, by what a hall leads to
+  abbrev led_on :
       (first mid : Hall S C P) (before : List Act) (served : Proceeds S C P r first before mid)
-      (old new : Held S C P) (replies : ℕ) → HoldsHall old mid → ServesAll r old new replies →
-      ServedOn served new replies 0
-  served_on first mid before served old new replies keeps serves =
-      let did = serves mid keeps in
+      (new : Held S C P) (replies : ℕ) → LeadsAll r mid new replies → ServedOn served new replies 0
+  led_on first mid before served new replies did =
       let both = both_told first mid did.1 before did.0 served did.2 in
       record {
         deeds = before ++ did.0;
@@ -54,6 +53,13 @@ module _ {S C P : Type 0} (r : Terms S C P) where
             did.4 refl;
         told = omega (arith, both.1);
       }
+
+  pub served_on :
+      (first mid : Hall S C P) (before : List Act) (served : Proceeds S C P r first before mid)
+      (old new : Held S C P) (replies : ℕ) → HoldsHall old mid → ServesAll r old new replies →
+      ServedOn served new replies 0
+  served_on first mid before served old new replies keeps serves =
+      led_on first mid before served new replies (serves mid keeps)
 
   -- nobody is owed anything behind turns that are given
   pub gives_on :
@@ -67,24 +73,15 @@ module _ {S C P : Type 0} (r : Terms S C P) where
   gives_on first mid before served old new replies most keeps nobody (inr turns) = inr turns
   gives_on first mid before served old new replies most keeps nobody (inl serves) =
       let did = serves mid keeps in
-      let both = both_told first mid did.1 before did.0 served did.2 in
       inl (
-        record {
-          deeds = before ++ did.0;
-          last = did.1;
-          all = both.0;
-          keeps = did.3;
-          count =
-              replies_both before did.0 (replies_in before) replies (replies_in before + replies)
-              refl did.4 refl;
-          told = omega (arith, both.1);
-        },
+        led_on first mid before served new replies
+            (leads_all r (replies ≡ most) [] [] mid new replies did),
         λ client debt owed.
-            elim (did.5 client debt owed).1 [
+            elim (did.owes client debt owed).1 [
               | inl was ↦ nobody client debt was
               | inr found ↦ none_in (owing debt client) found
             ],
-        did.6,
+        did.spares,
       )
 
   -- one after the other
@@ -145,13 +142,13 @@ module _ {S C P : Type 0} (r : Terms S C P) where
       let one = served_on first mid before served old turn.before 0 keeps turn.first in
       let fresh = turn.before.next in
       let told = turn.told in
-      let after = hall_told r fresh told turn.peers one.last in
+      let after = hall_told fresh told turn.peers one.last in
       let said : Proceeds S C P r first (one.deeds ++ []) after =
       Then one.deeds one.last [] after one.all
       (Tells fresh told turn.peers (next_free turn.before one.last one.keeps)
       (subst (λ (p : P). r.does p (Said fresh told) turn.peers) (sym one.keeps.peers) turn.said)) in
       let did =
-      turn.served after (keeps_hall r turn.before told turn.peers one.last one.keeps)
+      turn.served after (keeps_hall turn.before told turn.peers one.last one.keeps)
       (stand_told fresh told one.last.stands) in
       let both = both_told first after did.1 (one.deeds ++ []) did.0 said did.2 in
       record {
@@ -177,7 +174,7 @@ module _ {S C P : Type 0} (r : Terms S C P) where
       (Turn count so_far between more next rest turn) =
       let one =
       served_on first mid before served old between so_far keeps
-      (turns_serve r old between count so_far rest) in
+      (turns_serve rest) in
       then_on first mid before served between next so_far more (so_far + more) 0 1 1 refl (omega arith)
       one
       (turn_on first one.last one.deeds one.all between next more one.keeps turn)

@@ -71,6 +71,42 @@ fits_here seats before member members (message ∷ left) here copied =
     (λ (seat : Option Talk). IfSome seat (λ talk. member.size ≤ length talk.unread.bytes))
     (sym first.0.1) first.0.2.ready.whole.within
 
+-- the reply to the message of a client is put, whoever it is
+abbrev pub IsPutTo : Member → Reply → (ℕ → Option Talk) → (ℕ → Option Talk) → Type 0
+IsPutTo member reply seats seats_now =
+    (talk : Talk) → seats member.number ≡ Some talk
+    → SeatsNow member.number (Some (replied_to member.size reply talk)) seats seats_now
+
+-- a client was put this reply to its message, and the messages of the others are as they were
+pub record WasNext (member : Member) (members : List Member) (message : Message)
+    (left : List Message) (reply : Reply) (seats seats_now : ℕ → Option Talk) : Type 0 where
+  pub talk : Talk
+  pub was : seats member.number ≡ Some talk
+  pub now : SeatsNow member.number (Some (replied_to member.size reply talk)) seats seats_now
+  pub copy : IsCopyOf talk member.size message.bytes.items
+  pub asks : Asks message.bytes.items copy.question
+  pub copied : AreCopied seats_now members left
+
+pub was_next :
+    (member : Member) (members : List Member) (message : Message) (left : List Message)
+    (reply : Reply) (seats seats_now : ℕ → Option Talk) →
+    AreCopied seats (member ∷ members) (message ∷ left) → IsPutTo member reply seats seats_now →
+    WasNext member members message left reply seats seats_now
+was_next member members message left reply seats seats_now copied put =
+    let talk = copied.0.0 in
+    let copy = copied.0.2 in
+    let now = put talk copied.0.1 in
+    record {
+      talk = talk;
+      was = copied.0.1;
+      now = now;
+      copy = copy;
+      asks = subst (λ (bytes : List ℕ). Asks bytes copy.question) (sym copy.copied) copy.ready.asks;
+      copied =
+          copied_still seats seats_now member.number (Some (replied_to member.size reply talk))
+          members left now copied.1 copied.2;
+    }
+
 pub nothing_left : {X : Type 0} (xs : List X) (n : ℕ) → n ≡ length xs → n ≡ 0 → xs ≡ []
 nothing_left [] n is none = refl
 nothing_left (x ∷ xs) n is none = absurd (omega (arith, is, none))
@@ -147,8 +183,7 @@ module _ {S C P : Type 0} (t : LedgersMeaning S) (gives : C → ℕ → C → Ty
       let talk_now = replied_to member.size reply talk in
       served_at r member.number before behind moments moments_now peers peers seats seats_now next
       talk talk_now false 1 was now
-      (replied r member.number before behind moments moments_now peers talk talk_now reply
-      copy.ready.may
+      (replied copy.ready.may
       (within ledgers machines moments moments_now talk member.size copy.question message.moment
       reply copy.ready given follows
       (λ live.
@@ -169,8 +204,7 @@ module _ {S C P : Type 0} (t : LedgersMeaning S) (gives : C → ℕ → C → Ty
       ArePutSoFar t gives renews waits does messages replies seats (member ∷ members)
       (reply ∷ replies_left) seats_now count) →
       so_far.left ≡ left → AreCopied seats_now (member ∷ members) left →
-      ((talk : Talk) → seats_now member.number ≡ Some talk →
-      SeatsNow member.number (Some (replied_to member.size reply talk)) seats_now seats_then) →
+      IsPutTo member reply seats_now seats_then →
       ArePutSoFar t gives renews waits does messages replies seats members replies_left seats_then
       (count + 1)
   put_more_of leave within messages replies seats member members reply replies_left seats_now
@@ -178,16 +212,10 @@ module _ {S C P : Type 0} (t : LedgersMeaning S) (gives : C → ℕ → C → Ty
       absurd copied
   put_more_of leave within messages replies seats member members reply replies_left seats_now
       seats_then count (message ∷ left) so_far is copied now =
-      let talk = copied.0.0 in
-      let copy = copied.0.2 in
-      let seated = now talk copied.0.1 in
-      let asks =
-      subst (λ (bytes : List ℕ). Asks bytes copy.question) (sym copy.copied) copy.ready.asks in
+      let one = was_next member members message left reply seats_now seats_then copied now in
       record {
         left = left;
-        copied =
-            copied_still seats_now seats_then member.number
-            (Some (replied_to member.size reply talk)) members left seated copied.1 copied.2;
+        copied = one.copied;
         put = λ ledgers machines moments last peers next follows all.
             let so = so_far.put ledgers machines moments last peers next follows all in
             let mid = so.0 in
@@ -196,7 +224,7 @@ module _ {S C P : Type 0} (t : LedgersMeaning S) (gives : C → ℕ → C → Ty
             (λ (ms : List Message).
             AreToBePut t gives ledgers last mid so.1 ms (reply ∷ replies_left))
             is so.3 in
-            let behind = after_asking copy.question message.moment mid in (
+            let behind = after_asking one.copy.question message.moment mid in (
               behind,
               rest.given.0,
               then_each (rules t gives renews waits does)
@@ -205,15 +233,15 @@ module _ {S C P : Type 0} (t : LedgersMeaning S) (gives : C → ℕ → C → Ty
                   (held (Within ledgers behind) rest.given.0 peers seats_then next) count 1
                   (count + 1) refl so.2
                   (put_one_more within ledgers mid so.1 rest.given.0 peers seats_now seats_then
-                  next member message reply talk copy copied.0.1 seated follows rest.given.1
+                  next member message reply one.talk one.copy one.was one.now follows rest.given.1
                   (λ live.
                   (turns_leave leave (t.tenants ledgers) mid message left reply replies_left
-                  copy.question asks (rest.turns live)).0)),
+                  one.copy.question one.asks (rest.turns live)).0)),
               record {
                 given = rest.given.2;
                 turns = λ live.
                     (turns_leave leave (t.tenants ledgers) mid message left reply replies_left
-                    copy.question asks (rest.turns live)).1;
+                    one.copy.question one.asks (rest.turns live)).1;
               },
             );
       }
@@ -225,8 +253,7 @@ module _ {S C P : Type 0} (t : LedgersMeaning S) (gives : C → ℕ → C → Ty
       (seats_now seats_then : ℕ → Option Talk) (count : ℕ) →
       before ≡ member ∷ members → replies_before ≡ reply ∷ replies_left →
       ArePutSoFar t gives renews waits does messages replies seats before replies_before seats_now count →
-      ((talk : Talk) → seats_now member.number ≡ Some talk →
-      SeatsNow member.number (Some (replied_to member.size reply talk)) seats_now seats_then) →
+      IsPutTo member reply seats_now seats_then →
       ArePutSoFar t gives renews waits does messages replies seats members replies_left seats_then
       (count + 1)
   put_more leave within messages replies seats before member members replies_before reply replies_left
@@ -254,8 +281,7 @@ module _ {S C P : Type 0} (t : LedgersMeaning S) (gives : C → ℕ → C → Ty
     put = λ ledgers machines moments last peers next follows all. (
       machines,
       moments,
-      none_served (rules t gives renews waits does)
-          (held (Within ledgers machines) moments peers seats next),
+      none_served,
       all,
     );
   }

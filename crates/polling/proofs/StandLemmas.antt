@@ -1,5 +1,5 @@
 -- How clients stand, and what is owed to them.
-use Rattle.std.proofs.Common.{◌≡◌, ◌≢◌, ◌⊎◌, inl, inr, ⊎_elim, refl, ap, sym, ◌∙◌, subst, ℕ, false, List, [], ◌∷◌, ◌++◌, Option, if◌then◌else◌, arith}
+use Rattle.std.proofs.Common.{◌≡◌, ◌≢◌, ◌⊎◌, inl, inr, ⊎_elim, refl, ap, sym, ◌∙◌, subst, ℕ, false, List, [], ◌∷◌, ◌++◌, Option, nat_eq, if◌then◌else◌, arith}
 use Rattle.std.specs.List.{Contains}
 use Rattle.std.proofs.lemmas.Bool.{cases_eq, eq-eqb, ne_eqb, true≢false}
 use Rattle.std.proofs.lemmas.List.Elements.{Contains-append_cases, Contains-append_left, Contains-append_right, Contains-push, Contains-push_cases}
@@ -22,18 +22,28 @@ by_client P client own others each =
     ⊎_elim (λ (same : each ≡ client). subst P (sym same) own) (λ (other : each ≢ client). others each other)
     (cases_eq each client)
 
+-- what is otherwise for one client alone
+pub at_own :
+    {A : Type 0} (client : ℕ) (own : A) (others : ℕ → A) →
+    (if nat_eq client client then own else others client) ≡ own
+at_own client own others = ap (λ b. if b then own else others client) (eq-eqb client client refl)
+
+pub at_other :
+    {A : Type 0} (client other : ℕ) (own : A) (others : ℕ → A) → other ≢ client →
+    (if nat_eq client other then own else others other) ≡ others other
+at_other client other own others differ =
+    ap (λ b. if b then own else others other)
+    (ne_eqb client other (λ (same : client ≡ other). differ (sym same)))
+
 pub standing-own :
     (client : ℕ) (standing : Standing) (stands : ℕ → Standing) →
     with_standing client standing stands client ≡ standing
-standing-own client standing stands =
-    ap (λ b. if b then standing else stands client) (eq-eqb client client refl)
+standing-own client standing stands = at_own client standing stands
 
 pub standing-other :
     (client other : ℕ) (standing : Standing) (stands : ℕ → Standing) → other ≢ client →
     with_standing client standing stands other ≡ stands other
-standing-other client other standing stands differ =
-    ap (λ b. if b then standing else stands other)
-    (ne_eqb client other (λ (same : client ≡ other). differ (sym same)))
+standing-other client other standing stands differ = at_other client other standing stands differ
 
 -- deeds behind deeds
 pub after-append :
@@ -48,66 +58,29 @@ after-append (deed ∷ before) more stands =
 abbrev pub AllStand : (ℕ → Option Talk) → (ℕ → Standing) → Type 0
 AllStand seats stands = (client : ℕ) → StandsIn (seats client) (stands client)
 
--- who has a seat keeps it
-greeted_seat : (standing : Standing) → has_seat standing ≡ has_seat (greeted standing)
-greeted_seat Away = refl
-greeted_seat New = refl
-greeted_seat Awaited = refl
-greeted_seat Owed = refl
-greeted_seat Begun = refl
-greeted_seat Kept = refl
-greeted_seat Overdue = refl
-greeted_seat Leaving = refl
+-- who has a seat keeps it, whatever peers tell, and in its turn
+pub record KeepsSeat (standing : Standing) : Type 0 where
+  pub greets : has_seat standing ≡ has_seat (greeted standing)
+  pub wakes : has_seat standing ≡ has_seat (woken standing)
+  pub expires : has_seat standing ≡ has_seat (expired standing)
+  pub begins : has_seat standing ≡ has_seat (begun standing)
 
-woken_seat : (standing : Standing) → has_seat standing ≡ has_seat (woken standing)
-woken_seat Away = refl
-woken_seat New = refl
-woken_seat Awaited = refl
-woken_seat Owed = refl
-woken_seat Begun = refl
-woken_seat Kept = refl
-woken_seat Overdue = refl
-woken_seat Leaving = refl
+pub seat_kept : (standing : Standing) → KeepsSeat standing
+seat_kept Away = record { greets = refl; wakes = refl; expires = refl; begins = refl }
+seat_kept standing = record { greets = refl; wakes = refl; expires = refl; begins = refl }
 
-expired_seat : (standing : Standing) → has_seat standing ≡ has_seat (expired standing)
-expired_seat Away = refl
-expired_seat New = refl
-expired_seat Awaited = refl
-expired_seat Owed = refl
-expired_seat Begun = refl
-expired_seat Kept = refl
-expired_seat Overdue = refl
-expired_seat Leaving = refl
+-- and it keeps its place alone only where it did before
+record KeepsNone (standing : Standing) : Type 0 where
+  pub greets : greeted standing ≡ Kept → standing ≡ Kept
+  pub wakes : woken standing ≡ Kept → standing ≡ Kept
+  pub expires : expired standing ≡ Kept → standing ≡ Kept
+  pub begins : begun standing ≡ Kept → standing ≡ Kept
 
-begun_seat : (standing : Standing) → has_seat standing ≡ has_seat (begun standing)
-begun_seat Away = refl
-begun_seat New = refl
-begun_seat Awaited = refl
-begun_seat Owed = refl
-begun_seat Begun = refl
-begun_seat Kept = refl
-begun_seat Overdue = refl
-begun_seat Leaving = refl
-
-pub rested_seat : (standing : Standing) → has_seat standing ≡ has_seat (rested standing)
-rested_seat Away = refl
-rested_seat New = refl
-rested_seat Awaited = refl
-rested_seat Owed = refl
-rested_seat Begun = refl
-rested_seat Kept = refl
-rested_seat Overdue = refl
-rested_seat Leaving = refl
-
-pub asked_seat : (standing : Standing) → has_seat standing ≡ has_seat (asked standing)
-asked_seat Away = refl
-asked_seat New = refl
-asked_seat Awaited = refl
-asked_seat Owed = refl
-asked_seat Begun = refl
-asked_seat Kept = refl
-asked_seat Overdue = refl
-asked_seat Leaving = refl
+none_kept : (standing : Standing) → KeepsNone standing
+none_kept Kept =
+    record { greets = λ is. refl; wakes = λ is. refl; expires = λ is. refl; begins = λ is. refl }
+none_kept standing =
+    record { greets = λ is. cc; wakes = λ is. cc; expires = λ is. cc; begins = λ is. cc }
 
 -- one client stands otherwise
 pub one_stands :
@@ -136,11 +109,11 @@ pub told_stand :
     (fresh : ℕ) (told : Told) (seats : ℕ → Option Talk) (stands : ℕ → Standing) →
     AllStand seats stands → AllStand seats (stands_behind (Said fresh told) stands)
 told_stand fresh Joined seats stands all =
-    one_stands_on seats stands fresh (greeted (stands fresh)) (greeted_seat (stands fresh)) all
+    one_stands_on seats stands fresh (greeted (stands fresh)) (seat_kept (stands fresh)).greets all
 told_stand fresh (Ready client) seats stands all =
-    one_stands_on seats stands client (woken (stands client)) (woken_seat (stands client)) all
+    one_stands_on seats stands client (woken (stands client)) (seat_kept (stands client)).wakes all
 told_stand fresh (Late client) seats stands all =
-    one_stands_on seats stands client (expired (stands client)) (expired_seat (stands client)) all
+    one_stands_on seats stands client (expired (stands client)) (seat_kept (stands client)).expires all
 told_stand fresh Nothing seats stands all = all
 
 -- behind deeds
@@ -151,186 +124,70 @@ after_stand [] seats stands all = all
 after_stand (deed ∷ deeds) seats stands all =
     let own = client_of deed in
     after_stand deeds seats (with_standing own (begun (stands own)) stands)
-    (one_stands_on seats stands own (begun (stands own)) (begun_seat (stands own)) all)
+    (one_stands_on seats stands own (begun (stands own)) (seat_kept (stands own)).begins all)
 
--- a turn that is begun, and one who keeps its place
+-- what is owed behind a change was owed before, or is this
+abbrev OwesBut : Debt → (Standing → Standing) → Type 0
+OwesBut debt change =
+    (standing : Standing) (each : Debt) → IsOwed (change standing) each →
+    IsOwed standing each ⊎ (each ≡ debt)
+
+-- a turn that is begun
 pub begun_unowed : (standing : Standing) → begun standing ≡ Owed → ⊥
-begun_unowed Away is = cc
-begun_unowed New is = cc
-begun_unowed Awaited is = cc
 begun_unowed Owed is = cc
-begun_unowed Begun is = cc
-begun_unowed Kept is = cc
-begun_unowed Overdue is = cc
-begun_unowed Leaving is = cc
+begun_unowed standing is = cc
 
 begun_owed :
     (standing : Standing) (debt : Debt) → IsOwed (begun standing) debt → IsOwed standing debt
-begun_owed Away debt is = is
-begun_owed New debt is = is
-begun_owed Awaited debt is = is
-begun_owed Owed A_seat is = is
 begun_owed Owed A_turn is = is
-begun_owed Owed An_end is = is
-begun_owed Begun debt is = is
-begun_owed Kept debt is = is
-begun_owed Overdue debt is = is
-begun_owed Leaving debt is = is
+begun_owed standing debt is = is
 
-begun_kept : (standing : Standing) → begun standing ≡ Kept → standing ≡ Kept
-begun_kept Away is = cc
-begun_kept New is = cc
-begun_kept Awaited is = cc
-begun_kept Owed is = cc
-begun_kept Begun is = cc
-begun_kept Kept is = refl
-begun_kept Overdue is = cc
-begun_kept Leaving is = cc
+-- behind a turn a client is owed none, and what else it is owed it was
+pub record EndsTurn (change : Standing → Standing) (standing : Standing) : Type 0 where
+  pub seat : has_seat standing ≡ has_seat (change standing)
+  pub unowed : IsOwed (change standing) A_turn → ⊥
+  pub owed : (debt : Debt) → IsOwed (change standing) debt → IsOwed standing debt
 
--- who waits is owed no turn, and what else it is owed it was
-pub rested_unowed : (standing : Standing) → IsOwed (rested standing) A_turn → ⊥
-rested_unowed Away is = is
-rested_unowed New is = is
-rested_unowed Awaited is = is
-rested_unowed Owed is = is
-rested_unowed Begun is = is
-rested_unowed Kept is = is
-rested_unowed Overdue is = is
-rested_unowed Leaving is = is
-
-pub rested_owed :
-    (standing : Standing) (debt : Debt) → IsOwed (rested standing) debt → IsOwed standing debt
-rested_owed Away debt is = is
-rested_owed New debt is = is
-rested_owed Awaited debt is = is
-rested_owed Owed debt is = absurd is
-rested_owed Begun debt is = absurd is
-rested_owed Kept debt is = absurd is
-rested_owed Overdue debt is = is
-rested_owed Leaving debt is = is
+-- so it is with who waits
+pub rested_ends : (standing : Standing) → EndsTurn rested standing
+rested_ends Owed = record { seat = refl; unowed = λ is. is; owed = λ debt is. absurd is }
+rested_ends Begun = record { seat = refl; unowed = λ is. is; owed = λ debt is. absurd is }
+rested_ends standing = record { seat = refl; unowed = λ is. is; owed = λ debt is. is }
 
 pub rested_kept : (standing : Standing) → rested standing ≡ Kept → ⊥
 rested_kept Away is = cc
-rested_kept New is = cc
-rested_kept Awaited is = cc
-rested_kept Owed is = cc
-rested_kept Begun is = cc
-rested_kept Kept is = cc
-rested_kept Overdue is = cc
-rested_kept Leaving is = cc
+rested_kept standing is = cc
 
 -- so it is with who is to be told again; and it keeps its place alone only where its turn was owed, or
 -- it did before
-pub asked_unowed : (standing : Standing) → IsOwed (asked standing) A_turn → ⊥
-asked_unowed Away is = is
-asked_unowed New is = is
-asked_unowed Awaited is = is
-asked_unowed Owed is = is
-asked_unowed Begun is = is
-asked_unowed Kept is = is
-asked_unowed Overdue is = is
-asked_unowed Leaving is = is
-
-pub asked_owed :
-    (standing : Standing) (debt : Debt) → IsOwed (asked standing) debt → IsOwed standing debt
-asked_owed Away debt is = is
-asked_owed New debt is = is
-asked_owed Awaited debt is = is
-asked_owed Owed debt is = absurd is
-asked_owed Begun debt is = absurd is
-asked_owed Kept debt is = is
-asked_owed Overdue debt is = is
-asked_owed Leaving debt is = is
+pub asked_ends : (standing : Standing) → EndsTurn asked standing
+asked_ends Owed = record { seat = refl; unowed = λ is. is; owed = λ debt is. absurd is }
+asked_ends Begun = record { seat = refl; unowed = λ is. is; owed = λ debt is. absurd is }
+asked_ends standing = record { seat = refl; unowed = λ is. is; owed = λ debt is. is }
 
 pub asked_kept :
     (standing : Standing) → asked standing ≡ Kept → (standing ≡ Kept) ⊎ (standing ≡ Owed)
-asked_kept Away is = cc
-asked_kept New is = cc
-asked_kept Awaited is = cc
 asked_kept Owed is = inr refl
-asked_kept Begun is = cc
 asked_kept Kept is = inl refl
-asked_kept Overdue is = cc
-asked_kept Leaving is = cc
+asked_kept standing is = cc
 
 -- what is told is owed, or was
-greeted_owed :
-    (standing : Standing) (debt : Debt) → IsOwed (greeted standing) debt →
-    IsOwed standing debt ⊎ (debt ≡ A_seat)
+greeted_owed : OwesBut A_seat greeted
 greeted_owed Away A_seat is = inr refl
-greeted_owed Away A_turn is = absurd is
-greeted_owed Away An_end is = absurd is
-greeted_owed New debt is = inl is
-greeted_owed Awaited debt is = inl is
-greeted_owed Owed debt is = inl is
-greeted_owed Begun debt is = inl is
-greeted_owed Kept debt is = inl is
-greeted_owed Overdue debt is = inl is
-greeted_owed Leaving debt is = inl is
+greeted_owed Away debt is = absurd is
+greeted_owed standing debt is = inl is
 
-owed_turn : (debt : Debt) → IsOwed Owed debt → debt ≡ A_turn
-owed_turn A_seat is = absurd is
-owed_turn A_turn is = refl
-owed_turn An_end is = absurd is
+woken_owed : OwesBut A_turn woken
+woken_owed Awaited A_turn is = inr refl
+woken_owed Begun A_turn is = inr refl
+woken_owed Kept A_turn is = inr refl
+woken_owed standing debt is = inl is
 
-overdue_end : (debt : Debt) → IsOwed Overdue debt → debt ≡ An_end
-overdue_end A_seat is = absurd is
-overdue_end A_turn is = absurd is
-overdue_end An_end is = refl
-
-woken_owed :
-    (standing : Standing) (debt : Debt) → IsOwed (woken standing) debt →
-    IsOwed standing debt ⊎ (debt ≡ A_turn)
-woken_owed Away debt is = inl is
-woken_owed New debt is = inl is
-woken_owed Awaited debt is = inr (owed_turn debt is)
-woken_owed Owed debt is = inl is
-woken_owed Begun debt is = inr (owed_turn debt is)
-woken_owed Kept debt is = inr (owed_turn debt is)
-woken_owed Overdue debt is = inl is
-woken_owed Leaving debt is = inl is
-
-expired_owed :
-    (standing : Standing) (debt : Debt) → IsOwed (expired standing) debt →
-    IsOwed standing debt ⊎ (debt ≡ An_end)
-expired_owed Away debt is = inl is
+expired_owed : OwesBut An_end expired
 expired_owed New debt is = inl is
-expired_owed Awaited debt is = inr (overdue_end debt is)
-expired_owed Owed debt is = inr (overdue_end debt is)
-expired_owed Begun debt is = inr (overdue_end debt is)
-expired_owed Kept debt is = inr (overdue_end debt is)
 expired_owed Overdue debt is = inl is
-expired_owed Leaving debt is = inr (overdue_end debt is)
-
-greeted_kept : (standing : Standing) → greeted standing ≡ Kept → standing ≡ Kept
-greeted_kept Away is = cc
-greeted_kept New is = cc
-greeted_kept Awaited is = cc
-greeted_kept Owed is = cc
-greeted_kept Begun is = cc
-greeted_kept Kept is = refl
-greeted_kept Overdue is = cc
-greeted_kept Leaving is = cc
-
-woken_kept : (standing : Standing) → woken standing ≡ Kept → standing ≡ Kept
-woken_kept Away is = cc
-woken_kept New is = cc
-woken_kept Awaited is = cc
-woken_kept Owed is = cc
-woken_kept Begun is = cc
-woken_kept Kept is = refl
-woken_kept Overdue is = cc
-woken_kept Leaving is = cc
-
-expired_kept : (standing : Standing) → expired standing ≡ Kept → standing ≡ Kept
-expired_kept Away is = cc
-expired_kept New is = cc
-expired_kept Awaited is = cc
-expired_kept Owed is = cc
-expired_kept Begun is = cc
-expired_kept Kept is = refl
-expired_kept Overdue is = cc
-expired_kept Leaving is = cc
+expired_owed standing An_end is = inr refl
+expired_owed standing debt is = absurd is
 
 -- who has no seat is owed nothing but that
 pub unseated_owed :
@@ -338,14 +195,8 @@ pub unseated_owed :
     IsOwed standing debt → ⊥
 unseated_owed Away debt none other is = is
 unseated_owed New A_seat none other is = other refl
-unseated_owed New A_turn none other is = is
-unseated_owed New An_end none other is = is
-unseated_owed Awaited debt none other is = true≢false none
-unseated_owed Owed debt none other is = true≢false none
-unseated_owed Begun debt none other is = true≢false none
-unseated_owed Kept debt none other is = true≢false none
-unseated_owed Overdue debt none other is = true≢false none
-unseated_owed Leaving debt none other is = true≢false none
+unseated_owed New debt none other is = is
+unseated_owed standing debt none other is = true≢false none
 
 pub none_in : {A : Type 0} (one : A) → Contains [] one → ⊥
 none_in one found = let below = found.1 in omega arith
@@ -605,7 +456,7 @@ keeps_after why (deed ∷ deeds) stands =
     let own = client_of deed in
     let next = with_standing own (begun (stands own)) stands in
     keeps_then why stands next (stands_after deeds next)
-    (keeps_one why own (begun (stands own)) stands (λ kept. inl (begun_kept (stands own) kept)))
+    (keeps_one why own (begun (stands own)) stands (λ kept. inl ((none_kept (stands own)).begins kept)))
     (keeps_after why deeds next)
 
 -- what is told is owed behind it
@@ -643,11 +494,11 @@ pub keeps_told :
     KeepsOnly why stands (stands_behind (Said fresh told) stands)
 keeps_told why fresh Joined stands =
     keeps_one why fresh (greeted (stands fresh)) stands
-    (λ kept. inl (greeted_kept (stands fresh) kept))
+    (λ kept. inl ((none_kept (stands fresh)).greets kept))
 keeps_told why fresh (Ready client) stands =
     keeps_one why client (woken (stands client)) stands
-    (λ kept. inl (woken_kept (stands client) kept))
+    (λ kept. inl ((none_kept (stands client)).wakes kept))
 keeps_told why fresh (Late client) stands =
     keeps_one why client (expired (stands client)) stands
-    (λ kept. inl (expired_kept (stands client) kept))
+    (λ kept. inl ((none_kept (stands client)).expires kept))
 keeps_told why fresh Nothing stands = keeps_still why stands

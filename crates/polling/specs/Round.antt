@@ -1,7 +1,7 @@
 -- Messages of several clients that share a round.
-use Rattle.std.specs.Prelude.{◌≡◌, ◌≢◌, ◌⊎◌, ℕ, List, [], ◌∷◌, take, Option, Some}
+use Rattle.std.specs.Prelude.{◌≡◌, ◌≢◌, ℕ, List, [], ◌∷◌, take, Option, Some}
 use Rattle.std.specs.List.{AllByRecursion}
-use Rattle.chain.specs.Ledgers.{LedgersMeaning, Tenants, KeepsAll}
+use Rattle.chain.specs.Ledgers.{LedgersMeaning, Tenants}
 use Rattle.ledger_http.specs.declared.reply.Reply.{Reply}
 use Rattle.ledger_http.specs.Question.{Question}
 use Rattle.service.specs.declared.turns.Message.{Message}
@@ -10,7 +10,7 @@ use Rattle.service.specs.Turns.{TakeTurns}
 use Rattle.clients.specs.Talk.{Talk}
 use Rattle.clients.specs.Within.{IsNextReady}
 use Rattle.polling.specs.Peers.{Doing}
-use Rattle.polling.specs.Serving.{rules, AreGiven, IsFoundAgain}
+use Rattle.polling.specs.Serving.{rules, AreGiven, FailedAs, IsFoundAgain}
 use Rattle.polling.specs.Seating.{held, ServesEach}
 use Rattle.polling.specs.declared.round.Member.{Member}
 
@@ -73,16 +73,10 @@ ArePut {S} {C} {P} t gives renews waits does messages replies seats seats_now co
     (held (Whole ledgers) last peers seats_now next) count
 
 -- the disk failed with a round of these messages
-pub record IsLost {S : Type 0} (t : LedgersMeaning S) (old : S)
-    (messages : List Message) (new : S) :
-    Type 0 where
-  pub lived : t.is_live new → t.is_live old
-  pub same : t.is_live new → KeepsAll (t.tenants old) (t.tenants new)
-  pub found :
-      (found : Tenants) → t.may_find new found
-      → t.may_find old found
-      ⊎ (t.is_live old
-      × ((replies : List Reply) × TakeTurns messages (t.tenants old) replies found))
+abbrev pub IsLost : {S : Type 0} → LedgersMeaning S → S → List Message → S → Type 0
+IsLost t old messages new =
+    FailedAs t old
+    (λ found. (replies : List Reply) × TakeTurns messages (t.tenants old) replies found) new
 
 -- all clients of a round that was lost are told that the ledgers are unavailable
 abbrev pub AreToldLost :

@@ -6,7 +6,7 @@ use Rattle.clients.specs.Talk.{Talk, is_empty, is_written, new_talk}
 use Rattle.service.specs.Seen.{SeenAt, Whole}
 use Rattle.clients.specs.Deeds.{Act, all_told}
 use Rattle.polling.specs.Standing.{Standing, Owed, rested, leaving, with_standing, stands_after, StandsIn, StandTold}
-use Rattle.polling.specs.Standing.{Owing, owing, A_turn, OwesOnly, KeepsOnly}
+use Rattle.polling.specs.Standing.{Owing, owing, A_seat, A_turn, OwesOnly, KeepsOnly}
 use Rattle.polling.specs.Serving.{Hall, hall, Terms, Proceeds, gone_with}
 use Rattle.polling.specs.declared.peers.Told.{Told}
 use Rattle.polling.specs.declared.seats.Seats.{Seats}
@@ -56,19 +56,18 @@ has_no_more talk talk_now = is_written talk && is_written talk_now
 
 -- one client was served, whichever others there are, and nothing else was done; and where more may
 -- be done, something was, or it is told that nothing may have been
-abbrev pub ServesOne :
-    {S C P : Type 0} → Terms S C P → ℕ → S → C → P → Talk → S → C → P → Talk → Step → Bool → ℕ
-    → Type 0
-ServesOne {S} {C} {P} r client ledgers moments peers talk ledgers_now moments_now peers_now talk_now
-    step idle replies =
-    (talks : ℕ → Talk) (gone : ℕ → Bool) (stands : ℕ → Standing)
-    → gone client ≡ false
-    → (deeds : List Act)
-    × Proceeds S C P r (hall ledgers moments peers (with_talk client talk talks) gone stands) deeds
-    (hall ledgers_now moments_now peers_now (with_talk client talk_now talks)
-    (gone_by step client gone) (stands_by step client deeds stands))
-    × (replies_in deeds ≡ replies)
-    × HasMoved step idle (stands_after deeds stands client)
+pub record ServesOne {S C P : Type 0} (r : Terms S C P) (client : ℕ) (ledgers : S) (moments : C)
+    (peers : P) (talk : Talk) (ledgers_now : S) (moments_now : C) (peers_now : P) (talk_now : Talk)
+    (step : Step) (idle : Bool) (replies : ℕ) : Type 0 where
+  pub leads :
+      (talks : ℕ → Talk) (gone : ℕ → Bool) (stands : ℕ → Standing)
+      → gone client ≡ false
+      → (deeds : List Act)
+      × Proceeds S C P r (hall ledgers moments peers (with_talk client talk talks) gone stands) deeds
+      (hall ledgers_now moments_now peers_now (with_talk client talk_now talks)
+      (gone_by step client gone) (stands_by step client deeds stands))
+      × (replies_in deeds ≡ replies)
+      × HasMoved step idle (stands_after deeds stands client)
 
 -- one seat is this now, and every other as it was
 abbrev pub SeatsNow : ℕ → Option Talk → (ℕ → Option Talk) → (ℕ → Option Talk) → Type 0
@@ -163,17 +162,15 @@ LeadsAll {S} {C} {P} r first new replies =
 
 -- so too; what is owed behind it is one of `to`, or was owed before and is none of `from`; and a
 -- client keeps its place alone, with nothing done for it, only for this reason
-abbrev pub LeadsOwed :
-    {S C P : Type 0} → Terms S C P → Type 0 → List Owing → List Owing → Hall S C P → Held S C P → ℕ
-    → Type 0
-LeadsOwed {S} {C} {P} r why from to first new replies =
-    (deeds : List Act)
-    × (last : Hall S C P)
-    × Proceeds S C P r first deeds last
-    × HoldsHall new last
-    × (replies_in deeds ≡ replies)
-    × OwesOnly from to first.stands last.stands
-    × KeepsOnly why first.stands last.stands
+pub record LeadsOwed {S C P : Type 0} (r : Terms S C P) (why : Type 0) (from to : List Owing)
+    (first : Hall S C P) (new : Held S C P) (replies : ℕ) : Type 0 where
+  pub deeds : List Act
+  pub last : Hall S C P
+  pub leads : Proceeds S C P r first deeds last
+  pub keeps : HoldsHall new last
+  pub count : replies_in deeds ≡ replies
+  pub owes : OwesOnly from to first.stands last.stands
+  pub spares : KeepsOnly why first.stands last.stands
 
 -- clients were served, from any hall of what was held
 abbrev pub ServesAll : {S C P : Type 0} → Terms S C P → Held S C P → Held S C P → ℕ → Type 0
@@ -185,6 +182,10 @@ abbrev pub ServesOwed :
     → Type 0
 ServesOwed {S} {C} {P} r why from to old new replies =
     (first : Hall S C P) → HoldsHall old first → LeadsOwed r why from to first new replies
+
+-- so too, and who has the next number has a seat, or was closed
+abbrev pub ServesNext : {S C P : Type 0} → Terms S C P → Held S C P → Held S C P → Type 0
+ServesNext r old new = ServesOwed r ⊥ (owing A_seat old.next ∷ []) [] old new 0
 
 -- so too, where peers have just told this
 abbrev pub ServesTold :

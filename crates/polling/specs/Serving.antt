@@ -109,16 +109,21 @@ pub record AreAsBefore {S : Type 0} (t : LedgersMeaning S) (old new : S) : Type 
   pub same : t.is_live new → KeepsAll (t.tenants old) (t.tenants new)
   pub found : IsFoundAgain t new
 
--- the disk failed while a round was kept, of whose messages these are the events: the machines are
--- as they were, and an opening may find what it might have found before, or all that was asked
-pub record HasFailed {S : Type 0} (t : LedgersMeaning S) (old : S) (events : List Event) (new : S) :
-    Type 0 where
+-- the disk failed while a round was kept: the machines are as they were, and an opening may find
+-- what it might have found before, or what is as if the round was kept
+pub record FailedAs {S : Type 0} (t : LedgersMeaning S) (old : S) (IsKept : Tenants → Type 0)
+    (new : S) : Type 0 where
   pub lived : t.is_live new → t.is_live old
   pub same : t.is_live new → KeepsAll (t.tenants old) (t.tenants new)
   pub found :
       (found : Tenants) → t.may_find new found
-      → t.may_find old found
-      ⊎ (t.is_live old × service.AreDone (flat_map untold_in events) (t.tenants old) found)
+      → t.may_find old found ⊎ (t.is_live old × IsKept found)
+
+-- so too, where these are the events of its messages: all that was asked in them was done
+abbrev pub HasFailed : {S : Type 0} → LedgersMeaning S → S → List Event → S → Type 0
+HasFailed t old events new =
+    FailedAs t old
+    (λ found. service.AreDone (flat_map untold_in events) (t.tenants old) found) new
 
 -- a client that has not gone is told that the ledgers are unavailable
 abbrev pub IsToldUnavailable : (ℕ → Bool) → Act → Type 0

@@ -33,19 +33,25 @@ abbrev pub greeted : Standing → Standing
 greeted Away = New
 greeted standing = standing
 
+-- a client that has a seat stands so from now on
+abbrev pub stands_now : Standing → Standing → Standing
+stands_now next Away = Away
+stands_now next New = New
+stands_now next standing = next
+
+-- so too, unless it is owed its end
+abbrev pub unless_ending : Standing → Standing → Standing
+unless_ending next Overdue = Overdue
+unless_ending next Leaving = Leaving
+unless_ending next standing = stands_now next standing
+
 -- behind the telling that a client is ready: it is owed a turn, unless it is owed its end
 abbrev pub woken : Standing → Standing
-woken Away = Away
-woken New = New
-woken Overdue = Overdue
-woken Leaving = Leaving
-woken standing = Owed
+woken standing = unless_ending Owed standing
 
 -- behind the telling that it has had its time: it is owed its end
 abbrev pub expired : Standing → Standing
-expired Away = Away
-expired New = New
-expired standing = Overdue
+expired standing = stands_now Overdue standing
 
 -- behind a deed of it: what was owed to it is begun
 abbrev pub begun : Standing → Standing
@@ -54,11 +60,7 @@ begun standing = standing
 
 -- where it sends or takes nothing for now, or is put off: it waits until peers tell of it again
 abbrev pub rested : Standing → Standing
-rested Away = Away
-rested New = New
-rested Overdue = Overdue
-rested Leaving = Leaving
-rested standing = Awaited
+rested standing = unless_ending Awaited standing
 
 -- where it is to be told as ready again: so it waits behind a turn in which something was done for
 -- it, and where nothing was it has kept its place alone
@@ -69,9 +71,7 @@ asked standing = standing
 
 -- where it goes for good: it is owed its end
 abbrev pub leaving : Standing → Standing
-leaving Away = Away
-leaving New = New
-leaving standing = Leaving
+leaving standing = stands_now Leaving standing
 
 -- all as they stand, but one
 abbrev pub with_standing : ℕ → Standing → (ℕ → Standing) → ℕ → Standing

@@ -1,5 +1,5 @@
 -- What steps of serving ask for and leave.
-use Rattle.std.specs.Prelude.{◌≡◌, ◌≤◌, ℕ, true, List, [], Option, Some, Contains, IfSome, length}
+use Rattle.std.specs.Prelude.{◌≡◌, ◌≢◌, ◌≤◌, ◌⊎◌, ℕ, true, List, [], Option, Some, Contains, IfSome, length}
 use Rattle.std.specs.BTreeMap.{BTreeMap}
 use Rattle.service.specs.declared.turns.Message.{Message}
 use Rattle.service.specs.Seen.{SeenAt}
@@ -7,6 +7,7 @@ use Rattle.parts.specs.declared.rest.Rest.{Rest}
 use Rattle.clients.specs.Answering.{IsWanting}
 use Rattle.clients.specs.Talk.{Talk, may_answer}
 use Rattle.polling.specs.Kinds.{IsNextKind}
+use Rattle.polling.specs.Peers.{Doing, Said}
 use Rattle.polling.specs.Serving.{Terms}
 use Rattle.polling.specs.Standing.{AreSomeOf}
 use Rattle.polling.specs.Seating.{Held, ServesAll, AreSame}
@@ -15,6 +16,8 @@ use Rattle.polling.specs.Ending.{Ends, GivesTurns, NothingIsLeft}
 use Rattle.polling.specs.declared.gathering.Kind.{Kind}
 use Rattle.polling.specs.declared.gathering.Place.{Place}
 use Rattle.polling.specs.declared.gathering.Place.TheVariants as place
+use Rattle.polling.specs.declared.peers.Told.{Told}
+use Rattle.polling.specs.declared.peers.Told.TheVariants as telling
 use Rattle.polling.specs.declared.round.Member.{Member}
 
 -- all that is there of a reply is written, and this is left to be read of it
@@ -81,3 +84,11 @@ pub record WritesRest {S C P : Type 0} (r : Terms (SeenAt S) C P) (clients : BTr
   pub ends :
       (moments : C) →
       Ends (SeenAt S) C P r (NothingIsLeft clients) (old moments) (new moments) 0
+
+-- peers told something, or that nothing more had happened where somebody was gathered
+pub record TellsMore {P : Type 0} (does : P → Doing → P → Type 0) (next : ℕ) (gathered : List ℕ)
+    (old : P) : Type 0 where
+  pub told : Told
+  pub peers : P
+  pub said : does old (Said next told) peers
+  pub more : (told ≢ telling.Nothing) ⊎ (gathered ≢ [])

@@ -1,9 +1,8 @@
 //! Writing what is left of replies, where no further message is answered.
-ghost use Rattle.std.specs.Prelude.{◌≡◌, Bool, false, [], ◌∷◌, IsTrue};
+ghost use Rattle.std.specs.Prelude.{◌≡◌, Bool, false, IsTrue};
 ghost use Rattle.service.specs.Seen.{Whole};
 ghost use Rattle.polling.specs.Serving.{rules};
-ghost use Rattle.polling.specs.Standing.{A_seat, owing};
-ghost use Rattle.polling.specs.Seating.{HadTurn, HadNone, ServesOne, ServesAll, ServesOwed, seats_in, held_by};
+ghost use Rattle.polling.specs.Seating.{ServesOne, ServesAll, ServesNext, held_by};
 ghost use Rattle.polling.specs.Ending.{IsToldAs, HasTurn, IsIdleNow, NothingIsLeft};
 ghost use Rattle.polling.specs.Steps.{WritesRest};
 
@@ -76,10 +75,9 @@ fn write_one<L: Ledgers, H: Steward<L>, C: Moments, P: Peers>(
 /// Lets a new client go, which has come too late.
 fn turn_away<L: Ledgers, H: Steward<L>, C: Moments, P: Peers>(peers: &mut P, seats: &mut Seats)
     ensures { (ledgers : L) → (moments : C) →
-        ServesOwed (rules L.means C.gives H.renews H.waits P.does) ⊥
-        (owing A_seat seats.old.next ∷ []) []
+        ServesNext (rules L.means C.gives H.renews H.waits P.does)
         (held_by ledgers moments peers.old seats.old)
-        (held_by ledgers moments peers.new seats.new) 0 }
+        (held_by ledgers moments peers.new seats.new) }
 {
     let number = seats.next;
     peers.close(number);

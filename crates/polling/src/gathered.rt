@@ -1,9 +1,9 @@
 //! Serving those who are gathered.
-ghost use Rattle.std.specs.Prelude.{◌≡◌, ℕ, false, not, [], ◌∷◌, IfSome};
+ghost use Rattle.std.specs.Prelude.{◌≡◌, ℕ, [], ◌∷◌};
 ghost use Rattle.service.specs.Seen.{Whole};
 ghost use Rattle.polling.specs.Serving.{rules};
 ghost use Rattle.polling.specs.Standing.{A_turn, owing, turns_of};
-ghost use Rattle.polling.specs.Seating.{HadTurn, HadNone, ServesOwed, ServesEach, count_of, held, held_by, seats_in};
+ghost use Rattle.polling.specs.Seating.{ServesOwed, ServesEach, held, held_by, seats_in};
 ghost use Rattle.polling.specs.Steps.{RepliesUpTo};
 
 use crate::gathering::Gathered;

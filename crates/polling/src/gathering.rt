@@ -1,5 +1,5 @@
 //! Clients who are to share a round.
-ghost use Rattle.std.specs.Prelude.{◌≡◌, ◌⊎◌, ◌<◌, ◌≤◌, ◌+◌, [], false, true, Contains, IsTrue, length};
+ghost use Rattle.std.specs.Prelude.{◌≡◌, ◌≢◌, ◌⊎◌, ◌<◌, ◌≤◌, ◌+◌, [], false, true, Contains, IsTrue, length};
 ghost use Rattle.polling.specs.Kinds.{IsKind, IsPlaced, most_questions};
 ghost use Rattle.polling.specs.Seating.{AreSame, seats_in};
 ghost use Rattle.polling.specs.Steps.{GathersNext, TellsKind};
@@ -106,7 +106,8 @@ impl Gathered {
     }
 
     pub(crate) fn is_empty(&self) -> bool
-        ensures { IsTrue result → self.now.numbers.items ≡ [] }
+        ensures none { IsTrue result → self.now.numbers.items ≡ [] }
+        ensures some { result ≡ false → self.now.numbers.items ≢ [] }
     {
         self.numbers.is_empty()
     }

@@ -1,12 +1,11 @@
 //! Serving all who are ready.
-ghost use Rattle.std.specs.Prelude.{◌≡◌, false, ◌⊎◌, ◌<◌, [], ◌∷◌, ◌++◌, IsTrue};
-ghost use Rattle.service.specs.Seen.{Whole};
+ghost use Rattle.std.specs.Prelude.{◌≡◌, ◌≢◌, ◌⊎◌, ◌<◌, false, [], ◌∷◌, ◌++◌, IsTrue};
 ghost use Rattle.polling.specs.Serving.{rules};
-ghost use Rattle.polling.specs.Standing.{A_seat, A_turn, An_end, owing, told_of, turns_of};
-ghost use Rattle.polling.specs.Seating.{HadTurn, HadNone, IsFollowed, ServesOwed, ServesTold, count_of, seats_in, held_by};
+ghost use Rattle.polling.specs.Standing.{A_turn, An_end, owing, told_of, turns_of};
+ghost use Rattle.polling.specs.Seating.{IsFollowed, ServesNext, ServesOwed, ServesTold, seats_in, held_by};
 ghost use Rattle.polling.specs.Ending.{HasDone, replies_of};
 ghost use Rattle.polling.specs.declared.peers.Told.TheVariants.{Late, Nothing};
-ghost use Rattle.polling.specs.Steps.{RepliesUpTo, ServesReady};
+ghost use Rattle.polling.specs.Steps.{RepliesUpTo, ServesReady, TellsMore};
 
 use crate::gathered::serve_due;
 use crate::gathering::{Gathered, Place};
@@ -75,10 +74,9 @@ fn join<L: Ledgers, H: Steward<L>, C: Moments, P: Peers>(
     seats: &mut Seats,
 )
     ensures { (ledgers : L) → (moments : C) →
-        ServesOwed (rules L.means C.gives H.renews H.waits P.does) ⊥
-        (owing A_seat seats.old.next ∷ []) []
+        ServesNext (rules L.means C.gives H.renews H.waits P.does)
         (held_by ledgers moments peers.old seats.old)
-        (held_by ledgers moments peers.new seats.new) 0 }
+        (held_by ledgers moments peers.new seats.new) }
 {
     let number = seats.next;
     if number == u64::MAX {
@@ -167,7 +165,8 @@ fn serve_told<L: Rounds, H: Steward<L>, C: Moments, P: Peers>(
 
 /// Whether nothing had happened, and nobody is gathered.
 fn is_over(told: Told, gathered: &Gathered) -> bool
-    ensures { IsTrue result → (told ≡ Nothing) × (gathered.now.numbers.items ≡ []) }
+    ensures over { IsTrue result → (told ≡ Nothing) × (gathered.now.numbers.items ≡ []) }
+    ensures more { result ≡ false → (told ≢ Nothing) ⊎ (gathered.now.numbers.items ≢ []) }
 {
     gathered.is_empty() && matches!(told, Told::Nothing)
 }
@@ -197,6 +196,8 @@ fn serve_next<L: Rounds, H: Steward<L>, C: Moments, P: Peers>(
         (held_by ledgers.new moments.new peers.new seats.new) (replies_of result)) }
     ensures all { (result ≡ Done.Nothing) ⊎ (replies_of result ≡ most) →
         gathered.new.numbers.items ≡ [] }
+    ensures more { result ≢ Done.Nothing →
+        TellsMore P.does seats.old.next gathered.old.numbers.items peers.old }
 {
     steward.attend(ledgers);
     let told = peers.told(seats.next);

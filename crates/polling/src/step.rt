@@ -24,7 +24,7 @@ pub(crate) enum Step {
 }
 
 /// How long a client's next message is; 0 where its head has not come.
-fn length_of(client: &Client) -> u64
+pub(crate) fn length_of(client: &Client) -> u64
     ensures { result ≤ longest_message }
 {
     match client.announced_length() {
@@ -34,7 +34,7 @@ fn length_of(client: &Client) -> u64
 }
 
 /// Reads a piece of what a client sends. Where memory is wanting for it, the client goes.
-fn read_piece<L: Ledgers, H: Steward<L>, C: Moments, P: Peers>(
+pub(crate) fn read_some<L: Ledgers, H: Steward<L>, C: Moments, P: Peers>(
     peers: &mut P,
     number: u64,
     client: &mut Client,
@@ -57,23 +57,6 @@ fn read_piece<L: Ledgers, H: Steward<L>, C: Moments, P: Peers>(
         Read::Waits => Step::Waits,
         Read::Broken => Step::Goes,
     }
-}
-
-/// Reads a piece of what a client sends. Those who are connected are told first how long the
-/// message is that is waited for.
-pub(crate) fn read_some<L: Ledgers, H: Steward<L>, C: Moments, P: Peers>(
-    peers: &mut P,
-    number: u64,
-    client: &mut Client,
-    piece: &mut [u8],
-) -> Step
-    requires { IsWanting client.old.unread }
-    ensures { (ledgers : SeenAt L) → (moments : C) →
-        ServesOne (rules L.means C.gives H.renews H.waits P.does) number
-        ledgers moments peers.old client.old ledgers moments peers.new client.new result false 0 }
-{
-    peers.wants(number, length_of(client));
-    read_piece::<L, H, C, P>(peers, number, client, piece)
 }
 
 /// Writes what of the reply to a client is not written, as much as is taken at once.

@@ -6,7 +6,7 @@ ghost use Rattle.polling.specs.Serving.{rules};
 ghost use Rattle.polling.specs.Seating.{ServesOne, count_of, has_no_more, has_nothing};
 ghost use Rattle.polling.specs.Steps.{WritesAlone, MayReadMore, MayReadPart};
 
-use crate::step::{Step, read_some, write_some};
+use crate::step::{Step, length_of, read_some, write_some};
 use crate::{Batch, Peers, Steward};
 use chain::Ledgers;
 use clients::{Answered, Client, giving_up_replies, whole_ledgers_are_seen};
@@ -109,8 +109,8 @@ pub(crate) fn write_on<L: Ledgers, H: Steward<L>, C: Moments, P: Peers>(
     }
 }
 
-/// Reads more of a client's next message. Where memory is wanting for a body that is due, the last
-/// reply says so.
+/// Reads more of a client's next message. Those who are connected are told first how long it is.
+/// Where memory is wanting for a body that is due, the last reply says so.
 fn read_or_give_up<L: Ledgers, H: Steward<L>, C: Moments, P: Peers>(
     peers: &mut P,
     number: u64,
@@ -125,10 +125,13 @@ fn read_or_give_up<L: Ledgers, H: Steward<L>, C: Moments, P: Peers>(
         (count_of result.replied) }
 {
     match client.reserve_due(piece.len()) {
-        Ok(count) => Turned {
-            step: read_some::<L, H, C, P>(peers, number, client, &mut piece[..count]),
-            replied: false,
-        },
+        Ok(count) => {
+            peers.wants(number, length_of(client));
+            Turned {
+                step: read_some::<L, H, C, P>(peers, number, client, &mut piece[..count]),
+                replied: false,
+            }
+        }
         Err(_) => {
             giving_up_replies::<L, C>();
             whole_ledgers_are_seen::<L, C>();

@@ -1,4 +1,4 @@
-ghost use Rattle.std.specs.Prelude.{◌≡◌, ℕ};
+ghost use Rattle.std.specs.Prelude.{◌≡◌};
 ghost use Rattle.records.specs.FirstOf.{first_of};
 ghost use Rattle.records.specs.ActualAmount.{amount_asked};
 ghost use Rattle.records.specs.TransferVerdict.{transfer_event_results, transfer_difference};
@@ -29,7 +29,7 @@ pub fn transfer_fields(ev: &TransferEvent) -> Option<TransferResult>
 }
 
 impl TransferEvent {
-    ghost use Rattle.std.specs.Prelude.{◌≡◌, ℕ};
+    ghost use Rattle.std.specs.Prelude.{◌≡◌};
     ghost use Rattle.records.specs.ActualAmount.{amount_asked};
 
     /// The amount that a post or void asks for, where `pending` is that of its pending transfer:

@@ -1,7 +1,7 @@
 //! What holds of rows in any order, and of tables that tenants share. The functions do nothing:
 //! each one's contract is a law.
 
-ghost use Rattle.std.specs.Prelude.{◌≡◌, ◌≢◌, ℕ, ℤ, Bool, false, ◌==◌, List, [], ◌∷◌, ◌++◌, filter, Some, IsPermutation};
+ghost use Rattle.std.specs.Prelude.{◌≡◌, ◌≢◌, ℕ, ℤ, false, ◌==◌, List, [], ◌∷◌, ◌++◌, filter, Some, IsPermutation};
 ghost use Rattle.std.specs.Option.{option_to_list};
 ghost use Rattle.std.specs.Ordering.{nat_cmp};
 ghost use Rattle.std.specs.List.Sorted.{IsSortedByKey};

@@ -1,7 +1,7 @@
 ghost use Rattle.std.specs.Prelude.{◌≡◌};
 ghost use Rattle.std.specs.Option.{option_map, option_and_then};
 ghost use Rattle.records.specs.Machine.{Machine, transfer_with};
-ghost use Rattle.records.specs.Facts.{facts_of, account_in, state_in, pending_transfer_in, with_pending_amount, pending_amount_in, account_id_of};
+ghost use Rattle.records.specs.Facts.{facts_of, account_in, state_in, pending_transfer_in, with_pending_amount, pending_amount_in};
 ghost use Rattle.running.specs.Running.{IsRunning};
 
 use crate::Running;

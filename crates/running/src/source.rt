@@ -2,7 +2,7 @@ use crate::Entry;
 
 /// Entries in an order, which are had one by one, so that no list of them has to be made.
 pub trait EntrySource {
-    ghost use Rattle.std.specs.Prelude.{◌≡◌, ℕ, ◌<◌, List, length, Some, slice_get};
+    ghost use Rattle.std.specs.Prelude.{◌≡◌, ◌<◌, List, length, Some, slice_get};
     ghost use Rattle.running.specs.declared.entry.Entry.{Entry};
 
     /// Whether these are the entries.

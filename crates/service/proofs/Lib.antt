@@ -1,6 +1,7 @@
 pub mod Texts
 pub mod BatchGives
-pub mod ShownReads
+mod ShownReads
+mod Readings
 pub mod BegunLemmas
 pub mod CallLemmas
 mod StatementLemmas

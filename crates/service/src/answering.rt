@@ -1,13 +1,12 @@
 //! Answers one tenant's request.
-ghost use Rattle.std.specs.Prelude.{◌≡◌, ◌≢◌, ◌≤◌, ℕ, true, Result, Ok, Err, length};
-ghost use Rattle.chain.specs.Ledgers.{Finds, LeadsNowhere};
+ghost use Rattle.std.specs.Prelude.{◌≡◌, ◌≢◌, ◌≤◌, ℕ, Result, Ok, Err, length};
 ghost use Rattle.sha2.specs.Sha256.{sha256};
 ghost use Rattle.ledger_http.specs.declared.refusal.Refusal.{Refusal};
 ghost use Rattle.wire.specs.declared.request.Request.{Request};
 ghost use Rattle.wire.specs.Meaning.{meaning_of, HasFew};
 ghost use Rattle.wire.specs.declared.request.Request.TheVariants.{Accounts, Transfers};
 ghost use Rattle.service.specs.Calls.{BeginsOver, ServesOver};
-ghost use Rattle.service.specs.Replies.{Serves, batch_reply, unavailable};
+ghost use Rattle.service.specs.Replies.{batch_reply};
 
 use crate::batches::{AccountBatch, TransferBatch};
 use crate::begun::Begun;
@@ -121,14 +120,9 @@ fn serve_request<L: Ledgers>(
 
 // Refuses a request whose body is refused, unless there is no such tenant: that comes first.
 fn refuse<L: Ledgers>(ledgers: &mut L, digest: &[u8; 32], refusal: Refusal) -> Reply
-    ensures serves { L.means.is_live ledgers.new
-        → (meaning : Result Request Refusal) (moment : ℕ)
+    ensures { (meaning : Result Request Refusal) (moment : ℕ)
         → (refusal ≢ Refusal.Unavailable → meaning ≡ Err refusal)
-        → Serves (L.means.tenants ledgers.old) (L.means.tenants ledgers.new) digest.now meaning
-        moment result }
-    ensures failed { L.means.has_failed ledgers.old ≡ true → result ≡ unavailable }
-    ensures finds { Finds L.means (result ≢ unavailable) LeadsNowhere ledgers.old ledgers.new }
-    ensures stays { L.means.follows ledgers.old ledgers.new }
+        → ServesOver L.means digest.now meaning moment ledgers.old ledgers.new result }
 {
     let Ok(known) = ledgers.knows(digest) else {
         return Reply::Fixed(Refusal::Unavailable);

@@ -1,6 +1,6 @@
 //! Batches of events as work on one tenant's tables. The reply's bytes are whole before the batch
 //! is kept.
-ghost use Rattle.std.specs.Prelude.{◌≡◌, ◌≤◌, length};
+ghost use Rattle.std.specs.Prelude.{◌≤◌, length};
 ghost use Rattle.wire.specs.declared.request.Request.TheVariants.{Accounts, Transfers};
 ghost use Rattle.service.specs.Replies.{Gives};
 

@@ -1,13 +1,12 @@
 //! Statements, which are told in parts.
-ghost use Rattle.std.specs.Prelude.{◌≡◌, ◌≢◌, ℕ, true, IfSome, Ok, Some};
+ghost use Rattle.std.specs.Prelude.{◌≡◌, ◌≢◌, ℕ, Ok, Some};
 ghost use Rattle.chain.specs.Ledgers.{Finds, KeepsAll};
 ghost use Rattle.chain.specs.LedgerReads.{ReadsOnly};
 ghost use Rattle.ledger_http.specs.ReplyText.{reply_text};
 ghost use Rattle.wire.specs.declared.request.Request.TheVariants.{Statement};
-ghost use Rattle.service.specs.Begun.{IsLeftOf, reply_of, reply_with, whole};
-ghost use Rattle.service.specs.Deeds as deed;
-ghost use Rattle.service.specs.Deeds.{IsDeedDone};
-ghost use Rattle.service.specs.Replies.{Serves, unavailable};
+ghost use Rattle.service.specs.Begun.{reply_with};
+ghost use Rattle.service.specs.Calls.{BeginsOver};
+ghost use Rattle.service.specs.Replies.{unavailable};
 
 use crate::begun::Begun;
 use crate::showing::{refusal_of, reply_to};
@@ -25,17 +24,8 @@ pub(crate) fn begin_statement<L: Ledgers>(
     digest: &[u8; 32],
     account: u128,
 ) -> Begun
-    ensures serves { L.means.is_live ledgers.new → (moment : ℕ)
-        → Serves (L.means.tenants ledgers.old) (L.means.tenants ledgers.new) digest.now
-        (Ok (Statement account)) moment (reply_of (L.means.tenants ledgers.new) result) }
-    ensures failed { L.means.has_failed ledgers.old ≡ true → result ≡ whole unavailable }
-    ensures finds { (moment : ℕ) → Finds L.means
-        (reply_of (L.means.tenants ledgers.new) result ≢ unavailable)
-        (IsDeedDone (deed.Asked digest.now (Ok (Statement account)) moment))
-        ledgers.old ledgers.new }
-    ensures left { IfSome result.rest (λ rest. L.means.is_live ledgers.new
-        → IsLeftOf (L.means.tenants ledgers.old) (L.means.tenants ledgers.new) rest) }
-    ensures stays { L.means.follows ledgers.old ledgers.new }
+    ensures { (moment : ℕ) → BeginsOver L.means digest.now (Ok (Statement account)) moment
+        ledgers.old ledgers.new result }
 {
     let rest = Rest::whole(*digest, account);
     match rest.part(alloc, ledgers, header_line()) {

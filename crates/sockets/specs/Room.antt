@@ -32,6 +32,13 @@ abbrev pub IsMore : Room → List Asked → Type 0
 IsMore room [] = ⊤
 IsMore room (asked ∷ rest) = room.free < share room asked.bytes
 
--- nobody waits, or the first one for more than is free
-abbrev pub IsTooLong : Room → Type 0
-IsTooLong room = IsMore room room.waiting.items
+-- nobody waits, or the first one for more than is free, which is less than all: nothing changes
+pub record LetsNobodyIn (old new : Room) : Type 0 where
+  pub more : IsMore old old.waiting.items
+  pub never : old.all ≤ old.free → old.waiting.items ≡ []
+  pub same : new ≡ old
+
+-- as much is free as before, of as much room
+pub record KeepsRoom (old new : Room) : Type 0 where
+  pub free : new.free ≡ old.free
+  pub all : new.all ≡ old.all

@@ -1,9 +1,9 @@
 //! Reading of clients, and writing to them.
-ghost use Rattle.std.specs.Prelude.{◌≡◌, ◌≤◌, length, IfSome};
+ghost use Rattle.std.specs.Prelude.{◌≡◌, ◌≤◌, IfSome};
 ghost use Rattle.std.specs.BTreeMap.{get};
 ghost use Rattle.std.specs.Ordering.{nat_cmp};
 ghost use Rattle.sockets.specs.Turn.{room_of};
-ghost use Rattle.sockets.specs.Counts.{IsReadOf, IsWrittenOf};
+ghost use Rattle.sockets.specs.Counts.{IsWrittenOf, ReadsInto};
 
 use crate::guests::Guests;
 use crate::peer::write_to;
@@ -32,8 +32,7 @@ impl Guests {
 
     /// Reads a piece of what a client has sent.
     pub(crate) fn read(&mut self, number: u64, piece: &mut [u8], now: Duration) -> Read
-        ensures count { IsReadOf result piece.new }
-        ensures size { length piece.new ≡ length piece.old }
+        ensures { ReadsInto piece.old piece.new result }
     {
         let room = match self.room_for(number, piece.len()) {
             Some(0) => return Read::Waits,

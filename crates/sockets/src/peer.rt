@@ -1,6 +1,6 @@
 //! One client's connection.
-ghost use Rattle.std.specs.Prelude.{◌≡◌, ℕ, List, length};
-ghost use Rattle.sockets.specs.Counts.{IsReadOf, IsWrittenOf};
+ghost use Rattle.std.specs.Prelude.{ℕ, List};
+ghost use Rattle.sockets.specs.Counts.{IsReadOf, IsWrittenOf, ReadsInto};
 
 use crate::limits::Limits;
 use crate::reading::Reading;
@@ -68,8 +68,7 @@ impl Peer {
     /// Reads what has come, where something may have. A piece that is not filled took all of it,
     /// and what comes later is told of anew, as is an end that comes later.
     pub(crate) fn receive(&mut self, piece: &mut [u8]) -> polling::Read
-        ensures count { IsReadOf result piece.new }
-        ensures size { length piece.new ≡ length piece.old }
+        ensures { ReadsInto piece.old piece.new result }
     {
         if !self.can_read {
             return polling::Read::Waits;
@@ -154,8 +153,7 @@ impl Peer {
 
 /// Reads what has come, as much as there is room for in a piece that is not empty.
 pub(crate) fn read_from(stream: &mut TcpStream, piece: &mut [u8]) -> polling::Read
-    ensures count { IsReadOf result piece.new }
-    ensures size { length piece.new ≡ length piece.old }
+    ensures { ReadsInto piece.old piece.new result }
 {
     // A signal breaks a call off.
     for _ in 0..u32::MAX {

@@ -1,6 +1,6 @@
 //! Room for long messages.
-ghost use Rattle.std.specs.Prelude.{◌≡◌, ◌≤◌, ◌+◌, ◌-◌, ◌^◌, ◌++◌, ◌∷◌, [], min, filter, not, nat_eq, IfSome, IfNone, OnOk, OnErr};
-ghost use Rattle.sockets.specs.Room.{IsLetIn, IsFull, IsTaken, IsTooLong, share};
+ghost use Rattle.std.specs.Prelude.{◌≡◌, ◌+◌, ◌-◌, ◌^◌, ◌++◌, ◌∷◌, [], min, filter, not, nat_eq, MatchOption, OnOk, OnErr};
+ghost use Rattle.sockets.specs.Room.{IsFull, IsLetIn, IsTaken, KeepsRoom, LetsNobodyIn, share};
 
 use std::alloc::{AllocError, Global};
 use std::collections::VecDeque;
@@ -47,9 +47,8 @@ impl Room {
 
     /// Takes room for a message, where nobody waits and there is as much. Says how much was taken.
     pub(crate) fn take(&mut self, bytes: usize) -> Option<usize>
-        ensures taken { IfSome result (IsTaken self.old self.new bytes) }
-        ensures none { IfNone result (IsFull self.old bytes) }
-        ensures same { IfNone result (self.new ≡ self.old) }
+        ensures { MatchOption result (IsFull self.old bytes × (self.new ≡ self.old))
+            (IsTaken self.old self.new bytes) }
     {
         let share = self.share(bytes);
         if !self.waiting.is_empty() || self.free < share {
@@ -63,8 +62,7 @@ impl Room {
     pub(crate) fn wait(&mut self, asked: Asked) -> Result<(), AllocError>
         ensures last { OnOk result (self.new.waiting.items ≡ self.old.waiting.items ++ asked ∷ []) }
         ensures none { OnErr result (self.new.waiting.items ≡ self.old.waiting.items) }
-        ensures free { self.new.free ≡ self.old.free }
-        ensures all { self.new.all ≡ self.old.all }
+        ensures room { KeepsRoom self.old self.new }
     {
         match self.waiting.push_back(asked) {
             Ok(()) => Ok(()),
@@ -75,10 +73,8 @@ impl Room {
     /// Whoever has waited for longest takes its room, where there is as much. Says who, and how
     /// much. Where all room is free nobody is left to wait.
     pub(crate) fn admit(&mut self) -> Option<Asked>
-        ensures first { IfSome result (IsLetIn self.old self.new) }
-        ensures none { IfNone result (IsTooLong self.old) }
-        ensures never { IfNone result (self.old.all ≤ self.old.free → self.old.waiting.items ≡ []) }
-        ensures same { IfNone result (self.new ≡ self.old) }
+        ensures { MatchOption result (LetsNobodyIn self.old self.new)
+            (IsLetIn self.old self.new) }
     {
         let first = match self.waiting.front() {
             Some(first) => *first,
@@ -107,8 +103,7 @@ impl Room {
     pub(crate) fn leave(&mut self, number: u64)
         ensures gone { self.new.waiting.items
             ≡ filter (λ asked. not (nat_eq asked.number number)) self.old.waiting.items }
-        ensures free { self.new.free ≡ self.old.free }
-        ensures all { self.new.all ≡ self.old.all }
+        ensures room { KeepsRoom self.old self.new }
     {
         self.waiting.retain(|asked| asked.number != number);
     }

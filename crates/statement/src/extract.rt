@@ -1,6 +1,6 @@
-ghost use Rattle.std.specs.Prelude.{◌≡◌, map, reverse, if◌then◌else◌, IfOk, [], Ok, OnOk};
+ghost use Rattle.std.specs.Prelude.{◌≡◌, map, reverse, IfOk, Ok};
 ghost use Rattle.statement.specs.Extract.{Keeps, IsEmptyOver, RefusesEntry};
-ghost use Rattle.statement.specs.Extract.{closing_of, kept_of, opening_of, period_of};
+ghost use Rattle.statement.specs.Extract.{closing_of, kept_of, opening_of};
 
 use crate::Period;
 use records::{Balances, Order, RowSink, SinkFault, StatementRow};

@@ -1,7 +1,6 @@
 //! New tenants.
 
 ghost use Rattle.std.specs.Prelude.{◌≡◌, ◌<◌, ◌≤◌, ℕ, pos, true, None, Some, Err, IfSome};
-ghost use Rattle.std.specs.List.{list_any};
 ghost use Rattle.std.specs.Ordering.{int_eq};
 ghost use Rattle.records.specs.declared.unavailable.Unavailable.TheVariants.{Disk};
 ghost use Rattle.sqlite.specs.State.{Survives};
@@ -9,7 +8,7 @@ ghost use Rattle.sqlite.specs.Held.{state};
 ghost use Rattle.ledger_sql.specs.Calls.{IfClean};
 ghost use Rattle.ledger_sql.specs.Frames.{Live};
 ghost use Rattle.stored_ledgers.specs.Calls.{Sees, ServesOn};
-ghost use Rattle.stored_ledgers.specs.Directory.{IsLeastFree, IsLeastMissing, has_number, with_name, with_digest};
+ghost use Rattle.stored_ledgers.specs.Directory.{IsLeastFree, IsLeastMissing, has_number};
 ghost use Rattle.stored_ledgers.specs.Joining.{HasJoined, Joined, IsJoined, joining_answer, AreTaken};
 ghost use Rattle.stored_ledgers.specs.Ledger.{HoldsLedgers};
 ghost use Rattle.stored_ledgers.specs.Resting.{IsServing, CanServe};

@@ -1,6 +1,6 @@
 //! Changes that are made in one transaction, or not at all.
 
-ghost use Rattle.std.specs.Prelude.{◌≡◌, ◌≢◌, Err, OnOk, IsTrue};
+ghost use Rattle.std.specs.Prelude.{◌≢◌, Err, OnOk, IsTrue};
 ghost use Rattle.records.specs.declared.unavailable.Unavailable.TheVariants.{Disk};
 ghost use Rattle.sqlite.specs.Effect.{Database};
 ghost use Rattle.sqlite.specs.State.{HasCleanDisk, Survives};

@@ -1,11 +1,12 @@
 -- What is handed out of a database is handed out of the machine's entries.
-use Rattle.std.proofs.Common.{◌≡◌, ◌⊎◌, ℕ, zero, suc, ◌+◌, ◌-◌, ◌<◌, ◌≤◌, ◌^◌, ℤ, pos, Bool, true, false, List, [], ◌∷◌, ◌++◌, map, filter, flat_map, reverse, take, length, Result, Ok, Err, OnOk, OnErr, refl, sym, ap, subst, ◌∙◌, arith, inl, inr, IsPermutation}
+use Rattle.std.proofs.Common.{◌≡◌, ◌⊎◌, ℕ, zero, suc, ◌+◌, ◌-◌, ◌<◌, ◌≤◌, ◌^◌, ℤ, Bool, true, List, [], ◌∷◌, ◌++◌, map, filter, reverse, take, length, Result, Ok, Err, OnOk, sym, ap, subst, ◌∙◌, arith, inl, inr, IsPermutation}
 use Rattle.std.specs.List.{AllByRecursion}
 use Rattle.std.proofs.lemmas.List.{reverse-append, take-map}
 use Rattle.std.proofs.lemmas.List.Elements.{All-weaker, recursion_from_All}
 use Rattle.std.proofs.lemmas.List.Sorted.{IsPermutation-trans, IsPermutation-sym, IsPermutation-map, IsPermutation-reverse}
 use Rattle.amount.specs.Column.{column_of, IsOneToOne}
 use Rattle.records.specs.declared.transfer.Transfer.{Transfer}
+use Rattle.records.specs.declared.filter.Order.{Order}
 use Rattle.records.specs.declared.filter.Order.TheVariants.{Oldest, Newest}
 use Rattle.records.specs.Machine.{Machine}
 use Rattle.records.specs.Reads.{Entry, entries_of, entries_after}
@@ -14,6 +15,9 @@ use Rattle.rows.specs.declared.history_row.HistoryRow.{HistoryRow}
 use Rattle.rows.specs.Prescribed.{rows_for, history_rows, history_row}
 use Rattle.rows.specs.Tables.{IsAscendingBy}
 use Rattle.rows.specs.Widths.{AreStorable, IsStorableHistory, IsStorableTransfer}
+use Rattle.records.specs.Valid.{IsValid}
+use Rattle.sqlite.specs.State.{State}
+use Rattle.ledger_sql.specs.Effects.{IsLedger}
 use Rattle.sqlite_value.specs.declared.value.Value.{Value}
 use Rattle.sqlite_value.specs.Order.{Row}
 use Rattle.sqlite_trees.specs.Tree.{Trees, IsAscending}
@@ -23,7 +27,8 @@ use Rattle.ledger_sql.specs.Entries.{entry_values, entries_when, AreOldestFirst,
 use Rattle.ledger_sql.specs.TableRows.{is_from, is_until}
 use Rattle.stored_tables.specs.Holds.{HoldsMachine}
 use Rattle.stored_tables.specs.Entries.{account_entries, entry_cells}
-use Rattle.stored_tables.specs.Handing.{AreFirst, AreAll, HandsAccount, entries_behind}
+use Rattle.stored_tables.specs.Handing.{AreFirst, AreAll, HandsAccount, entries_behind, is_behind}
+use Rattle.stored_tables.specs.Idle.{HoldsTenant, machine_at}
 use Rattle.stored_tables.proofs.BoundTimes.{all_taken}
 use Rattle.stored_tables.proofs.AccountRows.{entries_there, own_all, alone_in, of_entries, is_timed, HasTwoAccounts}
 use Rattle.stored_tables.proofs.AccountOrder.{ReadInOrder, IsStorableEntry, rows_of, oldest_rows, newest_rows, are_first, are_all}
@@ -80,7 +85,7 @@ module _ (tenant : ℤ) (m : Machine) (trees : Trees) (held : HoldsMachine tenan
       differ
       (of_entries (λ t. filter (λ s. Rattle.std.proofs.Common.eqb s.timestamp t.timestamp) m.transfers ≡ t ∷ []) [] m.transfers (alone_in m.transfers (transfers_ascend m.transfers up)))
 
-  pub fits : (in_time : Value → Bool) → AllByRecursion (IsStorableEntry account) (account_entries m account in_time)
+  fits : (in_time : Value → Bool) → AllByRecursion (IsStorableEntry account) (account_entries m account in_time)
   unfolding rows_for
   fits in_time =
       all_both (λ e. IsStorableHistory (history_row account e)) (λ e. IsStorableTransfer e.transfer) (IsStorableEntry account)
@@ -89,7 +94,7 @@ module _ (tenant : ℤ) (m : Machine) (trees : Trees) (held : HoldsMachine tenan
       (all-filter (λ e. IsStorableTransfer e.transfer) (is_timed account in_time) (entries_of m)
       (of_entries IsStorableTransfer [] m.transfers (recursion_from_All IsStorableTransfer m.transfers fit.transfers)))
 
-  pub fits_turned : (in_time : Value → Bool) → AllByRecursion (IsStorableEntry account) (reverse (account_entries m account in_time))
+  fits_turned : (in_time : Value → Bool) → AllByRecursion (IsStorableEntry account) (reverse (account_entries m account in_time))
   fits_turned in_time = all_reversed (IsStorableEntry account) (account_entries m account in_time) (fits in_time)
 
   pub all_fit : AllByRecursion (λ (e : Entry). e.transfer.timestamp < 2 ^ 63) (entries_of m)
@@ -104,14 +109,14 @@ module _ (tenant : ℤ) (m : Machine) (trees : Trees) (held : HoldsMachine tenan
       (all_weaker (IsStorableEntry account) (λ e. e.transfer.timestamp < 2 ^ 63) (λ e h. h.transfer.timestamp) (account_entries m account in_time) (fits in_time))
 
   module _ (once : ReadInOrder) (time : ℤ) where
-    pub oldest : (ys : List Row) → IsPermutation (entries_when tenant (column_of account) (is_from time) trees) ys → AreOldestFirst ys → rows_of account (entries_behind m account Oldest time) ≡ ys
+    oldest : (ys : List Row) → IsPermutation (entries_when tenant (column_of account) (is_from time) trees) ys → AreOldestFirst ys → rows_of account (entries_behind m account Oldest time) ≡ ys
     oldest ys same order =
         let es = account_entries m account (is_from time) in
         oldest_rows once account es ys
         (ascending_weaker (λ d e. (d.transfer.timestamp < e.transfer.timestamp) × (e.transfer.timestamp < 2 ^ 63)) (λ d e. d.transfer.timestamp < e.transfer.timestamp) (λ d e h. h.0) es (in_time_order (is_from time)))
         (IsPermutation-trans (rows_of account es) _ ys (there (is_from time)) same) order
 
-    pub newest : (ys : List Row) → IsPermutation (entries_when tenant (column_of account) (is_until time) trees) ys → AreNewestFirst ys → rows_of account (entries_behind m account Newest time) ≡ ys
+    newest : (ys : List Row) → IsPermutation (entries_when tenant (column_of account) (is_until time) trees) ys → AreNewestFirst ys → rows_of account (entries_behind m account Newest time) ≡ ys
     newest ys same order =
         let es = account_entries m account (is_until time) in
         newest_rows once account (reverse es) ys
@@ -148,7 +153,7 @@ module _ {K : Type 0} (takes : K → EntryCells → K → Type 0) (is_full : K �
         inr (are_all account (take count es) handed (all_taken (IsStorableEntry account) count es (fits_all honest))
         (sym (take-map (λ e. entry_values (entry_cells account e)) count es) ∙ ap (take count) (read honest few.ordered few.all few.order) ∙ sym few.read_is))
 
-    pub hands_few : {E : Type 0} (result : Result (Unit {0}) E) {G : Type 0} → (H → G) → HandsUpTo takes is_full G count entries InOrder old new result → HandsAccount takes is_full H account (take count es) old new result
+    hands_few : {E : Type 0} (result : Result (Unit {0}) E) {G : Type 0} → (H → G) → HandsUpTo takes is_full G count entries InOrder old new result → HandsAccount takes is_full H account (take count es) old new result
     hands_few result so h = record {
       handed = h.handed;
       taken = h.taken;
@@ -156,3 +161,31 @@ module _ {K : Type 0} (takes : K → EntryCells → K → Type 0) (is_full : K �
       ended = λ honest. ended_few result h.handed honest (h.ended (so honest));
       wants = h.wants;
     }
+
+-- ---- what a tenant's tables hand to it
+
+-- rows of entries in this order
+abbrev AreInOrder : Order → List Row → Type 0
+AreInOrder Oldest = AreOldestFirst
+AreInOrder Newest = AreNewestFirst
+
+module _ (tenant : ℤ) (now : State) (once : ReadInOrder) (fit : (version : ℕ) (m : Machine) → IsValid m → AreStorable (rows_for version m)) (one : IsOneToOne) (up : (m : Machine) → IsValid m → IsAscendingBy (λ t. t.timestamp) (rows_for 3 m).transfers)
+    (account : ℕ) (narrow : account < 2 ^ 128) (bound : ℤ) where
+  abbrev m : Machine
+  m = machine_at tenant now
+
+  fits_behind : (order : Order) → HoldsTenant tenant now → AllByRecursion (IsStorableEntry account) (entries_behind m account order bound)
+  fits_behind Oldest has = fits tenant m now.now.trees has.holds (fit 3 m has.holds.valid) one (up m has.holds.valid) account narrow (is_from bound)
+  fits_behind Newest has = fits_turned tenant m now.now.trees has.holds (fit 3 m has.holds.valid) one (up m has.holds.valid) account narrow (is_until bound)
+
+  read_behind : (order : Order) → HoldsTenant tenant now → (ys : List Row) → IsPermutation (entries_when tenant (column_of account) (is_behind order bound) now.now.trees) ys → AreInOrder order ys → rows_of account (entries_behind m account order bound) ≡ ys
+  read_behind Oldest has = oldest tenant m now.now.trees has.holds (fit 3 m has.holds.valid) one (up m has.holds.valid) account narrow once bound
+  read_behind Newest has = newest tenant m now.now.trees has.holds (fit 3 m has.holds.valid) one (up m has.holds.valid) account narrow once bound
+
+  pub handed : {K E : Type 0} (takes : K → EntryCells → K → Type 0) (is_full : K → Bool) (Clean : Type 0) (count : ℕ) (old new : K) (result : Result (Unit {0}) E) (asked order : Order) → asked ≡ order
+      → HandsUpTo takes is_full (Clean × IsLedger now.now.schema) count (entries_when tenant (column_of account) (is_behind order bound) now.now.trees) (AreInOrder order) old new result
+      → HandsAccount takes is_full (Clean × HoldsTenant tenant now) account (take count (entries_behind m account asked bound)) old new result
+  handed takes is_full Clean count old new result asked order is given =
+      subst (λ (o : Order). HandsAccount takes is_full (Clean × HoldsTenant tenant now) account (take count (entries_behind m account o bound)) old new result) (sym is)
+      (hands_few takes is_full (Clean × HoldsTenant tenant now) (entries_when tenant (column_of account) (is_behind order bound) now.now.trees) (AreInOrder order) account (entries_behind m account order bound)
+      (λ h. fits_behind order h.1) (λ h. read_behind order h.1) old new count result (λ h. (h.0, h.1.schema)) given)

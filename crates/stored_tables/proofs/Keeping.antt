@@ -1,18 +1,21 @@
 -- What a call leaves that changes nothing, and one that gives up.
-use Rattle.std.proofs.Common.{◌≡◌, ℤ, true, false, IsTrue, Ok, Err, sym, ap, subst, subst₂, ◌∙◌, arith}
+use Rattle.std.proofs.Common.{◌≡◌, ℤ, true, false, IsTrue, Ok, Err, Result, IfOk, OnOk, sym, ap, subst, subst₂, ◌∙◌, arith}
+use Rattle.std.proofs.lemmas.Result.{IfOk-weaker}
 use Rattle.records.specs.declared.unavailable.Unavailable.{Unavailable}
-use Rattle.chain.specs.Tables.{State as Meant, Leaves, same}
+use Rattle.records.specs.Machine.{Machine}
+use Rattle.chain.specs.Tables.{State as Meant, Leaves, LooksUp, same}
 use Rattle.sqlite_trees.specs.declared.store.Store.{Ghosts}
 use Rattle.sqlite.specs.State.{State, HasCleanDisk, IsUnchanged}
 use Rattle.sqlite.specs.Held.{Held, state}
-use Rattle.ledger_sql.specs.Calls.{LeavesOver}
+use Rattle.sqlite_trees.specs.Tree.{Trees}
+use Rattle.ledger_sql.specs.Calls.{LeavesOver, Changes, FindsRows, Learns, OverLedger}
 use Rattle.ledger_sql.specs.Frames.{Live, Follows}
 use Rattle.stored_tables.specs.BatchLaws.{live_before, follows_then, rest_itself}
 use Rattle.stored_tables.specs.Holds.{HoldsMachine}
 use Rattle.stored_tables.specs.InBatch.{HoldsOwn, KeepsRest, IsInBatchOf, AreMarks, IsInOwnBatch, shown, marked_in}
 use Rattle.stored_tables.specs.Idle.{HoldsTenant}
 use Rattle.stored_tables.specs.MachineOf.{machine_of}
-use Rattle.stored_tables.specs.Meaning.{batch_meaning}
+use Rattle.stored_tables.specs.Meaning.{batch_meaning, EndsIfFailed, HandsOn}
 
 -- after a call that gave up the tenant has the machine of the beginning
 pub undone : (tenant : ℤ) (old mid new : State) → Follows old mid → LeavesOver mid new → Live new → (shown tenant new).now ≡ (shown tenant old).begun
@@ -74,3 +77,61 @@ module _ {S : Type 0} (store : Ghosts S) (tenant : ℤ) (old new : Held S) where
       → HoldsMachine tenant (shown tenant (state store old)).now (state store old).now.trees
   unfolding shown
   held_before usable follows live = (usable (omega (arith, follows.survives.clean, live.0))).now.holds
+
+-- a call that tells of the machine what is so, and gives up where it failed
+pub looks_up : {S X : Type 0} (store : Ghosts S) (tenant : ℤ) (old mid new : Held S) (IsSo : Machine → X → Type 0) (given result : Result X Unavailable) → IsInOwnBatch tenant (state store old)
+    → Learns (HoldsTenant tenant) (λ trees. IsSo (machine_of tenant trees)) store old mid given → HandsOn store given mid new result → LooksUp (batch_meaning store tenant) IsSo old new result
+unfolding shown
+looks_up {S} {X} store tenant old mid new IsSo given result usable learns hands = subst (LooksUp (batch_meaning store tenant) IsSo old new) (sym hands.same) (at given learns hands.ends)
+  where
+    at : (given : Result X Unavailable) → Learns (HoldsTenant tenant) (λ trees. IsSo (machine_of tenant trees)) store old mid given → EndsIfFailed store given mid new → LooksUp (batch_meaning store tenant) IsSo old new given
+    at (Ok x) learns ends =
+        subst (λ (end : Held S). LooksUp (batch_meaning store tenant) IsSo old end (Ok x)) (sym ends)
+        (record {
+          value = λ live. learns.ok live.0 (tenant_before store tenant old mid usable learns.reads.follows live.0);
+          leaves = reads store tenant old mid x usable learns.reads.follows learns.reads.same;
+        })
+    at (Err e) learns ends = record { value = λ live. tt; leaves = gives_up store tenant old new mid e same learns.reads.follows ends }
+
+-- a call that leaves such tables where it did not fail, and gives up where it failed
+pub leaves_or_over : {S X : Type 0} (store : Ghosts S) (tenant : ℤ) (old mid new : Held S) (change : Meant → Meant) (Is : Type 0) (given result : Result X Unavailable)
+    → Follows (state store old) (state store mid) → (HasCleanDisk (state store mid) → OnOk given Is) → HandsOn store given mid new result
+    → ((x : X) → (HasCleanDisk (state store mid) → Is) → Leaves {S = Held S} {X = X} (batch_meaning store tenant) old mid (Ok x) change)
+    → Leaves {S = Held S} {X = X} (batch_meaning store tenant) old new result change
+leaves_or_over {S} {X} store tenant old mid new change Is given result follows ok hands left = subst (λ (r : Result X Unavailable). Leaves {S = Held S} {X = X} (batch_meaning store tenant) old new r change) (sym hands.same) (at given ok hands.ends)
+  where
+    at : (given : Result X Unavailable) → (HasCleanDisk (state store mid) → OnOk given Is) → EndsIfFailed store given mid new → Leaves {S = Held S} {X = X} (batch_meaning store tenant) old new given change
+    at (Ok x) ok ends = subst (λ (end : Held S). Leaves {S = Held S} {X = X} (batch_meaning store tenant) old end (Ok x) change) (sym ends) (left x ok)
+    at (Err e) ok ends = gives_up store tenant old new mid e change follows ends
+
+module _ {S X : Type 0} (store : Ghosts S) (tenant : ℤ) (old new : Held S) (Answer : Trees → X → Type 0) (IsSo : Machine → X → Type 0) (result : Result X Unavailable) where
+  -- what is found in a ledger's tables tells of the tenant's machine
+  pub found : (Fits : X → Type 0) → ((m : Machine) (trees : Trees) (x : X) → HoldsMachine tenant m trees → Fits x → Answer trees x → IsSo m x) → FindsRows Fits Answer store old new result
+      → Learns (HoldsTenant tenant) (λ trees. IsSo (machine_of tenant trees)) store old new result
+  found Fits so finds = record {
+    ok = λ clean tenant_there. at result finds.fits (finds.ok clean tenant_there.schema) tenant_there.holds;
+    reads = finds.reads;
+  }
+    where
+      at : (r : Result X Unavailable) → IfOk r Fits → IfOk r (Answer (state store old).now.trees) → HoldsMachine tenant (machine_of tenant (state store old).now.trees) (state store old).now.trees → IfOk r (IsSo (machine_of tenant (state store old).now.trees))
+      at (Ok x) fits answer holds = so _ _ x holds fits answer
+      at (Err e) fits answer holds = tt
+
+  -- so does what is learnt of them
+  pub learnt : ((m : Machine) (trees : Trees) (x : X) → HoldsMachine tenant m trees → Answer trees x → IsSo m x) → Learns OverLedger Answer store old new result → Learns (HoldsTenant tenant) (λ trees. IsSo (machine_of tenant trees)) store old new result
+  learnt so learns = record {
+    ok = λ clean tenant_there. IfOk-weaker result (Answer (state store old).now.trees) (IsSo (machine_of tenant (state store old).now.trees)) (λ x. so (machine_of tenant (state store old).now.trees) (state store old).now.trees x tenant_there.holds) (learns.ok clean tenant_there.schema);
+    reads = learns.reads;
+  }
+
+-- a call of several steps whose effect comes of what is so before it
+pub changes : {S X : Type 0} (store : Ghosts S) (old new : Held S) (result : Result X Unavailable) (Is : Type 0) (Effect : State → State → Type 0) → (HasCleanDisk (state store old) → Is) → Follows (state store old) (state store new)
+    → (Is → HasCleanDisk (state store new) → OnOk result (Effect (state store old) (state store new))) → Changes Effect store old new result
+changes store old new result Is Effect is follows ok = record { ok = λ clean. ok (is (omega (arith, follows.survives.clean, clean))) clean; follows = follows }
+
+-- so it is over two steps
+pub changes_twice : {S X : Type 0} (store : Ghosts S) (old mid new : Held S) (result : Result X Unavailable) (Is : Type 0) (Effect : State → State → Type 0) → (HasCleanDisk (state store old) → Is) → Follows (state store old) (state store mid)
+    → Follows (state store mid) (state store new) → (Is → HasCleanDisk (state store mid) → HasCleanDisk (state store new) → OnOk result (Effect (state store old) (state store new))) → Changes Effect store old new result
+changes_twice store old mid new result Is Effect is first second ok =
+    changes store old new result Is Effect is (follows_then (state store old) (state store mid) (state store new) first second)
+    (λ before clean. ok before (omega (arith, second.survives.clean, clean)) clean)

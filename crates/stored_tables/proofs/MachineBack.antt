@@ -27,20 +27,15 @@ use Rattle.stored_tables.proofs.WideBytes.{from_be_bytes-to_be_bytes_16}
 
 pub account_back : (a : Account) → IsStorableAccount a → account_of (account_values (account_cells a)) ≡ a
 unfolding column_of short_column_of
-account_back a p = λ i. record {
+account_back a p = λ i. record a {
   id = from_be_bytes-to_be_bytes_16 a.id p.widths.id i;
   user_data_128 = from_be_bytes-to_be_bytes_16 a.user_data_128 p.widths.user_data_128 i;
   user_data_64 = from_be_bytes-to_be_bytes_8 a.user_data_64 p.widths.user_data_64 i;
-  user_data_32 = a.user_data_32;
-  ledger = a.ledger;
-  code = a.code;
-  flags = a.flags;
-  timestamp = a.timestamp;
 }
 
 pub transfer_back : (t : Transfer) → IsStorableTransfer t → transfer_of (transfer_values (transfer_cells t)) ≡ t
 unfolding column_of short_column_of
-transfer_back t p = λ i. record {
+transfer_back t p = λ i. record t {
   id = from_be_bytes-to_be_bytes_16 t.id p.widths.id i;
   debit_account_id = from_be_bytes-to_be_bytes_16 t.debit_account_id p.widths.debit_account_id i;
   credit_account_id = from_be_bytes-to_be_bytes_16 t.credit_account_id p.widths.credit_account_id i;
@@ -48,13 +43,6 @@ transfer_back t p = λ i. record {
   pending_id = from_be_bytes-to_be_bytes_16 t.pending_id p.widths.pending_id i;
   user_data_128 = from_be_bytes-to_be_bytes_16 t.user_data_128 p.widths.user_data_128 i;
   user_data_64 = from_be_bytes-to_be_bytes_8 t.user_data_64 p.widths.user_data_64 i;
-  user_data_32 = t.user_data_32;
-  timeout = t.timeout;
-  ledger = t.ledger;
-  code = t.code;
-  flags = t.flags;
-  timestamp = t.timestamp;
-  at = t.at;
 }
 
 id_back : (id : ℕ) → id < 2 ^ 128 → wide (column (id_values (column_of id)) 0) ≡ id

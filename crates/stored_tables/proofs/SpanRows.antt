@@ -1,5 +1,5 @@
 -- A tenant's records in a span of time, as they are read, are the machine's.
-use Rattle.std.proofs.Common.{◌≡◌, ℕ, zero, suc, ◌+◌, ◌-◌, ◌<◌, ◌≤◌, ◌^◌, ℤ, pos, Bool, false, ◌&&◌, leb, List, [], ◌∷◌, map, filter, take, reverse, length, get_or, Ok, Err, Result, IfOk, refl, sym, ap, subst, ◌∙◌, arith, inl, inr, IsPermutation}
+use Rattle.std.proofs.Common.{◌≡◌, ℕ, zero, suc, ◌+◌, ◌-◌, ◌<◌, ◌≤◌, ◌^◌, ℤ, pos, Bool, false, ◌&&◌, leb, List, [], ◌∷◌, map, filter, take, reverse, length, get_or, refl, sym, ap, subst, ◌∙◌, arith, inl, inr, IsPermutation}
 use Rattle.std.specs.Prelude.{All, min}
 use Rattle.std.specs.Cmp.{both_ways as both_true}
 use Rattle.std.specs.List.{AllByRecursion}
@@ -15,9 +15,8 @@ use Rattle.records.specs.declared.transfer.Transfer.{Transfer}
 use Rattle.records.specs.declared.filter.Order.{Order}
 use Rattle.records.specs.declared.filter.Order.TheVariants.{Oldest, Newest}
 use Rattle.records.specs.declared.query.Span.{Span}
-use Rattle.records.specs.declared.unavailable.Unavailable.{Unavailable}
 use Rattle.records.specs.Machine.{Machine}
-use Rattle.records.specs.Queries.{is_within, within, accounts_within, transfers_within}
+use Rattle.records.specs.Queries.{is_within, within}
 use Rattle.records.specs.Reads.{in_order}
 use Rattle.rows.specs.Cells.{account_cells, transfer_cells}
 use Rattle.rows.specs.Prescribed.{rows_for}
@@ -82,11 +81,13 @@ none_of (suc most) Oldest = refl
 none_of zero Newest = refl
 none_of (suc most) Newest = refl
 
-pub both : {A : Type 0} {P Q S : A → Type 0} (r : Result A Unavailable) → IfOk r P → IfOk r Q → ((a : A) → P a → Q a → S a) → IfOk r S
-both (Ok a) p q f = f a p q
-both (Err e) p q f = tt
-
 -- ---- records of any kind
+
+-- what was read of the records of a span is what there is in it
+pub record ReadsSpan {R : Type 0} (values : R → Row) (place : ℕ) (fits : R → Type 0) (time : R → ℕ) (xs : List R) (rows : List Row) (span : Span) : Type 0 where
+  pub oldest : span.order ≡ Oldest → (read : List R) → All fits read → ReadsUpTo values span.most rows (AscendAt place) read → read ≡ within time span xs
+  pub newest : span.order ≡ Newest → (read : List R) → All fits read → ReadsUpTo values span.most rows (DescendAt place) read → read ≡ within time span xs
+  pub none : max_time < span.first → [] ≡ within time span xs
 
 module _ {R : Type 0} (values : R → Row) (back : Row → R) (time : R → ℕ) (place : ℕ) (fits : R → Type 0) (is_back : (x : R) → fits x → back (values x) ≡ x)
     (has_time : (x : R) → column (values x) place ≡ Int (pos (time x))) (narrow : (x : R) → fits x → time x < 2 ^ 63) (once : ReadInOrder R) (xs : List R) (all : AllByRecursion fits xs) (up : IsAscendingBy time xs)
@@ -173,11 +174,11 @@ module _ {R : Type 0} (values : R → Row) (back : Row → R) (time : R → ℕ)
       ∙ ap (map back) it.read_is
       ∙ sym (take-map back span.most it.ordered)
 
-  pub oldest_read : span.order ≡ Oldest → (read : List R) → All fits read → ReadsUpTo values span.most rows (AscendAt place) read → read ≡ within time span xs
+  oldest_read : span.order ≡ Oldest → (read : List R) → All fits read → ReadsUpTo values span.most rows (AscendAt place) read → read ≡ within time span xs
   oldest_read is read fit it =
       read_back (AscendAt place) read fit it ∙ ap (take span.most) (sym (oldest it.ordered it.all it.order)) ∙ ap (λ order. take span.most (in_order order those)) (sym is)
 
-  pub newest_read : span.order ≡ Newest → (read : List R) → All fits read → ReadsUpTo values span.most rows (DescendAt place) read → read ≡ within time span xs
+  newest_read : span.order ≡ Newest → (read : List R) → All fits read → ReadsUpTo values span.most rows (DescendAt place) read → read ≡ within time span xs
   newest_read is read fit it =
       read_back (DescendAt place) read fit it ∙ ap (take span.most) (sym (newest it.ordered it.all it.order)) ∙ ap (λ order. take span.most (in_order order those)) (sym is)
 
@@ -188,52 +189,24 @@ module _ {R : Type 0} (values : R → Row) (back : Row → R) (time : R → ℕ)
     | inr before ↦ ap (λ b. b && leb (time x) span.last) before
   ]
 
-  pub none_read : max_time < span.first → [] ≡ within time span xs
+  none_read : max_time < span.first → [] ≡ within time span xs
   none_read late =
       sym (none_of span.most span.order)
       ∙ ap (λ found. take span.most (in_order span.order found)) (sym (filter_none here xs (all_weaker fits (λ x. here x ≡ false) (not_here late) xs all)))
 
+  -- what a read of the span gives, in either order or where it begins beyond all timestamps
+  pub span_reads : ReadsSpan values place fits time xs rows span
+  span_reads = record { oldest = oldest_read; newest = newest_read; none = none_read }
+
 -- ---- a tenant's accounts and transfers
 
 module _ (tenant : ℤ) (m : Machine) (trees : Trees) (held : HoldsMachine tenant m trees) (fit : AreStorable (rows_for 3 m)) (span : Span) where
-  module _ (once : ReadInOrder Account) (up : IsAscendingBy (λ a. a.timestamp) (rows_for 3 m).accounts) where
-    abbrev account_row : Account → Row
-    account_row a = account_values (account_cells a)
+  pub accounts_read : ReadInOrder Account → IsAscendingBy (λ a. a.timestamp) (rows_for 3 m).accounts → ReadsSpan (λ a. account_values (account_cells a)) 7 IsStorableAccount (λ a. a.timestamp) m.accounts (accounts_between tenant (pos span.first) (pos (min span.last max_time)) trees) span
+  unfolding rows_for
+  accounts_read once up =
+      span_reads (λ a. account_values (account_cells a)) account_of (λ a. a.timestamp) 7 IsStorableAccount account_back (λ a. refl) (λ a h. h.timestamp) once m.accounts (recursion_from_All IsStorableAccount m.accounts fit.accounts) up _ held.rows.accounts span
 
-    pub oldest_accounts_read : span.order ≡ Oldest → (read : List Account) → All IsStorableAccount read
-        → ReadsUpTo account_row span.most (accounts_between tenant (pos span.first) (pos (min span.last max_time)) trees) (AscendAt 7) read → read ≡ accounts_within m span
-    unfolding rows_for
-    oldest_accounts_read =
-        oldest_read account_row account_of (λ a. a.timestamp) 7 IsStorableAccount account_back (λ a. refl) (λ a h. h.timestamp) once m.accounts (recursion_from_All IsStorableAccount m.accounts fit.accounts) up _ held.rows.accounts span
-
-    pub newest_accounts_read : span.order ≡ Newest → (read : List Account) → All IsStorableAccount read
-        → ReadsUpTo account_row span.most (accounts_between tenant (pos span.first) (pos (min span.last max_time)) trees) (DescendAt 7) read → read ≡ accounts_within m span
-    unfolding rows_for
-    newest_accounts_read =
-        newest_read account_row account_of (λ a. a.timestamp) 7 IsStorableAccount account_back (λ a. refl) (λ a h. h.timestamp) once m.accounts (recursion_from_All IsStorableAccount m.accounts fit.accounts) up _ held.rows.accounts span
-
-    pub no_accounts_read : max_time < span.first → [] ≡ accounts_within m span
-    unfolding rows_for
-    no_accounts_read =
-        none_read account_row account_of (λ a. a.timestamp) 7 IsStorableAccount account_back (λ a. refl) (λ a h. h.timestamp) once m.accounts (recursion_from_All IsStorableAccount m.accounts fit.accounts) up _ held.rows.accounts span
-
-  module _ (once : ReadInOrder Transfer) (up : IsAscendingBy (λ t. t.timestamp) (rows_for 3 m).transfers) where
-    abbrev transfer_row : Transfer → Row
-    transfer_row t = transfer_values (transfer_cells t)
-
-    pub oldest_transfers_read : span.order ≡ Oldest → (read : List Transfer) → All IsStorableTransfer read
-        → ReadsUpTo transfer_row span.most (transfers_between tenant (pos span.first) (pos (min span.last max_time)) trees) (AscendAt 12) read → read ≡ transfers_within m span
-    unfolding rows_for
-    oldest_transfers_read =
-        oldest_read transfer_row transfer_of (λ t. t.timestamp) 12 IsStorableTransfer transfer_back (λ t. refl) (λ t h. h.timestamp) once m.transfers (recursion_from_All IsStorableTransfer m.transfers fit.transfers) up _ held.rows.transfers span
-
-    pub newest_transfers_read : span.order ≡ Newest → (read : List Transfer) → All IsStorableTransfer read
-        → ReadsUpTo transfer_row span.most (transfers_between tenant (pos span.first) (pos (min span.last max_time)) trees) (DescendAt 12) read → read ≡ transfers_within m span
-    unfolding rows_for
-    newest_transfers_read =
-        newest_read transfer_row transfer_of (λ t. t.timestamp) 12 IsStorableTransfer transfer_back (λ t. refl) (λ t h. h.timestamp) once m.transfers (recursion_from_All IsStorableTransfer m.transfers fit.transfers) up _ held.rows.transfers span
-
-    pub no_transfers_read : max_time < span.first → [] ≡ transfers_within m span
-    unfolding rows_for
-    no_transfers_read =
-        none_read transfer_row transfer_of (λ t. t.timestamp) 12 IsStorableTransfer transfer_back (λ t. refl) (λ t h. h.timestamp) once m.transfers (recursion_from_All IsStorableTransfer m.transfers fit.transfers) up _ held.rows.transfers span
+  pub transfers_read : ReadInOrder Transfer → IsAscendingBy (λ t. t.timestamp) (rows_for 3 m).transfers → ReadsSpan (λ t. transfer_values (transfer_cells t)) 12 IsStorableTransfer (λ t. t.timestamp) m.transfers (transfers_between tenant (pos span.first) (pos (min span.last max_time)) trees) span
+  unfolding rows_for
+  transfers_read once up =
+      span_reads (λ t. transfer_values (transfer_cells t)) transfer_of (λ t. t.timestamp) 12 IsStorableTransfer transfer_back (λ t. refl) (λ t h. h.timestamp) once m.transfers (recursion_from_All IsStorableTransfer m.transfers fit.transfers) up _ held.rows.transfers span

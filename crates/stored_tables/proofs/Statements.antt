@@ -27,7 +27,10 @@ use Rattle.ledger_sql.specs.Strangers.{is_ours}
 use Rattle.ledger_sql.specs.StrangerLaws.{strangers_stay}
 use Rattle.ledger_sql.specs.TableRows.{clock_rows, account_rows, transfer_rows, balance_rows, status_rows, history_rows, failed_rows, has_id, with_id}
 use Rattle.ledger_sql.specs.Values.{clock_values, account_values, transfer_values, balance_values, status_values, history_values, id_values}
-use Rattle.stored_tables.specs.Moves.{ChangesRows, Any, IsThere, HasStatus, IsStatusOf}
+use Rattle.rows.specs.TypedRows.{TypedRows}
+use Rattle.stored_tables.specs.Frames.{AreNumbered}
+use Rattle.stored_tables.specs.Holds.{HoldsRows}
+use Rattle.stored_tables.specs.Moves.{ChangesRows, MovesRows, Any, IsThere, HasStatus, IsStatusOf}
 use Rattle.stored_tables.proofs.RowMoves.{with_more, tells_id, one, found_row, with_changed, found_key, found_all, if_found, some_of}
 use Rattle.stored_tables.proofs.SameValues.{CellsTellRows, same_status}
 use Rattle.stored_tables.proofs.OneTableMoves.{StaysAside, clock_moved, account_moved, transfer_moved, balance_moved, status_moved, history_moved, failed_moved}
@@ -49,53 +52,43 @@ module _ (tenant : ℤ) (old new : State) (ledger : IsLedger old.now.schema) whe
   added_aside : (rows : ℤ → Trees → List Row) (tree : ℕ) (added : List Row) → is_ours tree ≡ true → AddsRows rows tree tenant added old new → IsNumbered (was tree) → StaysAside rows tree tenant old new
   added_aside rows tree added ours adds num = record { tables = adds.tables; others = adds.others; strangers = strangers_stay tree old new ours adds.inside.schema adds.tables; numbered = adds.numbered num }
 
-  pub account_added : (a : Account) → AddsRows account_rows 5 tenant (account_values (account_cells a) ∷ []) old new → ChangesRows tenant Any (λ rows. record rows { accounts = rows.accounts ++ a ∷ [] }) old new
-  account_added a adds = record {
+  -- rows that are added to one table leave what they leave of it
+  rows_added : (table : ℤ → Trees → List Row) (tree : ℕ) (added : List Row) (change : TypedRows → TypedRows) → is_ours tree ≡ true → AddsRows table tree tenant added old new → (AreNumbered was → IsNumbered (was tree))
+      → ((rows : TypedRows) → AreNumbered was → HoldsRows tenant rows was → StaysAside table tree tenant old new → MovesRows tenant (change rows) old.now new.now) → ChangesRows tenant Any change old new
+  rows_added table tree added change ours adds numbered moves = record {
     inside = adds.inside;
-    moves = λ rows can num held.
-        account_moved tenant rows old new ledger num held (rows.accounts ++ a ∷ []) (added_aside account_rows 5 _ refl adds num.1.1.1.0)
-        (with_more (λ row. account_values (account_cells row)) rows.accounts (a ∷ []) (account_rows tenant was) (account_rows tenant is) held.accounts adds.own);
+    moves = λ rows can num held. moves rows num held (added_aside table tree added ours adds (numbered num));
   }
+
+  pub account_added : (a : Account) → AddsRows account_rows 5 tenant (account_values (account_cells a) ∷ []) old new → ChangesRows tenant Any (λ rows. record rows { accounts = rows.accounts ++ a ∷ [] }) old new
+  account_added a adds =
+      rows_added account_rows 5 _ _ refl adds (λ num. num.1.1.1.0)
+      (λ rows num held aside. account_moved tenant rows old new ledger num held (rows.accounts ++ a ∷ []) aside (with_more (λ row. account_values (account_cells row)) rows.accounts (a ∷ []) (account_rows tenant was) (account_rows tenant is) held.accounts adds.own))
 
   pub transfer_added : (t : Transfer) → AddsRows transfer_rows 8 tenant (transfer_values (transfer_cells t) ∷ []) old new → ChangesRows tenant Any (λ rows. record rows { transfers = rows.transfers ++ t ∷ [] }) old new
-  transfer_added t adds = record {
-    inside = adds.inside;
-    moves = λ rows can num held.
-        transfer_moved tenant rows old new ledger num held (rows.transfers ++ t ∷ []) (added_aside transfer_rows 8 _ refl adds num.1.1.1.1.0)
-        (with_more (λ row. transfer_values (transfer_cells row)) rows.transfers (t ∷ []) (transfer_rows tenant was) (transfer_rows tenant is) held.transfers adds.own);
-  }
+  transfer_added t adds =
+      rows_added transfer_rows 8 _ _ refl adds (λ num. num.1.1.1.1.0)
+      (λ rows num held aside. transfer_moved tenant rows old new ledger num held (rows.transfers ++ t ∷ []) aside (with_more (λ row. transfer_values (transfer_cells row)) rows.transfers (t ∷ []) (transfer_rows tenant was) (transfer_rows tenant is) held.transfers adds.own))
 
   pub balance_added : (b : BalanceRow) → AddsRows balance_rows 11 tenant (balance_values (balance_cells b) ∷ []) old new → ChangesRows tenant Any (λ rows. record rows { balances = rows.balances ++ b ∷ [] }) old new
-  balance_added b adds = record {
-    inside = adds.inside;
-    moves = λ rows can num held.
-        balance_moved tenant rows old new ledger num held (rows.balances ++ b ∷ []) (added_aside balance_rows 11 _ refl adds num.1.1.1.1.1.0)
-        (with_more (λ row. balance_values (balance_cells row)) rows.balances (b ∷ []) (balance_rows tenant was) (balance_rows tenant is) held.balances adds.own);
-  }
+  balance_added b adds =
+      rows_added balance_rows 11 _ _ refl adds (λ num. num.1.1.1.1.1.0)
+      (λ rows num held aside. balance_moved tenant rows old new ledger num held (rows.balances ++ b ∷ []) aside (with_more (λ row. balance_values (balance_cells row)) rows.balances (b ∷ []) (balance_rows tenant was) (balance_rows tenant is) held.balances adds.own))
 
   pub status_added : (s : StatusRow) → AddsRows status_rows 13 tenant (status_values (status_cells s) ∷ []) old new → ChangesRows tenant Any (λ rows. record rows { statuses = rows.statuses ++ s ∷ [] }) old new
-  status_added s adds = record {
-    inside = adds.inside;
-    moves = λ rows can num held.
-        status_moved tenant rows old new ledger num held (rows.statuses ++ s ∷ []) (added_aside status_rows 13 _ refl adds num.1.1.1.1.1.1.0)
-        (with_more (λ row. status_values (status_cells row)) rows.statuses (s ∷ []) (status_rows tenant was) (status_rows tenant is) held.statuses adds.own);
-  }
+  status_added s adds =
+      rows_added status_rows 13 _ _ refl adds (λ num. num.1.1.1.1.1.1.0)
+      (λ rows num held aside. status_moved tenant rows old new ledger num held (rows.statuses ++ s ∷ []) aside (with_more (λ row. status_values (status_cells row)) rows.statuses (s ∷ []) (status_rows tenant was) (status_rows tenant is) held.statuses adds.own))
 
   pub history_added : (d c : HistoryRow) → AddsRows history_rows 15 tenant (history_values (history_cells d) ∷ history_values (history_cells c) ∷ []) old new → ChangesRows tenant Any (λ rows. record rows { history = rows.history ++ d ∷ c ∷ [] }) old new
-  history_added d c adds = record {
-    inside = adds.inside;
-    moves = λ rows can num held.
-        history_moved tenant rows old new ledger num held (rows.history ++ d ∷ c ∷ []) (added_aside history_rows 15 _ refl adds num.1.1.1.1.1.1.1.0)
-        (with_more (λ row. history_values (history_cells row)) rows.history (d ∷ c ∷ []) (history_rows tenant was) (history_rows tenant is) held.history adds.own);
-  }
+  history_added d c adds =
+      rows_added history_rows 15 _ _ refl adds (λ num. num.1.1.1.1.1.1.1.0)
+      (λ rows num held aside. history_moved tenant rows old new ledger num held (rows.history ++ d ∷ c ∷ []) aside (with_more (λ row. history_values (history_cells row)) rows.history (d ∷ c ∷ []) (history_rows tenant was) (history_rows tenant is) held.history adds.own))
 
   pub failed_added : (id : ℕ) → AddsRows failed_rows 17 tenant (id_values (column_of id) ∷ []) old new → ChangesRows tenant Any (λ rows. record rows { failed = rows.failed ++ id ∷ [] }) old new
-  failed_added id adds = record {
-    inside = adds.inside;
-    moves = λ rows can num held.
-        failed_moved tenant rows old new ledger num held (rows.failed ++ id ∷ []) (added_aside failed_rows 17 _ refl adds num.1.1.1.1.1.1.1.1.0)
-        (with_more (λ (other : ℕ). id_values (column_of other)) rows.failed (id ∷ []) (failed_rows tenant was) (failed_rows tenant is) held.failed adds.own);
-  }
+  failed_added id adds =
+      rows_added failed_rows 17 _ _ refl adds (λ num. num.1.1.1.1.1.1.1.1.0)
+      (λ rows num held aside. failed_moved tenant rows old new ledger num held (rows.failed ++ id ∷ []) aside (with_more (λ (other : ℕ). id_values (column_of other)) rows.failed (id ∷ []) (failed_rows tenant was) (failed_rows tenant is) held.failed adds.own))
 
   set_aside : (rows : ℤ → Trees → List Row) (tree : ℕ) (test : Row → Bool) (values : Row) → is_ours tree ≡ true → SetsRow rows tree tenant test values old new → StaysAside rows tree tenant old new
   set_aside rows tree test values ours sets = record { tables = sets.tables; others = sets.others; strangers = strangers_stay tree old new ours sets.inside.schema sets.tables; numbered = sets.numbered }

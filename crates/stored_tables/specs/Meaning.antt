@@ -1,10 +1,10 @@
 -- What a connection means in a tenant's batch.
-use Rattle.std.specs.Prelude.{ℤ, Result}
+use Rattle.std.specs.Prelude.{◌≡◌, ℤ, Result, Ok, Err}
 use Rattle.records.specs.declared.unavailable.Unavailable.{Unavailable}
-use Rattle.records.specs.Machine.{Machine}
-use Rattle.chain.specs.Tables.{Meaning, Tells, Leaves, same}
+use Rattle.chain.specs.Tables.{Meaning}
 use Rattle.sqlite_trees.specs.declared.store.Store.{Ghosts}
 use Rattle.sqlite.specs.Held.{Held, state}
+use Rattle.ledger_sql.specs.Calls.{GivesUp}
 use Rattle.ledger_sql.specs.Frames.{Live}
 use Rattle.stored_tables.specs.InBatch.{IsInOwnBatch, FollowsInBatch, shown}
 
@@ -18,8 +18,13 @@ batch_meaning store tenant = record {
   follows = λ old new. FollowsInBatch tenant (state store old) (state store new);
 }
 
--- a look-up: it tells this of the machine, and changes nothing
-pub record OnlyTells {S X : Type 0} (t : Meaning S) (old new : S) (result : Result X Unavailable)
-    (told : Machine → X) : Type 0 where
-  pub value : Tells t old new result told
-  pub leaves : Leaves t old new result same
+-- a call that failed has ended the transaction, and one that did not has left it
+abbrev pub EndsIfFailed : {S X : Type 0} → Ghosts S → Result X Unavailable → Held S → Held S → Type 0
+EndsIfFailed store (Ok x) old new = new ≡ old
+EndsIfFailed store (Err cause) old new = GivesUp store old new
+
+-- what a call gave is handed on, and where it failed the transaction is over
+pub record HandsOn {S X : Type 0} (store : Ghosts S) (given : Result X Unavailable)
+    (old new : Held S) (result : Result X Unavailable) : Type 0 where
+  pub same : result ≡ given
+  pub ends : EndsIfFailed store given old new

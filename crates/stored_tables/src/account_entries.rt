@@ -1,7 +1,7 @@
 //! An account's entries within a span of time, in its batch.
 
-ghost use Rattle.std.specs.Prelude.{◌≡◌, take, false, IfOk};
-ghost use Rattle.chain.specs.Tables.{Leaves, same};
+ghost use Rattle.std.specs.Prelude.{◌≡◌, take, false};
+ghost use Rattle.chain.specs.Tables.{LooksUp};
 ghost use Rattle.chain.specs.AccountEntries.{account_entries_within};
 ghost use Rattle.sqlite.specs.Held.{state};
 ghost use Rattle.sqlite.specs.State.{HasCleanDisk};
@@ -14,7 +14,7 @@ ghost use Rattle.stored_tables.specs.Meaning.{batch_meaning};
 use crate::batch::TenantNumber;
 use crate::bounds::span_begin;
 use crate::entries_within::EntriesWithin;
-use crate::failing::give_up;
+use crate::failing::or_give_up;
 use amount::columns_keep_order;
 use chain::AccountEntry;
 use ledger_sql::EntrySink;
@@ -34,15 +34,12 @@ pub(crate) fn account_entries<S: Alter>(
     span: &Span,
 ) -> Result<Vec<AccountEntry>, Unavailable>
     requires { (batch_meaning S.Store tenant.0).is_usable conn.old }
-    ensures value { (batch_meaning S.Store tenant.0).is_live conn.new → IfOk result
-        (λ found. found.items ≡ account_entries_within
-        ((batch_meaning S.Store tenant.0).state conn.old).now account span.now) }
-    ensures leaves { Leaves (batch_meaning S.Store tenant.0) conn.old conn.new result same }
+    ensures { LooksUp (batch_meaning S.Store tenant.0)
+        (λ m found. found.items ≡ account_entries_within m account span.now)
+        conn.old conn.new result }
 {
-    match read_entries(alloc, conn, tenant, account, span) {
-        Ok(found) => Ok(found),
-        Err(cause) => Err(give_up(conn, cause)),
-    }
+    let found = read_entries(alloc, conn, tenant, account, span);
+    or_give_up(conn, found)
 }
 
 /// The same, without giving up.

@@ -25,7 +25,7 @@ pub struct Batch<'a, S: Alter> {
 }
 
 impl<S: Alter> Tables for Batch<'_, S> {
-    ghost use Rattle.std.specs.Prelude.{◌≡◌, ℕ, refl};
+    ghost use Rattle.std.specs.Prelude.{◌≡◌, refl};
     ghost use Rattle.std.proofs.Common.{ap, ◌∙◌};
     ghost use Rattle.std.specs.BTreeSet.{contains, IsSubset};
     ghost use Rattle.sqlite.specs.Held.{state as conn_state};

@@ -1,6 +1,6 @@
 //! A pending transfer of a tenant expires.
 
-ghost use Rattle.std.specs.Prelude.{◌≡◌, ℕ, ◌+◌, ◌≤◌, IfOk, IsTrue};
+ghost use Rattle.std.specs.Prelude.{◌≡◌, ℕ, ◌+◌, ◌≤◌, IfOk};
 ghost use Rattle.arrayvec.specs.ArrayVec.{array_vec_len};
 ghost use Rattle.records.specs.declared.facts.PendingState.TheVariants.{Expired};
 ghost use Rattle.records.specs.declared.side.Side.TheVariants.{Debit, Credit};
@@ -9,6 +9,7 @@ ghost use Rattle.rows.specs.Changes.{set_state};
 ghost use Rattle.rows.specs.Widths.{IsStorableStatus};
 ghost use Rattle.ledger_sql.specs.Calls.{Changes, IfClean, Learns, OverLedger};
 ghost use Rattle.ledger_sql.specs.Effects.{IsInside};
+ghost use Rattle.stored_tables.specs.Idle.{HasOpenStore};
 ghost use Rattle.stored_tables.specs.Kept.{kept_in};
 ghost use Rattle.stored_tables.specs.Moves.{ChangesRows, HasStatus};
 ghost use Rattle.stored_tables.specs.Releasing.{Expires, IsExpiry, IsTransferOf, AreBalancesOf};
@@ -88,7 +89,7 @@ fn balances_of<S: Alter>(
     tenant: TenantNumber,
     account: u128,
 ) -> Result<Balances, Unavailable>
-    requires { IfClean (λ s. IsTrue s.is_open) S.Store conn.old }
+    requires { IfClean HasOpenStore S.Store conn.old }
     ensures { Learns OverLedger (AreKeptBalancesOf tenant.0 (kept_in kept.now.items) account)
         S.Store conn.old conn.new result }
 {

@@ -1,15 +1,18 @@
-ghost use Rattle.std.specs.Prelude.{◌≡◌};
-ghost use Rattle.ledger_sql.specs.Calls.{GivesUp};
+ghost use Rattle.stored_tables.specs.Meaning.{HandsOn};
 
 use ledger_sql::stages::abandon;
 use records::Unavailable;
 use sqlite::{Alter, Connection};
 
-/// A call failed for this cause, and with it the transaction.
-pub(crate) fn give_up<S: Alter>(conn: &mut Connection<S>, cause: Unavailable) -> Unavailable
-    ensures cause { result ≡ cause }
-    ensures over { GivesUp S.Store conn.old conn.new }
+/// What a call gave. Where it failed, the transaction fails with it.
+pub(crate) fn or_give_up<S: Alter, T>(
+    conn: &mut Connection<S>,
+    given: Result<T, Unavailable>,
+) -> Result<T, Unavailable>
+    ensures { HandsOn S.Store given conn.old conn.new result }
 {
-    abandon(conn);
-    cause
+    if given.is_err() {
+        abandon(conn);
+    }
+    given
 }

@@ -1,11 +1,11 @@
 //! The mark of a tenant's batch, which is a savepoint of its transaction.
 
-ghost use Rattle.std.specs.Prelude.{◌≡◌, None, IsSome, unwrap_or};
-ghost use Rattle.chain.specs.Tables.{Leaves, marking, marked_or, at_mark, unmarked, on_now};
+ghost use Rattle.std.specs.Prelude.{◌≡◌, None, IsSome};
+ghost use Rattle.chain.specs.Tables.{Leaves, marking, marked_or, at_mark, unmarked};
 ghost use Rattle.stored_tables.specs.Meaning.{batch_meaning};
 
 use crate::batch::TenantNumber;
-use crate::failing::give_up;
+use crate::failing::or_give_up;
 use ledger_sql::stages;
 use records::Unavailable;
 use sqlite::{Alter, Connection};
@@ -20,10 +20,8 @@ pub(crate) fn mark<S: Alter>(
         ((batch_meaning S.Store tenant.0).state conn.old).marked ≡ None }
     ensures { Leaves (batch_meaning S.Store tenant.0) conn.old conn.new result marking }
 {
-    match stages::mark(conn) {
-        Ok(()) => Ok(()),
-        Err(cause) => Err(give_up(conn, cause)),
-    }
+    let done = stages::mark(conn);
+    or_give_up(conn, done)
 }
 
 /// Goes back to the mark and closes it.
@@ -48,10 +46,8 @@ fn undo_to_mark<S: Alter>(conn: &mut Connection<S>, tenant: TenantNumber) -> Res
     ensures { Leaves (batch_meaning S.Store tenant.0) conn.old conn.new result
         (λ s. record s { now = marked_or s.now s.marked }) }
 {
-    match stages::back_to_mark(conn) {
-        Ok(()) => Ok(()),
-        Err(cause) => Err(give_up(conn, cause)),
-    }
+    let done = stages::back_to_mark(conn);
+    or_give_up(conn, done)
 }
 
 /// Closes the mark and keeps what has come since.
@@ -64,8 +60,6 @@ pub(crate) fn release_mark<S: Alter>(
         IsSome ((batch_meaning S.Store tenant.0).state conn.old).marked }
     ensures { Leaves (batch_meaning S.Store tenant.0) conn.old conn.new result unmarked }
 {
-    match stages::release_mark(conn) {
-        Ok(()) => Ok(()),
-        Err(cause) => Err(give_up(conn, cause)),
-    }
+    let done = stages::release_mark(conn);
+    or_give_up(conn, done)
 }

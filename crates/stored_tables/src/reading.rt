@@ -4,14 +4,14 @@ ghost use Rattle.std.specs.Prelude.{◌≡◌};
 ghost use Rattle.records.specs.Facts.{account_in};
 ghost use Rattle.records.specs.Machine.{account_with, transfer_with, has_id};
 ghost use Rattle.records.specs.Balances.{balances_in};
-ghost use Rattle.chain.specs.Tables.{pending_state_of};
+ghost use Rattle.chain.specs.Tables.{LooksUp, pending_state_of};
 ghost use Rattle.ledger_sql.specs.Calls.{Learns};
 ghost use Rattle.stored_tables.specs.Idle.{HoldsTenant};
 ghost use Rattle.stored_tables.specs.MachineOf.{machine_of};
-ghost use Rattle.stored_tables.specs.Meaning.{batch_meaning, OnlyTells};
+ghost use Rattle.stored_tables.specs.Meaning.{batch_meaning};
 
 use crate::batch::TenantNumber;
-use crate::failing::give_up;
+use crate::failing::or_give_up;
 use crate::laws::point_reads;
 use ledger_sql::finding;
 use records::{Account, AccountWithBalances, Balances, PendingState, Transfer, Unavailable};
@@ -24,18 +24,17 @@ pub(crate) fn clock<S: Alter>(
     tenant: TenantNumber,
 ) -> Result<u64, Unavailable>
     requires { (batch_meaning S.Store tenant.0).is_usable conn.old }
-    ensures { OnlyTells (batch_meaning S.Store tenant.0) conn.old conn.new result
-        (λ m. m.clock) }
+    ensures { LooksUp (batch_meaning S.Store tenant.0) (λ m found. found ≡ m.clock)
+        conn.old conn.new result }
 {
-    match read_clock(conn, tenant) {
-        Ok(clock) => Ok(clock),
-        Err(cause) => Err(give_up(conn, cause)),
-    }
+    let clock = read_clock(conn, tenant);
+    or_give_up(conn, clock)
 }
 
 /// The same, without giving up.
 fn read_clock<S: Alter>(conn: &mut Connection<S>, tenant: TenantNumber) -> Result<u64, Unavailable>
-    ensures { Learns (HoldsTenant tenant.0) (λ trees clock. clock ≡ (machine_of tenant.0 trees).clock)
+    ensures { Learns (HoldsTenant tenant.0)
+        (λ trees clock. clock ≡ (machine_of tenant.0 trees).clock)
         S.Store conn.old conn.new result }
 {
     point_reads();
@@ -52,8 +51,8 @@ pub(crate) fn account<S: Alter>(
     id: u128,
 ) -> Result<Option<AccountWithBalances>, Unavailable>
     requires { (batch_meaning S.Store tenant.0).is_usable conn.old }
-    ensures { OnlyTells (batch_meaning S.Store tenant.0) conn.old conn.new result
-        (λ m. account_in m id) }
+    ensures { LooksUp (batch_meaning S.Store tenant.0) (λ m found. found ≡ account_in m id)
+        conn.old conn.new result }
 {
     let Some(account) = account_alone(conn, tenant, id)? else {
         return Ok(None);
@@ -69,27 +68,12 @@ fn account_alone<S: Alter>(
     id: u128,
 ) -> Result<Option<Account>, Unavailable>
     requires { (batch_meaning S.Store tenant.0).is_usable conn.old }
-    ensures { OnlyTells (batch_meaning S.Store tenant.0) conn.old conn.new result
-        (λ m. account_with id m.accounts) }
-{
-    match read_account(conn, tenant, id) {
-        Ok(found) => Ok(found),
-        Err(cause) => Err(give_up(conn, cause)),
-    }
-}
-
-/// The same, without giving up.
-fn read_account<S: Alter>(
-    conn: &mut Connection<S>,
-    tenant: TenantNumber,
-    id: u128,
-) -> Result<Option<Account>, Unavailable>
-    ensures { Learns (HoldsTenant tenant.0)
-        (λ trees account. account ≡ account_with id (machine_of tenant.0 trees).accounts)
-        S.Store conn.old conn.new result }
+    ensures { LooksUp (batch_meaning S.Store tenant.0)
+        (λ m found. found ≡ account_with id m.accounts) conn.old conn.new result }
 {
     point_reads();
-    finding::find_account(conn, tenant.0, id)
+    let found = finding::find_account(conn, tenant.0, id);
+    or_give_up(conn, found)
 }
 
 /// The balances of the account with this id, at the clock. That an account has none is told as a
@@ -100,14 +84,27 @@ fn balances<S: Alter>(
     account: u128,
 ) -> Result<Balances, Unavailable>
     requires { (batch_meaning S.Store tenant.0).is_usable conn.old }
-    ensures { OnlyTells (batch_meaning S.Store tenant.0) conn.old conn.new result
-        (λ m. balances_in m account) }
+    ensures { LooksUp (batch_meaning S.Store tenant.0) (λ m found. found ≡ balances_in m account)
+        conn.old conn.new result }
+{
+    let balances = read_balances(conn, tenant, account);
+    or_give_up(conn, balances)
+}
+
+/// The same, without giving up.
+fn read_balances<S: Alter>(
+    conn: &mut Connection<S>,
+    tenant: TenantNumber,
+    account: u128,
+) -> Result<Balances, Unavailable>
+    ensures { Learns (HoldsTenant tenant.0)
+        (λ trees found. found ≡ balances_in (machine_of tenant.0 trees) account)
+        S.Store conn.old conn.new result }
 {
     point_reads();
-    match finding::find_balance(conn, tenant.0, account) {
-        Ok(Some(row)) => Ok(row.balances),
-        Ok(None) => Err(give_up(conn, Unavailable::Disk)),
-        Err(cause) => Err(give_up(conn, cause)),
+    match finding::find_balance(conn, tenant.0, account)? {
+        Some(row) => Ok(row.balances),
+        None => Err(Unavailable::Disk),
     }
 }
 
@@ -118,14 +115,12 @@ pub(crate) fn transfer<S: Alter>(
     id: u128,
 ) -> Result<Option<Transfer>, Unavailable>
     requires { (batch_meaning S.Store tenant.0).is_usable conn.old }
-    ensures { OnlyTells (batch_meaning S.Store tenant.0) conn.old conn.new result
-        (λ m. transfer_with id m.transfers) }
+    ensures { LooksUp (batch_meaning S.Store tenant.0)
+        (λ m found. found ≡ transfer_with id m.transfers) conn.old conn.new result }
 {
     point_reads();
-    match finding::find_transfer(conn, tenant.0, id) {
-        Ok(found) => Ok(found),
-        Err(cause) => Err(give_up(conn, cause)),
-    }
+    let found = finding::find_transfer(conn, tenant.0, id);
+    or_give_up(conn, found)
 }
 
 /// What has become of the transfer with this id, if it is a pending one.
@@ -135,15 +130,27 @@ pub(crate) fn pending_state<S: Alter>(
     id: u128,
 ) -> Result<Option<PendingState>, Unavailable>
     requires { (batch_meaning S.Store tenant.0).is_usable conn.old }
-    ensures { OnlyTells (batch_meaning S.Store tenant.0) conn.old conn.new result
-        (λ m. pending_state_of m id) }
+    ensures { LooksUp (batch_meaning S.Store tenant.0) (λ m found. found ≡ pending_state_of m id)
+        conn.old conn.new result }
+{
+    let state = read_state(conn, tenant, id);
+    or_give_up(conn, state)
+}
+
+/// The same, without giving up.
+fn read_state<S: Alter>(
+    conn: &mut Connection<S>,
+    tenant: TenantNumber,
+    id: u128,
+) -> Result<Option<PendingState>, Unavailable>
+    ensures { Learns (HoldsTenant tenant.0)
+        (λ trees found. found ≡ pending_state_of (machine_of tenant.0 trees) id)
+        S.Store conn.old conn.new result }
 {
     point_reads();
     single_rows();
-    match finding::find_status(conn, tenant.0, id) {
-        Ok(found) => Ok(found.map(|row| row.state)),
-        Err(cause) => Err(give_up(conn, cause)),
-    }
+    let row = finding::find_status(conn, tenant.0, id)?;
+    Ok(row.map(|row| row.state))
 }
 
 /// Whether the id has failed for good.
@@ -153,12 +160,10 @@ pub(crate) fn failed<S: Alter>(
     id: u128,
 ) -> Result<bool, Unavailable>
     requires { (batch_meaning S.Store tenant.0).is_usable conn.old }
-    ensures { OnlyTells (batch_meaning S.Store tenant.0) conn.old conn.new result
-        (λ m. has_id id m.failed) }
+    ensures { LooksUp (batch_meaning S.Store tenant.0) (λ m found. found ≡ has_id id m.failed)
+        conn.old conn.new result }
 {
     point_reads();
-    match finding::has_failed(conn, tenant.0, id) {
-        Ok(failed) => Ok(failed),
-        Err(cause) => Err(give_up(conn, cause)),
-    }
+    let failed = finding::has_failed(conn, tenant.0, id);
+    or_give_up(conn, failed)
 }

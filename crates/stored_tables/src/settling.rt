@@ -18,7 +18,7 @@ ghost use Rattle.stored_tables.specs.Releasing.{ReleasesOne, ReleasesDue, MovesC
 use crate::batch::TenantNumber;
 use crate::changing::status;
 use crate::expiring::expire;
-use crate::failing::give_up;
+use crate::failing::or_give_up;
 use crate::flushing::{flush, make_room};
 use crate::kept::Kept;
 use crate::laws::held_machines;
@@ -52,10 +52,8 @@ pub(crate) fn settle<S: Alter>(
         (on_now (λ m. at_clock m clock)) }
 {
     held_machines();
-    match move_clock(conn, due, tenant, past, clock) {
-        Ok(()) => Ok(()),
-        Err(cause) => Err(give_up(conn, cause)),
-    }
+    let done = move_clock(conn, due, tenant, past, clock);
+    or_give_up(conn, done)
 }
 
 /// Releases what is due at the clock, and sets it.

@@ -1,16 +1,16 @@
 //! A tenant's accounts and transfers in a span of time, in its batch.
 
-ghost use Rattle.std.specs.Prelude.{◌≡◌, IfOk, IsTrue};
+ghost use Rattle.std.specs.Prelude.{◌≡◌};
 ghost use Rattle.records.specs.Queries.{accounts_within, transfers_within};
-ghost use Rattle.chain.specs.Tables.{Leaves, same};
+ghost use Rattle.chain.specs.Tables.{LooksUp};
 ghost use Rattle.ledger_sql.specs.Calls.{IfClean, Learns};
-ghost use Rattle.stored_tables.specs.Idle.{HoldsTenant};
+ghost use Rattle.stored_tables.specs.Idle.{HasOpenStore, HoldsTenant};
 ghost use Rattle.stored_tables.specs.MachineOf.{machine_of};
 ghost use Rattle.stored_tables.specs.Meaning.{batch_meaning};
 
 use crate::batch::TenantNumber;
 use crate::bounds::{span_first, span_last};
-use crate::failing::give_up;
+use crate::failing::or_give_up;
 use ledger_sql::spans::{newest_accounts, newest_transfers, oldest_accounts, oldest_transfers};
 use records::{Account, Order, Span, Transfer, Unavailable};
 use rows::{read_in_order, rows_fit, rows_stand_in_order};
@@ -25,15 +25,11 @@ pub(crate) fn accounts<S: Alter>(
     span: &Span,
 ) -> Result<Vec<Account>, Unavailable>
     requires { (batch_meaning S.Store tenant.0).is_usable conn.old }
-    ensures value { (batch_meaning S.Store tenant.0).is_live conn.new → IfOk result
-        (λ found. found.items
-        ≡ accounts_within ((batch_meaning S.Store tenant.0).state conn.old).now span.now) }
-    ensures leaves { Leaves (batch_meaning S.Store tenant.0) conn.old conn.new result same }
+    ensures { LooksUp (batch_meaning S.Store tenant.0)
+        (λ m found. found.items ≡ accounts_within m span.now) conn.old conn.new result }
 {
-    match read_accounts(alloc, conn, tenant, span) {
-        Ok(found) => Ok(found),
-        Err(cause) => Err(give_up(conn, cause)),
-    }
+    let found = read_accounts(alloc, conn, tenant, span);
+    or_give_up(conn, found)
 }
 
 /// The same, without giving up.
@@ -43,7 +39,7 @@ fn read_accounts<S: Alter>(
     tenant: TenantNumber,
     span: &Span,
 ) -> Result<Vec<Account>, Unavailable>
-    requires { IfClean (λ s. IsTrue s.is_open) S.Store conn.old }
+    requires { IfClean HasOpenStore S.Store conn.old }
     ensures { Learns (HoldsTenant tenant.0) (λ trees found. found.items ≡ accounts_within
         (machine_of tenant.0 trees) span.now)
         S.Store conn.old conn.new result }
@@ -69,15 +65,11 @@ pub(crate) fn transfers<S: Alter>(
     span: &Span,
 ) -> Result<Vec<Transfer>, Unavailable>
     requires { (batch_meaning S.Store tenant.0).is_usable conn.old }
-    ensures value { (batch_meaning S.Store tenant.0).is_live conn.new → IfOk result
-        (λ found. found.items
-        ≡ transfers_within ((batch_meaning S.Store tenant.0).state conn.old).now span.now) }
-    ensures leaves { Leaves (batch_meaning S.Store tenant.0) conn.old conn.new result same }
+    ensures { LooksUp (batch_meaning S.Store tenant.0)
+        (λ m found. found.items ≡ transfers_within m span.now) conn.old conn.new result }
 {
-    match read_transfers(alloc, conn, tenant, span) {
-        Ok(found) => Ok(found),
-        Err(cause) => Err(give_up(conn, cause)),
-    }
+    let found = read_transfers(alloc, conn, tenant, span);
+    or_give_up(conn, found)
 }
 
 /// The same, without giving up.
@@ -87,7 +79,7 @@ fn read_transfers<S: Alter>(
     tenant: TenantNumber,
     span: &Span,
 ) -> Result<Vec<Transfer>, Unavailable>
-    requires { IfClean (λ s. IsTrue s.is_open) S.Store conn.old }
+    requires { IfClean HasOpenStore S.Store conn.old }
     ensures { Learns (HoldsTenant tenant.0) (λ trees found. found.items ≡ transfers_within
         (machine_of tenant.0 trees) span.now)
         S.Store conn.old conn.new result }

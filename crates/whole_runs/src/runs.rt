@@ -1,5 +1,5 @@
 //! Runs a list of steps.
-ghost use Rattle.std.specs.Prelude.{◌≡◌, ◌<◌, ◌++◌, ◌∷◌, [], IfOk, OnErr, vec_len, vec_capacity};
+ghost use Rattle.std.specs.Prelude.{◌≡◌, IfOk, OnErr};
 ghost use Rattle.std.specs.List.{AllZip};
 ghost use Rattle.whole_runs.specs.Reopenings.{StepMakes, HasNamed, HasRun, RunsThrough, EndsInOrder};
 ghost use Rattle.whole_runs.specs.Reopenings.{IsAnswerTo};

@@ -14,10 +14,7 @@ use Rattle.ledger_http.specs.declared.refusal.Refusal.{Refusal}
 use Rattle.ledger_http.specs.declared.refusal.Refusal.TheVariants.{BodyNotJson, BadField}
 use Rattle.ledger_http.specs.declared.refusal.Refusal.TheVariants.{TooManyEvents}
 use Rattle.wire.specs.Fields.{number_below}
-use Rattle.wire.specs.TransferBody.{transfer_of}
-use Rattle.wire.specs.AccountBody.{account_of}
-use Rattle.wire.specs.FilterBody.{filter_of}
-use Rattle.wire.specs.QueryBody.{query_of, page_of}
+use Rattle.wire.specs.KnownObjects.{account_of, transfer_of, filter_of, query_of, page_of}
 
 -- the value that the bytes are as JSON
 unfoldable pub json_of : List ℕ → Option Data

@@ -12,10 +12,8 @@ use Rattle.ledger_http.specs.declared.route.Route.TheVariants as route
 use Rattle.wire.specs.declared.body_fault.BodyFault.{BodyFault}
 use Rattle.wire.specs.declared.wanted.Wanted.{Wanted}
 use Rattle.wire.specs.declared.wanted.Wanted.TheVariants.{Json, List as AList, Few}
-use Rattle.wire.specs.AccountBody.{account_of, account_fields}
-use Rattle.wire.specs.TransferBody.{transfer_of, transfer_fields}
-use Rattle.wire.specs.FilterBody.{filter_fields}
-use Rattle.wire.specs.QueryBody.{query_fields, page_fields}
+use Rattle.wire.specs.KnownObjects.{account_of, account_fields, transfer_of, transfer_fields}
+use Rattle.wire.specs.KnownObjects.{filter_fields, query_fields, page_fields}
 use Rattle.wire.specs.Body.{accounts_in, transfers_in, ids_in, filter_in, query_in, page_in}
 use Rattle.wire.specs.Body.{json_of, id_of}
 use Rattle.wire.specs.Fields.{KnownFields}

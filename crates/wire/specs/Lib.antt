@@ -1,8 +1,5 @@
 pub mod Fields
-pub mod TransferBody
-pub mod AccountBody
-pub mod FilterBody
-pub mod QueryBody
+pub mod KnownObjects
 pub mod Misfits
 pub mod Body
 pub mod Meaning

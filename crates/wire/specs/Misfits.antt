@@ -17,7 +17,7 @@ use Rattle.wire.specs.declared.wanted.Wanted.TheVariants.{Limit}
 use Rattle.wire.specs.Body.{id_of}
 use Rattle.wire.specs.Fields.{KnownFields, known_names, wanted_in, wide, whole, names_of}
 use Rattle.wire.specs.Fields.{is_among}
-use Rattle.wire.specs.FilterBody.{limit_of}
+use Rattle.wire.specs.KnownObjects.{limit_of}
 
 -- the refusal of a body that has not what is wanted
 abbrev pub refusal_of : Wanted → Refusal

@@ -1,7 +1,7 @@
 -- The JSON of replies. Keys stand in byte order.
 use Rattle.std.specs.Prelude.{ℕ, List, [], ◌∷◌, codes, map}
-use Rattle.serde_json.specs.Data.{Data, number, unsigned, string, array, object, Members, member}
-use Rattle.serde_json.specs.Data.{no_members}
+use Rattle.serde_json.specs.Data.{Data, number, unsigned, string, boolean, array, object, Members}
+use Rattle.serde_json.specs.Data.{member, no_members}
 use Rattle.serde_json.specs.View.{items_of}
 use Rattle.amount.specs.Decimal.{decimal_of}
 use Rattle.records.specs.declared.account_result.AccountResult.{AccountResult}
@@ -13,6 +13,9 @@ use Rattle.records.specs.declared.hold.Hold.{Hold}
 use Rattle.records.specs.declared.reply.EventResult.{EventResult}
 use Rattle.records.specs.declared.transfer.Transfer.{Transfer}
 use Rattle.records.specs.declared.transfer_result.TransferResult.{TransferResult}
+use Rattle.wire.specs.declared.members.Member.{Member}
+use Rattle.wire.specs.declared.members.Told.{Told}
+use Rattle.wire.specs.declared.members.Told.TheVariants.{Whole, U64, U128, Text, Flag}
 use Rattle.wire.specs.declared.outcome.Entries.{Entries}
 use Rattle.wire.specs.declared.outcome.Entries.TheVariants.{Accounts, Transfers, OpenHolds}
 use Rattle.records.specs.AccountResultNames as account
@@ -25,6 +28,18 @@ wide_data n = string (decimal_of n)
 -- a smaller number is a JSON number
 abbrev pub whole_data : ℕ → Data
 whole_data n = number (unsigned n)
+
+-- what a member tells
+abbrev pub told_data : Told → Data
+told_data (Whole n) = whole_data n
+told_data (U64 n) = wide_data n
+told_data (U128 n) = wide_data n
+told_data (Text text) = string text.now
+told_data (Flag flag) = boolean flag
+
+-- a member by its name
+abbrev pub member_of : Member → List ℕ × Data
+member_of m = (m.name.now, told_data m.value)
 
 -- a list of what each value shows
 abbrev pub list_data : {A : Type 0} → (A → Data) → List A → Data
@@ -40,12 +55,16 @@ abbrev pub object_with : List (List ℕ × Data) → Data
 object_with ms = object (members_with ms)
 
 -- the result of one event, by its number and its name
-abbrev pub result_data : {R : Type 0} → (R → ℕ) → (R → List ℕ) → EventResult R → Data
-result_data number_of name_of event = object_with (
+abbrev pub result_members : {R : Type 0} → (R → ℕ) → (R → List ℕ) → EventResult R
+    → List (List ℕ × Data)
+result_members number_of name_of event =
     (codes "number", whole_data (number_of event.result))
     ∷ (codes "result", string (name_of event.result))
     ∷ (codes "timestamp", wide_data event.timestamp)
-    ∷ [])
+    ∷ []
+
+abbrev pub result_data : {R : Type 0} → (R → ℕ) → (R → List ℕ) → EventResult R → Data
+result_data number_of name_of event = object_with (result_members number_of name_of event)
 
 -- the result of an account event
 abbrev pub account_result_data : EventResult AccountResult → Data
@@ -56,8 +75,8 @@ abbrev pub transfer_result_data : EventResult TransferResult → Data
 transfer_result_data event = result_data transfer.number_of transfer.name_of event
 
 -- an account with its balances
-abbrev pub account_data : AccountWithBalances → Data
-account_data found = object_with (
+abbrev pub account_members : AccountWithBalances → List (List ℕ × Data)
+account_members found =
     (codes "code", whole_data found.account.code)
     ∷ (codes "credits_pending", wide_data found.balances.credits.pending)
     ∷ (codes "credits_posted", wide_data found.balances.credits.posted)
@@ -70,11 +89,14 @@ account_data found = object_with (
     ∷ (codes "user_data_128", wide_data found.account.user_data_128)
     ∷ (codes "user_data_32", whole_data found.account.user_data_32)
     ∷ (codes "user_data_64", wide_data found.account.user_data_64)
-    ∷ [])
+    ∷ []
+
+abbrev pub account_data : AccountWithBalances → Data
+account_data found = object_with (account_members found)
 
 -- a transfer; the clock of its batch is never shown
-abbrev pub transfer_data : Transfer → Data
-transfer_data entry = object_with (
+abbrev pub transfer_members : Transfer → List (List ℕ × Data)
+transfer_members entry =
     (codes "amount", wide_data entry.amount)
     ∷ (codes "code", whole_data entry.code)
     ∷ (codes "credit_account_id", wide_data entry.credit_account_id)
@@ -88,17 +110,23 @@ transfer_data entry = object_with (
     ∷ (codes "user_data_128", wide_data entry.user_data_128)
     ∷ (codes "user_data_32", whole_data entry.user_data_32)
     ∷ (codes "user_data_64", wide_data entry.user_data_64)
-    ∷ [])
+    ∷ []
+
+abbrev pub transfer_data : Transfer → Data
+transfer_data entry = object_with (transfer_members entry)
 
 -- the balances after an entry, with the entry's timestamp
-abbrev pub balance_data : BalanceAt → Data
-balance_data row = object_with (
+abbrev pub balance_members : BalanceAt → List (List ℕ × Data)
+balance_members row =
     (codes "credits_pending", wide_data row.balances.credits.pending)
     ∷ (codes "credits_posted", wide_data row.balances.credits.posted)
     ∷ (codes "debits_pending", wide_data row.balances.debits.pending)
     ∷ (codes "debits_posted", wide_data row.balances.debits.posted)
     ∷ (codes "timestamp", wide_data row.timestamp)
-    ∷ [])
+    ∷ []
+
+abbrev pub balance_data : BalanceAt → Data
+balance_data row = object_with (balance_members row)
 
 -- the name of what has become of a pending transfer
 abbrev pub state_name : PendingState → List ℕ

@@ -1,8 +1,10 @@
 ghost use Rattle.std.specs.Prelude.{◌≡◌, IfOk};
 ghost use Rattle.serde_json.specs.Written.{compact_text};
-ghost use Rattle.wire.specs.Reply.{transfer_batch_data, account_batch_data};
+ghost use Rattle.wire.specs.Reply.{account_batch_data, transfer_batch_data};
 
-use crate::list_text::clock_then_list;
+use crate::listed::list_text;
+use crate::members::Member;
+use crate::shown::Plain;
 use records::{AccountResult, EventResult, TransferResult};
 use std::alloc::{AllocError, Global};
 
@@ -16,7 +18,13 @@ pub fn batch_text_transfers(
     ensures { IfOk result (λ text.
         text.items ≡ compact_text (transfer_batch_data clock results.now)) }
 {
-    clock_then_list(alloc, clock, "results", results)
+    list_text::<_, Plain>(
+        alloc,
+        &[Member::u64("clock", clock)],
+        "results",
+        results,
+        &[],
+    )
 }
 
 /// The reply's body to a batch of accounts, as compact JSON. The clock is that after the batch, in
@@ -29,5 +37,6 @@ pub fn batch_text_accounts(
     ensures { IfOk result (λ text.
         text.items ≡ compact_text (account_batch_data clock results.now)) }
 {
-    clock_then_list(alloc, clock, "results", results)
+    let clock = [Member::u64("clock", clock)];
+    list_text::<_, Plain>(alloc, &clock, "results", results, &[])
 }

@@ -1,16 +1,18 @@
 //! The numbers in the fields of an object.
 
-ghost use Rattle.std.specs.Prelude.{◌≡◌, ℕ, ◌<◌, ◌^◌, ◌↔◌, List, Some, IfErr};
+ghost use Rattle.std.specs.Prelude.{◌≡◌, ℕ, ◌+◌, ◌<◌, ◌^◌, ◌↔◌, List, Some, IfErr, codes};
 ghost use Rattle.std.specs.Result.{result_ok};
 ghost use Rattle.amount.specs.Decimal.{decimal_of};
 ghost use Rattle.serde_json.specs.Find.{get};
 ghost use Rattle.serde_json.specs.View.{view};
 ghost use Rattle.wire.specs.Fields.{number_below, wide, whole};
+ghost use Rattle.wire.specs.KnownObjects.{limit_of};
 ghost use Rattle.wire.specs.Misfits.{IsBadField};
 
 use crate::Wanted;
 use crate::misfit::Misfit;
 use amount::Amount;
+use records::MOST_AT_ONCE;
 use serde_json::Value;
 
 /// A field of 128 bits: a string of canonical decimal, 0 where it is missing.
@@ -87,7 +89,45 @@ pub(crate) fn u16_field<'a>(object: &Value, name: &'a str) -> Result<u16, Misfit
     whole_16(object, name).ok_or(Misfit::of_field(name, Wanted::WholeBelow(1 << 16)))
 }
 
-pub(crate) fn read_number(text: &str) -> Option<u128>
+/// The flags of an object that are among those known.
+pub(crate) fn flags_field(object: &Value, known: u16) -> Result<u16, Misfit<'static>>
+    ensures value { result_ok result ≡ whole (known + 1) (get (codes "flags") (view object.now)) }
+    ensures misfit { IfErr result
+        (IsBadField (codes "flags") (Wanted.WholeBelow (known + 1)) (view object.now)) }
+{
+    let wanted = Wanted::WholeBelow(u64::from(known) + 1);
+    flags_in(object, known).ok_or(Misfit::of_field("flags", wanted))
+}
+
+fn flags_in(object: &Value, known: u16) -> Option<u16>
+    ensures { result ≡ whole (known + 1) (get (codes "flags") (view object.now)) }
+{
+    let flags = whole_16(object, "flags")?;
+    if flags <= known { Some(flags) } else { None }
+}
+
+/// How many entries are asked for: 1 to 1,000.
+pub(crate) fn limit_field(object: &Value) -> Result<u32, Misfit<'static>>
+    ensures value { result_ok result ≡ limit_of (get (codes "limit") (view object.now)) }
+    ensures misfit { IfErr result
+        (IsBadField (codes "limit") Wanted.Limit (view object.now)) }
+{
+    limit_in(object).ok_or(Misfit::of_field("limit", Wanted::Limit))
+}
+
+fn limit_in(object: &Value) -> Option<u32>
+    ensures { result ≡ limit_of (get (codes "limit") (view object.now)) }
+{
+    let limit = whole_32(object, "limit")?;
+    if (1..=MOST_AT_ONCE).contains(&limit) {
+        Some(limit)
+    } else {
+        None
+    }
+}
+
+/// The number below 2^128 whose decimal a text is, digit for digit.
+pub fn read_number(text: &str) -> Option<u128>
     ensures { result ≡ number_below (2 ^ 128) text.now }
 {
     Some(Amount::read_decimal(text)?.value())

@@ -3,13 +3,13 @@ ghost use Rattle.std.specs.Result.{result_ok};
 ghost use Rattle.serde_json.specs.Data.{Data};
 ghost use Rattle.serde_json.specs.View.{view};
 ghost use Rattle.wire.specs.Body.{id_of};
+ghost use Rattle.wire.specs.Fields.{known_names, object_of};
 ghost use Rattle.wire.specs.Misfits.{Expected, IsMisfit, an_id, an_object};
 
 use crate::Wanted;
 use crate::fields::read_number;
 use crate::misfit::Misfit;
-use crate::object::read_object;
-use records::{AccountEvent, TransferEvent};
+use crate::object::{Object, read_object};
 use serde_json::Value;
 
 /// What a list in a body is made of.
@@ -23,26 +23,13 @@ pub(crate) trait Item: Drop {
         ensures misfit { IfErr result (IsMisfit expected (view value.now)) };
 }
 
-impl Item for AccountEvent {
-    ghost use Rattle.wire.specs.AccountBody.{account_fields, account_of};
+/// An event is an object of known fields.
+impl<O: Object> Item for O {
+    ghost means = { object_of (known_names O.fields) O.from_fields };
 
-    ghost means = { account_of };
+    ghost expected = { an_object O.fields };
 
-    ghost expected = { an_object account_fields };
-
-    fn read(value: &Value) -> Result<AccountEvent, Misfit<'_>> {
-        read_object(value)
-    }
-}
-
-impl Item for TransferEvent {
-    ghost use Rattle.wire.specs.TransferBody.{transfer_fields, transfer_of};
-
-    ghost means = { transfer_of };
-
-    ghost expected = { an_object transfer_fields };
-
-    fn read(value: &Value) -> Result<TransferEvent, Misfit<'_>> {
+    fn read(value: &Value) -> Result<O, Misfit<'_>> {
         read_object(value)
     }
 }

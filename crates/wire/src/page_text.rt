@@ -3,7 +3,8 @@ ghost use Rattle.serde_json.specs.Written.{compact_text};
 ghost use Rattle.wire.specs.Reply.{page_data};
 
 use crate::Entries;
-use crate::list_text::{list_then_next, next_then_list};
+use crate::listed::list_text;
+use crate::members::Member;
 use crate::shown::{Plain, Timed};
 use std::alloc::{AllocError, Global};
 
@@ -16,15 +17,16 @@ pub(crate) fn page_text(
 ) -> Result<Vec<u8>, AllocError>
     ensures { IfOk result (λ text. text.items ≡ compact_text (page_data clock next entries.now)) }
 {
+    let times = [Member::u64("clock", clock), Member::u64("next", next)];
     match entries {
         Entries::Accounts(accounts) => {
-            list_then_next(alloc, clock, next, "accounts", accounts.as_slice())
+            list_text::<_, Plain>(alloc, &[], "accounts", accounts.as_slice(), &times)
         }
         Entries::Transfers(transfers) => {
-            next_then_list::<_, Plain>(alloc, clock, next, "transfers", transfers.as_slice())
+            list_text::<_, Plain>(alloc, &times, "transfers", transfers.as_slice(), &[])
         }
         Entries::OpenHolds(holds) => {
-            next_then_list::<_, Timed>(alloc, clock, next, "pending", holds.as_slice())
+            list_text::<_, Timed>(alloc, &times, "pending", holds.as_slice(), &[])
         }
     }
 }

@@ -6,41 +6,24 @@ use records::{AccountResult, TransferResult};
 
 /// What became of an event, by the number and the name that a reply tells.
 pub(crate) trait ReplyResult: Copy {
-    ghost number_of: { Self → ℕ };
+    ghost told_of: { Self → ℕ × List ℕ };
 
-    ghost name_of: { Self → List ℕ };
-
-    fn number(self) -> u16
-        ensures { result ≡ number_of self };
-
-    fn name(self) -> &'static str
-        ensures { result.now ≡ name_of self };
+    fn told(self) -> (u16, &'static str)
+        ensures { (result.0, result.1.now) ≡ told_of self };
 }
 
 impl ReplyResult for TransferResult {
-    ghost number_of = { transfer.number_of };
+    ghost told_of = { λ r. (transfer.number_of r, transfer.name_of r) };
 
-    ghost name_of = { transfer.name_of };
-
-    fn number(self) -> u16 {
-        TransferResult::number(self)
-    }
-
-    fn name(self) -> &'static str {
-        TransferResult::name(self)
+    fn told(self) -> (u16, &'static str) {
+        (self.number(), self.name())
     }
 }
 
 impl ReplyResult for AccountResult {
-    ghost number_of = { account.number_of };
+    ghost told_of = { λ r. (account.number_of r, account.name_of r) };
 
-    ghost name_of = { account.name_of };
-
-    fn number(self) -> u16 {
-        AccountResult::number(self)
-    }
-
-    fn name(self) -> &'static str {
-        AccountResult::name(self)
+    fn told(self) -> (u16, &'static str) {
+        (self.number(), self.name())
     }
 }

@@ -1,16 +1,19 @@
-ghost use Rattle.std.specs.Prelude.{◌≡◌};
+ghost use Rattle.std.specs.Prelude.{◌≡◌, map};
 ghost use Rattle.serde_json.specs.Data.{Data};
-ghost use Rattle.wire.specs.Reply.{state_name};
+ghost use Rattle.wire.specs.Reply.{account_data, account_members, balance_data, balance_members};
+ghost use Rattle.wire.specs.Reply.{hold_data, member_of, result_data, result_members};
+ghost use Rattle.wire.specs.Reply.{state_name, timed_hold_data};
+ghost use Rattle.wire.specs.Reply.{transfer_data, transfer_members};
 ghost use Rattle.wire.specs.Writing.{AddsData};
 
-use crate::members::{write_text, write_u64, write_u128, write_whole};
+use crate::members::{Member, write_object};
 use crate::reply_result::ReplyResult;
 use json::Writer;
 use records::{AccountWithBalances, BalanceAt, EventResult, Hold, PendingState, Transfer};
 use std::alloc::AllocError;
 
 /// What a reply's list shows as an object.
-pub(crate) trait Shown {
+pub trait Shown {
     ghost shows: { Self → Data };
 
     fn write(&self, writer: &mut Writer) -> Result<(), AllocError>
@@ -18,7 +21,7 @@ pub(crate) trait Shown {
 }
 
 /// A form in which a reply's list shows values as objects.
-pub(crate) trait Form<T> {
+pub trait Form<T> {
     ghost shows: { T → Data };
 
     fn write(value: &T, writer: &mut Writer) -> Result<(), AllocError>
@@ -26,7 +29,7 @@ pub(crate) trait Form<T> {
 }
 
 /// Values as they show themselves.
-pub(crate) struct Plain;
+pub struct Plain;
 
 impl<S: Shown> Form<S> for Plain {
     ghost shows = { S.shows };
@@ -40,121 +43,125 @@ impl<S: Shown> Form<S> for Plain {
 pub(crate) struct Timed;
 
 impl Form<Hold> for Timed {
-    ghost use Rattle.wire.specs.Reply.{timed_hold_data};
-
     ghost shows = { timed_hold_data };
 
     fn write(hold: &Hold, writer: &mut Writer) -> Result<(), AllocError> {
-        writer.begin_object()?;
-        write_u64(writer, "due", hold.due)?;
-        write_u128(writer, "id", hold.id)?;
-        write_text(writer, "state", state_name(hold.state))?;
-        write_u64(writer, "timestamp", hold.timestamp)?;
-        writer.end_object()
+        let members = [
+            Member::u64("due", hold.due),
+            Member::u128("id", hold.id),
+            Member::text("state", state_name(hold.state)),
+            Member::u64("timestamp", hold.timestamp),
+        ];
+        write_object(writer, &members)
     }
 }
 
 impl<R: ReplyResult> Shown for EventResult<R> {
-    ghost use Rattle.wire.specs.Reply.{result_data};
-
-    ghost shows = { result_data R.number_of R.name_of };
+    ghost shows = { result_data (λ r. (R.told_of r).0) (λ r. (R.told_of r).1) };
 
     fn write(&self, writer: &mut Writer) -> Result<(), AllocError> {
-        writer.begin_object()?;
-        write_whole(writer, "number", u32::from(self.result.number()))?;
-        write_text(writer, "result", self.result.name())?;
-        write_u64(writer, "timestamp", self.timestamp)?;
-        writer.end_object()
+        write_object(writer, result_members(self).as_slice())
     }
+}
+
+fn result_members<R: ReplyResult>(event: &EventResult<R>) -> [Member<'static>; 3]
+    ensures { map member_of result
+        ≡ result_members (λ r. (R.told_of r).0) (λ r. (R.told_of r).1) event.now }
+{
+    let (number, name) = event.result.told();
+    [
+        Member::whole("number", u32::from(number)),
+        Member::text("result", name),
+        Member::u64("timestamp", event.timestamp),
+    ]
 }
 
 impl Shown for AccountWithBalances {
-    ghost use Rattle.wire.specs.Reply.{account_data};
-
     ghost shows = { account_data };
 
     fn write(&self, writer: &mut Writer) -> Result<(), AllocError> {
-        let AccountWithBalances { account, balances } = self;
-        writer.begin_object()?;
-        write_whole(writer, "code", u32::from(account.code))?;
-        write_u128(writer, "credits_pending", balances.credits.pending.value())?;
-        write_u128(writer, "credits_posted", balances.credits.posted.value())?;
-        write_u128(writer, "debits_pending", balances.debits.pending.value())?;
-        write_u128(writer, "debits_posted", balances.debits.posted.value())?;
-        write_whole(writer, "flags", u32::from(account.flags.0))?;
-        write_u128(writer, "id", account.id)?;
-        write_whole(writer, "ledger", account.ledger)?;
-        write_u64(writer, "timestamp", account.timestamp)?;
-        write_u128(writer, "user_data_128", account.user_data_128)?;
-        write_whole(writer, "user_data_32", account.user_data_32)?;
-        write_u64(writer, "user_data_64", account.user_data_64)?;
-        writer.end_object()
+        write_object(writer, account_members(self).as_slice())
     }
+}
+
+fn account_members(found: &AccountWithBalances) -> [Member<'static>; 12]
+    ensures { map member_of result ≡ account_members found.now }
+{
+    let AccountWithBalances { account, balances } = found;
+    [
+        Member::whole("code", u32::from(account.code)),
+        Member::u128("credits_pending", balances.credits.pending.value()),
+        Member::u128("credits_posted", balances.credits.posted.value()),
+        Member::u128("debits_pending", balances.debits.pending.value()),
+        Member::u128("debits_posted", balances.debits.posted.value()),
+        Member::whole("flags", u32::from(account.flags.0)),
+        Member::u128("id", account.id),
+        Member::whole("ledger", account.ledger),
+        Member::u64("timestamp", account.timestamp),
+        Member::u128("user_data_128", account.user_data_128),
+        Member::whole("user_data_32", account.user_data_32),
+        Member::u64("user_data_64", account.user_data_64),
+    ]
 }
 
 impl Shown for Transfer {
-    ghost use Rattle.wire.specs.Reply.{transfer_data};
-
     ghost shows = { transfer_data };
 
     fn write(&self, writer: &mut Writer) -> Result<(), AllocError> {
-        writer.begin_object()?;
-        write_u128(writer, "amount", self.amount.value())?;
-        write_whole(writer, "code", u32::from(self.code))?;
-        write_u128(writer, "credit_account_id", self.credit_account_id)?;
-        write_u128(writer, "debit_account_id", self.debit_account_id)?;
-        write_whole(writer, "flags", u32::from(self.flags.0))?;
-        write_u128(writer, "id", self.id)?;
-        write_whole(writer, "ledger", self.ledger)?;
-        write_u128(writer, "pending_id", self.pending_id)?;
-        write_whole(writer, "timeout", self.timeout)?;
-        write_u64(writer, "timestamp", self.timestamp)?;
-        write_u128(writer, "user_data_128", self.user_data_128)?;
-        write_whole(writer, "user_data_32", self.user_data_32)?;
-        write_u64(writer, "user_data_64", self.user_data_64)?;
-        writer.end_object()
+        write_object(writer, transfer_members(self).as_slice())
     }
+}
+
+fn transfer_members(entry: &Transfer) -> [Member<'static>; 13]
+    ensures { map member_of result ≡ transfer_members entry.now }
+{
+    [
+        Member::u128("amount", entry.amount.value()),
+        Member::whole("code", u32::from(entry.code)),
+        Member::u128("credit_account_id", entry.credit_account_id),
+        Member::u128("debit_account_id", entry.debit_account_id),
+        Member::whole("flags", u32::from(entry.flags.0)),
+        Member::u128("id", entry.id),
+        Member::whole("ledger", entry.ledger),
+        Member::u128("pending_id", entry.pending_id),
+        Member::whole("timeout", entry.timeout),
+        Member::u64("timestamp", entry.timestamp),
+        Member::u128("user_data_128", entry.user_data_128),
+        Member::whole("user_data_32", entry.user_data_32),
+        Member::u64("user_data_64", entry.user_data_64),
+    ]
 }
 
 impl Shown for BalanceAt {
-    ghost use Rattle.wire.specs.Reply.{balance_data};
-
     ghost shows = { balance_data };
 
     fn write(&self, writer: &mut Writer) -> Result<(), AllocError> {
-        writer.begin_object()?;
-        write_u128(
-            writer,
-            "credits_pending",
-            self.balances.credits.pending.value(),
-        )?;
-        write_u128(
-            writer,
-            "credits_posted",
-            self.balances.credits.posted.value(),
-        )?;
-        write_u128(
-            writer,
-            "debits_pending",
-            self.balances.debits.pending.value(),
-        )?;
-        write_u128(writer, "debits_posted", self.balances.debits.posted.value())?;
-        write_u64(writer, "timestamp", self.timestamp)?;
-        writer.end_object()
+        write_object(writer, balance_members(self).as_slice())
     }
 }
 
-impl Shown for Hold {
-    ghost use Rattle.wire.specs.Reply.{hold_data};
+fn balance_members(row: &BalanceAt) -> [Member<'static>; 5]
+    ensures { map member_of result ≡ balance_members row.now }
+{
+    [
+        Member::u128("credits_pending", row.balances.credits.pending.value()),
+        Member::u128("credits_posted", row.balances.credits.posted.value()),
+        Member::u128("debits_pending", row.balances.debits.pending.value()),
+        Member::u128("debits_posted", row.balances.debits.posted.value()),
+        Member::u64("timestamp", row.timestamp),
+    ]
+}
 
+impl Shown for Hold {
     ghost shows = { hold_data };
 
     fn write(&self, writer: &mut Writer) -> Result<(), AllocError> {
-        writer.begin_object()?;
-        write_u64(writer, "due", self.due)?;
-        write_u128(writer, "id", self.id)?;
-        write_text(writer, "state", state_name(self.state))?;
-        writer.end_object()
+        let members = [
+            Member::u64("due", self.due),
+            Member::u128("id", self.id),
+            Member::text("state", state_name(self.state)),
+        ];
+        write_object(writer, &members)
     }
 }
 

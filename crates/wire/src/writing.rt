@@ -4,8 +4,10 @@ ghost use Rattle.wire.specs.Reply.{page_data};
 ghost use Rattle.wire.specs.Told.{json_text, outcome_text};
 
 use crate::batch_text::{batch_text_accounts, batch_text_transfers};
-use crate::list_text::{clock_then_list, list_then_clock};
+use crate::listed::list_text;
+use crate::members::Member;
 use crate::page_text::page_text;
+use crate::shown::Plain;
 use crate::{Entries, Outcome};
 use ledger_http::{ContentType, Refusal, Reply};
 use std::alloc::{AllocError, Global};
@@ -30,15 +32,24 @@ pub fn reply_bytes(alloc: Global, outcome: &Outcome) -> Result<Reply, NoMemory>
             Reply::of_body(alloc, ContentType::Json, &body)
         }
         Outcome::Accounts { clock, accounts } => {
-            let body = list_then_clock(alloc, *clock, "accounts", accounts.as_slice())?;
+            let clock = [Member::u64("clock", *clock)];
+            let body = list_text::<_, Plain>(alloc, &[], "accounts", accounts.as_slice(), &clock)?;
             Reply::of_body(alloc, ContentType::Json, &body)
         }
         Outcome::Transfers { clock, transfers } => {
-            let body = clock_then_list(alloc, *clock, "transfers", transfers.as_slice())?;
+            let clock = [Member::u64("clock", *clock)];
+            let body = list_text::<_, Plain>(
+                alloc,
+                &clock,
+                "transfers",
+                transfers.as_slice(),
+                &[],
+            )?;
             Reply::of_body(alloc, ContentType::Json, &body)
         }
         Outcome::Balances { clock, balances } => {
-            let body = list_then_clock(alloc, *clock, "balances", balances.as_slice())?;
+            let clock = [Member::u64("clock", *clock)];
+            let body = list_text::<_, Plain>(alloc, &[], "balances", balances.as_slice(), &clock)?;
             Reply::of_body(alloc, ContentType::Json, &body)
         }
         Outcome::Page {
@@ -47,7 +58,8 @@ pub fn reply_bytes(alloc: Global, outcome: &Outcome) -> Result<Reply, NoMemory>
             entries,
         } => page_reply(alloc, *clock, *next, entries),
         Outcome::Holds { clock, holds } => {
-            let body = clock_then_list(alloc, *clock, "pending", holds.as_slice())?;
+            let clock = [Member::u64("clock", *clock)];
+            let body = list_text::<_, Plain>(alloc, &clock, "pending", holds.as_slice(), &[])?;
             Reply::of_body(alloc, ContentType::Json, &body)
         }
         Outcome::Statement(chunks) => {

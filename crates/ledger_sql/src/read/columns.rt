@@ -11,7 +11,7 @@ pub(crate) struct Columns<'a> {
 }
 
 impl<'a> Columns<'a> {
-    ghost use Rattle.std.specs.Prelude.{◌≡◌, [], ◌∷◌, ◌↔◌, FitsSigned, IfOk, IsTrue, string_bytes};
+    ghost use Rattle.std.specs.Prelude.{◌≡◌, [], ◌∷◌, FitsSigned, IfOk, IsTrue, string_bytes};
     ghost use Rattle.std.specs.Int.{w64};
     ghost use Rattle.sqlite_value.specs.Value.{owned};
     ghost use Rattle.sqlite_value.specs.Order.{column};

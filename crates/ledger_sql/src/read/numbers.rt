@@ -1,5 +1,5 @@
 ghost use Rattle.std.specs.Prelude.{pos, [], ◌∷◌};
-ghost use Rattle.sqlite_value.specs.declared.value.Value.TheVariants.{Int, Blob};
+ghost use Rattle.sqlite_value.specs.declared.value.Value.TheVariants.{Int};
 ghost use Rattle.ledger_sql.specs.Values.{clock_values, id_values};
 
 use crate::read::{Columns, ReadRow};

@@ -1,7 +1,6 @@
 //! Stores of which nothing is claimed, so that a test may make any call on one and see what
 //! happens.
 
-ghost use Rattle.std.specs.Prelude.{◌≡◌};
 ghost use Rattle.sqlite.specs.State.{HasCleanDisk};
 ghost use Rattle.sqlite.specs.Held.{state};
 ghost use Rattle.sqlite_trees.specs.View.{IsClean};

@@ -9,9 +9,9 @@ returns-in-Ok-clause-served c = record {
   listening = c.in_ok-listening.listening;
   listens = record {
     ip = subst (λ ip. ReadsListening (text_in c.args.address) (Ok ip))
-        (sym (ap socket_ip c.in_ok-listening.ensures.there ∙ c.new-asked.ensures.ip))
+        (sym (ap socket_ip c.in_ok-listening.ensures ∙ c.new-asked.ensures.ip))
         c.in_ok-asked_address.ensures;
-    port = ap socket_port c.in_ok-listening.ensures.there ∙ c.new-asked.ensures.port;
+    port = ap socket_port c.in_ok-listening.ensures ∙ c.new-asked.ensures.port;
   };
   first = c.in_ok-store.store;
   begins = c.in_ok-store.ensures.first;

@@ -6,7 +6,7 @@ pub returns-in_ok-copied_in-in-Some-clause-copied : goal.returns-in_ok-copied_in
 returns-in_ok-copied_in-in-Some-clause-copied g c = (
   _,
   refl,
-  rw c.in-Some.is at c.in_ok-answer.ensures.answer,
+  rw c.in-Some.is at c.in_ok-answer.ensures,
   subst (λ (body : List ℕ). copied_text body ≡ Some (string_bytes c.in_ok-copied_in-in-Some.field-0))
       c.body.ensures c.in_ok-copied_in-in-Some.ensures.told,
 )

@@ -18,7 +18,7 @@ returns g c =
             (g.O.Drain.written c.put_copied.new.out) (copied_line text))
             (c.as_str-2.ensures.value ∙ digits.1) c.in_ok-put_copied.ensures.ok;
         path = string_bytes c.in_ok-to.to;
-        is = c.in_ok-to.ensures.path;
+        is = c.in_ok-to.ensures;
         copied =
             subst
             (λ (text : List ℕ). HasToldOr (TellsCopied (string_bytes c.in_ok-to.to) text)

@@ -12,7 +12,7 @@ use Rattle.commands.proofs.over_files.write.Goals as goal
 pub returns-in_ok-written-in-Some-clause-written : goal.returns-in_ok-written-in-Some-clause-written
 returns-in_ok-written-in-Some-clause-written g c =
     let first = c.in-Some.first in
-    let told = rw c.in-Some.is at c.in_ok-first.ensures.first in (
+    let told = rw c.in-Some.is at c.in_ok-first.ensures in (
       first.entries,
       told.told,
       subst
@@ -35,7 +35,7 @@ returns-in_err-written-in-Some-clause-fault g c =
     (IsNotWritten _ (image_at g.St.Start) g.O.Drain.written c.args.tenant.now c.args.account
     c.args.asked.now c.args.out)
     c.in_err-written-in-Some.field-0.0
-    (rw c.in_err-written-in-Some.was at c.write_served-out.ensures.fault))
+    (rw c.in_err-written-in-Some.was at c.write_served-out.ensures.written))
 
 pub returns-in_err-out-in-None-clause-fault : goal.returns-in_err-out-in-None-clause-fault
 returns-in_err-out-in-None-clause-fault g c =

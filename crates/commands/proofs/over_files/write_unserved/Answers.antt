@@ -22,7 +22,7 @@ returns-clause-written g c =
     let wrote = c.in_ok-written.ensures in
     record {
       first = c.in_ok-store.store;
-      begun = c.in_ok-store.ensures.opened;
+      begun = c.in_ok-store.ensures;
       lived = λ live. reads.answers.follows.lived (wrote.reads.follows.0.follows.lived live);
       is = λ live.
           let lived = wrote.reads.follows.0.follows.lived live in
@@ -52,7 +52,7 @@ returns-in_err-digest-clause-fault g c =
     c.from_residual-in_err-digest.ensures.1
     (inr (nobody_there _ (image_at g.St.Start) g.O.Drain.written c.args.tenant.now c.args.account
     c.args.asked.now c.args.out c.in_ok-store.store c.digest_of.new.self c.in-Ok.found
-    c.in_err-digest.field-0.0 c.in_ok-store.ensures.opened reads.answers.follows.lived
+    c.in_err-digest.field-0.0 c.in_ok-store.ensures reads.answers.follows.lived
     (told_as_none c.in-Ok.found c.in_err-digest.field-0.0 none.value none.ok_part) none.ok_part
     value))
 
@@ -72,7 +72,7 @@ returns-in_err-written-clause-fault g c =
       c.write_asked-written.new.ledgers,
       record {
         first = c.in_ok-store.store;
-        begun = c.in_ok-store.ensures.opened;
+        begun = c.in_ok-store.ensures;
         lived = λ live. reads.answers.follows.lived (wrote.reads.follows.0.follows.lived live);
         is = λ live.
             let lived = wrote.reads.follows.0.follows.lived live in

@@ -10,7 +10,7 @@ pub returns-in_ok-added_in-in-Some-clause-added : goal.returns-in_ok-added_in-in
 returns-in_ok-added_in-in-Some-clause-added g c = (
   _,
   (c.as_str-name.ensures.same, refl),
-  rw c.in-Some.is at c.in_ok-answer.ensures.answer,
+  rw c.in-Some.is at c.in_ok-answer.ensures,
   subst (λ (body : List ℕ). IsAddedIn c.args.tenant.now body) c.body.ensures
       c.in_ok-added_in-in-Some.ensures.told,
 )

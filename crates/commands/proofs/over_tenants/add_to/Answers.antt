@@ -17,7 +17,7 @@ returns-clause-added g c =
     (record {
       comes = record {
         first = c.in_ok-opened.opened.store;
-        begun = c.in_ok-opened.ensures.begun;
+        begun = c.in_ok-opened.ensures;
         lived = c.in_ok-add_tenant.ensures.follows.lived;
         is = c.in_ok-add_tenant.ensures.told;
       };
@@ -36,7 +36,7 @@ returns-in_err-add_tenant-clause-fault g c =
       c.add_tenant.new.store,
       record {
         first = c.in_ok-opened.opened.store;
-        begun = c.in_ok-opened.ensures.begun;
+        begun = c.in_ok-opened.ensures;
         lived = c.in_err-add_tenant.ensures.follows.lived;
         is = c.in_err-add_tenant.ensures.told;
       },

@@ -10,7 +10,7 @@ pub returns-in_ok-changed_in-in-Some-clause-changed : goal.returns-in_ok-changed
 returns-in_ok-changed_in-in-Some-clause-changed g c = (
   _,
   (c.as_str-name.ensures.same, refl),
-  rw c.in-Some.is at c.in_ok-answer.ensures.answer,
+  rw c.in-Some.is at c.in_ok-answer.ensures,
   subst (λ (body : List ℕ). IsChangedIn c.args.tenant.now body) c.body.ensures
       c.in_ok-changed_in-in-Some.ensures.told,
 )

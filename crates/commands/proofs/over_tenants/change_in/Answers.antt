@@ -10,7 +10,7 @@ pub returns-clause-changed : goal.returns-clause-changed
 returns-clause-changed g c = record {
   comes = record {
     first = c.in_ok-store.store;
-    begun = c.in_ok-store.ensures.opened;
+    begun = c.in_ok-store.ensures;
     lived = c.in_ok-change_key.ensures.follows.lived;
     is = c.in_ok-change_key.ensures.told;
   };
@@ -28,7 +28,7 @@ returns-in_err-change_key-clause-fault g c =
       c.change_key.new.store,
       record {
         first = c.in_ok-store.store;
-        begun = c.in_ok-store.ensures.opened;
+        begun = c.in_ok-store.ensures;
         lived = c.in_err-change_key.ensures.follows.lived;
         is = c.in_err-change_key.ensures.told;
       },

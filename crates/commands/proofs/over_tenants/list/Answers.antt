@@ -9,7 +9,7 @@ returns-in_ok-put_listed-in-Some-clause-listed g c =
       (
         _,
         refl,
-        rw c.in-Some.is at c.in_ok-answer.ensures.answer,
+        rw c.in-Some.is at c.in_ok-answer.ensures,
         subst (λ (body : List ℕ). HasLines body listed.0) c.body.ensures listed.1,
       ),
       listed.2,

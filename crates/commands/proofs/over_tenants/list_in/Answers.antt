@@ -8,7 +8,7 @@ returns-clause-listed g c =
     record {
       comes = record {
         first = c.in_ok-store.store;
-        begun = c.in_ok-store.ensures.opened;
+        begun = c.in_ok-store.ensures;
         lived = rw (← c.store.view_is) read.reads.answers.follows.lived;
         is = λ live.
             rw (← c.store.view_is) (listed_then c.store.inside.backend c.tenants.new.self (g.O.Drain.written c.args.out.now)

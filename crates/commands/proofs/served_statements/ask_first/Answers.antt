@@ -3,10 +3,10 @@ use Rattle.control.specs.Answers.{TellsEntries}
 use Rattle.control.specs.declared.piece_asked.PieceAsked.{PieceAsked}
 use Rattle.commands.proofs.served_statements.ask_first.Goals as goal
 
-pub returns-in-Some-clause-first : goal.returns-in-Some-clause-first
-returns-in-Some-clause-first c = record {
+pub returns-in-Some : goal.returns-in-Some
+returns-in-Some c = record {
   piece = c.first_asked-asked.ensures;
   told =
       subst (λ (piece : PieceAsked). TellsEntries piece c.in-Some.entries c.in-Some.answer)
-      c.first_asked-asked.ensures (rw c.in-Some.is at c.in_ok-entries.ensures.told);
+      c.first_asked-asked.ensures (rw c.in-Some.is at c.in_ok-entries.ensures);
 }

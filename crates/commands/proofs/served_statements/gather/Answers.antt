@@ -6,8 +6,8 @@ use Rattle.commands.specs.Served.{entries_of, transfers_asked}
 use Rattle.commands.proofs.ServedLemmas.{rows_kept, transfers_kept}
 use Rattle.commands.proofs.served_statements.gather.Goals as goal
 
-pub returns-clause-gathered : goal.returns-clause-gathered
-returns-clause-gathered c =
+pub returns : goal.returns
+returns c =
     let taken = c.in_ok-hand_over.ensures.taken in
     let account = c.args.first.asked.account in
     let asked = c.args.asked.now in

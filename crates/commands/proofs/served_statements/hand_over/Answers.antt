@@ -55,7 +55,7 @@ pieces-preserved g c =
             c.in-Some.next,
             ap (piece_behind c.pieces.asked) (sym before.last) ∙ sym c.piece_behind.ensures
                 ∙ c.in-Some.is,
-            (c.in_ok-more._answer, rw c.in_ok-more.ensures.ok_part at c.in_ok-ask_piece.ensures.told),
+            (c.in_ok-more._answer, rw c.in_ok-more.ensures.ok_part at c.in_ok-ask_piece.ensures),
             come,
           ));
     }
@@ -98,4 +98,4 @@ returns-in_err-last-2-clause-fault g c =
 pub returns-in_err-ask_piece-clause-fault : goal.returns-in_err-ask_piece-clause-fault
 returns-in_err-ask_piece-clause-fault g c =
     err_so IsUnserved c.from_residual-in_err-ask_piece.result c.in_err-ask_piece.field-0.0
-    c.from_residual-in_err-ask_piece.ensures.1 (inl c.in_err-ask_piece.ensures.fault)
+    c.from_residual-in_err-ask_piece.ensures.1 (inl c.in_err-ask_piece.ensures)

@@ -2,9 +2,9 @@ use Rattle.std.proofs.Common.{◌∙◌}
 use Rattle.commands.proofs.ServedLemmas.{gathered_text}
 use Rattle.commands.proofs.served_statements.period_text.Goals as goal
 
-pub returns-clause-text : goal.returns-clause-text
-returns-clause-text c =
-    let all = c.in_ok-gathered.ensures.gathered in (
+pub returns : goal.returns
+returns c =
+    let all = c.in_ok-gathered.ensures in (
       all.0,
       all.1,
       c.in_ok-extract_text.ensures

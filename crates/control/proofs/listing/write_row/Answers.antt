@@ -1,25 +1,30 @@
-use Rattle.std.proofs.Common.{◌∙◌, append_assoc, rules}
-use Rattle.std.proofs.lemmas.Result.{on_ok_weaker}
+use Rattle.std.proofs.Common.{◌≡◌, List, ℕ, [], ◌∷◌, codes, decimal, refl, subst}
+use Rattle.hex.specs.Hex.{encode_lower}
+use Rattle.serde_json.specs.Data.{Data, string}
+use Rattle.wire.specs.Reply.{member_of, object_with}
+use Rattle.wire.specs.Writing.{AddsData}
 use Rattle.control.proofs.listing.write_row.Goals as goal
 
 pub returns : goal.returns
-returns c = record {
-  ok =
-      on_ok_weaker c.end_object.result
-      (λ ended. ended ∙ rw (
-        c.in_ok-quoted_u64.ensures.ok,
-        c.in_ok-key-3.ensures.ok,
-        c.in_ok-string-2.ensures.ok,
-        c.in_ok-key-2.ensures.ok,
-        c.in_ok-string.ensures.ok,
-        c.in_ok-key.ensures.ok,
-        c.in_ok-begin_object.ensures.ok,
-        c.as_str.ensures.same,
-        c.as_str-2.ensures.value,
-        c.in_ok-digest.ensures,
-        c.as_slice.ensures,
-      )
-      (simp append_assoc))
-      c.end_object.ensures.ok;
-  before = search rules;
-}
+returns c =
+    let row = c.args.row.now in
+    let written : List (List ℕ × Data) =
+    member_of c.text.result ∷ member_of c.text-2.result ∷ member_of c.u64.result ∷ [] in
+    let members : List (List ℕ × Data) =
+    (codes "name", string row.name) ∷ (codes "digest", string (encode_lower row.digest))
+    ∷ (codes "clock", string (decimal row.clock)) ∷ [] in
+    let same : written ≡ members =
+    rw (
+      c.text.ensures,
+      c.text-2.ensures,
+      c.u64.ensures,
+      c.as_str.ensures.same,
+      c.as_str-2.ensures.value,
+      c.in_ok-digest.ensures,
+      c.as_slice.ensures,
+    )
+    refl in
+    subst
+    (λ (ms : List (List ℕ × Data)). AddsData (object_with ms) c.args.writer.now
+    c.write_object.new.writer c.write_object.result)
+    same c.write_object.ensures

@@ -1,15 +1,8 @@
 use Rattle.std.proofs.Common.{rules}
 use Rattle.rows.specs.Cells.{status_cells}
-use Rattle.ledger_sql.proofs.InsertTexts.{add_status_text, add_status_ok, add_status_follows}
-use Rattle.ledger_sql.proofs.RunLemmas.{done_err}
+use Rattle.ledger_sql.proofs.AddLemmas.{in_ledger}
+use Rattle.ledger_sql.proofs.InsertTexts.{add_status_is, status_added}
 use Rattle.ledger_sql.proofs.adding.add_status.Goals as goal
 
 pub returns : goal.returns
-returns g c = record {
-  ok = λ clean.
-      rw c.done.ensures (add_status_ok c.args.tenant (status_cells c.args.row.now) _ (search rules) _ _ c.requires.inside c.execute.ensures.survives c.execute.result clean (c.execute.ensures.runs clean));
-  err = λ clean.
-      rw c.done.ensures (done_err add_status_text _ _ _ c.execute.result (c.execute.ensures.runs clean));
-  follows =
-      add_status_follows c.args.tenant (status_cells c.args.row.now) _ (search rules) _ _ c.requires.inside c.execute.ensures.survives c.execute.result c.execute.ensures.runs;
-}
+returns g c = rw c.done.ensures (status_added c.args.tenant (status_cells c.args.row.now) _ (search rules) _ _ (in_ledger add_status_is _ c.requires.inside) c.execute.ensures.survives c.execute.result c.execute.ensures.runs)

@@ -1,15 +1,6 @@
-use Rattle.std.proofs.Common.{[]}
 use Rattle.ledger_sql.specs.Schema.{after_tenant, clock_table}
-use Rattle.ledger_sql.proofs.CreateTexts.{make_clock_text, make_clock_is, create_ok, create_follows}
-use Rattle.ledger_sql.proofs.RunLemmas.{done_err}
+use Rattle.ledger_sql.proofs.CreateTexts.{make_clock_text, make_clock_is, table_made}
 use Rattle.ledger_sql.proofs.creating.make_clock.Goals as goal
 
 pub returns : goal.returns
-returns g c = record {
-  ok = λ clean.
-      rw c.done.ensures (create_ok make_clock_text after_tenant clock_table make_clock_is _ _ c.requires c.execute.ensures.survives c.execute.result clean (c.execute.ensures.runs clean));
-  err = λ clean.
-      rw c.done.ensures (done_err make_clock_text [] _ _ c.execute.result (c.execute.ensures.runs clean));
-  follows =
-      create_follows make_clock_text after_tenant clock_table make_clock_is _ _ c.requires c.execute.ensures.survives c.execute.result c.execute.ensures.runs;
-}
+returns g c = rw c.done.ensures (table_made make_clock_text after_tenant clock_table make_clock_is _ _ c.requires c.execute.ensures.survives c.execute.result c.execute.ensures.runs)

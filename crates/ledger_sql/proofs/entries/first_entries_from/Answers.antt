@@ -1,18 +1,12 @@
-use Rattle.std.proofs.Common.{false, rules}
-use Rattle.sqlite_value.specs.Order.{column, value_cmp}
-use Rattle.sqlite_sql.specs.declared.ops.CompareOp.TheVariants.{Ge}
+use Rattle.std.proofs.Common.{rules}
 use Rattle.amount.specs.Column.{column_of}
-use Rattle.ledger_sql.specs.TableRows.{is_from}
-use Rattle.ledger_sql.proofs.EntryTexts.{given_limit, first_from_text, first_from_reads, first_from_is}
-use Rattle.ledger_sql.proofs.EntryLemmas.{compares_from, oldest_first}
-use Rattle.ledger_sql.proofs.EntryAnswers.{entries_up_to}
+use Rattle.ledger_sql.proofs.EntryTexts.{first_from_query}
+use Rattle.ledger_sql.proofs.EntryAnswers.{oldest, entries_up_to}
 use Rattle.ledger_sql.proofs.entries.first_entries_from.Goals as goal
 
 pub hand_out-requires-clause-reading : goal.hand_out-requires-clause-reading
-hand_out-requires-clause-reading g c = first_from_reads
+hand_out-requires-clause-reading g c = first_from_query.reads
 
 pub returns-clause-handed : goal.returns-clause-handed
 unfolding column_of
-returns-clause-handed g c =
-    entries_up_to first_from_text Ge false c.args.tenant (column_of c.args.account) c.args.time c.args.count (is_from c.args.time) (compares_from c.args.time) (λ a b. value_cmp (column a 1) (column b 1)) (oldest_first Ge given_limit) _ _ _ (search rules) g.K.EntrySink.takes g.K.EntrySink.is_full
-    (first_from_is c.args.conn.now.schema) _ _ c.hand_out.result c.hand_out.ensures.handed c.known.result c.known.ensures.ok c.known.ensures.err
+returns-clause-handed g c = entries_up_to oldest c.args.tenant (column_of c.args.account) c.args.time c.args.count _ _ _ (search rules) g.K.EntrySink.takes g.K.EntrySink.is_full _ _ c.hand_out.result c.hand_out.ensures.handed c.known.result c.known.ensures.ok c.known.ensures.err

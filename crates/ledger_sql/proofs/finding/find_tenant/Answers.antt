@@ -1,20 +1,13 @@
-use Rattle.std.proofs.Common.{[], ◌∷◌, refl, rules}
+use Rattle.std.proofs.Common.{[], ◌∷◌, rules}
 use Rattle.sqlite_value.specs.declared.value.Value.TheVariants.{Int, Blob}
 use Rattle.sqlite_sql.specs.Term.{col}
-use Rattle.sqlite.specs.Held.{state}
-use Rattle.ledger_sql.proofs.KeyLemmas.{is_param, view_read, digest_view}
-use Rattle.ledger_sql.proofs.SelectTexts.{find_tenant_text, find_tenant_is, find_tenant_reads}
+use Rattle.ledger_sql.specs.TableRows.{numbers_with_digest}
+use Rattle.ledger_sql.proofs.KeyLemmas.{is_param, row_read, view_picks, digest_view}
+use Rattle.ledger_sql.proofs.SelectTexts.{find_tenant_text, find_tenant_query}
 use Rattle.ledger_sql.proofs.finding.find_tenant.Goals as goal
 
 pub first_row-requires : goal.first_row-requires
-first_row-requires g c = find_tenant_reads
+first_row-requires g c = find_tenant_query.reads
 
 pub returns : goal.returns
-returns g c = record {
-  ok = λ clean ledger.
-      let text = find_tenant_is c.args.conn.now.schema ledger in
-      view_read (λ number. Int number ∷ []) find_tenant_text _ 1 (is_param 3 0 ∷ []) (col 1 0 ∷ []) text (Blob c.args.digest.now ∷ []) _ _ refl _ (digest_view c.args.digest.now (state g.S.Store c.args.conn.now).now.trees) _ (search rules)
-      c.first_row.result (c.first_row.ensures.ok clean) c.read_found.result c.read_found.ensures.values;
-  fits = search rules;
-  reads = search rules;
-}
+returns g c = row_read (λ number. Int number ∷ []) _ _ find_tenant_text _ _ _ (view_picks (numbers_with_digest c.args.digest.now) find_tenant_text 1 (is_param 3 0 ∷ []) (col 1 0 ∷ []) find_tenant_query.means (Blob c.args.digest.now ∷ []) _ _ (λ here. digest_view c.args.digest.now) _ (search rules)) c.first_row.result c.first_row.ensures.ok c.first_row.ensures.reads c.read_found.result c.read_found.ensures.values c.read_found.ensures.fits

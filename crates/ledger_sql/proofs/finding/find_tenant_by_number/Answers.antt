@@ -1,22 +1,16 @@
-use Rattle.std.proofs.Common.{[], ◌∷◌, refl, rules}
+use Rattle.std.proofs.Common.{[], ◌∷◌, filter, rules}
 use Rattle.std.specs.Prelude.{string_bytes}
 use Rattle.sqlite_value.specs.declared.value.Value.TheVariants.{Int}
+use Rattle.sqlite_value.specs.Order.{column}
 use Rattle.sqlite_sql.specs.Term.{col}
-use Rattle.sqlite.specs.Held.{state}
+use Rattle.ledger_sql.specs.TableRows.{directory_rows, is_int}
 use Rattle.ledger_sql.specs.Values.{directory_values}
-use Rattle.ledger_sql.proofs.KeyLemmas.{is_param, columns_from, view_read}
-use Rattle.ledger_sql.proofs.NumberText.{find_number_text, find_number_is, find_number_reads, number_view}
+use Rattle.ledger_sql.proofs.KeyLemmas.{is_param, columns_from, row_read, view_picks, number_view}
+use Rattle.ledger_sql.proofs.SelectTexts.{find_number_text, find_number_query}
 use Rattle.ledger_sql.proofs.finding.find_tenant_by_number.Goals as goal
 
 pub first_row-requires : goal.first_row-requires
-first_row-requires g c = find_number_reads
+first_row-requires g c = find_number_query.reads
 
 pub returns : goal.returns
-returns g c = record {
-  ok = λ clean ledger.
-      let text = find_number_is c.args.conn.now.schema ledger in
-      view_read (λ row. directory_values row.number (string_bytes row.name) row.digest) find_number_text _ 1 (is_param 0 0 ∷ []) (col 1 0 ∷ columns_from 2 2) text (Int c.args.number ∷ []) _ _ refl _ (number_view c.args.number (state g.S.Store c.args.conn.now).now.trees) _ (search rules)
-      c.first_row.result (c.first_row.ensures.ok clean) c.read_found.result c.read_found.ensures.values;
-  fits = search rules;
-  reads = search rules;
-}
+returns g c = row_read (λ row. directory_values row.number (string_bytes row.name) row.digest) _ _ find_number_text _ _ _ (view_picks (λ trees. filter (λ row. is_int c.args.number (column row 0)) (directory_rows trees)) find_number_text 1 (is_param 0 0 ∷ []) (col 1 0 ∷ columns_from 2 2) find_number_query.means (Int c.args.number ∷ []) _ _ (λ here. number_view c.args.number) _ (search rules)) c.first_row.result c.first_row.ensures.ok c.first_row.ensures.reads c.read_found.result c.read_found.ensures.values c.read_found.ensures.fits

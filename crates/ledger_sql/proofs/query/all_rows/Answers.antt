@@ -37,9 +37,7 @@ rows-preserved g c =
 
 pub returns-in_default-clause-ok : goal.returns-in_default-clause-ok
 returns-in_default-clause-ok g c =
-    let it = c.rows.invariant.1 in
-    let now = c.next.follows.lender-at-none.conn.now in
     let moved = c.next.follows.holds-at-none in
     let ok = rw (c.in_ok-row.was, c.in_default.is) at moved.ok in
-    let here = way_ends g.S.Store c.args.text.now (bound c.args.params.now) c.args.conn.now c.rows.rows.conn.now now _ it moved.survives c.requires ok in
+    let here = way_ends g.S.Store c.args.text.now (bound c.args.params.now) c.args.conn.now c.rows.rows.conn.now c.next.follows.lender-at-none.conn.now _ c.rows.invariant.1 moved.survives c.requires ok in
     search rules

@@ -1,15 +1,7 @@
 use Rattle.std.proofs.Common.{rules}
 use Rattle.rows.specs.Cells.{balance_cells}
-use Rattle.ledger_sql.proofs.RunLemmas.{done_err}
-use Rattle.ledger_sql.proofs.UpdateTexts.{set_balance_text, set_balance_ok, set_balance_follows}
+use Rattle.ledger_sql.proofs.UpdateTexts.{balance_set}
 use Rattle.ledger_sql.proofs.setting.set_balance.Goals as goal
 
 pub returns : goal.returns
-returns g c = record {
-  ok = λ clean.
-      rw c.done.ensures (set_balance_ok c.args.tenant (balance_cells c.args.row.now) _ (search rules) _ _ c.requires c.execute.ensures.survives c.execute.result clean (c.execute.ensures.runs clean));
-  err = λ clean.
-      rw c.done.ensures (done_err set_balance_text _ _ _ c.execute.result (c.execute.ensures.runs clean));
-  follows =
-      set_balance_follows c.args.tenant (balance_cells c.args.row.now) _ (search rules) _ _ c.requires c.execute.ensures.survives c.execute.result c.execute.ensures.runs;
-}
+returns g c = rw c.done.ensures (balance_set c.args.tenant (balance_cells c.args.row.now) _ (search rules) _ _ c.requires c.execute.ensures.survives c.execute.result c.execute.ensures.runs)

@@ -1,14 +1,8 @@
 use Rattle.std.proofs.Common.{rules}
-use Rattle.ledger_sql.proofs.FillTexts.{fill_balance_text, fill_balance_ok, fill_balance_follows}
-use Rattle.ledger_sql.proofs.RunLemmas.{done_err}
+use Rattle.ledger_sql.proofs.AddLemmas.{in_making}
+use Rattle.ledger_sql.proofs.FillTexts.{fill_balance_is}
+use Rattle.ledger_sql.proofs.InsertTexts.{balance_added}
 use Rattle.ledger_sql.proofs.upgrading.fill_balance.Goals as goal
 
 pub returns : goal.returns
-returns g c = record {
-  ok = λ clean.
-      rw c.done.ensures (fill_balance_ok c.args.tenant c.args.cells.now _ (search rules) _ _ c.requires c.execute.ensures.survives c.execute.result clean (c.execute.ensures.runs clean));
-  err = λ clean.
-      rw c.done.ensures (done_err fill_balance_text _ _ _ c.execute.result (c.execute.ensures.runs clean));
-  follows =
-      fill_balance_follows c.args.tenant c.args.cells.now _ (search rules) _ _ c.requires c.execute.ensures.survives c.execute.result c.execute.ensures.runs;
-}
+returns g c = rw c.done.ensures (balance_added c.args.tenant c.args.cells.now _ (search rules) _ _ (in_making fill_balance_is _ c.requires) c.execute.ensures.survives c.execute.result c.execute.ensures.runs)

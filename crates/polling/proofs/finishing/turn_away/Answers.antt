@@ -1,8 +1,7 @@
-use Rattle.std.proofs.Common.{refl, ◌+◌, [], ◌∷◌}
+use Rattle.std.proofs.Common.{refl}
 use Rattle.service.specs.Seen.{Whole}
 use Rattle.polling.specs.Serving.{rules}
-use Rattle.polling.specs.Standing.{A_seat, owing}
-use Rattle.polling.specs.Seating.{held, seats_in}
+use Rattle.polling.specs.Seating.{seats_in}
 use Rattle.polling.proofs.AllLemmas.{then_owed, passed_over}
 use Rattle.polling.proofs.SeatLemmas.{closes_next}
 use Rattle.polling.proofs.finishing.turn_away.Goals as goal
@@ -18,8 +17,7 @@ returns g c ledgers moments =
     let r = rules g.L.Ledgers.means g.C.Moments.gives g.H.Steward.renews g.H.Steward.waits g.P.Peers.does in
     let next = c.args.seats.now.next in
     let seats = seats_in c.args.seats.now.clients in
-    then_owed r ⊥ (owing A_seat next ∷ []) [] [] (held (Whole ledgers) moments c.args.peers.now seats next)
-    (held (Whole ledgers) moments c.close.new.self seats next)
-    (held (Whole ledgers) moments c.close.new.self seats (next + 1)) 0 0 0 refl
+    then_owed
     (closes_next r (Whole ledgers) moments c.args.peers.now c.close.new.self seats next c.close.ensures)
     (passed_over r (Whole ledgers) moments c.close.new.self seats seats next (λ client. refl))
+    refl

@@ -1,7 +1,7 @@
-use Rattle.std.proofs.Common.{◌≡◌, [], ◌∷◌, ap, refl, rules}
+use Rattle.std.proofs.Common.{◌≡◌, ap, refl, rules}
 use Rattle.service.specs.Seen.{Whole}
 use Rattle.polling.specs.Serving.{rules as terms}
-use Rattle.polling.specs.Standing.{A_seat, A_turn, owing}
+use Rattle.polling.specs.Standing.{A_seat, A_turn}
 use Rattle.polling.specs.Seating.{seats_in}
 use Rattle.polling.proofs.AllLemmas.{had_none, serves_all}
 use Rattle.polling.proofs.SeatLemmas.{left_all}
@@ -31,7 +31,7 @@ returns-in-Some g c =
 pub returns-in-None : goal.returns-in-None
 returns-in-None g c =
     λ moments. let r = terms g.L.Ledgers.means g.C.Moments.gives g.H.Steward.renews g.H.Steward.waits g.P.Peers.does in
-    serves_all r ⊥ (owing A_turn c.args.number ∷ []) [] _ _ 0
+    serves_all
     (had_none r A_turn c.args.number (Whole c.args.ledgers.now) (Whole c.args.ledgers.now) moments moments c.args.peers.now
     c.args.peers.now (seats_in c.args.seats.now.clients) _
     c.args.seats.now.next (λ (is : A_turn ≡ A_seat). cc)

@@ -1,8 +1,8 @@
-use Rattle.std.proofs.Common.{arith, ◌≡◌, not, nat_lt, [], ◌∷◌, refl, rules}
+use Rattle.std.proofs.Common.{arith, ◌≡◌, not, nat_lt, refl, rules}
 use Rattle.service.specs.Seen.{Whole}
 use Rattle.polling.specs.Serving.{rules as terms}
 use Rattle.polling.specs.Seating.{count_of, held_by, seats_in}
-use Rattle.polling.specs.Standing.{A_seat, A_turn, owing}
+use Rattle.polling.specs.Standing.{A_seat, A_turn}
 use Rattle.polling.proofs.AllLemmas.{had_none, owed_for}
 use Rattle.polling.proofs.FinishLemmas.{few_of, finished}
 use Rattle.polling.proofs.gathered.finish_one.Goals as goal
@@ -37,12 +37,13 @@ pub returns-in-None : goal.returns-in-None
 returns-in-None g c = record {
   serves =
       let r = terms g.L.Ledgers.means g.C.Moments.gives g.H.Steward.renews g.H.Steward.waits g.P.Peers.does in
-      owed_for r ⊥ (0 ≡ c.args.most) (owing A_turn c.args.number ∷ []) [] _ _ 0 (λ never. absurd never)
+      owed_for
       (had_none r A_turn c.args.number (Whole c.args.ledgers.now) (Whole c.args.ledgers.now)
       c.args.moments.now c.args.moments.now c.args.peers.now c.args.peers.now
       (seats_in c.args.seats.now.clients) _ c.args.seats.now.next
       (λ (is : A_turn ≡ A_seat). cc)
-      (record { nobody = search rules; ledgers_same = refl; moments_same = refl; peers_same = refl; seats_same = search rules }));
+      (record { nobody = search rules; ledgers_same = refl; moments_same = refl; peers_same = refl; seats_same = search rules }))
+      (λ never. absurd never);
   few =
       omega arith;
 }

@@ -27,21 +27,7 @@ loop-number-preserved g c = record {
 }
 
 pub returns-then-len-most : goal.returns-then-len-most
-returns-then-len-most g c = record {
-  same =
-      c.loop-number.invariant.same;
-  gathered =
-      c.loop-number.invariant.gathered;
-  few =
-      c.loop-number.invariant.few;
-}
+returns-then-len-most g c = c.loop-number.invariant
 
 pub returns : goal.returns
-returns g c = record {
-  same =
-      c.loop-number.invariant.same;
-  gathered =
-      c.loop-number.invariant.gathered;
-  few =
-      c.loop-number.invariant.few;
-}
+returns g c = c.loop-number.invariant

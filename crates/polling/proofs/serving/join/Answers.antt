@@ -1,8 +1,7 @@
-use Rattle.std.proofs.Common.{refl, ◌+◌, [], ◌∷◌}
+use Rattle.std.proofs.Common.{refl}
 use Rattle.service.specs.Seen.{Whole}
 use Rattle.polling.specs.Serving.{rules}
-use Rattle.polling.specs.Standing.{A_seat, owing}
-use Rattle.polling.specs.Seating.{held, seats_in}
+use Rattle.polling.specs.Seating.{seats_in}
 use Rattle.polling.proofs.AllLemmas.{then_owed, passed_over}
 use Rattle.polling.proofs.SeatLemmas.{closes_next, joined}
 use Rattle.polling.proofs.serving.join.Goals as goal
@@ -25,10 +24,9 @@ returns-in-Err g c ledgers moments =
     let next = c.args.seats.now.next in
     let seats = seats_in c.args.seats.now.clients in
     let seats_now = seats_in c.seat.new.clients in
-    then_owed r ⊥ (owing A_seat next ∷ []) [] [] (held (Whole ledgers) moments c.args.peers.now seats next)
-    (held (Whole ledgers) moments c.close-in-Err.new.self seats next)
-    (held (Whole ledgers) moments c.close-in-Err.new.self seats_now (next + 1)) 0 0 0 refl
+    then_owed
     (closes_next r (Whole ledgers) moments c.args.peers.now c.close-in-Err.new.self seats next
     c.close-in-Err.ensures)
     (passed_over r (Whole ledgers) moments c.close-in-Err.new.self seats seats_now next
     c.in-Err.ensures.err)
+    refl

@@ -1,9 +1,9 @@
-use Rattle.std.proofs.Common.{◌≡◌, true, false, [], ◌∷◌, arith, refl, rules}
+use Rattle.std.proofs.Common.{◌≡◌, true, false, arith, refl, rules}
 use Rattle.std.proofs.lemmas.Bool.{false≢true}
 use Rattle.service.specs.Seen.{Whole}
 use Rattle.polling.specs.Serving.{rules as terms}
-use Rattle.polling.specs.Seating.{count_of, held_by, seats_in}
-use Rattle.polling.specs.Standing.{A_seat, A_turn, owing}
+use Rattle.polling.specs.Seating.{count_of, seats_in}
+use Rattle.polling.specs.Standing.{A_seat, A_turn}
 use Rattle.polling.proofs.AllLemmas.{had_none, owed_for}
 use Rattle.polling.proofs.FinishLemmas.{one_at_most}
 use Rattle.polling.proofs.serving.serve_one.Goals as goal
@@ -13,13 +13,8 @@ returns-in-Some g c =
     let turn = c.turn-turned in
     let replied = turn.result.replied in record {
       serves =
-          let r = terms g.L.Ledgers.means g.C.Moments.gives g.H.Steward.renews g.H.Steward.waits g.P.Peers.does in
           rw c.replies.ensures
-          (owed_for r (false ≡ true) ⊥ (owing A_turn c.args.number ∷ []) []
-          (held_by c.args.ledgers.now c.args.moments.now c.args.peers.now c.args.seats.now)
-          (held_by turn.new.ledgers turn.new.moments c.follow.new.peers
-          (record c.args.seats.now { clients = c.follow.new.clients }))
-          (count_of replied) (λ (never : false ≡ true). false≢true never)
+          (owed_for
           (c.follow.ensures.followed (Whole c.args.ledgers.now) (Whole turn.new.ledgers)
           c.args.moments.now turn.new.moments c.args.peers.now (seats_in c.args.seats.now.clients)
           c.args.seats.now.next false (count_of replied)
@@ -29,7 +24,8 @@ returns-in-Some g c =
             was = search rules;
             now = search rules;
             served = turn.ensures;
-          })));
+          }))
+          (λ (never : false ≡ true). false≢true never));
       few =
           rw c.replies.ensures (one_at_most replied);
     }

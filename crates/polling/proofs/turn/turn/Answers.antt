@@ -3,7 +3,7 @@ use Rattle.clients.specs.Talk.{Talk}
 use Rattle.service.specs.Seen.{Whole}
 use Rattle.polling.specs.Serving.{rules}
 use Rattle.polling.specs.Standing.{Finished}
-use Rattle.polling.specs.Seating.{ServesOne, count_of, has_no_more}
+use Rattle.polling.specs.Seating.{ServesOne, count_of}
 use Rattle.polling.specs.declared.step.Step.TheVariants as step
 use Rattle.polling.proofs.GoingLemmas.{last_finished}
 use Rattle.polling.proofs.OneLemmas.{goes}
@@ -14,44 +14,22 @@ use Rattle.polling.proofs.turn.turn.Goals as goal
 
 pub returns-in-Waits : goal.returns-in-Waits
 returns-in-Waits g c =
-    other_idle (rules g.L.Ledgers.means g.C.Moments.gives g.H.Steward.renews g.H.Steward.waits g.P.Peers.does)
-    c.args.number (Whole c.args.ledgers.now) (Whole c.write_on.new.ledgers) c.args.moments.now
-    c.args.moments.now c.args.peers.now c.write_on.new.peers c.args.client.now
-    c.write_on.new.client step.Waits (has_no_more c.args.client.now c.write_on.new.client) false 0
-    (λ (is : step.Waits ≡ step.More). cc)
-    (c.in-Waits.ensures c.args.moments.now)
+    other_idle step.Waits (λ (is : step.Waits ≡ step.More). cc) (c.in-Waits.ensures c.args.moments.now)
 
 pub returns-in-Goes : goal.returns-in-Goes
 returns-in-Goes g c =
-    other_idle (rules g.L.Ledgers.means g.C.Moments.gives g.H.Steward.renews g.H.Steward.waits g.P.Peers.does)
-    c.args.number (Whole c.args.ledgers.now) (Whole c.write_on.new.ledgers) c.args.moments.now
-    c.args.moments.now c.args.peers.now c.write_on.new.peers c.args.client.now
-    c.write_on.new.client step.Goes (has_no_more c.args.client.now c.write_on.new.client) false 0
-    (λ (is : step.Goes ≡ step.More). cc)
-    (c.in-Goes.ensures c.args.moments.now)
+    other_idle step.Goes (λ (is : step.Goes ≡ step.More). cc) (c.in-Goes.ensures c.args.moments.now)
 
 pub returns-then-is_told_in_parts : goal.returns-then-is_told_in_parts
 returns-then-is_told_in_parts g c =
-    idle_too (rules g.L.Ledgers.means g.C.Moments.gives g.H.Steward.renews g.H.Steward.waits g.P.Peers.does)
-    c.args.number (Whole c.args.ledgers.now) (Whole c.write_on.new.ledgers) c.args.moments.now
-    c.args.moments.now c.args.peers.now c.write_on.new.peers c.args.client.now
-    c.write_on.new.client step.More (has_no_more c.args.client.now c.write_on.new.client) false 0
+    idle_too (c.in-More.ensures c.args.moments.now)
     (λ none.
     left_more c.args.client.now c.write_on.new.client
     (ap is_some (sym c.rest.ensures) ∙ sym c.is_some-is_told_in_parts.ensures ∙ c.if-is_told_in_parts.true))
-    (c.in-More.ensures c.args.moments.now)
 
 pub returns-then-may_answer : goal.returns-then-may_answer
 returns-then-may_answer g c =
-    then_one (rules g.L.Ledgers.means g.C.Moments.gives g.H.Steward.renews g.H.Steward.waits g.P.Peers.does) c.args.number
-    (Whole c.args.ledgers.now) (Whole c.write_on.new.ledgers) (Whole c.answer_or_read.new.ledgers) c.args.moments.now
-    c.args.moments.now c.answer_or_read.new.moments c.args.peers.now c.write_on.new.peers
-    c.answer_or_read.new.peers c.args.client.now c.write_on.new.client
-    c.answer_or_read.new.client c.answer_or_read.result.step
-    (has_no_more c.args.client.now c.write_on.new.client) false false 0
-    (count_of c.answer_or_read.result.replied) (count_of c.answer_or_read.result.replied)
-    (λ none. inr refl) (omega arith)
-    (c.in-More.ensures c.args.moments.now)
+    then_one (c.in-More.ensures c.args.moments.now)
     (subst
     (λ (talk : Talk).
     ServesOne (rules g.L.Ledgers.means g.C.Moments.gives g.H.Steward.renews g.H.Steward.waits g.P.Peers.does) c.args.number
@@ -60,13 +38,11 @@ returns-then-may_answer g c =
     c.answer_or_read.new.client c.answer_or_read.result.step false
     (count_of c.answer_or_read.result.replied))
     c.next_of-batch.ensures c.answer_or_read.ensures)
+    (λ none. inr refl) (omega arith)
 
 pub returns-then-goes_on : goal.returns-then-goes_on
 returns-then-goes_on g c =
-    idle_too (rules g.L.Ledgers.means g.C.Moments.gives g.H.Steward.renews g.H.Steward.waits g.P.Peers.does)
-    c.args.number (Whole c.args.ledgers.now) (Whole c.write_on.new.ledgers) c.args.moments.now
-    c.args.moments.now c.args.peers.now c.write_on.new.peers c.args.client.now
-    c.write_on.new.client step.More (has_no_more c.args.client.now c.write_on.new.client) false 0
+    idle_too (c.in-More.ensures c.args.moments.now)
     (λ none.
     elim c.then-goes_on.branch [
       | then-goes_on-via-then-goes_on w ↦
@@ -77,21 +53,14 @@ returns-then-goes_on g c =
           last_more c.args.client.now c.write_on.new.client
           (let some : w.is_written.result ≡ false = cc in sym w.is_written.ensures ∙ some)
     ])
-    (c.in-More.ensures c.args.moments.now)
 
 pub returns : goal.returns
 returns g c =
-    then_one (rules g.L.Ledgers.means g.C.Moments.gives g.H.Steward.renews g.H.Steward.waits g.P.Peers.does) c.args.number
-    (Whole c.args.ledgers.now) (Whole c.write_on.new.ledgers) (Whole c.write_on.new.ledgers) c.args.moments.now
-    c.args.moments.now c.args.moments.now c.args.peers.now c.write_on.new.peers
-    c.write_on.new.peers c.args.client.now c.write_on.new.client c.write_on.new.client step.Goes
-    (has_no_more c.args.client.now c.write_on.new.client) false false 0 0 0 (λ none. inr refl) refl
-    (c.in-More.ensures c.args.moments.now)
-    (goes (rules g.L.Ledgers.means g.C.Moments.gives g.H.Steward.renews g.H.Steward.waits g.P.Peers.does) c.args.number
-    (Whole c.write_on.new.ledgers) c.args.moments.now c.write_on.new.peers c.write_on.new.peers
-    c.write_on.new.client
+    then_one (c.in-More.ensures c.args.moments.now)
+    (goes
     (λ standing.
     Finished
     (last_finished c.write_on.new.client (sym c.goes_on.ensures ∙ c.if-goes_on.false)
     (let written : c.is_written.result ≡ true = cc in sym c.is_written.ensures ∙ written))
     refl))
+    (λ none. inr refl) refl

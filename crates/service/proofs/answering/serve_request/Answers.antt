@@ -56,10 +56,4 @@ returns-in-Statement g c =
     subst
     (λ (request : Request). BeginsOver g.L.Ledgers.means c.args.digest.now (Ok request) c.args.moment
     c.args.ledgers.now c.begin_statement.new.ledgers c.begin_statement.result)
-    (sym c.in-Statement.is) (record {
-      serves = λ live. c.begin_statement.ensures.serves live c.args.moment;
-      failed = c.begin_statement.ensures.failed;
-      finds = c.begin_statement.ensures.finds c.args.moment;
-      left = c.begin_statement.ensures.left;
-      follows = c.begin_statement.ensures.stays;
-    })
+    (sym c.in-Statement.is) (c.begin_statement.ensures c.args.moment)

@@ -1,25 +1,12 @@
-use Rattle.std.proofs.Common.{refl, sym, ap}
-use Rattle.records.specs.Queries.{open_holds}
-use Rattle.records.specs.Reads.{Found}
-use Rattle.chain.specs.LedgerReads.{seen_of_page}
-use Rattle.wire.specs.declared.outcome.Entries.TheVariants as entries
-use Rattle.wire.specs.declared.outcome.Outcome.TheVariants as told
-use Rattle.wire.specs.declared.request.Query.TheVariants.{OpenPending}
-use Rattle.wire.specs.declared.request.Request.TheVariants as asks
-use Rattle.service.specs.Served.{page_told}
+use Rattle.std.proofs.Common.{ap, sym}
+use Rattle.wire.specs.declared.outcome.Entries.TheVariants.{OpenHolds}
+use Rattle.wire.specs.declared.outcome.Outcome.TheVariants.{Page}
+use Rattle.service.proofs.Readings.{page_of_holds}
 use Rattle.service.proofs.ShownReads.{fault_read, shown_read}
 use Rattle.service.proofs.querying.open_holds.Goals as goal
 
 pub returns-in_err-page : goal.returns-in_err-page
-returns-in_err-page g c =
-    fault_read (asks.Query (OpenPending c.args.asked.now)) (λ m. Found (open_holds m c.args.asked.now))
-    (page_told entries.OpenHolds) seen_of_page g.L.Ledgers.means c.args.digest.now _ _ c.from_residual.result _
-    (λ moment. record { tells = λ m. refl }) c.from_residual.ensures.1 c.in_err-page.ensures
+returns-in_err-page g c = fault_read (page_of_holds c.args.asked.now) g.L.Ledgers.means _ _ _ _ _ c.from_residual.ensures.1 c.in_err-page.ensures
 
 pub returns : goal.returns
-returns g c =
-    shown_read (asks.Query (OpenPending c.args.asked.now)) (λ m. Found (open_holds m c.args.asked.now))
-    (page_told entries.OpenHolds) seen_of_page g.L.Ledgers.means c.args.digest.now _ _ _ c.in_ok-page.page
-    (λ moment. record { tells = λ m. refl })
-    (ap (λ shown. told.Page c.in_ok-page.page.clock c.in_ok-page.page.next (entries.OpenHolds shown))
-    (sym c.into.ensures)) c.in_ok-page.ensures
+returns g c = shown_read (page_of_holds c.args.asked.now) g.L.Ledgers.means _ _ _ _ _ (ap (λ entries. Page c.in_ok-page.page.clock c.in_ok-page.page.next (OpenHolds entries)) (sym c.into.ensures)) c.in_ok-page.ensures

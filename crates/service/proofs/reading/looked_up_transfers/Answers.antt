@@ -1,20 +1,11 @@
-use Rattle.std.proofs.Common.{refl, sym, ap}
-use Rattle.records.specs.Reads.{Found, found_transfers}
-use Rattle.chain.specs.LedgerReads.{seen_of_list}
-use Rattle.wire.specs.declared.outcome.Outcome.TheVariants as told
-use Rattle.wire.specs.declared.request.Request.TheVariants.{LookupTransfers}
+use Rattle.std.proofs.Common.{ap, sym}
+use Rattle.wire.specs.declared.outcome.Outcome.TheVariants.{Transfers}
+use Rattle.service.proofs.Readings.{transfers_by_id}
 use Rattle.service.proofs.ShownReads.{fault_read, shown_read}
 use Rattle.service.proofs.reading.looked_up_transfers.Goals as goal
 
 pub returns-in_err-found : goal.returns-in_err-found
-returns-in_err-found g c =
-    fault_read (LookupTransfers c.args.ids.now) (λ m. Found (found_transfers m c.args.ids.now))
-    told.Transfers seen_of_list g.L.Ledgers.means c.args.digest.now _ _ c.from_residual.result _
-    (λ moment. record { tells = λ m. refl }) c.from_residual.ensures.1 c.in_err-found.ensures
+returns-in_err-found g c = fault_read (transfers_by_id c.args.ids.now) g.L.Ledgers.means _ _ _ _ _ c.from_residual.ensures.1 c.in_err-found.ensures
 
 pub returns : goal.returns
-returns g c =
-    shown_read (LookupTransfers c.args.ids.now) (λ m. Found (found_transfers m c.args.ids.now))
-    told.Transfers seen_of_list g.L.Ledgers.means c.args.digest.now _ _ _ c.in_ok-found.found
-    (λ moment. record { tells = λ m. refl })
-    (ap (told.Transfers c.in_ok-found.found.clock) (sym c.into.ensures)) c.in_ok-found.ensures
+returns g c = shown_read (transfers_by_id c.args.ids.now) g.L.Ledgers.means _ _ _ _ _ (ap (Transfers c.in_ok-found.found.clock) (sym c.into.ensures)) c.in_ok-found.ensures

@@ -1,3 +1,5 @@
+use Rattle.std.proofs.Common.{◌≡◌, Ok, Err, Result, OnOk}
+use Rattle.records.specs.declared.unavailable.Unavailable.{Unavailable}
 use Rattle.sqlite.specs.Held.{state}
 use Rattle.records.specs.Machine.{Machine}
 use Rattle.records.specs.Valid.{IsValid, with_transfer}
@@ -5,17 +7,17 @@ use Rattle.records.specs.Valid.IsValid.{next_transfer}
 use Rattle.records.specs.Accepted.{IsAccepted}
 use Rattle.rows.specs.Changes.{with_accepted}
 use Rattle.stored_tables.specs.InBatch.{shown}
-use Rattle.stored_tables.specs.BatchLaws.{live_before, follows_itself}
+use Rattle.stored_tables.specs.BatchLaws.{live_before}
 use Rattle.stored_tables.specs.Moves.{CanAccept}
 use Rattle.stored_tables.proofs.AcceptedCovers.{state_covered}
 use Rattle.stored_tables.proofs.AcceptedRows.{same_itself}
 use Rattle.stored_tables.proofs.AcceptedThere.{accepted_there}
-use Rattle.stored_tables.proofs.Keeping.{gives_up, held_before}
-use Rattle.stored_tables.proofs.Writing.{IsChange, writes_leave}
+use Rattle.stored_tables.proofs.Keeping.{leaves_or_over, held_before}
+use Rattle.stored_tables.proofs.Writing.{IsChange, writes_leave, is_inside}
 use Rattle.stored_tables.proofs.accepting.accept_transfer.Goals as goal
 
 -- the rows of a machine change so with an accepted transfer
-changes : (g : _) (c : goal.In-Ok g) (m : Machine) → IsValid m → IsAccepted m c.args.accepted.now → IsChange (CanAccept c.args.accepted.now) (with_accepted c.args.accepted.now) (λ m. with_transfer m c.args.accepted.now.stored) m
+changes : (g : _) (c : goal.After-or_give_up g) (m : Machine) → IsValid m → IsAccepted m c.args.accepted.now → IsChange (CanAccept c.args.accepted.now) (with_accepted c.args.accepted.now) (λ m. with_transfer m c.args.accepted.now.stored) m
 changes g c m valid next =
     let same = same_itself _ in
     record {
@@ -24,24 +26,31 @@ changes g c m valid next =
       valid = next_transfer m c.args.accepted.now.stored valid next.next;
     }
 
-pub returns-in-Err-clause-leaves : goal.returns-in-Err-clause-leaves
-returns-in-Err-clause-leaves g c = gives_up g.S.Store _ _ _ c.args.conn.now _ _ (follows_itself _) c.give_up.ensures.over
+pub keep_transfer-done-requires : goal.keep_transfer-done-requires
+keep_transfer-done-requires g c = record { inside = λ clean. is_inside _ _ (c.requires.usable clean); times = c.requires.times }
 
-pub returns-in-Err-write_transfer-clause-leaves : goal.returns-in-Err-write_transfer-clause-leaves
-returns-in-Err-write_transfer-clause-leaves g c = gives_up g.S.Store _ _ _ c.write_transfer.new.conn _ _ c.write_transfer.ensures.follows c.give_up-in-Err-write_transfer.ensures.over
-
-pub returns-in-Ok-clause-leaves : goal.returns-in-Ok-clause-leaves
-returns-in-Ok-clause-leaves g c =
+pub returns-clause-leaves : goal.returns-clause-leaves
+returns-clause-leaves g c =
     let a = c.args.accepted.now in
-    writes_leave g.S.Store c.args.tenant.0 c.args.conn.now c.write_transfer.new.conn _ (CanAccept a) (with_accepted a) (λ m. with_transfer m a.stored) c.held_machines.ensures c.requires.usable c.write_transfer.ensures.follows c.in-Ok.ensures.ok
-    (λ live valid. changes g c _ valid (c.requires.next live))
+    leaves_or_over g.S.Store _ c.args.conn.now c.keep_transfer-done.new.conn _ _ _ _ _ c.keep_transfer-done.ensures.changes.follows c.keep_transfer-done.ensures.changes.ok c.or_give_up.ensures
+    (λ x written.
+    writes_leave g.S.Store c.args.tenant.0 c.args.conn.now c.keep_transfer-done.new.conn x (CanAccept a) (with_accepted a) (λ m. with_transfer m a.stored) c.held_machines.ensures c.requires.usable c.keep_transfer-done.ensures.changes.follows written
+    (λ live valid. changes g c _ valid (c.requires.next live)))
 
-pub returns-in-Ok-clause-covers : goal.returns-in-Ok-clause-covers
-returns-in-Ok-clause-covers g c live covers =
+-- what is so where neither of the same results failed
+both : {X A B C : Type 0} (r given : Result X Unavailable) → r ≡ given → OnOk r A → OnOk given B → (A → B → C) → OnOk r C
+both (Ok x) (Ok y) same a b f = f a b
+both (Ok x) (Err e) same a b f = absurd (cc)
+both (Err e) given same a b f = tt
+
+pub returns-clause-covers : goal.returns-clause-covers
+returns-clause-covers g c live =
     let t = c.args.tenant.0 in
     let a = c.args.accepted.now in
     let s0 = state g.S.Store c.args.conn.now in
-    let live0 = live_before s0 (state g.S.Store c.write_transfer.new.conn) c.write_transfer.ensures.follows live in
-    let held = held_before g.S.Store t c.args.conn.now c.write_transfer.new.conn c.requires.usable c.write_transfer.ensures.follows live in
-    state_covered _ _ c.remember.ensures.grows (shown t s0) (shown t (state g.S.Store c.write_transfer.new.conn)) a ((returns-in-Ok-clause-leaves g c).state live) (changes g c (shown t s0).now held.valid (c.requires.next live0)).rows
-    c.in_default.ensures.kept covers
+    let s2 = state g.S.Store c.or_give_up.new.conn in
+    let leaves = returns-clause-leaves g c in
+    let live0 = live_before s0 s2 leaves.follows.calls live in
+    let held = held_before g.S.Store t c.args.conn.now c.or_give_up.new.conn c.requires.usable leaves.follows.calls live in
+    both c.or_give_up.result c.keep_transfer-done.result c.or_give_up.ensures.same (leaves.state live) c.keep_transfer-done.ensures.kept
+    (λ moved due. state_covered _ _ c.keep_transfer-done.ensures.grows (shown t s0) (shown t s2) a moved (changes g c (shown t s0).now held.valid (c.requires.next live0)).rows due)

@@ -1,13 +1,5 @@
-use Rattle.stored_tables.specs.InBatch.{shown}
-use Rattle.stored_tables.proofs.Keeping.{tenant_before, reads, gives_up}
+use Rattle.stored_tables.proofs.Keeping.{looks_up}
 use Rattle.stored_tables.proofs.account_entries.account_entries.Goals as goal
 
-pub returns-in-Ok-clause-value : goal.returns-in-Ok-clause-value
-unfolding shown
-returns-in-Ok-clause-value g c live = c.in-Ok.ensures.ok live.0 (tenant_before g.S.Store c.args.tenant.0 c.args.conn.now c.read_entries.new.conn c.requires c.read_entries.ensures.reads.follows live.0)
-
-pub returns-in-Ok-clause-leaves : goal.returns-in-Ok-clause-leaves
-returns-in-Ok-clause-leaves g c = reads g.S.Store _ _ _ c.in-Ok.found c.requires c.read_entries.ensures.reads.follows c.in-Ok.ensures.reads.same
-
-pub returns-in-Err-clause-leaves : goal.returns-in-Err-clause-leaves
-returns-in-Err-clause-leaves g c = gives_up g.S.Store _ _ _ c.read_entries.new.conn _ _ c.read_entries.ensures.reads.follows c.give_up.ensures.over
+pub returns : goal.returns
+returns g c = looks_up g.S.Store _ c.args.conn.now c.read_entries-found.new.conn _ _ _ _ c.requires c.read_entries-found.ensures c.or_give_up.ensures

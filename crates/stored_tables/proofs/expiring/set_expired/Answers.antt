@@ -1,9 +1,11 @@
-use Rattle.std.proofs.Common.{arith, rules, refl, Some}
+use Rattle.std.proofs.Common.{rules, refl, Some}
 use Rattle.std.proofs.lemmas.Result.{on_ok_weaker}
-use Rattle.sqlite.specs.State.{HasCleanDisk}
-use Rattle.sqlite.specs.Held.{state}
 use Rattle.records.specs.declared.facts.PendingState.TheVariants.{Expired}
+use Rattle.sqlite.specs.Held.{state}
+use Rattle.ledger_sql.specs.Effects.{IsInside}
+use Rattle.stored_tables.specs.Releasing.{HasStatusRow}
 use Rattle.stored_tables.proofs.ChangedRows.{row_due_fits}
+use Rattle.stored_tables.proofs.Keeping.{changes}
 use Rattle.stored_tables.proofs.Numbers.{passed}
 use Rattle.stored_tables.proofs.Statements.{state_set}
 use Rattle.stored_tables.proofs.expiring.set_expired.Goals as goal
@@ -12,15 +14,8 @@ pub set_status-requires-clause-due : goal.set_status-requires-clause-due
 set_status-requires-clause-due g c = row_due_fits (Some c.args.row.now) c.args.row.now refl c.requires.fits
 
 pub returns : goal.returns
-returns g c = record {
-  ok = λ clean.
-      let t = c.args.tenant.0 in
-      let s0 = state g.S.Store c.args.conn.now in
-      let s1 = state g.S.Store c.set_status.new.conn in
-      let row = c.args.row.now in
-      let clean0 : HasCleanDisk s0 = omega (arith, c.set_status.ensures.follows.survives.clean, clean) in
-      let law = c.found_by_key.ensures in
-      on_ok_weaker c.set_status.result (state_set t s0 s1 (c.requires.inside clean0).schema c.columns_keep_order.ensures.one_to_one law.alone law.replaced row.transfer Expired row (c.requires.told clean0))
-      (rw (passed t (search rules)) at (c.set_status.ensures.ok clean));
-  follows = search rules;
-}
+returns g c =
+    changes g.S.Store c.args.conn.now c.set_status.new.conn c.set_status.result (IsInside (state g.S.Store c.args.conn.now) × HasStatusRow c.args.tenant.0 c.args.row.now (state g.S.Store c.args.conn.now)) _ (λ clean. (c.requires.inside clean, c.requires.told clean)) c.set_status.ensures.follows
+    (λ can clean.
+    on_ok_weaker c.set_status.result (state_set c.args.tenant.0 _ _ can.0.schema c.columns_keep_order.ensures.one_to_one c.found_by_key.ensures.alone c.found_by_key.ensures.replaced c.args.row.now.transfer Expired c.args.row.now can.1)
+    (rw (passed c.args.tenant.0 (search rules)) at (c.set_status.ensures.ok clean)))

@@ -1,19 +1,9 @@
 use Rattle.std.proofs.Common.{rules}
-use Rattle.stored_tables.specs.InBatch.{shown}
-use Rattle.stored_tables.proofs.Keeping.{tenant_before, reads, gives_up}
+use Rattle.stored_tables.proofs.Keeping.{looks_up, found}
+use Rattle.stored_tables.proofs.Numbers.{passed}
 use Rattle.stored_tables.proofs.reading.account_alone.Goals as goal
 
-pub returns-in-Ok : goal.returns-in-Ok
-unfolding shown
-returns-in-Ok g c = record {
-  value = λ live. c.in-Ok.ensures.ok live.0 (tenant_before g.S.Store c.args.tenant.0 c.args.conn.now c.read_account.new.conn c.requires c.read_account.ensures.reads.follows live.0);
-  leaves =
-      reads g.S.Store _ _ _ c.in-Ok.found c.requires c.read_account.ensures.reads.follows c.in-Ok.ensures.reads.same;
-}
-
-pub returns-in-Err : goal.returns-in-Err
-returns-in-Err g c = record {
-  value = search rules;
-  leaves =
-      gives_up g.S.Store _ _ _ c.read_account.new.conn _ _ c.read_account.ensures.reads.follows c.give_up.ensures.over;
-}
+pub returns : goal.returns
+returns g c =
+    looks_up g.S.Store _ c.args.conn.now c.find_account-found.new.conn _ _ _ _ c.requires
+    (found g.S.Store _ c.args.conn.now c.find_account-found.new.conn _ _ _ _ (λ m trees x held. c.point_reads.ensures.account _ m trees c.args.id x held c.ranges.id.fits) (rw (passed c.args.tenant.0 (search rules)) at c.find_account-found.ensures)) c.or_give_up.ensures

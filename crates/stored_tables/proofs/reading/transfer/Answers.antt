@@ -1,21 +1,9 @@
 use Rattle.std.proofs.Common.{rules}
-use Rattle.stored_tables.proofs.Keeping.{reads, gives_up, held_before, tenant_before}
+use Rattle.stored_tables.proofs.Keeping.{looks_up, found}
 use Rattle.stored_tables.proofs.Numbers.{passed}
 use Rattle.stored_tables.proofs.reading.transfer.Goals as goal
 
-pub returns-in-Ok : goal.returns-in-Ok
-returns-in-Ok g c = record {
-  value = λ live.
-      let held = held_before g.S.Store c.args.tenant.0 c.args.conn.now c.find_transfer.new.conn c.requires c.find_transfer.ensures.reads.follows live in
-      let told = rw (passed c.args.tenant.0 (search rules)) at (c.in-Ok.ensures.ok live.0 (tenant_before g.S.Store c.args.tenant.0 c.args.conn.now c.find_transfer.new.conn c.requires c.find_transfer.ensures.reads.follows live.0).schema) in
-      c.point_reads.ensures.transfer _ _ _ _ _ held c.ranges.id.fits c.in-Ok.ensures.fits told;
-  leaves =
-      reads g.S.Store _ _ _ c.in-Ok.found c.requires c.find_transfer.ensures.reads.follows c.in-Ok.ensures.reads.same;
-}
-
-pub returns-in-Err : goal.returns-in-Err
-returns-in-Err g c = record {
-  value = search rules;
-  leaves =
-      gives_up g.S.Store _ _ _ c.find_transfer.new.conn _ _ c.find_transfer.ensures.reads.follows c.give_up.ensures.over;
-}
+pub returns : goal.returns
+returns g c =
+    looks_up g.S.Store _ c.args.conn.now c.find_transfer-found.new.conn _ _ _ _ c.requires
+    (found g.S.Store _ c.args.conn.now c.find_transfer-found.new.conn _ _ _ _ (λ m trees x held. c.point_reads.ensures.transfer _ m trees c.args.id x held c.ranges.id.fits) (rw (passed c.args.tenant.0 (search rules)) at c.find_transfer-found.ensures)) c.or_give_up.ensures

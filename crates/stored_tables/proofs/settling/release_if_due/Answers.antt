@@ -1,4 +1,4 @@
-use Rattle.std.proofs.Common.{◌≡◌, None, Some, rules, sym, subst, ◌∙◌, arith, ap}
+use Rattle.std.proofs.Common.{◌≡◌, None, Some, sym, subst, ◌∙◌, arith, ap}
 use Rattle.std.proofs.lemmas.Option.{same_Some}
 use Rattle.sqlite.specs.State.{HasCleanDisk}
 use Rattle.sqlite.specs.Held.{state}
@@ -6,6 +6,7 @@ use Rattle.rows.specs.Settling.{is_due_row}
 use Rattle.stored_tables.specs.Kept.{kept_in}
 use Rattle.stored_tables.specs.Moves.{IsStatusOf}
 use Rattle.stored_tables.proofs.ExpiryWrites.{still_told, told_of_row}
+use Rattle.stored_tables.proofs.Keeping.{changes, changes_twice}
 use Rattle.stored_tables.proofs.Released.{passes, releases}
 use Rattle.stored_tables.proofs.settling.release_if_due.Goals as goal
 
@@ -18,34 +19,20 @@ expire-requires-clause-told g c clean =
     still_told t c.in-Some.row s0 (state g.S.Store c.status.new.conn) (c.in_ok-row.ensures.reads.same clean) (told_of_row t c.args.id c.in-Some.row s0.now.trees told)
 
 pub returns-in_default : goal.returns-in_default
-returns-in_default g c = record {
-  ok = λ clean.
-      let s0 = state g.S.Store c.args.conn.now in
-      let s1 = state g.S.Store c.status.new.conn in
-      let before : HasCleanDisk s0 = omega (arith, c.status.ensures.reads.follows.survives.clean, clean) in
-      passes c.args.tenant.0 c.args.clock c.args.id c.in_ok-row.field-0 s0 s1 (c.in_ok-row.ensures.ok clean (c.requires.inside before).schema) (c.in_ok-row.ensures.reads.same clean) (kept_in c.args.kept.now.items) (c.requires.inside before) (λ row there. absurd (let e : None ≡ Some row = sym c.in_default.is ∙ there in cc));
-  follows = search rules;
-}
+returns-in_default g c =
+    changes g.S.Store c.args.conn.now c.status.new.conn _ _ _ c.requires.inside c.status.ensures.reads.follows
+    (λ inside clean. passes c.args.tenant.0 c.args.clock c.args.id c.in_ok-row.field-0 _ _ (c.in_ok-row.ensures.ok clean inside.schema) (c.in_ok-row.ensures.reads.same clean) (kept_in c.args.kept.now.items) inside
+    (λ row there. absurd (let e : None ≡ Some row = sym c.in_default.is ∙ there in cc)))
 
 pub returns-then-is_due : goal.returns-then-is_due
-returns-then-is_due g c = record {
-  ok = λ clean.
-      let s0 = state g.S.Store c.args.conn.now in
-      let s1 = state g.S.Store c.status.new.conn in
-      let before : HasCleanDisk s1 = omega (arith, c.expire.ensures.follows.survives.clean, clean) in
-      let first : HasCleanDisk s0 = omega (arith, c.status.ensures.reads.follows.survives.clean, before) in
-      releases c.args.tenant.0 c.args.clock c.args.id c.in_ok-row.field-0 s0 s1 (c.in_ok-row.ensures.ok before (c.requires.inside first).schema) (c.in_ok-row.ensures.reads.same before) (kept_in c.args.kept.now.items) (kept_in c.expire.new.kept.items) c.clock_rows.ensures.next (state g.S.Store c.expire.new.conn) c.in-Some.row c.in-Some.is (sym c.is_due.ensures ∙ c.if-is_due.true) c.expire.result
-      (c.expire.ensures.ok clean);
-  follows = search rules;
-}
+returns-then-is_due g c =
+    changes_twice g.S.Store c.args.conn.now c.status.new.conn c.expire.new.conn c.expire.result _ _ c.requires.inside c.status.ensures.reads.follows c.expire.ensures.follows
+    (λ inside before clean.
+    releases c.args.tenant.0 c.args.clock c.args.id c.in_ok-row.field-0 _ _ (c.in_ok-row.ensures.ok before inside.schema) (c.in_ok-row.ensures.reads.same before) (kept_in c.args.kept.now.items) (kept_in c.expire.new.kept.items) c.clock_rows.ensures.next _ c.in-Some.row c.in-Some.is (sym c.is_due.ensures ∙ c.if-is_due.true) c.expire.result
+    (c.expire.ensures.ok clean))
 
 pub returns-else-is_due : goal.returns-else-is_due
-returns-else-is_due g c = record {
-  ok = λ clean.
-      let s0 = state g.S.Store c.args.conn.now in
-      let s1 = state g.S.Store c.status.new.conn in
-      let before : HasCleanDisk s0 = omega (arith, c.status.ensures.reads.follows.survives.clean, clean) in
-      passes c.args.tenant.0 c.args.clock c.args.id c.in_ok-row.field-0 s0 s1 (c.in_ok-row.ensures.ok clean (c.requires.inside before).schema) (c.in_ok-row.ensures.reads.same clean) (kept_in c.args.kept.now.items) (c.requires.inside before)
-      (λ row there. ap (is_due_row c.args.clock) (same_Some _ _ (sym there ∙ c.in-Some.is)) ∙ sym c.is_due.ensures ∙ c.if-is_due.false);
-  follows = search rules;
-}
+returns-else-is_due g c =
+    changes g.S.Store c.args.conn.now c.status.new.conn _ _ _ c.requires.inside c.status.ensures.reads.follows
+    (λ inside clean. passes c.args.tenant.0 c.args.clock c.args.id c.in_ok-row.field-0 _ _ (c.in_ok-row.ensures.ok clean inside.schema) (c.in_ok-row.ensures.reads.same clean) (kept_in c.args.kept.now.items) inside
+    (λ row there. ap (is_due_row c.args.clock) (same_Some _ _ (sym there ∙ c.in-Some.is)) ∙ sym c.is_due.ensures ∙ c.if-is_due.false))

@@ -1,16 +1,8 @@
-use Rattle.stored_tables.specs.InBatch.{shown}
-use Rattle.stored_tables.proofs.Keeping.{tenant_before, reads, gives_up}
+use Rattle.stored_tables.proofs.Keeping.{looks_up}
 use Rattle.stored_tables.proofs.spans.transfers.Goals as goal
 
-pub read_transfers-requires : goal.read_transfers-requires
-read_transfers-requires g c clean = (c.requires clean).is_open
+pub read_transfers-found-requires : goal.read_transfers-found-requires
+read_transfers-found-requires g c clean = (c.requires clean).is_open
 
-pub returns-in-Ok-clause-value : goal.returns-in-Ok-clause-value
-unfolding shown
-returns-in-Ok-clause-value g c live = c.in-Ok.ensures.ok live.0 (tenant_before g.S.Store c.args.tenant.0 c.args.conn.now c.read_transfers.new.conn c.requires c.read_transfers.ensures.reads.follows live.0)
-
-pub returns-in-Ok-clause-leaves : goal.returns-in-Ok-clause-leaves
-returns-in-Ok-clause-leaves g c = reads g.S.Store _ _ _ c.in-Ok.found c.requires c.read_transfers.ensures.reads.follows c.in-Ok.ensures.reads.same
-
-pub returns-in-Err-clause-leaves : goal.returns-in-Err-clause-leaves
-returns-in-Err-clause-leaves g c = gives_up g.S.Store _ _ _ c.read_transfers.new.conn _ _ c.read_transfers.ensures.reads.follows c.give_up.ensures.over
+pub returns : goal.returns
+returns g c = looks_up g.S.Store _ c.args.conn.now c.read_transfers-found.new.conn _ _ _ _ c.requires c.read_transfers-found.ensures c.or_give_up.ensures

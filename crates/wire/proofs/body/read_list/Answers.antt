@@ -15,12 +15,10 @@ returns-in_err-items-clause-err g c = grind (arith, common_steps)
 
 pub returns-then-len-le-MAX_ITEMS-clause-ok : goal.returns-then-len-le-MAX_ITEMS-clause-ok
 returns-then-len-le-MAX_ITEMS-clause-ok g c =
-    let body = c.args.body.now in
-    let items = c.deref.result.now in
-    let has = has_items body _ items c.in_ok-value.ensures.ok (search rules) in
-    let few : length items ≤ 1000 = omega arith in
+    let few : length c.deref.result.now ≤ 1000 = omega arith in
     IfOk-weaker c.read_items.result _ _
-    (λ list is. list_in_few g.I.Item.means body items list.items has few is)
+    (λ list is. list_in_few g.I.Item.means _ _ list.items
+    (has_items c.args.body.now _ c.deref.result.now c.in_ok-value.ensures.ok (search rules)) few is)
     c.read_items.ensures.ok
 
 pub returns-then-len-le-MAX_ITEMS-clause-few : goal.returns-then-len-le-MAX_ITEMS-clause-few
@@ -33,26 +31,23 @@ returns-then-len-le-MAX_ITEMS-clause-few g c =
 
 pub returns-then-len-le-MAX_ITEMS-clause-err : goal.returns-then-len-le-MAX_ITEMS-clause-err
 returns-then-len-le-MAX_ITEMS-clause-err g c =
-    let body = c.args.body.now in
     let items = c.deref.result.now in
-    let has = has_items body _ items c.in_ok-value.ensures.ok (search rules) in
+    let has = has_items c.args.body.now _ items c.in_ok-value.ensures.ok (search rules) in
     IfErr-weaker c.read_items.result _ _
     (λ e refused available.
-    list_in_bad g.I.Item.means body items has (ap is_some (refused available).1)
+    list_in_bad g.I.Item.means c.args.body.now items has (ap is_some (refused available).1)
     ∙ ap Err (sym (refused available).0))
     c.read_items.ensures.err
 
 pub returns-then-are_items-clause-err : goal.returns-then-are_items-clause-err
 returns-then-are_items-clause-err g c =
-    let body = c.args.body.now in
     let items = c.deref-2.result.now in
-    let has = has_items body _ items c.in_ok-value.ensures.ok (search rules) in
+    let has = has_items c.args.body.now _ items c.in_ok-value.ensures.ok (search rules) in
     let many : 1000 < length items = omega arith in
-    λ _. list_in_many g.I.Item.means body items has many (search rules)
+    λ _. list_in_many g.I.Item.means c.args.body.now items has many (search rules)
 
 pub returns-clause-err : goal.returns-clause-err
 returns-clause-err g c =
-    let body = c.args.body.now in
     let items = c.deref-2.result.now in
-    let has = has_items body _ items c.in_ok-value.ensures.ok (search rules) in
-    λ _. list_in_bad g.I.Item.means body items has (search rules)
+    let has = has_items c.args.body.now _ items c.in_ok-value.ensures.ok (search rules) in
+    λ _. list_in_bad g.I.Item.means c.args.body.now items has (search rules)

@@ -28,35 +28,28 @@ returns-in_default-clause-refusal g c =
 
 pub returns-in-Some-first_fault-clause-refusal : goal.returns-in-Some-first_fault-clause-refusal
 returns-in-Some-first_fault-clause-refusal g c =
-    let body = c.args.body.now in
-    let items = c.deref.result.now in
-    let has = has_items body _ items c.in-Ok.ensures.ok (search rules) in
+    let has = has_items c.args.body.now _ c.deref.result.now c.in-Ok.ensures.ok (search rules) in
     ap (λ w. Some (refusal_of w)) c.in_ok-of.ensures.wanted
     ∙ ap Some (refused_as _ _ _ _ c.in-Some-first_fault.ensures.misfit.2)
-    ∙ sym (bad_item g.I.Item.means body items _ has (sym c.in-Some-first_fault.ensures.place))
+    ∙ sym (bad_item g.I.Item.means _ _ _ has (sym c.in-Some-first_fault.ensures.place))
 
 pub returns-then-len-le-MAX_ITEMS-clause-refusal : goal.returns-then-len-le-MAX_ITEMS-clause-refusal
 returns-then-len-le-MAX_ITEMS-clause-refusal g c =
-    let body = c.args.body.now in
-    let items = c.deref.result.now in
-    let has = has_items body _ items c.in-Ok.ensures.ok (search rules) in
-    let few : length items ≤ 1000 = omega arith in
-    sym (few_good g.I.Item.means body items has few (sym c.in_default-first_fault.ensures.place))
+    let few : length c.deref.result.now ≤ 1000 = omega arith in
+    sym (few_good g.I.Item.means _ _
+    (has_items c.args.body.now _ _ c.in-Ok.ensures.ok (search rules)) few
+    (sym c.in_default-first_fault.ensures.place))
 
 pub returns-clause-refusal : goal.returns-clause-refusal
 returns-clause-refusal g c =
-    let body = c.args.body.now in
-    let items = c.deref.result.now in
-    let has = has_items body _ items c.in-Ok.ensures.ok (search rules) in
-    let many : 1000 < length items = omega arith in
+    let has = has_items c.args.body.now _ c.deref.result.now c.in-Ok.ensures.ok (search rules) in
+    let many : 1000 < length c.deref.result.now = omega arith in
     ap (λ w. Some (refusal_of w)) c.of_body-else-len-le-MAX_ITEMS.ensures.wanted
-    ∙ sym (many_good g.I.Item.means body items has many (sym c.in_default-first_fault.ensures.place))
+    ∙ sym (many_good g.I.Item.means _ _ has many (sym c.in_default-first_fault.ensures.place))
 
 pub returns-clause-misfit : goal.returns-clause-misfit
 returns-clause-misfit g c =
-    let body = c.args.body.now in
-    let items = c.deref.result.now in
-    let has = has_items body _ items c.in-Ok.ensures.ok (search rules) in
-    let many : 1000 < length items = omega arith in
-    let fault = c.of_body-else-len-le-MAX_ITEMS in
-    has_many _ body items _ has many fault.ensures.item fault.ensures.field fault.ensures.wanted
+    let many : 1000 < length c.deref.result.now = omega arith in
+    let fault = c.of_body-else-len-le-MAX_ITEMS.ensures in
+    has_many _ _ _ _ (has_items c.args.body.now _ _ c.in-Ok.ensures.ok (search rules)) many
+    fault.item fault.field fault.wanted

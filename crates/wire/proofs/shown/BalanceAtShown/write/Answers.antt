@@ -1,24 +1,9 @@
-use Rattle.std.proofs.Common.{◌∙◌, append_assoc, rules}
-use Rattle.std.proofs.lemmas.Result.{on_ok_weaker}
+use Rattle.std.proofs.Common.{ap, map, ◌∙◌}
+use Rattle.wire.specs.Reply.{member_of, balance_members}
+use Rattle.wire.proofs.Texts.{same_object}
 use Rattle.wire.proofs.shown.BalanceAtShown.write.Goals as goal
 
 pub returns : goal.returns
-returns c = record {
-  ok =
-      on_ok_weaker c.end_object.result
-      (λ ended. ended ∙ rw (
-        c.in_ok-write_u64.ensures.ok,
-        c.in_ok-write_u128-4.ensures.ok,
-        c.in_ok-write_u128-3.ensures.ok,
-        c.in_ok-write_u128-2.ensures.ok,
-        c.in_ok-write_u128.ensures.ok,
-        c.in_ok-begin_object.ensures.ok,
-        c.value.ensures.value,
-        c.value-2.ensures.value,
-        c.value-3.ensures.value,
-        c.value-4.ensures.value,
-      )
-      (simp append_assoc))
-      c.end_object.ensures.ok;
-  before = search rules;
-}
+returns c =
+    same_object _ (balance_members c.args.self.now) _ _ _
+    (ap (map member_of) c.as_slice.ensures ∙ c.balance_members.ensures) c.write_object.ensures

@@ -1,21 +1,9 @@
-use Rattle.std.proofs.Common.{◌∙◌, append_assoc, rules}
-use Rattle.std.proofs.lemmas.Result.{on_ok_weaker}
+use Rattle.std.proofs.Common.{ap, map, ◌∙◌}
+use Rattle.wire.specs.Reply.{member_of, result_members}
+use Rattle.wire.proofs.Texts.{same_object}
 use Rattle.wire.proofs.shown.EventResultShown.write.Goals as goal
 
 pub returns : goal.returns
-returns g c = record {
-  ok =
-      on_ok_weaker c.end_object.result
-      (λ ended. ended ∙ rw (
-        c.in_ok-write_u64.ensures.ok,
-        c.in_ok-write_text.ensures.ok,
-        c.in_ok-write_whole.ensures.ok,
-        c.in_ok-begin_object.ensures.ok,
-        c.from.ensures,
-        c.number.ensures,
-        c.name.ensures,
-      )
-      (simp append_assoc))
-      c.end_object.ensures.ok;
-  before = search rules;
-}
+returns g c =
+    same_object _ (result_members (λ r. (g.R.ReplyResult.told_of r).0) (λ r. (g.R.ReplyResult.told_of r).1) c.args.self.now) _ _ _
+    (ap (map member_of) c.as_slice.ensures ∙ c.result_members.ensures) c.write_object.ensures
