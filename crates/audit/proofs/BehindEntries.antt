@@ -8,11 +8,12 @@ use Rattle.running.specs.Running.{IsRunning}
 use Rattle.audit.specs.declared.damage.DamageKind.TheVariants as kind
 use Rattle.audit.specs.declared.told.Told.{Told}
 use Rattle.audit.specs.Held.{Holds}
+use Rattle.audit.specs.Laws.{OneReading}
 use Rattle.audit.specs.Order.{IsFirstPlace}
 use Rattle.audit.specs.Stages.{IsClearBelow}
 use Rattle.audit.specs.Table.{IsWrong, IsBadFailed}
 use Rattle.audit.specs.Told.{TellsRows, entries_told, told_at, machine_told}
-use Rattle.audit.proofs.Stages.{OneReading, first_of_told, still_clear}
+use Rattle.audit.proofs.Stages.{first_of_told, still_clear}
 
 pub settled : (typed : TypedRows) (told : Told) (r : Running) → Holds told typed → IsRunning (told_at (machine_of (entries_told typed)) told.clock) r → IsRunning (machine_told typed) r
 settled typed told r holds is = subst (λ (n : ℕ). IsRunning (told_at (machine_of (entries_told typed)) n) r) holds.clock is

@@ -1,19 +1,24 @@
 -- The rows that a version prescribes, in order of key.
-use Rattle.std.proofs.Common.{◌≡◌, ◌<◌, ◌≤◌, ◌+◌, ◌*◌, ◌^◌, ℕ, zero, suc, Bool, true, false, cond, List, [], ◌∷◌, ◌++◌, take, length, get_or, Result, Ok, Err, IfOk, inl, inr, refl, sym, ap, ◌∙◌, subst, arith, is_lt}
+use Rattle.std.proofs.Common.{◌≡◌, ◌<◌, ◌≤◌, ◌+◌, ◌*◌, ◌^◌, ℕ, zero, suc, Bool, true, false, cond, List, [], ◌∷◌, ◌++◌, Vec, Global, take, length, get_or, Result, Ok, Err, IfOk, inl, inr, refl, sym, ap, ◌∙◌, subst, arith, rules, is_lt}
+use Rattle.std.specs.List.{All}
 use Rattle.std.specs.List.Sorted.{IsPermutation, IsSortedByKey}
 use Rattle.std.specs.Ordering.{nat_cmp, ordering_then}
 use Rattle.std.proofs.lemmas.Bool.{both_ways}
 use Rattle.std.proofs.lemmas.Bool.Decides.{leb_tells, nat_tests}
 use Rattle.std.proofs.lemmas.List.Elements.{All-get_or}
-use Rattle.std.proofs.lemmas.List.Sorted.{IsPermutation-refl, IsPermutation-sym, IsPermutation-trans}
+use Rattle.std.proofs.lemmas.List.Sorted.{All-permutation, IsPermutation-refl, IsPermutation-sym, IsPermutation-trans}
 use Rattle.std.proofs.Math.Seq.{take-append_seam}
 use Rattle.records.specs.Machine.{Machine}
+use Rattle.records.specs.Valid.{IsValid}
 use Rattle.rows.specs.Prescribed.{rows_for, since, balance_rows, status_rows, history_rows}
 use Rattle.rows.specs.SameRows.{AreSameRows}
 use Rattle.rows.specs.Tables.{HasDistinctKeys, IsAscendingBy}
 use Rattle.rows.specs.TypedRows.{TypedRows}
+use Rattle.running.specs.declared.running.Running.{Running}
+use Rattle.running.specs.Running.{IsRunning}
+use Rattle.audit.specs.Laws.{OneOrder}
 use Rattle.audit.specs.Order.{in_order}
-use Rattle.audit.proofs.InOrderLemmas.{OneOrder, in_order_same, in_order_up}
+use Rattle.audit.proofs.InOrderLemmas.{in_order_same, in_order_up}
 
 -- the rows of a table that a version has, and of one that it lacks
 pub since_on : {A : Type 0} (first version : ℕ) (rows : List A) → first ≤ version → since first version rows ≡ rows
@@ -55,15 +60,7 @@ lacks_derived version m less = record {
 }
 
 pub themselves : (rows : TypedRows) → AreSameRows rows rows
-themselves rows = record {
-  clock = refl;
-  accounts = IsPermutation-refl rows.accounts;
-  transfers = IsPermutation-refl rows.transfers;
-  balances = IsPermutation-refl rows.balances;
-  statuses = IsPermutation-refl rows.statuses;
-  history = IsPermutation-refl rows.history;
-  failed = IsPermutation-refl rows.failed;
-}
+themselves rows = search (rules, IsPermutation-refl)
 
 -- ascending rows, place by place
 pub up_at : {A : Type 0} (key : A → ℕ) (xs : List A) (i j : ℕ) (d : A) → IsAscendingBy key xs → i < j → j < length xs → key (get_or xs i d) < key (get_or xs j d)
@@ -84,10 +81,18 @@ pub ordered : {A : Type 0} → OneOrder A → (key : A → ℕ) (xs ys : List A)
 ordered one key xs ys once same sorted =
     sym (one key (in_order key xs) ys (in_order_up key xs once) (IsPermutation-trans (in_order key xs) xs ys (IsPermutation-sym xs (in_order key xs) (in_order_same key xs)) same) sorted)
 
--- two facts of what a call makes, if it makes it
-pub both_ok : {V E : Type 0} (made : Result V E) (P Q R : V → Type 0) → ((v : V) → P v → Q v → R v) → IfOk made P → IfOk made Q → IfOk made R
-both_ok (Ok v) P Q R step p q = step v p q
-both_ok (Err e) P Q R step p q = p
+-- the rows that a call makes of a running ledger, if it makes them
+abbrev AreMade : {R : Type 0} → Running → (Machine → List R) → Vec R Global → Type 0
+AreMade r rows made = (m : Machine) → IsRunning m r → IsPermutation (rows m) made.items
+
+pub made_fit : {R E : Type 0} (Fits : R → Type 0) (r : Running) (m : Machine) (rows : Machine → List R) (made : Result (Vec R Global) E) → IsRunning m r → All Fits (rows m) → IfOk made (AreMade r rows) → IfOk made (λ v. All Fits v.items)
+made_fit Fits r m rows (Ok v) is fit same = All-permutation Fits (rows m) v.items (same m is) fit
+made_fit Fits r m rows (Err e) is fit same = same
+
+pub made_ordered : {R E : Type 0} → OneOrder R → (key : R → ℕ) (r : Running) (rows wanted : Machine → List R) (made : Result (Vec R Global) E) → ((m : Machine) → IsValid m → HasDistinctKeys key (rows m)) → ((m : Machine) → wanted m ≡ rows m) → IfOk made (λ v. IsAscendingBy key v.items) → IfOk made (AreMade r rows) → IfOk made (λ v. (m : Machine) → IsRunning m r → v.items ≡ in_order key (wanted m))
+made_ordered one key r rows wanted (Ok v) once is up same = λ m running.
+    ordered one key (rows m) v.items (once m running.valid) (same m running) (ascending_is_sorted key v.items up) ∙ ap (in_order key) (sym (is m))
+made_ordered one key r rows wanted (Err e) once is up same = up
 
 -- the order of accounts and then of timestamps is that of one number
 is_less : (a b : ℕ) → a < b → is_lt (nat_cmp a b) ≡ true

@@ -8,20 +8,19 @@ use Rattle.std.proofs.lemmas.List.{take_more, map-append, get_or-map, length-map
 use Rattle.std.proofs.lemmas.List.Elements.{All-nil, All-cons, All-head, All-tail, All-push, All-append}
 use Rattle.std.proofs.lemmas.Option.{slice_get-map, slice_get_within, get_or_from_slice_get}
 use Rattle.std.proofs.lemmas.List.Sorted.{All-permutation, IsPermutation-map, IsPermutation-sym, IsPermutation-trans, length_permutation}
-use Rattle.records.specs.declared.account.Account as record_account
-use Rattle.records.specs.declared.transfer.Transfer as record_transfer
 use Rattle.running.specs.declared.entry.Entry.{Entry}
 use Rattle.running.specs.declared.entry.Entry.TheVariants.{Opened, Moved}
 use Rattle.running.specs.Entries.{time_of}
 use Rattle.rows.specs.TypedRows.{TypedRows}
 use Rattle.audit.specs.declared.entries.EntryPlace.{EntryPlace}
-use Rattle.audit.specs.declared.entries.RowPlace.TheVariants.{Account, Transfer}
+use Rattle.audit.specs.declared.entries.RowPlace.{RowPlace}
 use Rattle.audit.specs.Held.{entry_at, IsTimed, ArePlacesOf}
+use Rattle.audit.specs.Laws.{OneOrder}
 use Rattle.audit.specs.Order.{in_order}
 use Rattle.audit.specs.Table.{IsBadTime}
-use Rattle.audit.specs.Told.{account_times, transfer_times, entries_told}
+use Rattle.audit.specs.Told.{entries_told}
 use Rattle.audit.proofs.EntriesApart.{entries_apart}
-use Rattle.audit.proofs.InOrderLemmas.{OneOrder, in_order_same, in_order_up}
+use Rattle.audit.proofs.InOrderLemmas.{in_order_same, in_order_up}
 
 -- no places yet, one more, and those of two tables
 pub no_places : (typed : TypedRows) (places : List EntryPlace) → places ≡ [] → ArePlacesOf typed [] places
@@ -42,19 +41,12 @@ row_with : {A : Type 0} (stamp : A → ℕ) (time : ℕ) (found : Option A) → 
 row_with stamp time None is = absurd cc
 row_with stamp time (Some a) is = (a, refl, cc)
 
-pub one_account : (typed : TypedRows) (times : List ℕ) (places : List EntryPlace) (k time : ℕ) → slice_get times k ≡ Some time → times ≡ account_times typed → ArePlacesOf typed (take k (map Opened typed.accounts)) places → ArePlacesOf typed (take (k + 1) (map Opened typed.accounts)) (places ++ record { time = time; row = Account k } ∷ [])
-one_account typed times places k time here same so_far =
-    let stamp = λ (a : record_account.Account). a.timestamp in
-    let row = row_with stamp time (slice_get typed.accounts k) (sym (slice_get-map stamp typed.accounts k) ∙ ap (λ (ts : List ℕ). slice_get ts k) (sym same) ∙ here) in
-    let at = ap (option_map Opened) row.1 in
-    one_place typed (map Opened typed.accounts) places k (record { time = time; row = Account k }) (Opened row.0) (slice_get-map Opened typed.accounts k ∙ at) at (sym row.2) so_far
-
-pub one_transfer : (typed : TypedRows) (times : List ℕ) (places : List EntryPlace) (k time : ℕ) → slice_get times k ≡ Some time → times ≡ transfer_times typed → ArePlacesOf typed (take k (map Moved typed.transfers)) places → ArePlacesOf typed (take (k + 1) (map Moved typed.transfers)) (places ++ record { time = time; row = Transfer k } ∷ [])
-one_transfer typed times places k time here same so_far =
-    let stamp = λ (t : record_transfer.Transfer). t.timestamp in
-    let row = row_with stamp time (slice_get typed.transfers k) (sym (slice_get-map stamp typed.transfers k) ∙ ap (λ (ts : List ℕ). slice_get ts k) (sym same) ∙ here) in
-    let at = ap (option_map Moved) row.1 in
-    one_place typed (map Moved typed.transfers) places k (record { time = time; row = Transfer k }) (Moved row.0) (slice_get-map Moved typed.transfers k ∙ at) at (sym row.2) so_far
+pub one_row : {A : Type 0} (make : A → Entry) (stamp : A → ℕ) → ((a : A) → stamp a ≡ time_of (make a)) → (typed : TypedRows) (rows : List A) (times : List ℕ) (places more : List EntryPlace) (k time : ℕ) (row : RowPlace) → entry_at typed row ≡ option_map make (slice_get rows k) → more ≡ places ++ record { time = time; row = row } ∷ [] → slice_get times k ≡ Some time → times ≡ map stamp rows → ArePlacesOf typed (take k (map make rows)) places → ArePlacesOf typed (take (k + 1) (map make rows)) more
+one_row make stamp stamped typed rows times places more k time row there pushed here same so_far =
+    let found = row_with stamp time (slice_get rows k) (sym (slice_get-map stamp rows k) ∙ ap (λ (ts : List ℕ). slice_get ts k) (sym same) ∙ here) in
+    let at = ap (option_map make) found.1 in
+    subst (ArePlacesOf typed (take (k + 1) (map make rows))) (sym pushed)
+    (one_place typed (map make rows) places k (record { time = time; row = row }) (make found.0) (slice_get-map make rows k ∙ at) (there ∙ at) (sym found.2 ∙ stamped found.0) so_far)
 
 pub both_places : (typed : TypedRows) (es fs : List Entry) (ps qs : List EntryPlace) → ArePlacesOf typed es ps → ArePlacesOf typed fs qs → ArePlacesOf typed (es ++ fs) (ps ++ qs)
 both_places typed es fs ps qs first second =

@@ -76,6 +76,16 @@ own : (version : ℕ) (tenants : List TenantOfDigest) (tenant : TenantOfDigest) 
 own version tenants tenant damage is = of_any (λ (t : TenantOfDigest). IsOwn version t damage) (tenants ++ tenant ∷ []) tenant (Contains-push tenants tenant) is
 
 -- one tenant more
+stays_first : (version : ℕ) (tenants : List TenantOfDigest) (tenant : TenantOfDigest) (first second : Damage) → damage_cmp second first ≢ Less → IsFirstDamage version tenants first → TellsOwn version tenant (Some second) → IsFirstDamage version (tenants ++ tenant ∷ []) first
+stays_first version tenants tenant first second not old new = record {
+  is = still version tenants tenant first old.is;
+  first = λ other wrong.
+      elim (of_one version tenants tenant other wrong) [
+        | inl w ↦ old.first other w
+        | inr w ↦ not_before first second other not (new.1 other w)
+      ];
+}
+
 by_order : (version : ℕ) (tenants : List TenantOfDigest) (tenant : TenantOfDigest) (first second : Damage) (r : Ordering) → damage_cmp second first ≡ r → IsFirstDamage version tenants first → TellsOwn version tenant (Some second) → IsFirstDamage version (tenants ++ tenant ∷ []) (earlier_of r first second)
 by_order version tenants tenant first second Less is old new = record {
   is = own version tenants tenant second new.0;
@@ -85,22 +95,8 @@ by_order version tenants tenant first second Less is old new = record {
         | inr w ↦ new.1 other w
       ];
 }
-by_order version tenants tenant first second Equal is old new = record {
-  is = still version tenants tenant first old.is;
-  first = λ other wrong.
-      elim (of_one version tenants tenant other wrong) [
-        | inl w ↦ old.first other w
-        | inr w ↦ not_before first second other (λ less. absurd (let e = sym is ∙ less in cc)) (new.1 other w)
-      ];
-}
-by_order version tenants tenant first second Greater is old new = record {
-  is = still version tenants tenant first old.is;
-  first = λ other wrong.
-      elim (of_one version tenants tenant other wrong) [
-        | inl w ↦ old.first other w
-        | inr w ↦ not_before first second other (λ less. absurd (let e = sym is ∙ less in cc)) (new.1 other w)
-      ];
-}
+by_order version tenants tenant first second Equal is old new = stays_first version tenants tenant first second (λ less. absurd cc) old new
+by_order version tenants tenant first second Greater is old new = stays_first version tenants tenant first second (λ less. absurd cc) old new
 
 pub one_tenant : (version : ℕ) (tenants : List TenantOfDigest) (tenant : TenantOfDigest) (first second : Option Damage) → TellsFirst version tenants first → TellsOwn version tenant second → TellsFirst version (tenants ++ tenant ∷ []) (earlier first second)
 one_tenant version tenants tenant None None old new = λ damage wrong. elim (of_one version tenants tenant damage wrong) [ inl w ↦ old damage w | inr w ↦ new damage w ]

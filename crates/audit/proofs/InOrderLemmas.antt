@@ -76,7 +76,3 @@ in_order_up key [] once = tt
 in_order_up key (x ∷ xs) once =
     placed_up key x (in_order key xs) (in_order_up key xs (rest_alone key x xs once))
     (All-permutation (λ y. key y ≢ key x) xs (in_order key xs) (in_order_same key xs) (first_alone key x xs once))
-
--- the law of tables: ascending rows are in order in one way
-abbrev pub OneOrder : Type 0 → Type 0
-OneOrder A = (key : A → ℕ) (xs ys : List A) → IsAscendingBy key xs → IsPermutation xs ys → IsSortedByKey key nat_cmp ys → xs ≡ ys

@@ -16,11 +16,12 @@ use Rattle.rows.specs.Tables.{HasDistinctKeys, IsAscendingBy, history_key}
 use Rattle.rows.specs.TypedRows.{FileRows}
 use Rattle.rows.specs.Widths.{IsStorableHistory}
 use Rattle.audit.specs.declared.meeting.Meeting.{Meeting}
+use Rattle.audit.specs.Laws.{OneOrder}
 use Rattle.audit.specs.Meeting.{AreAscending, IsAmong, IsToldOf, Met}
 use Rattle.audit.specs.Order.{in_order}
 use Rattle.audit.proofs.DerivedRows.{ascending_is_sorted, has_derived}
 use Rattle.audit.proofs.ShapedRows.{as_long, there}
-use Rattle.audit.proofs.InOrderLemmas.{OneOrder, in_order_same, in_order_up, first_alone, rest_alone}
+use Rattle.audit.proofs.InOrderLemmas.{in_order_same, in_order_up, first_alone, rest_alone}
 
 -- the rows around one that stands there
 record Around {A : Type 0} (values : List A) (x : A) : Type 0 where

@@ -12,13 +12,14 @@ use Rattle.rows.specs.Prescribed.{rows_for, since}
 use Rattle.rows.specs.Tables.{history_key, IsAscendingBy}
 use Rattle.rows.specs.TypedRows.{TypedRows, FileRows}
 use Rattle.running.specs.Entries.{machine_of, FailedIdsStandApart}
+use Rattle.audit.specs.Laws.{Laws}
 use Rattle.audit.specs.Newer.{none_failed, LeadsTo, with_derived, SoundRowsAreRead, SoundTimesAreOwn, SoundRowsLead, DerivedRowsAreTheirs, ValidWithoutFailed}
 use Rattle.audit.specs.Order.{in_order}
 use Rattle.audit.specs.Sound.{AreRowsOf}
 use Rattle.audit.specs.Table.{IsBadTime}
 use Rattle.audit.specs.Told.{TellsRows, entries_told}
 use Rattle.audit.proofs.InOrderLemmas.{in_order_same}
-use Rattle.audit.proofs.PassedRows.{Laws, fits, times, replayed, same_clock, can_come, machine_is, told_valid}
+use Rattle.audit.proofs.PassedRows.{fits, times, replayed, same_clock, can_come, machine_is, told_valid}
 use Rattle.audit.proofs.Readable.{told_of, tells_typed}
 use Rattle.audit.proofs.ShapedRows.{shaped}
 use Rattle.audit.proofs.SoundRows.{ordered}

@@ -21,34 +21,21 @@ use Rattle.running.specs.declared.entry.Entry.TheVariants.{Opened, Moved}
 use Rattle.running.specs.Entries.{time_of, CanCome, Replays, machine_of, ReplayedIsValid, ValidReplays}
 use Rattle.audit.specs.declared.damage.DamageKind.{DamageKind}
 use Rattle.audit.specs.declared.damage.DamageKind.TheVariants as kind
+use Rattle.audit.specs.Laws.{OneReading, KeysAreDistinct, OneOrder, Laws}
 use Rattle.audit.specs.Order.{in_order, Differ}
 use Rattle.audit.specs.Sound.{AreRowsOf, AreSound}
 use Rattle.audit.specs.Table.{IsWrong, IsToldWrong}
 use Rattle.audit.specs.Told.{entries_told, machine_told, prescribed}
 use Rattle.audit.proofs.DerivedRows.{ascending_is_sorted}
 use Rattle.audit.proofs.EntriesApart.{entries_apart}
-use Rattle.audit.proofs.InOrderLemmas.{OneOrder, in_order_same, in_order_up}
+use Rattle.audit.proofs.InOrderLemmas.{in_order_same, in_order_up}
 use Rattle.audit.proofs.OwnTimes.{no_bad_time}
 use Rattle.audit.proofs.PassedFailed.{no_bad_failed}
 use Rattle.audit.proofs.Readable.{storable, told_of, tells_typed, well_shaped}
 use Rattle.audit.proofs.RefusedRows.{all_accepted}
-use Rattle.audit.proofs.SoundRows.{KeysAreDistinct, ordered}
-use Rattle.audit.proofs.Stages.{OneReading, told_if_wrong}
+use Rattle.audit.proofs.SoundRows.{ordered}
+use Rattle.audit.proofs.Stages.{told_if_wrong}
 use Rattle.audit.proofs.ToldMachine.{told_clock}
-
--- what is known of all valid machines and their rows
-pub record Laws : Type 0 where
-  pub reading : OneReading
-  pub fit : (version : ℕ) (m : Machine) → IsValid m → AreStorable (rows_for version m)
-  pub keys : KeysAreDistinct
-  pub balances : OneOrder BalanceRow
-  pub statuses : OneOrder StatusRow
-  pub history : OneOrder HistoryRow
-  pub accounts_up : (m : Machine) → IsValid m → IsAscendingBy (λ row. row.timestamp) (rows_for 3 m).accounts
-  pub transfers_up : (m : Machine) → IsValid m → IsAscendingBy (λ row. row.timestamp) (rows_for 3 m).transfers
-  pub replays : ValidReplays
-  pub replayed : ReplayedIsValid
-  pub entry_by_entry : ValidExactlyEntryByEntry
 
 -- a table of the typed rows is what is prescribed, in order of key
 table : {R C : Type 0} → OneOrder R → (cells : R → C) (key : R → ℕ) (rows : List C) (typed other given : List R) → rows ≡ map cells typed → given ≡ other → IsPermutation other typed → IsAscendingBy key typed → IsAscendingBy key (in_order key given) → (place : ℕ) → Differ rows (map cells (in_order key given)) place → ⊥

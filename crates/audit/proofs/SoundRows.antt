@@ -16,6 +16,7 @@ use Rattle.rows.specs.TypedRows.{TypedRows, FileRows}
 use Rattle.running.specs.Entries.{CanCome, machine_of, FailedIdsStandApart}
 use Rattle.audit.specs.declared.damage.DamageKind.TheVariants as kind
 use Rattle.audit.specs.Damage.{FindsWrong}
+use Rattle.audit.specs.Laws.{KeysAreDistinct}
 use Rattle.audit.specs.Order.{in_order}
 use Rattle.audit.specs.Sound.{AreSound}
 use Rattle.audit.specs.Told.{TellsRows, entries_told, machine_told, prescribed}
@@ -24,10 +25,6 @@ use Rattle.audit.proofs.GoodFailed.{failed_apart, failed_kept, ascending_from_pa
 use Rattle.audit.proofs.InOrderLemmas.{in_order_same, in_order_up}
 use Rattle.audit.proofs.StableCells.{balance_stable, status_stable, history_stable, no_difference, le_stable}
 use Rattle.audit.proofs.ToldMachine.{accounts_told, transfers_told, told_clock}
-
--- the law of keys
-abbrev pub KeysAreDistinct : Type 0
-KeysAreDistinct = (m : Machine) (rows : TypedRows) → IsValid m → AreSameRows (rows_for 3 m) rows → AreKeyed rows
 
 -- the typed rows of what is told
 abbrev whole : ℕ → TypedRows → TypedRows

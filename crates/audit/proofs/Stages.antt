@@ -9,6 +9,7 @@ use Rattle.audit.specs.declared.damage.DamageKind.{DamageKind}
 use Rattle.audit.specs.declared.damage.DamageKind.TheVariants as kind
 use Rattle.audit.specs.declared.tenant.Found.{Found}
 use Rattle.audit.specs.Damage.{kind_number, IsFirstFound, FindsWrong}
+use Rattle.audit.specs.Laws.{OneReading}
 use Rattle.audit.specs.Order.{IsFirstPlace, Differ}
 use Rattle.audit.specs.Stages.{IsClearBelow, FindsBelow}
 use Rattle.audit.specs.Table.{IsToldWrong, IsWrong}
@@ -32,32 +33,23 @@ kind_back kind.FailedId = refl
 same_kind : (a b : DamageKind) → kind_number a ≡ kind_number b → a ≡ b
 same_kind a b same = sym (kind_back a) ∙ ap kind_with same ∙ kind_back b
 
-at_most_last : (k : DamageKind) → kind_number k < 9
-at_most_last kind.Shape = omega arith
-at_most_last kind.Timestamp = omega arith
-at_most_last kind.Entry = omega arith
-at_most_last kind.Balance = omega arith
-at_most_last kind.Status = omega arith
-at_most_last kind.History = omega arith
-at_most_last kind.Clock = omega arith
-at_most_last kind.FailedId = omega arith
-
-above_none : (k : DamageKind) → 0 < kind_number k
-above_none kind.Shape = omega arith
-above_none kind.Timestamp = omega arith
-above_none kind.Entry = omega arith
-above_none kind.Balance = omega arith
-above_none kind.Status = omega arith
-above_none kind.History = omega arith
-above_none kind.Clock = omega arith
-above_none kind.FailedId = omega arith
+-- kinds are numbered from 1 to 8
+numbered : (k : DamageKind) → (0 < kind_number k) × (kind_number k < 9)
+numbered kind.Shape = (omega arith, omega arith)
+numbered kind.Timestamp = (omega arith, omega arith)
+numbered kind.Entry = (omega arith, omega arith)
+numbered kind.Balance = (omega arith, omega arith)
+numbered kind.Status = (omega arith, omega arith)
+numbered kind.History = (omega arith, omega arith)
+numbered kind.Clock = (omega arith, omega arith)
+numbered kind.FailedId = (omega arith, omega arith)
 
 -- none is below the first kind, and all are below the number behind the last
 pub none_yet : (version : ℕ) (rows : FileRows) → IsClearBelow version rows 1
-none_yet version rows k place less wrong = let some = above_none k in absurd (omega (arith, less, some))
+none_yet version rows k place less wrong = let some = (numbered k).0 in absurd (omega (arith, less, some))
 
 pub all_clear : (version : ℕ) (rows : FileRows) → IsClearBelow version rows 9 → FindsWrong version rows None
-all_clear version rows clear k place wrong = clear k place (at_most_last k) wrong
+all_clear version rows clear k place wrong = clear k place (numbered k).1 wrong
 
 -- one kind more
 pub clear_more : (version : ℕ) (rows : FileRows) (k : DamageKind) → IsClearBelow version rows (kind_number k) → IsFirstPlace (IsWrong version rows k) None → IsClearBelow version rows (kind_number k + 1)
@@ -98,36 +90,27 @@ first_found version rows k place below first = record {
       ]);
 }
 
--- what is wrong is told of one reading of the rows, since there is but one
-abbrev pub OneReading : Type 0
-OneReading = (xs ys : TypedRows) → AreStorable xs → AreStorable ys → cells_of xs ≡ cells_of ys → xs ≡ ys
-
-wrong_if_told : (version : ℕ) (rows : FileRows) (told : TypedRows) (k : DamageKind) (place : ℕ) → TellsRows rows told → IsToldWrong version rows told k place → IsWrong version rows k place
-wrong_if_told version rows told kind.Shape place tells wrong = wrong
-wrong_if_told version rows told kind.Timestamp place tells wrong = (told, tells, wrong)
-wrong_if_told version rows told kind.Entry place tells wrong = (told, tells, wrong)
-wrong_if_told version rows told kind.Balance place tells wrong = (told, tells, wrong)
-wrong_if_told version rows told kind.Status place tells wrong = (told, tells, wrong)
-wrong_if_told version rows told kind.History place tells wrong = (told, tells, wrong)
-wrong_if_told version rows told kind.Clock place tells wrong = (told, tells, wrong)
-wrong_if_told version rows told kind.FailedId place tells wrong = (told, tells, wrong)
-
 abbrev IsSomeToldWrong : ℕ → FileRows → DamageKind → ℕ → Type 0
 IsSomeToldWrong version rows k place = (told : TypedRows) × TellsRows rows told × IsToldWrong version rows told k place
 
-as_told : OneReading → (version : ℕ) (rows : FileRows) (told : TypedRows) (k : DamageKind) (place : ℕ) → TellsRows rows told → IsSomeToldWrong version rows k place → IsToldWrong version rows told k place
-as_told one version rows told k place tells wrong =
-    subst (λ (t : TypedRows). IsToldWrong version rows t k place) (one wrong.0 told wrong.1.fits tells.fits (wrong.1.cells ∙ sym tells.cells)) wrong.2
+-- of rows that can be read each kind is wrong where some reading tells so
+some_told : (version : ℕ) (rows : FileRows) (told : TypedRows) (k : DamageKind) (place : ℕ) → TellsRows rows told → (IsWrong version rows k place → IsSomeToldWrong version rows k place) × (IsSomeToldWrong version rows k place → IsWrong version rows k place)
+some_told version rows told kind.Shape place tells = (λ wrong. (told, tells, wrong), λ some. some.2)
+some_told version rows told kind.Timestamp place tells = (λ wrong. wrong, λ some. some)
+some_told version rows told kind.Entry place tells = (λ wrong. wrong, λ some. some)
+some_told version rows told kind.Balance place tells = (λ wrong. wrong, λ some. some)
+some_told version rows told kind.Status place tells = (λ wrong. wrong, λ some. some)
+some_told version rows told kind.History place tells = (λ wrong. wrong, λ some. some)
+some_told version rows told kind.Clock place tells = (λ wrong. wrong, λ some. some)
+some_told version rows told kind.FailedId place tells = (λ wrong. wrong, λ some. some)
+
+wrong_if_told : (version : ℕ) (rows : FileRows) (told : TypedRows) (k : DamageKind) (place : ℕ) → TellsRows rows told → IsToldWrong version rows told k place → IsWrong version rows k place
+wrong_if_told version rows told k place tells wrong = (some_told version rows told k place tells).1 (told, tells, wrong)
 
 pub told_if_wrong : OneReading → (version : ℕ) (rows : FileRows) (told : TypedRows) (k : DamageKind) (place : ℕ) → TellsRows rows told → IsWrong version rows k place → IsToldWrong version rows told k place
-told_if_wrong one version rows told kind.Shape place tells wrong = wrong
-told_if_wrong one version rows told kind.Timestamp place tells wrong = as_told one version rows told kind.Timestamp place tells wrong
-told_if_wrong one version rows told kind.Entry place tells wrong = as_told one version rows told kind.Entry place tells wrong
-told_if_wrong one version rows told kind.Balance place tells wrong = as_told one version rows told kind.Balance place tells wrong
-told_if_wrong one version rows told kind.Status place tells wrong = as_told one version rows told kind.Status place tells wrong
-told_if_wrong one version rows told kind.History place tells wrong = as_told one version rows told kind.History place tells wrong
-told_if_wrong one version rows told kind.Clock place tells wrong = as_told one version rows told kind.Clock place tells wrong
-told_if_wrong one version rows told kind.FailedId place tells wrong = as_told one version rows told kind.FailedId place tells wrong
+told_if_wrong one version rows told k place tells wrong =
+    let some = (some_told version rows told k place tells).0 wrong in
+    subst (λ (t : TypedRows). IsToldWrong version rows t k place) (one some.0 told some.1.fits tells.fits (some.1.cells ∙ sym tells.cells)) some.2
 
 pub first_of_told : OneReading → (version : ℕ) (rows : FileRows) (told : TypedRows) (k : DamageKind) (o : Option ℕ) → TellsRows rows told → IsFirstPlace (IsToldWrong version rows told k) o → IsFirstPlace (IsWrong version rows k) o
 first_of_told one version rows told k None tells none = λ place wrong. none place (told_if_wrong one version rows told k place tells wrong)

@@ -85,18 +85,20 @@ lists_kept m false clock = (refl, refl)
 in_machine : TypedRows → Bool
 in_machine told = leb (machine_of (entries_told told)).clock told.clock && leb told.clock max_clock
 
+picked_told : {A : Type 0} (pick : Entry → List A) (told : TypedRows) (mine stored : List A) → mine ≡ picked pick (entries_told told) → picked pick (map Opened told.accounts ++ map Moved told.transfers) ≡ stored → IsPermutation mine stored
+picked_told pick told mine stored has is =
+    let entries = map Opened told.accounts ++ map Moved told.transfers in
+    subst (λ xs. IsPermutation xs stored) (sym has)
+    (IsPermutation-sym stored (picked pick (entries_told told)) (subst (λ xs. IsPermutation xs (picked pick (entries_told told))) is (picked_in_order pick entries)))
+
 pub accounts_told : (told : TypedRows) → IsPermutation (machine_told told).accounts told.accounts
 unfolding in_machine
 accounts_told told =
-    let stored = map Opened told.accounts ++ map Moved told.transfers in
-    let kept = (lists_kept (machine_of (entries_told told)) (in_machine told) told.clock).0 ∙ accounts_after new_machine (entries_told told) in
-    let same = subst (λ (xs : List Account). IsPermutation xs (picked opened (entries_told told))) (opened_stored told.accounts told.transfers) (picked_in_order opened stored) in
-    subst (λ (xs : List Account). IsPermutation xs told.accounts) (sym kept) (IsPermutation-sym told.accounts (picked opened (entries_told told)) same)
+    let kept = lists_kept (machine_of (entries_told told)) (in_machine told) told.clock in
+    picked_told opened told (machine_told told).accounts told.accounts (kept.0 ∙ accounts_after new_machine (entries_told told)) (opened_stored told.accounts told.transfers)
 
 pub transfers_told : (told : TypedRows) → IsPermutation (machine_told told).transfers told.transfers
 unfolding in_machine
 transfers_told told =
-    let stored = map Opened told.accounts ++ map Moved told.transfers in
-    let kept = (lists_kept (machine_of (entries_told told)) (in_machine told) told.clock).1 ∙ transfers_after new_machine (entries_told told) in
-    let same = subst (λ (xs : List Transfer). IsPermutation xs (picked moved (entries_told told))) (moved_stored told.accounts told.transfers) (picked_in_order moved stored) in
-    subst (λ (xs : List Transfer). IsPermutation xs told.transfers) (sym kept) (IsPermutation-sym told.transfers (picked moved (entries_told told)) same)
+    let kept = lists_kept (machine_of (entries_told told)) (in_machine told) told.clock in
+    picked_told moved told (machine_told told).transfers told.transfers (kept.1 ∙ transfers_after new_machine (entries_told told)) (moved_stored told.accounts told.transfers)

@@ -8,4 +8,5 @@ pub mod Sound
 pub mod Stages
 pub mod Replayed
 pub mod Newer
+pub mod Laws
 pub mod Meeting

@@ -1,3 +1,4 @@
+ghost use Rattle.audit.specs.Laws.{Laws};
 ghost use Rattle.audit.specs.Sound.{SoundRowsPass};
 
 use engine::valid_exactly_entry_by_entry;
@@ -7,9 +8,10 @@ use rows::{
 };
 use running::{replayed_is_valid, valid_replays};
 
-/// The rows of a valid machine have no damage. It does nothing: its contract is a law.
-pub fn sound_rows_pass()
-    ensures { SoundRowsPass }
+/// What the crates below tell of all valid machines and their rows. It does nothing: its contract
+/// is a law.
+pub(crate) fn known_laws()
+    ensures { Laws }
 {
     cells_tell_rows();
     rows_fit();
@@ -21,4 +23,11 @@ pub fn sound_rows_pass()
     valid_replays();
     replayed_is_valid();
     valid_exactly_entry_by_entry();
+}
+
+/// The rows of a valid machine have no damage. It does nothing: its contract is a law.
+pub fn sound_rows_pass()
+    ensures { SoundRowsPass }
+{
+    known_laws();
 }

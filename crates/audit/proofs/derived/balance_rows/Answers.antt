@@ -1,37 +1,26 @@
-use Rattle.std.proofs.Common.{◌≡◌, ℕ, ap, ◌∙◌, sym, subst}
+use Rattle.std.proofs.Common.{◌≡◌, ap, ◌∙◌, sym, subst}
 use Rattle.std.specs.List.{All}
-use Rattle.std.specs.List.Sorted.{IsPermutation}
-use Rattle.std.proofs.lemmas.Result.{IfOk-weaker}
-use Rattle.std.proofs.lemmas.List.Sorted.{All-permutation}
-use Rattle.records.specs.Machine.{Machine}
 use Rattle.rows.specs.declared.balance_row.BalanceRow.{BalanceRow}
 use Rattle.rows.specs.Prescribed.{rows_for, balance_rows}
-use Rattle.rows.specs.Tables.{IsAscendingBy}
 use Rattle.rows.specs.Widths.{IsStorableBalance}
-use Rattle.running.specs.Running.{IsRunning}
 use Rattle.audit.specs.Order.{in_order}
-use Rattle.audit.proofs.DerivedRows.{has_derived, lacks_derived, themselves, ascending_is_sorted, ordered, both_ok}
+use Rattle.audit.proofs.DerivedRows.{has_derived, lacks_derived, themselves, made_fit, made_ordered}
 use Rattle.audit.proofs.derived.balance_rows.Goals as goal
-
-abbrev key : BalanceRow → ℕ
-key row = row.account
 
 pub returns-then-version-lt2-clause-all : goal.returns-then-version-lt2-clause-all
 returns-then-version-lt2-clause-all c m is =
-    c.new.ensures.items ∙ ap (in_order key) (sym (lacks_derived c.args.version m c.if-version-lt2.true).balances)
+    c.new.ensures.items ∙ ap (in_order (λ (row : BalanceRow). row.account)) (sym (lacks_derived c.args.version m c.if-version-lt2.true).balances)
 
 pub returns-clause-fit : goal.returns-clause-fit
 returns-clause-fit c =
     let m = c.requires.0 in
     let is = c.requires.1 in
     let fits = subst (All IsStorableBalance) (has_derived c.args.version m c.if-version-lt2.false).balances (c.rows_fit.ensures c.args.version m is.valid).balances in
-    IfOk-weaker _ (λ v. (m : Machine) → IsRunning m c.args.running.now → IsPermutation (balance_rows m) v.items) (λ v. All IsStorableBalance v.items) (λ v all. All-permutation IsStorableBalance (balance_rows m) v.items (all m is) fits) c.balance_rows.ensures.all
+    made_fit IsStorableBalance c.args.running.now m balance_rows c.balance_rows.result is fits c.balance_rows.ensures.all
 
 pub returns-clause-all : goal.returns-clause-all
 unfolding rows_for
 returns-clause-all c =
-    both_ok c.balance_rows.result (λ v. IsAscendingBy key v.items) (λ v. (m : Machine) → IsRunning m c.args.running.now → IsPermutation (balance_rows m) v.items)
-    (λ v. (m : Machine) → IsRunning m c.args.running.now → v.items ≡ in_order key (rows_for c.args.version m).balances)
-    (λ v up same m is.
-    ordered c.read_in_order.ensures.ascending key (balance_rows m) v.items (c.keys_are_distinct.ensures m (rows_for 3 m) is.valid (themselves (rows_for 3 m))).balances (same m is) (ascending_is_sorted key v.items up)
-    ∙ ap (in_order key) (sym (has_derived c.args.version m c.if-version-lt2.false).balances)) c.balance_rows.ensures.in_order c.balance_rows.ensures.all
+    made_ordered c.read_in_order.ensures.ascending (λ (row : BalanceRow). row.account) c.args.running.now balance_rows (λ m. (rows_for c.args.version m).balances) c.balance_rows.result
+    (λ m valid. (c.keys_are_distinct.ensures m (rows_for 3 m) valid (themselves (rows_for 3 m))).balances)
+    (λ m. (has_derived c.args.version m c.if-version-lt2.false).balances) c.balance_rows.ensures.in_order c.balance_rows.ensures.all

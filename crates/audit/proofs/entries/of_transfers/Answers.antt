@@ -1,13 +1,12 @@
-use Rattle.std.proofs.Common.{◌+◌, take, map, sym, subst}
+use Rattle.std.proofs.Common.{refl}
 use Rattle.std.proofs.lemmas.Option.{slice_get-get_or}
 use Rattle.running.specs.declared.entry.Entry.TheVariants.{Moved}
-use Rattle.audit.specs.Held.{ArePlacesOf}
-use Rattle.audit.proofs.EntryPlaces.{one_transfer}
+use Rattle.audit.specs.declared.entries.RowPlace.TheVariants.{Transfer}
+use Rattle.audit.proofs.EntryPlaces.{one_row}
 use Rattle.audit.proofs.entries.of_transfers.Goals as goal
 
 pub loop-place-preserved : goal.loop-place-preserved
 loop-place-preserved c typed same =
     let place = c.loop-place.place in
-    let times = c.args.times.now in
-    subst (ArePlacesOf typed (take (place + 1) (map Moved typed.transfers))) (sym c.in_ok-push.ensures.items)
-    (one_transfer typed times c.loop-place.places.items place _ (slice_get-get_or times place 0 c.loop-place-test.true) same (c.loop-place.invariant typed same))
+    one_row Moved (λ row. row.timestamp) (λ row. refl) typed typed.transfers c.args.times.now c.loop-place.places.items _ place _ (Transfer place) refl c.in_ok-push.ensures.items
+    (slice_get-get_or c.args.times.now place 0 c.loop-place-test.true) same (c.loop-place.invariant typed same)
