@@ -70,11 +70,13 @@ up_at key (x ∷ xs) zero (suc j) d up less within = All-get_or (λ y. key x < k
 up_at key (x ∷ xs) (suc i) zero d up less within = absurd (omega (arith, less))
 up_at key (x ∷ xs) (suc i) (suc j) d up less within = up_at key xs i j d up.1 (omega (arith, less)) (omega (arith, within))
 
-not_less : (a b : ℕ) → a < b → is_lt (nat_cmp b a) ≡ false
-not_less a b less = grind (arith, nat_tests)
+not_less : (a b : ℕ) → b ≤ a → is_lt (nat_cmp a b) ≡ false
+not_less a b le = grind (arith, nat_tests)
 
 pub ascending_is_sorted : {A : Type 0} (key : A → ℕ) (xs : List A) → IsAscendingBy key xs → IsSortedByKey key nat_cmp xs
-ascending_is_sorted key xs up k d low within = not_less (key (get_or xs k d)) (key (get_or xs (k + 1) d)) (up_at key xs k (k + 1) d up (omega arith) within)
+ascending_is_sorted key xs up k d low within =
+    let less = up_at key xs k (k + 1) d up (omega arith) within in
+    not_less (key (get_or xs (k + 1) d)) (key (get_or xs k d)) (omega (arith, less))
 
 -- the only order
 pub ordered : {A : Type 0} → OneOrder A → (key : A → ℕ) (xs ys : List A) → HasDistinctKeys key xs → IsPermutation xs ys → IsSortedByKey key nat_cmp ys → ys ≡ in_order key xs
@@ -113,12 +115,9 @@ pair_less a b t u short_t short_u less = elim (leb_tells b a) [
       subst (λ (n : ℕ). is_lt (ordering_then (nat_cmp a n) (nat_cmp t u)) ≡ true) (sym same) (second_less a t u (omega (arith, less, same)))
 ]
 
-not_less_eq : (a b : ℕ) → b ≤ a → is_lt (nat_cmp a b) ≡ false
-not_less_eq a b le = grind (arith, nat_tests)
-
 pub key_not_less : (a b t u : ℕ) → t < 2 ^ 64 → u < 2 ^ 64 → is_lt (ordering_then (nat_cmp a b) (nat_cmp t u)) ≡ false → is_lt (nat_cmp (a * 2 ^ 64 + t) (b * 2 ^ 64 + u)) ≡ false
 key_not_less a b t u short_t short_u not = elim (leb_tells (b * 2 ^ 64 + u) (a * 2 ^ 64 + t)) [
-  | inl h ↦ not_less_eq (a * 2 ^ 64 + t) (b * 2 ^ 64 + u) h.1
+  | inl h ↦ not_less (a * 2 ^ 64 + t) (b * 2 ^ 64 + u) h.1
   | inr h ↦ absurd (both_ways (is_lt (ordering_then (nat_cmp a b) (nat_cmp t u))) not (pair_less a b t u short_t short_u h.1))
 ]
 

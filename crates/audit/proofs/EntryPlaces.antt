@@ -22,10 +22,7 @@ use Rattle.audit.specs.Told.{entries_told}
 use Rattle.audit.proofs.EntriesApart.{entries_apart}
 use Rattle.audit.proofs.InOrderLemmas.{in_order_same, in_order_up}
 
--- no places yet, one more, and those of two tables
-pub no_places : (typed : TypedRows) (places : List EntryPlace) → places ≡ [] → ArePlacesOf typed [] places
-no_places typed places none = subst (ArePlacesOf typed []) (sym none) (record { there = refl; timed = All-nil (IsTimed typed) })
-
+-- one place more
 one_place : (typed : TypedRows) (entries : List Entry) (places : List EntryPlace) (k : ℕ) (p : EntryPlace) (e : Entry) → slice_get entries k ≡ Some e → entry_at typed p.row ≡ Some e → p.time ≡ time_of e → ArePlacesOf typed (take k entries) places → ArePlacesOf typed (take (k + 1) entries) (places ++ p ∷ [])
 one_place typed entries places k p e is at time so_far =
     let f = λ (q : EntryPlace). entry_at typed q.row in
@@ -47,14 +44,6 @@ one_row make stamp stamped typed rows times places more k time row there pushed 
     let at = ap (option_map make) found.1 in
     subst (ArePlacesOf typed (take (k + 1) (map make rows))) (sym pushed)
     (one_place typed (map make rows) places k (record { time = time; row = row }) (make found.0) (slice_get-map make rows k ∙ at) (there ∙ at) (sym found.2 ∙ stamped found.0) so_far)
-
-pub both_places : (typed : TypedRows) (es fs : List Entry) (ps qs : List EntryPlace) → ArePlacesOf typed es ps → ArePlacesOf typed fs qs → ArePlacesOf typed (es ++ fs) (ps ++ qs)
-both_places typed es fs ps qs first second =
-    let f = λ (q : EntryPlace). entry_at typed q.row in
-    record {
-      there = map-append f ps qs ∙ ap₂ (λ xs ys. xs ++ ys) first.there second.there ∙ sym (map-append Some es fs);
-      timed = All-append (IsTimed typed) ps qs first.timed second.timed;
-    }
 
 -- the same places in another order are those of the same entries in another order
 abbrev IsSomeEntry : Option Entry → Type 0

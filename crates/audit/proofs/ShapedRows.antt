@@ -5,7 +5,7 @@ use Rattle.std.specs.Option.{IfNone, option_map}
 use Rattle.std.proofs.lemmas.List.Elements.{All-nil, All-cons, All-head, All-tail}
 use Rattle.std.proofs.lemmas.Bool.Decides.{leb_tells}
 use Rattle.std.proofs.lemmas.List.{length-map}
-use Rattle.std.proofs.lemmas.Option.{slice_get-map, slice_get-get_or, slice_get_past}
+use Rattle.std.proofs.lemmas.Option.{same_Some, slice_get-map, slice_get-get_or, slice_get_past}
 use Rattle.amount.specs.Column.{column_of}
 use Rattle.rows.specs.declared.account_cells.AccountCells.{AccountCells}
 use Rattle.rows.specs.declared.transfer_cells.TransferCells.{TransferCells}
@@ -95,15 +95,12 @@ fitting Fits [] k all within = absurd (omega (arith, within))
 fitting Fits (v ∷ vs) zero all within = (v, refl, All-head Fits v vs all)
 fitting Fits (v ∷ vs) (suc k) all within = fitting Fits vs k (All-tail Fits v vs all) (omega (arith, within))
 
-same_some : {A : Type 0} (x y : A) → Some x ≡ Some y → x ≡ y
-same_some x y e = cc
-
 pub there : {V R : Type 0} (cells : V → R) (Fits : V → Type 0) (values : List V) (rows : List R) (k : ℕ) (row : R) → All Fits values → map cells values ≡ rows → row ≡ get_or rows k row → k < length values → (value : V) × (slice_get values k ≡ Some value) × Fits value × (row ≡ cells value)
 there cells Fits values rows k row all same is within =
     let found = fitting Fits values k all within in
     let within_rows : k < length rows = subst (λ n. k < n) (sym (length-map values cells) ∙ ap length same) within in
     let here = slice_get-get_or rows k row within_rows ∙ ap Some (sym is) in
-    (found.0, found.1, found.2, same_some row (cells found.0) (sym here ∙ ap (λ rs. slice_get rs k) (sym same) ∙ slice_get-map cells values k ∙ ap (option_map cells) found.1))
+    (found.0, found.1, found.2, same_Some row (cells found.0) (sym here ∙ ap (λ rs. slice_get rs k) (sym same) ∙ slice_get-map cells values k ∙ ap (option_map cells) found.1))
 
 pub as_long : {V R : Type 0} (cells : V → R) (values : List V) (rows : List R) → map cells values ≡ rows → length rows ≡ length values
 as_long cells values rows same = sym (ap length same) ∙ length-map values cells

@@ -3,6 +3,7 @@ use Rattle.std.proofs.Common.{◌≡◌, ◌<◌, ◌≤◌, ℕ, ℤ, zero, suc
 use Rattle.std.specs.Ordering.{int_eq}
 use Rattle.std.proofs.lemmas.Bool.{both_ways, cases_Bool}
 use Rattle.std.proofs.lemmas.Bool.Decides.{Decides-int_eq, eqb_tells, leb_tells}
+use Rattle.std.proofs.lemmas.Option.{same_Some}
 use Rattle.rows.specs.declared.balance_cells.BalanceCells.{BalanceCells}
 use Rattle.rows.specs.declared.status_cells.StatusCells.{StatusCells}
 use Rattle.rows.specs.declared.history_cells.HistoryCells.{HistoryCells}
@@ -66,15 +67,12 @@ history_stable a b not =
     λ i. record { account = account i; timestamp = timestamp i; dp = dp i; dd = dd i; cp = cp i; cc = cc i }
 
 -- lists that differ at no place
-same_some : {A : Type 0} (x y : A) → Some x ≡ Some y → x ≡ y
-same_some x y e = cc
-
 pub no_difference : {A : Type 0} → IsStable A → (xs ys : List A) → ((place : ℕ) → Differ xs ys place → ⊥) → xs ≡ ys
 no_difference stable [] [] none = refl
 no_difference stable [] (y ∷ ys) none = absurd (none zero (λ e. absurd cc))
 no_difference stable (x ∷ xs) [] none = absurd (none zero (λ e. absurd cc))
 no_difference stable (x ∷ xs) (y ∷ ys) none =
-    ap₂ ◌∷◌ (stable x y (λ no. none zero (λ e. no (same_some x y e)))) (no_difference stable xs ys (λ place differ. none (suc place) differ))
+    ap₂ ◌∷◌ (stable x y (λ no. none zero (λ e. no (same_Some x y e)))) (no_difference stable xs ys (λ place differ. none (suc place) differ))
 
 -- orders that cannot be otherwise
 pub less_stable : (a b : ℕ) → ((a < b → ⊥) → ⊥) → a < b

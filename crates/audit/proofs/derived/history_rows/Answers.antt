@@ -1,4 +1,4 @@
-use Rattle.std.proofs.Common.{◌≡◌, ◌<◌, ◌^◌, List, drop, length, ap, ◌∙◌, sym, subst, arith}
+use Rattle.std.proofs.Common.{◌≡◌, ◌<◌, ◌^◌, List, ◌++◌, take, drop, length, ap, ◌∙◌, sym, subst, arith}
 use Rattle.std.specs.List.{All}
 use Rattle.std.specs.List.Sorted.{IsPermutation}
 use Rattle.std.proofs.lemmas.List.Elements.{All-weaker}
@@ -9,40 +9,40 @@ use Rattle.rows.specs.Tables.{history_key}
 use Rattle.rows.specs.Widths.{IsStorableHistory}
 use Rattle.audit.specs.Order.{in_order}
 use Rattle.audit.proofs.DerivedRows.{whole, has_derived, lacks_derived, themselves, ordered}
+use Rattle.audit.proofs.derived.history_rows.Goals.{After-deref_mut, After-rows-2-1}
 use Rattle.audit.proofs.derived.history_rows.Goals as goal
 
 pub returns-then-version-lt2-clause-all : goal.returns-then-version-lt2-clause-all
 returns-then-version-lt2-clause-all c m valid same =
     c.new.ensures.items ∙ ap (in_order history_key) (sym (lacks_derived c.args.version m c.if-version-lt2.true).history)
 
+-- what is sorted is the history, whose rows fit
+fits : (c : After-deref_mut) → All IsStorableHistory c.deref_mut.result.now
+fits c =
+    let m = c.requires.0 in
+    let rows : c.deref_mut.result.now ≡ history_rows m = c.deref_mut.ensures.value ∙ c.requires.2 in
+    subst (All IsStorableHistory) ((has_derived c.args.version m c.if-version-lt2.false).history ∙ sym rows) (c.rows_fit.ensures c.args.version m c.requires.1).history
+
+-- and is all that there is then
+all : (c : After-rows-2-1) → take c.args.told.len (c.sort.new.rows ++ drop (length c.sort.new.rows) c.args.told.items) ≡ c.sort.new.rows
+all c =
+    let ys = c.sort.new.rows in
+    let had = c.args.told in
+    whole ys (drop (length ys) had.items) had.len (sym (length_permutation c.deref_mut.result.now ys c.sort.ensures.same ∙ c.deref_mut.ensures.len))
+
 pub sort-requires : goal.sort-requires
 sort-requires c =
-    let m = c.requires.0 in
-    let valid = c.requires.1 in
-    let same = c.requires.2 in
-    let rows : c.deref_mut.result.now ≡ history_rows m = c.deref_mut.ensures.value ∙ same in
-    let fits = subst (All IsStorableHistory) ((has_derived c.args.version m c.if-version-lt2.false).history ∙ sym rows) (c.rows_fit.ensures c.args.version m valid).history in
-    All-weaker IsStorableHistory (λ (row : HistoryRow). row.timestamp < 2 ^ 64) (λ row fit. let short = fit.timestamp in omega (arith, short)) c.deref_mut.result.now fits
+    All-weaker IsStorableHistory (λ (row : HistoryRow). row.timestamp < 2 ^ 64) (λ row fit. let short = fit.timestamp in omega (arith, short)) c.deref_mut.result.now (fits (goal.at.sort-requires c).After-deref_mut)
 
 pub returns-clause-fit : goal.returns-clause-fit
 returns-clause-fit c =
-    let m = c.requires.0 in
-    let valid = c.requires.1 in
-    let same = c.requires.2 in
-    let ys = c.sort.new.rows in
-    let had = c.args.told in
-    let rows : c.deref_mut.result.now ≡ history_rows m = c.deref_mut.ensures.value ∙ same in
-    let fits = subst (All IsStorableHistory) ((has_derived c.args.version m c.if-version-lt2.false).history ∙ sym rows) (c.rows_fit.ensures c.args.version m valid).history in
-    subst (All IsStorableHistory) (sym (whole ys (drop (length ys) had.items) had.len (sym (length_permutation c.deref_mut.result.now ys c.sort.ensures.same ∙ c.deref_mut.ensures.len))))
-    (All-permutation IsStorableHistory c.deref_mut.result.now ys c.sort.ensures.same fits)
+    subst (All IsStorableHistory) (sym (all c)) (All-permutation IsStorableHistory c.deref_mut.result.now c.sort.new.rows c.sort.ensures.same (fits (goal.at.returns-clause-fit c).After-deref_mut))
 
 pub returns-clause-all : goal.returns-clause-all
 unfolding rows_for
 returns-clause-all c m valid same =
     let ys = c.sort.new.rows in
-    let had = c.args.told in
-    let rows : c.deref_mut.result.now ≡ history_rows m = c.deref_mut.ensures.value ∙ same in
-    whole ys (drop (length ys) had.items) had.len (sym (length_permutation c.deref_mut.result.now ys c.sort.ensures.same ∙ c.deref_mut.ensures.len))
+    all c
     ∙ ordered c.read_in_order.ensures.ascending history_key (history_rows m) ys (c.keys_are_distinct.ensures m (rows_for 3 m) valid (themselves (rows_for 3 m))).history
-    (subst (λ (xs : List HistoryRow). IsPermutation xs ys) rows c.sort.ensures.same) c.sort.ensures.sorted
+    (subst (λ (xs : List HistoryRow). IsPermutation xs ys) (c.deref_mut.ensures.value ∙ same) c.sort.ensures.same) c.sort.ensures.sorted
     ∙ ap (in_order history_key) (sym (has_derived c.args.version m c.if-version-lt2.false).history)

@@ -38,18 +38,8 @@ returns-clause-same c m valid are =
 
 pub returns-clause-sound : goal.returns-clause-sound
 returns-clause-sound c =
-    let m = c.requires.sound.0 in
-    let valid = c.requires.sound.1 in
-    let are = c.requires.sound.2 in
-    let made = c.in_ok-running.ensures m valid are in
-    let running = made.0 in (
-      none_failed m,
-      c.sound_rows_lead.ensures.valid m valid,
-      theirs_too c.sound_rows_lead.ensures.derived c.args.version c.args.to (lists_of c.args.rows) c.requires.older m valid are c.in_ok-balances.balances.items c.in_ok-statuses.statuses.items c.in_ok-history.history.items
-          (stored balance_cells _ _ _ _ c.in_ok-balances.ensures c.deref.ensures.value (c.in_ok-balance_rows.ensures.all (none_failed m) running))
-          (stored status_cells _ _ _ _ c.in_ok-statuses.ensures c.deref-2.ensures.value (c.in_ok-status_rows.ensures.all (none_failed m) running))
-          (stored history_cells _ _ _ _ c.in_ok-history.ensures c.deref-3.ensures.value (c.in_ok-history_rows.ensures.all (none_failed m) running.valid made.1)),
-    )
+    let sound = c.requires.sound in
+    (none_failed sound.0, c.sound_rows_lead.ensures.valid sound.0 sound.1, returns-clause-same c sound.0 sound.1 sound.2)
 
 pub history_rows-requires : goal.history_rows-requires
 history_rows-requires c =
