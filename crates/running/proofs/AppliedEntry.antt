@@ -1,10 +1,9 @@
 -- What an entry's own fields say of it, as the next entry at its own clock.
-use Rattle.std.proofs.Common.{◌≡◌, ◌<◌, ◌+◌, ℕ, Bool, true, false, List, [], ◌∷◌, ◌++◌, length, take, get_or, Option, Some, None, IfSome, refl, sym, ap, ap₂, ◌∙◌, subst}
+use Rattle.std.proofs.Common.{◌≡◌, ◌<◌, ◌+◌, ℕ, Bool, true, false, List, [], ◌∷◌, ◌++◌, length, take, get_or, Option, Some, None, refl, sym, ap, ap₂, ◌∙◌, subst}
 use Rattle.std.specs.Bool.{OnTrue, OnFalse}
 use Rattle.std.specs.Option.{option_map}
 use Rattle.std.proofs.lemmas.Bool.{both_ways}
 use Rattle.std.proofs.lemmas.List.{take_more}
-use Rattle.std.proofs.lemmas.Option.{slice_get-get_or}
 use Rattle.records.specs.declared.account.Account.{Account}
 use Rattle.records.specs.declared.account.AccountEvent.{AccountEvent}
 use Rattle.records.specs.declared.facts.AccountWithBalances.{AccountWithBalances}
@@ -15,11 +14,11 @@ use Rattle.records.specs.Step.{account_verdict_in, at_clock}
 use Rattle.records.specs.Valid.{IsNextTimestamp, IsNextAccount, event_of_account, with_account}
 use Rattle.records.specs.Widths.{IsAccountInWidth}
 use Rattle.rows.specs.declared.history_row.HistoryRow.{HistoryRow}
-use Rattle.rows.specs.Prescribed.{rows_for, history_rows}
+use Rattle.rows.specs.Prescribed.{history_rows}
 use Rattle.running.specs.declared.entry.Entry.{Entry}
 use Rattle.running.specs.declared.entry.Entry.TheVariants.{Opened}
 use Rattle.running.specs.declared.running.Running.{Running}
-use Rattle.running.specs.Entries.{CanCome, IsNext, with_entry, after, machine_of, AreNext, IsFirstRefused, clock_for}
+use Rattle.running.specs.Entries.{CanCome, IsNext, with_entry, machine_of, AreNext, clock_for}
 use Rattle.running.specs.Running.{IsRunning}
 use Rattle.running.specs.History.{IsToldMore}
 use Rattle.running.proofs.EntriesPush.{after_push, next_push}
@@ -84,10 +83,3 @@ one_told told es i entry initial old new within is so_far step first none =
     let more : take i es ++ entry ∷ [] ≡ take (i + 1) es = ap (λ (e : Entry). take i es ++ e ∷ []) is ∙ sym (take_more es i entry within) in
     subst (λ (xs : List Entry). told first new (history_rows (machine_of xs))) more
     (subst (λ (m : Machine). told first new (history_rows m)) (sym (after_push new_machine (take i es) entry)) (step first (so_far first none)))
-
-pub one_refused : (es : List Entry) (i : ℕ) (entry : Entry) (old : Running) → AreReplayed es i old → i < length es → entry ≡ get_or es i entry → ((m : Machine) → IsRunning m old → IsNext m entry → ⊥) → IsFirstRefused new_machine es i
-one_refused es i entry old so_far within is refuses = record {
-  within = within;
-  before = so_far.0;
-  refused = subst (λ (o : Option Entry). IfSome o (λ e. IsNext (after new_machine (take i es)) e → ⊥)) (ap Some is ∙ sym (slice_get-get_or es i entry within)) (refuses (machine_of (take i es)) so_far.1);
-}

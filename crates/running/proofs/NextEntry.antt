@@ -1,5 +1,5 @@
 -- What the next account, or transfer, makes of what a running tenant says.
-use Rattle.std.proofs.Common.{◌≡◌, ◌≤◌, ◌<◌, ◌^◌, ℕ, List, [], ◌∷◌, ◌++◌, Option, Some, None, refl, sym, ap, ◌∙◌, subst, arith}
+use Rattle.std.proofs.Common.{◌≡◌, ◌≤◌, ◌<◌, ◌^◌, ℕ, List, [], ◌∷◌, ◌++◌, Option, Some, None, refl, sym, ap, ◌∙◌, subst, arith, rules}
 use Rattle.std.specs.BTreeMap as tree
 use Rattle.std.specs.BTreeMap.{is_at}
 use Rattle.std.specs.Map.{lookup}
@@ -58,15 +58,7 @@ last_transfer m t next = record {
 
 -- rows are the same as themselves
 pub same_itself : (rows : TypedRows) → AreSameRows rows rows
-same_itself rows = record {
-  clock = refl;
-  accounts = IsPermutation-refl rows.accounts;
-  transfers = IsPermutation-refl rows.transfers;
-  balances = IsPermutation-refl rows.balances;
-  statuses = IsPermutation-refl rows.statuses;
-  history = IsPermutation-refl rows.history;
-  failed = IsPermutation-refl rows.failed;
-}
+same_itself rows = search (rules, IsPermutation-refl)
 
 -- with one account more
 pub opened : (m : Machine) (a : Account) (old new : Running) → IsRunning m old → IsNextAccount m a

@@ -4,7 +4,7 @@ use Rattle.std.specs.BTreeMap as tree
 use Rattle.std.specs.Ordering.{nat_cmp}
 use Rattle.std.specs.List.Sorted.{IsPermutation}
 use Rattle.std.proofs.lemmas.Option.{same_Some}
-use Rattle.std.proofs.lemmas.List.Sorted.{IsPermutation-refl, IsPermutation-trans, IsPermutation-append_right}
+use Rattle.std.proofs.lemmas.List.Sorted.{IsPermutation-trans, IsPermutation-append_right}
 use Rattle.records.specs.declared.account.Account.{Account}
 use Rattle.records.specs.declared.transfer.Transfer.{Transfer}
 use Rattle.records.specs.declared.side.Side.TheVariants.{Debit, Credit}
@@ -31,17 +31,6 @@ use Rattle.running.specs.Running.{Agrees, IsLast, IsRunning}
 use Rattle.running.specs.Releasing.{IsReleasing}
 use Rattle.running.proofs.KeyedRows.{none_mapped}
 use Rattle.running.proofs.DueRows.{ids_due, one_expired, none_left_due, statuses_apart}
-
--- at first none is
-pub none_released : (m : Machine) (clock : ℕ) (r : Running) → IsRunning m r → m.clock ≤ clock → rows_released m [] ≡ rows_for 3 m → IsReleasing m clock [] r
-none_released m clock r is later law = record {
-  valid = is.valid;
-  none_failed = is.none_failed;
-  later = later;
-  last = is.last;
-  agrees = subst (λ (x : TypedRows). Agrees x r) (sym law) is.agrees;
-  left = subst (λ (x : TypedRows). IsPermutation (due_ids clock (rows_for 3 m)) (due_ids clock x)) (sym law) (IsPermutation-refl (due_ids clock (rows_for 3 m)));
-}
 
 -- a transfer that is due, and the due ones that are left behind it
 pub record IsDueNow (m : Machine) (clock : ℕ) (done : List ℕ) (id : ℕ) : Type 0 where

@@ -1,22 +1,17 @@
 -- What the history of a replay is with one entry more.
-use Rattle.std.proofs.Common.{◌≡◌, ℕ, List, [], ◌∷◌, ◌++◌, refl, sym, ap, ◌∙◌, subst}
-use Rattle.records.specs.declared.account.Account.{Account}
+use Rattle.std.proofs.Common.{◌≡◌, List, ◌++◌, sym, ap, subst}
 use Rattle.records.specs.declared.accepted.Accepted.{Accepted}
 use Rattle.records.specs.declared.transfer.Transfer.{Transfer}
 use Rattle.records.specs.Machine.{Machine}
 use Rattle.records.specs.Step.{at_clock}
-use Rattle.records.specs.Valid.{with_account, with_transfer}
+use Rattle.records.specs.Valid.{with_transfer}
 use Rattle.rows.specs.declared.history_row.HistoryRow.{HistoryRow}
 use Rattle.rows.specs.Prescribed.{rows_for, history_rows}
 use Rattle.rows.specs.TypedRows.{TypedRows}
 use Rattle.rows.specs.Changes.{with_accepted, new_history}
-use Rattle.running.specs.declared.entry.Entry.TheVariants.{Opened, Moved}
+use Rattle.running.specs.declared.entry.Entry.TheVariants.{Moved}
 use Rattle.running.specs.Entries.{with_entry}
 use Rattle.running.specs.History.{IsToldMore}
-
--- an account has none
-pub none_of_account : (m : Machine) (a : Account) → history_rows (with_entry m (Opened a)) ≡ history_rows m
-none_of_account m a = refl
 
 -- a transfer has its two rows
 pub two_of_transfer : (m : Machine) (a : Accepted) → rows_for 3 (with_transfer m a.stored) ≡ with_accepted a (rows_for 3 m) → history_rows (with_transfer m a.stored) ≡ history_rows m ++ new_history a

@@ -4,3 +4,4 @@ pub mod Releasing
 pub mod Entries
 pub mod Refused
 pub mod History
+pub mod Applied

@@ -1,14 +1,14 @@
 ghost use Rattle.std.specs.Prelude.{◌≡◌, ◌+◌, ◌<◌, ◌≤◌, None, IsTrue, ◌↔◌, IfOk, IfSome, IfNone};
-ghost use Rattle.std.specs.Bool.{OnTrue, OnFalse, Decides};
+ghost use Rattle.std.specs.Bool.{Decides};
 ghost use Rattle.std.specs.Option.{option_map};
 ghost use Rattle.records.specs.Machine.{Machine};
 ghost use Rattle.records.specs.Accepted.{IsAccepted};
 ghost use Rattle.records.specs.Step.{account_verdict_in, at_clock, max_clock};
 ghost use Rattle.records.specs.Valid.{IsNextTimestamp, IsNextTransfer, event_of_account};
 ghost use Rattle.running.specs.declared.entry.Entry.TheVariants.{Opened, Moved};
-ghost use Rattle.running.specs.Entries.{CanCome, IsNext, with_entry};
+ghost use Rattle.running.specs.Applied.{Takes, Tells, Refuses};
+ghost use Rattle.running.specs.Entries.{CanCome};
 ghost use Rattle.running.specs.Running.{IsRunning};
-ghost use Rattle.running.specs.History.{IsToldMore};
 
 use crate::events::{event_of_account, event_of_transfer};
 use crate::history::tell;
@@ -27,19 +27,9 @@ impl Running {
         history: &mut H,
     ) -> Result<bool, AllocError>
         requires { (m : Machine) × IsRunning m self.old }
-        ensures accepted { IfOk result
-            (λ took. OnTrue took
-            ((m : Machine) →
-            IsRunning m self.old →
-            IsNext m entry.now × IsRunning (with_entry m entry.now) self.new)) }
-        ensures told { IfOk result
-            (λ took. OnTrue took
-            ((m : Machine) →
-            IsRunning m self.old →
-            IsToldMore H.told history.old history.new m (with_entry m entry.now))) }
-        ensures refused { IfOk result
-            (λ took. OnFalse took
-            ((m : Machine) → IsRunning m self.old → IsNext m entry.now → ⊥)) }
+        ensures accepted { IfOk result (Takes self.old self.new entry.now) }
+        ensures told { IfOk result (Tells H.told history.old history.new self.old entry.now) }
+        ensures refused { IfOk result (Refuses self.old entry.now) }
     {
         match entry {
             Entry::Opened(account) => self.open_next(account),
@@ -49,15 +39,8 @@ impl Running {
 
     fn open_next(&mut self, account: &Account) -> Result<bool, AllocError>
         requires { (m : Machine) × IsRunning m self.old }
-        ensures accepted { IfOk result
-            (λ took. OnTrue took
-            ((m : Machine) →
-            IsRunning m self.old →
-            IsNext m (Opened account.now)
-            × IsRunning (with_entry m (Opened account.now)) self.new)) }
-        ensures refused { IfOk result
-            (λ took. OnFalse took
-            ((m : Machine) → IsRunning m self.old → IsNext m (Opened account.now) → ⊥)) }
+        ensures accepted { IfOk result (Takes self.old self.new (Opened account.now)) }
+        ensures refused { IfOk result (Refuses self.old (Opened account.now)) }
     {
         account.widths();
         let clock = self.clock.max(account.timestamp);
@@ -78,20 +61,10 @@ impl Running {
         history: &mut H,
     ) -> Result<bool, AllocError>
         requires { (m : Machine) × IsRunning m self.old }
-        ensures accepted { IfOk result
-            (λ took. OnTrue took
-            ((m : Machine) →
-            IsRunning m self.old →
-            IsNext m (Moved transfer.now)
-            × IsRunning (with_entry m (Moved transfer.now)) self.new)) }
+        ensures accepted { IfOk result (Takes self.old self.new (Moved transfer.now)) }
         ensures told { IfOk result
-            (λ took. OnTrue took
-            ((m : Machine) →
-            IsRunning m self.old →
-            IsToldMore H.told history.old history.new m (with_entry m (Moved transfer.now)))) }
-        ensures refused { IfOk result
-            (λ took. OnFalse took
-            ((m : Machine) → IsRunning m self.old → IsNext m (Moved transfer.now) → ⊥)) }
+            (Tells H.told history.old history.new self.old (Moved transfer.now)) }
+        ensures refused { IfOk result (Refuses self.old (Moved transfer.now)) }
     {
         transfer_rows();
         if !self.can_come(transfer.at) || !self.is_next(transfer.timestamp, transfer.at) {
