@@ -1,5 +1,5 @@
 -- The rows that a version prescribes, in order of key.
-use Rattle.std.proofs.Common.{◌≡◌, ◌<◌, ◌≤◌, ◌+◌, ◌*◌, ◌^◌, ℕ, zero, suc, Bool, true, false, cond, List, [], ◌∷◌, ◌++◌, Vec, Global, take, length, get_or, Result, Ok, Err, IfOk, inl, inr, refl, sym, ap, ◌∙◌, subst, arith, rules, is_lt}
+use Rattle.std.proofs.Common.{◌≡◌, ◌<◌, ◌≤◌, ◌+◌, ◌*◌, ◌^◌, ℕ, zero, suc, Bool, true, false, cond, List, [], ◌∷◌, ◌++◌, Vec, Global, take, length, get_or, Result, Ok, Err, IfOk, inl, inr, sym, ap, ◌∙◌, subst, arith, rules, is_lt}
 use Rattle.std.specs.List.{All}
 use Rattle.std.specs.List.Sorted.{IsPermutation, IsSortedByKey}
 use Rattle.std.specs.Ordering.{nat_cmp, ordering_then}
@@ -12,11 +12,11 @@ use Rattle.records.specs.Machine.{Machine}
 use Rattle.records.specs.Valid.{IsValid}
 use Rattle.rows.specs.Prescribed.{rows_for, since, balance_rows, status_rows, history_rows}
 use Rattle.rows.specs.SameRows.{AreSameRows}
-use Rattle.rows.specs.Tables.{HasDistinctKeys, IsAscendingBy}
+use Rattle.rows.specs.Tables.{AreKeyed, HasDistinctKeys, IsAscendingBy}
 use Rattle.rows.specs.TypedRows.{TypedRows}
 use Rattle.running.specs.declared.running.Running.{Running}
 use Rattle.running.specs.Running.{IsRunning}
-use Rattle.audit.specs.Laws.{OneOrder}
+use Rattle.audit.specs.Laws.{KeysAreDistinct, OneOrder}
 use Rattle.audit.specs.Order.{in_order}
 use Rattle.audit.proofs.InOrderLemmas.{in_order_same, in_order_up}
 
@@ -59,8 +59,12 @@ lacks_derived version m less = record {
   history = since_off 2 version (history_rows m) less;
 }
 
-pub themselves : (rows : TypedRows) → AreSameRows rows rows
+-- those that a valid machine prescribes have keys of their own
+themselves : (rows : TypedRows) → AreSameRows rows rows
 themselves rows = search (rules, IsPermutation-refl)
+
+pub own_keys : KeysAreDistinct → (m : Machine) → IsValid m → AreKeyed (rows_for 3 m)
+own_keys keys m valid = keys m (rows_for 3 m) valid (themselves (rows_for 3 m))
 
 -- ascending rows, place by place
 pub up_at : {A : Type 0} (key : A → ℕ) (xs : List A) (i j : ℕ) (d : A) → IsAscendingBy key xs → i < j → j < length xs → key (get_or xs i d) < key (get_or xs j d)

@@ -1,5 +1,5 @@
 -- The first damage of tenants, as one tenant more is looked at.
-use Rattle.std.proofs.Common.{◌≡◌, ◌≢◌, ℕ, true, false, ◌⊎◌, List, [], ◌∷◌, ◌++◌, Option, Some, None, inl, inr, refl, sym, ap, ◌∙◌, subst, arith}
+use Rattle.std.proofs.Common.{◌≡◌, ◌≢◌, ℕ, true, false, ◌⊎◌, List, [], ◌∷◌, ◌++◌, Option, Some, None, inl, inr, refl, sym, ap, ◌∙◌, subst}
 use Rattle.std.specs.Cmp.{IsTotalOrder}
 use Rattle.std.specs.Cmp.Lexicographic.{slice_cmp}
 use Rattle.std.specs.declared.cmp.Ordering.{Ordering}
@@ -122,10 +122,6 @@ tells_own version tenant (Some found) first = (
       (subst (λ (d : List ℕ). slice_cmp nat_cmp d tenant.digest ≡ Equal) wrong.0 (tied_itself nat_list_cmp_total tenant.digest))
       (first.first (record { kind = other.kind; place = other.place }) wrong.1),
 )
-
--- no tenant yet
-pub no_tenant : (version : ℕ) → TellsFirst version [] None
-no_tenant version damage wrong = let any = any_of (λ (t : TenantOfDigest). IsOwn version t damage) [] wrong in let within = any.1.1 in absurd (omega (arith, within))
 
 -- and one sound tenant more, where nothing is told
 abbrev pub AreAllSound : ℕ → List TenantOfDigest → Type 0

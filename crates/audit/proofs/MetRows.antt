@@ -4,7 +4,7 @@ use Rattle.std.specs.Bool.{OnTrue}
 use Rattle.std.specs.List.{All}
 use Rattle.std.specs.Option.{is_some}
 use Rattle.std.proofs.lemmas.Bool.{both_ways}
-use Rattle.std.proofs.lemmas.List.{length-append, length-map, map-append}
+use Rattle.std.proofs.lemmas.List.{length-append, map-append}
 use Rattle.std.proofs.lemmas.List.Elements.{All-nil, All-cons, All-head, All-tail, All-weaker, All-push}
 use Rattle.std.proofs.lemmas.List.Sorted.{IsPermutation-refl, IsPermutation-trans, IsPermutation-cons, IsPermutation-middle, IsPermutation-sym}
 use Rattle.records.specs.Machine.{Machine}
@@ -100,22 +100,6 @@ met_more first old new told row met rows strange left stands = record {
       };
 }
 
--- and one that is strange is not
-pub met_strange : (first old new : Meeting) (told : List HistoryRow) (row : HistoryRow) → Met first old told → new.rows.now ≡ old.rows.now → new.strange ≡ true → Met first new (told ++ row ∷ [])
-met_strange first old new told row met rows strange = record {
-  same = rows ∙ met.same;
-  among = λ none values fit cells. absurd (both_ways new.strange none strange);
-}
-
-pub none_met : (m : Meeting) → m.left ≡ length m.rows.now → Met m m []
-none_met m left = record {
-  same = refl;
-  among = λ none values fit cells. record {
-    there = All-nil (IsAmong values);
-    counted = let long = sym (ap length cells) ∙ length-map values history_cells in omega (arith, left, long);
-  };
-}
-
 -- the greatest key so far
 abbrev pub IsTop : List HistoryRow → Option HistoryRow → Type 0
 IsTop values None = values ≡ []
@@ -128,9 +112,6 @@ pub record HasRead (rows : List HistoryCells) (before : Option HistoryRow) : Typ
   pub cells : map history_cells values ≡ rows
   pub up : IsAscendingBy history_key values
   pub top : IsTop values before
-
-pub none_read : HasRead [] None
-none_read = record { values = []; fit = All-nil IsStorableHistory; cells = refl; up = tt; top = refl }
 
 below_next : (values : List HistoryRow) (before : Option HistoryRow) (row : HistoryRow) → IsTop values before → IfSome before (λ (other : HistoryRow). IsStorableHistory other → history_key other < history_key row) → All (λ (x : HistoryRow). history_key x < history_key row) values
 below_next values None row top above = subst (All (λ (x : HistoryRow). history_key x < history_key row)) (sym top) (All-nil (λ (x : HistoryRow). history_key x < history_key row))

@@ -4,24 +4,22 @@ use Rattle.std.specs.List.{All}
 use Rattle.std.specs.List.Sorted.{IsPermutation}
 use Rattle.std.proofs.lemmas.List.Elements.{All-weaker}
 use Rattle.std.proofs.lemmas.List.Sorted.{IsPermutation-sym, IsPermutation-trans, IsPermutation-map, IsPermutation-append}
-use Rattle.engine.specs.EntryLaws.{ValidExactlyEntryByEntry}
 use Rattle.records.specs.EntryByEntry.{IsValidEntryByEntry}
 use Rattle.records.specs.Machine.{Machine, new_machine}
 use Rattle.records.specs.Step.{at_clock}
 use Rattle.records.specs.Valid.{IsValid, IsNextFailed}
 use Rattle.rows.specs.declared.balance_row.BalanceRow.{BalanceRow}
 use Rattle.rows.specs.declared.status_row.StatusRow.{StatusRow}
-use Rattle.rows.specs.declared.history_row.HistoryRow.{HistoryRow}
 use Rattle.rows.specs.Cells.{balance_cells, status_cells, history_cells}
 use Rattle.rows.specs.Prescribed.{rows_for}
 use Rattle.rows.specs.Tables.{history_key, IsAscendingBy}
 use Rattle.rows.specs.TypedRows.{TypedRows, FileRows}
 use Rattle.rows.specs.Widths.{AreStorable}
 use Rattle.running.specs.declared.entry.Entry.TheVariants.{Opened, Moved}
-use Rattle.running.specs.Entries.{time_of, CanCome, Replays, machine_of, ReplayedIsValid, ValidReplays}
+use Rattle.running.specs.Entries.{time_of, CanCome, Replays, machine_of}
 use Rattle.audit.specs.declared.damage.DamageKind.{DamageKind}
 use Rattle.audit.specs.declared.damage.DamageKind.TheVariants as kind
-use Rattle.audit.specs.Laws.{OneReading, KeysAreDistinct, OneOrder, Laws}
+use Rattle.audit.specs.Laws.{OneOrder, Laws}
 use Rattle.audit.specs.Order.{in_order, Differ}
 use Rattle.audit.specs.Sound.{AreRowsOf, AreSound}
 use Rattle.audit.specs.Table.{IsWrong, IsToldWrong}

@@ -15,7 +15,6 @@ use Rattle.rows.specs.Widths.{AreStorable, IsStorableAccount, IsStorableTransfer
 use Rattle.audit.specs.declared.told.Told.{Told}
 use Rattle.audit.specs.Held.{IsHeld}
 use Rattle.audit.specs.Order.{HasValue, lesser_place}
-use Rattle.audit.specs.Told.{TellsRows}
 use Rattle.audit.specs.Shapes.{IsAccountRow, IsTransferRow, AreShaped}
 
 -- the values of rows that each have one
@@ -104,13 +103,6 @@ there cells Fits values rows k row all same is within =
 
 pub as_long : {V R : Type 0} (cells : V → R) (values : List V) (rows : List R) → map cells values ≡ rows → length rows ≡ length values
 as_long cells values rows same = sym (ap length same) ∙ length-map values cells
-
--- the values of the rows that tell
-pub account_values : (rows : FileRows) (typed : TypedRows) (accounts : List AccountCells) → TellsRows rows typed → accounts ≡ rows.accounts → map account_cells typed.accounts ≡ accounts
-account_values rows typed accounts tells same = ap (λ (r : FileRows). r.accounts) tells.cells ∙ sym same
-
-pub transfer_values : (rows : FileRows) (typed : TypedRows) (transfers : List TransferCells) → TellsRows rows typed → transfers ≡ rows.transfers → map transfer_cells typed.transfers ≡ transfers
-transfer_values rows typed transfers tells same = ap (λ (r : FileRows). r.transfers) tells.cells ∙ sym same
 
 -- a value that stands at no place of those that were looked at stands at none
 pub none_same : {V : Type 0} (wanted : V) (values : List V) (end : ℕ) → length values ≤ end → ((place : ℕ) → place < end → IsSomeAnd (slice_get values place) (λ value. value ≡ wanted) → ⊥) → (place : ℕ) → IsSomeAnd (slice_get values place) (λ value. value ≡ wanted) → ⊥

@@ -10,7 +10,6 @@ use Rattle.rows.specs.declared.balance_row.BalanceRow.{BalanceRow}
 use Rattle.rows.specs.declared.status_row.StatusRow.{StatusRow}
 use Rattle.rows.specs.Cells.{balance_cells, status_cells, history_cells}
 use Rattle.rows.specs.Prescribed.{rows_for}
-use Rattle.rows.specs.SameRows.{AreSameRows}
 use Rattle.rows.specs.Tables.{AreKeyed, history_key, HasDistinctKeys, IsAscendingBy}
 use Rattle.rows.specs.TypedRows.{TypedRows, FileRows}
 use Rattle.running.specs.Entries.{CanCome, machine_of, FailedIdsStandApart}
@@ -20,7 +19,7 @@ use Rattle.audit.specs.Laws.{KeysAreDistinct}
 use Rattle.audit.specs.Order.{in_order}
 use Rattle.audit.specs.Sound.{AreSound}
 use Rattle.audit.specs.Told.{TellsRows, entries_told, machine_told, prescribed}
-use Rattle.audit.proofs.DerivedRows.{HasDerived, has_derived, lacks_derived, themselves}
+use Rattle.audit.proofs.DerivedRows.{HasDerived, has_derived, lacks_derived, own_keys}
 use Rattle.audit.proofs.GoodFailed.{failed_apart, failed_kept, ascending_from_pairs}
 use Rattle.audit.proofs.InOrderLemmas.{in_order_same, in_order_up}
 use Rattle.audit.proofs.StableCells.{balance_stable, status_stable, history_stable, no_difference, le_stable}
@@ -49,7 +48,7 @@ pub record AreOrdered (version : ℕ) (told : TypedRows) : Type 0 where
 pub ordered : KeysAreDistinct → (version : ℕ) (told : TypedRows) → IsValid (machine_told told) → AreOrdered version told
 ordered keys version told valid =
     let m = machine_told told in
-    let keyed = keys m (rows_for 3 m) valid (themselves (rows_for 3 m)) in
+    let keyed = own_keys keys m valid in
     let all : HasDerived 3 m = has_derived 3 m (omega arith) in
     elim (leb_tells 2 version) [
       | inl h ↦ by_rows (has_derived version m h.1) all keyed

@@ -3,8 +3,7 @@ use Rattle.std.proofs.Common.{◌≡◌, ◌≢◌, ◌<◌, ◌≤◌, ◌+◌,
 use Rattle.std.specs.declared.cmp.Ordering.TheVariants.{Less}
 use Rattle.std.specs.Ordering.{nat_cmp, ordering_then}
 use Rattle.std.proofs.lemmas.Bool.Decides.{leb_tells, nat_tests}
-use Rattle.rows.specs.TypedRows.{TypedRows, FileRows, cells_of}
-use Rattle.rows.specs.Widths.{AreStorable}
+use Rattle.rows.specs.TypedRows.{TypedRows, FileRows}
 use Rattle.audit.specs.declared.damage.DamageKind.{DamageKind}
 use Rattle.audit.specs.declared.damage.DamageKind.TheVariants as kind
 use Rattle.audit.specs.declared.tenant.Found.{Found}

@@ -14,8 +14,9 @@ ghost use Rattle.running.specs.Running.{IsRunning};
 ghost use Rattle.audit.specs.Order.{in_order};
 ghost use Rattle.audit.specs.Told.{told_at};
 
+use crate::law::known_laws;
 use records::MAX_CLOCK;
-use rows::{BalanceRow, HistoryRow, StatusRow, keys_are_distinct, read_in_order, rows_fit};
+use rows::{BalanceRow, HistoryRow, StatusRow};
 use running::Running;
 use std::alloc::{AllocError, Global};
 
@@ -47,9 +48,7 @@ pub(crate) fn balance_rows(
         IsRunning m running.now →
         rows.items ≡ in_order (λ row. row.account) (rows_for version m).balances) }
 {
-    rows_fit();
-    keys_are_distinct();
-    read_in_order::<BalanceRow>();
+    known_laws();
     if version < 2 {
         return Ok(Vec::new(alloc));
     }
@@ -69,9 +68,7 @@ pub(crate) fn status_rows(
         IsRunning m running.now →
         rows.items ≡ in_order (λ row. row.transfer) (rows_for version m).statuses) }
 {
-    rows_fit();
-    keys_are_distinct();
-    read_in_order::<StatusRow>();
+    known_laws();
     if version < 2 {
         return Ok(Vec::new(alloc));
     }
@@ -91,9 +88,7 @@ pub(crate) fn history_rows(
         IsValid m → told.items ≡ history_rows m →
         rows.items ≡ in_order history_key (rows_for version m).history) }
 {
-    rows_fit();
-    keys_are_distinct();
-    read_in_order::<HistoryRow>();
+    known_laws();
     if version < 2 {
         return Ok(Vec::new(alloc));
     }

@@ -18,10 +18,11 @@ ghost use Rattle.audit.specs.Told.{TellsRows, machine_told};
 
 use crate::cells::first_difference;
 use crate::derived::history_rows;
+use crate::law::known_laws;
 use crate::meeting::Meeting;
 use crate::replayed::history_told;
 use crate::told::Told;
-use rows::{TenantRows, cells_tell_rows, keys_are_distinct};
+use rows::TenantRows;
 use std::alloc::{AllocError, Global};
 
 /// The first place at which the history rows are others. Only where a meeting has not met them all
@@ -42,8 +43,7 @@ pub(crate) fn first_bad_history(
     ensures { IfOk result
         (IsFirstPlace (IsWrong version (lists_of rows.now) kind.History)) }
 {
-    cells_tell_rows();
-    keys_are_distinct();
+    known_laws();
     if is_met(version, meeting) {
         return Ok(None);
     }

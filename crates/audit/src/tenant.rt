@@ -16,12 +16,13 @@ use crate::cells::first_difference;
 use crate::derived::{balance_rows, settle_if_it_can, status_rows};
 use crate::failed::first_bad_failed;
 use crate::history::first_bad_history;
+use crate::law::known_laws;
 use crate::meeting::Meeting;
 use crate::replayed::{Replayed, replay_told};
 use crate::shape::first_misshapen;
 use crate::times::first_bad_time;
 use crate::told::Told;
-use rows::{TenantRows, cells_tell_rows, keys_are_distinct};
+use rows::{TenantRows, cells_tell_rows};
 use running::{Running, failed_ids_stand_apart};
 use std::alloc::{AllocError, Global};
 
@@ -96,8 +97,7 @@ fn find_behind(
     ensures first { IfOk result (FindsWrong version (lists_of rows.now)) }
     ensures sound { IfOk result (λ found. IfNone found (AreSound version (lists_of rows.now))) }
 {
-    cells_tell_rows();
-    keys_are_distinct();
+    known_laws();
     failed_ids_stand_apart();
     let mut running = running;
     let came = settle_if_it_can(&mut running, told.clock)?;

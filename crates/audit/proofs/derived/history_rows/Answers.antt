@@ -8,7 +8,7 @@ use Rattle.rows.specs.Prescribed.{rows_for, history_rows}
 use Rattle.rows.specs.Tables.{history_key}
 use Rattle.rows.specs.Widths.{IsStorableHistory}
 use Rattle.audit.specs.Order.{in_order}
-use Rattle.audit.proofs.DerivedRows.{whole, has_derived, lacks_derived, themselves, ordered}
+use Rattle.audit.proofs.DerivedRows.{whole, has_derived, lacks_derived, own_keys, ordered}
 use Rattle.audit.proofs.derived.history_rows.Goals.{After-deref_mut, After-rows-2-1}
 use Rattle.audit.proofs.derived.history_rows.Goals as goal
 
@@ -21,7 +21,7 @@ fits : (c : After-deref_mut) → All IsStorableHistory c.deref_mut.result.now
 fits c =
     let m = c.requires.0 in
     let rows : c.deref_mut.result.now ≡ history_rows m = c.deref_mut.ensures.value ∙ c.requires.2 in
-    subst (All IsStorableHistory) ((has_derived c.args.version m c.if-version-lt2.false).history ∙ sym rows) (c.rows_fit.ensures c.args.version m c.requires.1).history
+    subst (All IsStorableHistory) ((has_derived c.args.version m c.if-version-lt2.false).history ∙ sym rows) (c.known_laws.ensures.fit c.args.version m c.requires.1).history
 
 -- and is all that there is then
 all : (c : After-rows-2-1) → take c.args.told.len (c.sort.new.rows ++ drop (length c.sort.new.rows) c.args.told.items) ≡ c.sort.new.rows
@@ -43,6 +43,6 @@ unfolding rows_for
 returns-clause-all c m valid same =
     let ys = c.sort.new.rows in
     all c
-    ∙ ordered c.read_in_order.ensures.ascending history_key (history_rows m) ys (c.keys_are_distinct.ensures m (rows_for 3 m) valid (themselves (rows_for 3 m))).history
+    ∙ ordered c.known_laws.ensures.history history_key (history_rows m) ys (own_keys c.known_laws.ensures.keys m valid).history
     (subst (λ (xs : List HistoryRow). IsPermutation xs ys) (c.deref_mut.ensures.value ∙ same) c.sort.ensures.same) c.sort.ensures.sorted
     ∙ ap (in_order history_key) (sym (has_derived c.args.version m c.if-version-lt2.false).history)

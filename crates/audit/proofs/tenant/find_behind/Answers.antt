@@ -29,12 +29,12 @@ module _ (c : After-find_in_tables) where
   runs = let held = c.requires.running in settled held.0 c.args.told.now c.settle_if_it_can.new.running held.2 (c.in_ok-came.ensures.settled (machine_of (entries_told held.0)) held.3)
 
   clear : c.in_ok-came.came ≡ true → IsClearBelow c.args.version (lists_of c.args.rows.now) 7 → IsClearBelow c.args.version (lists_of c.args.rows.now) 8
-  clear is below = clear_of_clock c.cells_tell_rows.ensures c.args.version (lists_of c.args.rows.now) c.requires.running.0 c.requires.running.1 (came.0 is) below
+  clear is below = clear_of_clock c.known_laws.ensures.reading c.args.version (lists_of c.args.rows.now) c.requires.running.0 c.requires.running.1 (came.0 is) below
 
   failed : IsFirstPlace (IsWrong c.args.version (lists_of c.args.rows.now) kind.FailedId) c.first_bad_failed-bad_failed.result
   failed =
       let held = c.requires.running in
-      bad_failed c.cells_tell_rows.ensures c.args.version (lists_of c.args.rows.now) held.0 c.deref.result.now c.first_bad_failed-bad_failed.result held.1 (c.deref.ensures.value ∙ held.2.failed) (c.first_bad_failed-bad_failed.ensures (machine_told held.0) runs)
+      bad_failed c.known_laws.ensures.reading c.args.version (lists_of c.args.rows.now) held.0 c.deref.result.now c.first_bad_failed-bad_failed.result held.1 (c.deref.ensures.value ∙ held.2.failed) (c.first_bad_failed-bad_failed.ensures (machine_told held.0) runs)
 
 pub returns-in-Some-clause-first : goal.returns-in-Some-clause-first
 returns-in-Some-clause-first c = subst (FindsBelow c.args.version (lists_of c.args.rows.now) 7) c.in-Some.is c.in_ok-in_tables.ensures
@@ -45,7 +45,7 @@ returns-then-not-came-clause-first c =
     let rows = lists_of c.args.rows.now in
     let v = c.args.version in
     let below = subst (FindsBelow v rows 7) c.in_default.is c.in_ok-in_tables.ensures in
-    let first = bad_clock c.cells_tell_rows.ensures v rows c.requires.running.0 c.requires.running.1 (λ can. both_ways c.in_ok-came.came c.if-not-came.true ((came behind).1 can)) in
+    let first = bad_clock c.known_laws.ensures.reading v rows c.requires.running.0 c.requires.running.1 (λ can. both_ways c.in_ok-came.came c.if-not-came.true ((came behind).1 can)) in
     answers_found v rows kind.Clock 0 (Some 0) c.damage_at.result below first refl c.damage_at.ensures
 
 pub returns-in-Some-bad_failed-clause-first : goal.returns-in-Some-bad_failed-clause-first
@@ -67,4 +67,4 @@ returns-in-None-clause-first c =
 pub returns-in-None-clause-sound : goal.returns-in-None-clause-sound
 returns-in-None-clause-sound c =
     let behind = (goal.at.returns-in-None-clause-sound c).After-find_in_tables in
-    sound_if_clear c.keys_are_distinct.ensures c.failed_ids_stand_apart.ensures c.args.version (lists_of c.args.rows.now) c.requires.running.0 c.requires.running.1 (runs behind).valid (returns-in-None-clause-first c)
+    sound_if_clear c.known_laws.ensures.keys c.failed_ids_stand_apart.ensures c.args.version (lists_of c.args.rows.now) c.requires.running.0 c.requires.running.1 (runs behind).valid (returns-in-None-clause-first c)

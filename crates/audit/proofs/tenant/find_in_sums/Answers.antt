@@ -3,7 +3,6 @@ use Rattle.rows.specs.Cells.{balance_cells, status_cells}
 use Rattle.rows.specs.TypedRows.{lists_of}
 use Rattle.audit.specs.declared.damage.DamageKind.TheVariants as kind
 use Rattle.audit.specs.Order.{IsFirstPlace}
-use Rattle.audit.specs.Stages.{IsClearBelow}
 use Rattle.audit.specs.Table.{IsWrong}
 use Rattle.audit.specs.Told.{machine_told}
 use Rattle.audit.proofs.Stages.{answers_found, still_clear, finds_below, first_of_told, same_difference}
