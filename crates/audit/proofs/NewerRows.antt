@@ -9,7 +9,7 @@ use Rattle.records.specs.Valid.{IsValid, IsNextFailed}
 use Rattle.rows.specs.declared.balance_row.BalanceRow.{BalanceRow}
 use Rattle.rows.specs.declared.status_row.StatusRow.{StatusRow}
 use Rattle.rows.specs.Prescribed.{rows_for, since}
-use Rattle.rows.specs.Tables.{history_key, IsAscendingBy}
+use Rattle.rows.specs.Tables.{history_key}
 use Rattle.rows.specs.TypedRows.{TypedRows, FileRows}
 use Rattle.running.specs.Entries.{machine_of, FailedIdsStandApart}
 use Rattle.audit.specs.Laws.{Laws}
@@ -61,10 +61,8 @@ still_none to = elim (leb_tells 3 to) [
 pub theirs : Laws → DerivedRowsAreTheirs
 unfolding rows_for
 theirs laws version to rows m less valid r =
-    let told = told_of r.typed in
     let n = none_failed m in
-    let is = machine_is laws version rows m valid r in
-    let up = ordered laws.keys to told (told_valid laws version rows m valid r) in
+    let up = ordered laws.keys to n (subst IsValid (machine_is laws version rows m valid r) (told_valid laws version rows m valid r)) in
     record {
       typed = record r.typed {
         balances = in_order (λ row. row.account) (rows_for to n).balances;
@@ -90,9 +88,9 @@ theirs laws version to rows m less valid r =
         failed = subst (λ (xs : List ℕ). IsPermutation xs r.typed.failed) (none_since version m.failed less ∙ sym (still_none to)) r.same.failed;
       };
       in_order = record {
-        balances = subst (λ (x : Machine). IsAscendingBy (λ (row : BalanceRow). row.account) (in_order (λ row. row.account) (rows_for to x).balances)) is up.balances;
-        statuses = subst (λ (x : Machine). IsAscendingBy (λ (row : StatusRow). row.transfer) (in_order (λ row. row.transfer) (rows_for to x).statuses)) is up.statuses;
-        history = subst (λ (x : Machine). IsAscendingBy history_key (in_order history_key (rows_for to x).history)) is up.history;
+        balances = up.balances;
+        statuses = up.statuses;
+        history = up.history;
         failed = r.in_order.failed;
       };
     }

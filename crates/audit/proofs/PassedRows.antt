@@ -31,7 +31,7 @@ use Rattle.audit.proofs.OwnTimes.{no_bad_time}
 use Rattle.audit.proofs.PassedFailed.{no_bad_failed}
 use Rattle.audit.proofs.Readable.{storable, told_of, tells_typed, well_shaped}
 use Rattle.audit.proofs.RefusedRows.{all_accepted}
-use Rattle.audit.proofs.SoundRows.{ordered}
+use Rattle.audit.proofs.SoundRows.{AreOrdered, ordered}
 use Rattle.audit.proofs.Stages.{told_if_wrong}
 use Rattle.audit.proofs.ToldMachine.{told_clock}
 
@@ -86,6 +86,9 @@ module _ (laws : Laws) (version : ℕ) (rows : FileRows) (m : Machine) (valid : 
   pub told_valid : IsValid (machine_told told)
   told_valid = subst IsValid (sym (told_clock (machine_of (entries_told told)) told.clock can_come)) (laws.replayed (entries_told told) told.clock replayed.next can_come)
 
+  up : AreOrdered version (machine_told told)
+  up = ordered laws.keys version (machine_told told) told_valid
+
   all_next : All (IsNextFailed (machine_told told)) m.failed
   all_next =
       subst (λ (x : Machine). All (IsNextFailed x) m.failed) (sym machine_is)
@@ -98,13 +101,13 @@ module _ (laws : Laws) (version : ℕ) (rows : FileRows) (m : Machine) (valid : 
   none_told kind.Entry place wrong = all_accepted new_machine (entries_told told) wrong.0 replayed.next wrong.1
   none_told kind.Balance place wrong =
       table laws.balances balance_cells (λ (row : BalanceRow). row.account) rows.balances r.typed.balances (rows_for version m).balances (prescribed version told).balances
-      (ap (λ (f : FileRows). f.balances) (sym r.cells)) (ap (λ (x : Machine). (rows_for version x).balances) machine_is) r.same.balances r.in_order.balances (ordered laws.keys version told told_valid).balances place wrong
+      (ap (λ (f : FileRows). f.balances) (sym r.cells)) (ap (λ (x : Machine). (rows_for version x).balances) machine_is) r.same.balances r.in_order.balances up.balances place wrong
   none_told kind.Status place wrong =
       table laws.statuses status_cells (λ (row : StatusRow). row.transfer) rows.statuses r.typed.statuses (rows_for version m).statuses (prescribed version told).statuses
-      (ap (λ (f : FileRows). f.statuses) (sym r.cells)) (ap (λ (x : Machine). (rows_for version x).statuses) machine_is) r.same.statuses r.in_order.statuses (ordered laws.keys version told told_valid).statuses place wrong
+      (ap (λ (f : FileRows). f.statuses) (sym r.cells)) (ap (λ (x : Machine). (rows_for version x).statuses) machine_is) r.same.statuses r.in_order.statuses up.statuses place wrong
   none_told kind.History place wrong =
       table laws.history history_cells history_key rows.history r.typed.history (rows_for version m).history (prescribed version told).history
-      (ap (λ (f : FileRows). f.history) (sym r.cells)) (ap (λ (x : Machine). (rows_for version x).history) machine_is) r.same.history r.in_order.history (ordered laws.keys version told told_valid).history place wrong
+      (ap (λ (f : FileRows). f.history) (sym r.cells)) (ap (λ (x : Machine). (rows_for version x).history) machine_is) r.same.history r.in_order.history up.history place wrong
   none_told kind.Clock place wrong = wrong.1 can_come
   none_told kind.FailedId place wrong = no_bad_failed version (machine_told told) m.failed r.typed.failed r.same.failed all_next r.in_order.failed place wrong
 

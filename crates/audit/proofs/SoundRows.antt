@@ -40,32 +40,28 @@ no_rows key rows none = subst (λ xs. IsAscendingBy key (in_order key xs)) (sym 
 own_rows : {A : Type 0} (key : A → ℕ) (rows all : List A) → rows ≡ all → HasDistinctKeys key all → IsAscendingBy key (in_order key rows)
 own_rows key rows all same once = in_order_up key rows (subst (HasDistinctKeys key) (sym same) once)
 
-pub record AreOrdered (version : ℕ) (told : TypedRows) : Type 0 where
-  pub balances : IsAscendingBy (λ (row : BalanceRow). row.account) (in_order (λ row. row.account) (prescribed version told).balances)
-  pub statuses : IsAscendingBy (λ (row : StatusRow). row.transfer) (in_order (λ row. row.transfer) (prescribed version told).statuses)
-  pub history : IsAscendingBy history_key (in_order history_key (prescribed version told).history)
+pub record AreOrdered (version : ℕ) (m : Machine) : Type 0 where
+  pub balances : IsAscendingBy (λ (row : BalanceRow). row.account) (in_order (λ row. row.account) (rows_for version m).balances)
+  pub statuses : IsAscendingBy (λ (row : StatusRow). row.transfer) (in_order (λ row. row.transfer) (rows_for version m).statuses)
+  pub history : IsAscendingBy history_key (in_order history_key (rows_for version m).history)
 
-pub ordered : KeysAreDistinct → (version : ℕ) (told : TypedRows) → IsValid (machine_told told) → AreOrdered version told
-ordered keys version told valid =
-    let m = machine_told told in
-    let keyed = own_keys keys m valid in
-    let all : HasDerived 3 m = has_derived 3 m (omega arith) in
-    elim (leb_tells 2 version) [
-      | inl h ↦ by_rows (has_derived version m h.1) all keyed
-      | inr h ↦
-          let none = lacks_derived version m h.1 in
-          record {
-            balances = no_rows (λ (row : BalanceRow). row.account) (rows_for version m).balances none.balances;
-            statuses = no_rows (λ (row : StatusRow). row.transfer) (rows_for version m).statuses none.statuses;
-            history = no_rows history_key (rows_for version m).history none.history;
-          }
-    ]
+pub ordered : KeysAreDistinct → (version : ℕ) (m : Machine) → IsValid m → AreOrdered version m
+ordered keys version m valid = elim (leb_tells 2 version) [
+  | inl h ↦ by_rows (has_derived version m h.1) (has_derived 3 m (omega arith)) (own_keys keys m valid)
+  | inr h ↦
+      let none = lacks_derived version m h.1 in
+      record {
+        balances = no_rows (λ (row : BalanceRow). row.account) (rows_for version m).balances none.balances;
+        statuses = no_rows (λ (row : StatusRow). row.transfer) (rows_for version m).statuses none.statuses;
+        history = no_rows history_key (rows_for version m).history none.history;
+      }
+]
   where
-    by_rows : HasDerived version (machine_told told) → HasDerived 3 (machine_told told) → AreKeyed (rows_for 3 (machine_told told)) → AreOrdered version told
+    by_rows : HasDerived version m → HasDerived 3 m → AreKeyed (rows_for 3 m) → AreOrdered version m
     by_rows some all keyed = record {
-      balances = own_rows (λ (row : BalanceRow). row.account) (rows_for version (machine_told told)).balances (rows_for 3 (machine_told told)).balances (some.balances ∙ sym all.balances) keyed.balances;
-      statuses = own_rows (λ (row : StatusRow). row.transfer) (rows_for version (machine_told told)).statuses (rows_for 3 (machine_told told)).statuses (some.statuses ∙ sym all.statuses) keyed.statuses;
-      history = own_rows history_key (rows_for version (machine_told told)).history (rows_for 3 (machine_told told)).history (some.history ∙ sym all.history) keyed.history;
+      balances = own_rows (λ (row : BalanceRow). row.account) (rows_for version m).balances (rows_for 3 m).balances (some.balances ∙ sym all.balances) keyed.balances;
+      statuses = own_rows (λ (row : StatusRow). row.transfer) (rows_for version m).statuses (rows_for 3 m).statuses (some.statuses ∙ sym all.statuses) keyed.statuses;
+      history = own_rows history_key (rows_for version m).history (rows_for 3 m).history (some.history ∙ sym all.history) keyed.history;
     }
 
 -- the machine of the rows, with the failed ids that are told
@@ -86,7 +82,7 @@ sound_if_clear keys apart version rows told tells valid clear =
       bounded = le_stable told.clock max_clock (λ no. clear kind.Clock 0 (told, tells, (refl, λ c. no c.bounded)));
     } in
     let clock : m.clock ≡ told.clock = ap (λ (x : Machine). x.clock) (told_clock (machine_of (entries_told told)) told.clock can) in
-    let up = ordered keys version told valid in (
+    let up = ordered keys version m valid in (
       machine_of_rows told,
       apart m told.failed valid failed_good,
       record {
