@@ -6,7 +6,7 @@ use Rattle.std.specs.Ordering.{nat_cmp, ordering_then}
 use Rattle.std.proofs.lemmas.Bool.{both_ways}
 use Rattle.std.proofs.lemmas.Bool.Decides.{leb_tells, nat_tests}
 use Rattle.std.proofs.lemmas.List.Elements.{All-get_or}
-use Rattle.std.proofs.lemmas.List.Sorted.{All-permutation, IsPermutation-refl, IsPermutation-sym, IsPermutation-trans}
+use Rattle.std.proofs.lemmas.List.Sorted.{All-permutation, length_permutation, IsPermutation-refl, IsPermutation-sym, IsPermutation-trans}
 use Rattle.std.proofs.Math.Seq.{take-append_seam}
 use Rattle.records.specs.Machine.{Machine}
 use Rattle.records.specs.Valid.{IsValid}
@@ -126,5 +126,5 @@ key_not_less a b t u short_t short_u not = elim (leb_tells (b * 2 ^ 64 + u) (a *
 ]
 
 -- a list that was sorted in place is as long as before
-pub whole : {A : Type 0} (ys rest : List A) (n : ℕ) → n ≡ length ys → take n (ys ++ rest) ≡ ys
-whole ys rest n same = ap (λ k. take k (ys ++ rest)) same ∙ take-append_seam ys rest
+pub whole : {A : Type 0} (old new rest : List A) (n : ℕ) → IsPermutation old new → length old ≡ n → take n (new ++ rest) ≡ new
+whole old new rest n same long = ap (λ k. take k (new ++ rest)) (sym (length_permutation old new same ∙ long)) ∙ take-append_seam new rest

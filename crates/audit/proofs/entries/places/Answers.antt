@@ -1,5 +1,4 @@
-use Rattle.std.proofs.Common.{◌++◌, map, length, drop, sym, ◌∙◌, subst}
-use Rattle.std.proofs.lemmas.List.Sorted.{length_permutation}
+use Rattle.std.proofs.Common.{◌++◌, map, length, drop, sym, subst}
 use Rattle.running.specs.declared.entry.Entry.TheVariants.{Opened, Moved}
 use Rattle.audit.specs.Held.{ArePlacesOf}
 use Rattle.audit.specs.Told.{entries_told}
@@ -13,5 +12,5 @@ returns c typed holds good =
     let new = c.sort.new.places in
     let stored = map Opened typed.accounts ++ map Moved typed.transfers in
     let are = subst (ArePlacesOf typed stored) (sym c.deref_mut.ensures.value) (c.in_ok-places.ensures typed holds) in
-    let all = whole new (drop (length new) c.in_ok-places.places.items) c.in_ok-places.places.len (sym (length_permutation old new c.sort.ensures.same ∙ c.deref_mut.ensures.len)) in
+    let all = whole old new (drop (length new) c.in_ok-places.places.items) c.in_ok-places.places.len c.sort.ensures.same c.deref_mut.ensures.len in
     subst (ArePlacesOf typed (entries_told typed)) (sym all) (in_time c.read_in_order.ensures.ascending typed old new good are c.sort.ensures.same c.sort.ensures.sorted)
