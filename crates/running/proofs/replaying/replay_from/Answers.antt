@@ -1,7 +1,5 @@
 use Rattle.std.proofs.Common.{◌<◌, length, sym, arith}
 use Rattle.std.proofs.lemmas.Option.{get_or_from_slice_get}
-use Rattle.records.specs.Machine.{new_machine}
-use Rattle.running.specs.Entries.{machine_of}
 use Rattle.running.proofs.AppliedEntry.{one_replayed, one_told, on_true}
 use Rattle.running.proofs.replaying.replay_from.Goals as goal
 
