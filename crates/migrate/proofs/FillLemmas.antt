@@ -1,18 +1,23 @@
 -- What filling the tables of a newer version leaves.
-use Rattle.std.proofs.Common.{◌≡◌, ◌≢◌, ℕ, ℤ, pos, drop, List, [], map, refl, sym, ap, subst, ◌∙◌, arith}
+use Rattle.std.proofs.Common.{◌≡◌, ◌≢◌, ◌<◌, ℕ, ℤ, pos, drop, List, [], Result, map, refl, sym, ap, subst, ◌∙◌, arith}
 use Rattle.std.specs.List.{AllByRecursion}
+use Rattle.std.proofs.lemmas.Result.{on_ok_weaker}
+use Rattle.records.specs.declared.unavailable.Unavailable.{Unavailable}
 use Rattle.sqlite_value.specs.Order.{Row}
 use Rattle.sqlite_schema.specs.declared.schema.Schema.{Schema}
 use Rattle.sqlite_schema.specs.declared.schema.Table.{Table}
 use Rattle.sqlite_trees.specs.Tree.{Trees}
-use Rattle.sqlite.specs.State.{State}
+use Rattle.sqlite.specs.State.{State, HasCleanDisk}
+use Rattle.ledger_sql.specs.Calls.{LeavesChanged, LeavesWritten}
 use Rattle.ledger_sql.specs.Creating.{MakesTables, Makes}
 use Rattle.ledger_sql.specs.Effects.{AddsRows, WritesInside, SetsVersion}
+use Rattle.ledger_sql.specs.Frames.{Follows}
 use Rattle.ledger_sql.specs.Rowids.{IsNumbered}
 use Rattle.ledger_sql.specs.Schema.{list_schema, balance_schema, ledger_schema, failed_table, current_version}
 use Rattle.ledger_sql.specs.TableRows.{cells_from}
+use Rattle.stored_tables.specs.BatchLaws.{follows_itself, follows_then}
 use Rattle.migrate.specs.FillingLaws.{entries_then}
-use Rattle.migrate.specs.Filling.{IsAltering, CanSetVersion, KeepsEntries, FillsDerived, MakesDerived, MakesBalanced, MakesCurrent}
+use Rattle.migrate.specs.Filling.{AreDerivedNumbered, IsAltering, CanSetVersion, KeepsEntries, FillsDerived, MakesDerived, MakesBalanced, MakesCurrent}
 
 inside_then : (a b c : State) → WritesInside a b → WritesInside b c → WritesInside a c
 inside_then a b c f g = record {
@@ -70,56 +75,87 @@ module _ (rows : ℤ → Trees → List Row) (tree : ℕ) (tenant : ℤ) (added 
       subst (λ (s : Schema). AllByRecursion (λ (t : Table). t.tree ≢ tree → b.now.trees t.tree ≡ a.now.trees t.tree) s.tables)
       altering.making.schema_is adds.tables
 
-  entries_by : (1 ≢ tree) → (4 ≢ tree) → (5 ≢ tree) → (8 ≢ tree) → KeepsEntries a.now.trees b.now.trees
-  entries_by one four five eight = record {
-    directory = stays.1.0 one;
-    clocks = stays.1.1.0 four;
-    accounts = stays.1.1.1.0 five;
-    transfers = stays.1.1.1.1.0 eight;
+  fills_one :
+      (8 < tree) → (AreDerivedNumbered a.now.trees → AreDerivedNumbered b.now.trees) →
+      FillsDerived a b
+  fills_one own numbered = record {
+    numbered = numbered;
+    version = stays.0 (λ e. omega (arith, own, e));
+    entries = record {
+      directory = stays.1.0 (λ e. omega (arith, own, e));
+      clocks = stays.1.1.0 (λ e. omega (arith, own, e));
+      accounts = stays.1.1.1.0 (λ e. omega (arith, own, e));
+      transfers = stays.1.1.1.1.0 (λ e. omega (arith, own, e));
+    };
+    inside = adds.inside;
   }
 
 same_numbered : (old new : List Row) → new ≡ old → IsNumbered old → IsNumbered new
 same_numbered old new same n = subst IsNumbered (sym same) n
 
-module _ (tenant : ℤ) (added : List Row) (a b : State) (altering : IsAltering balance_schema a) where
-  pub fills_balances : (rows : ℤ → Trees → List Row) → AddsRows rows 11 tenant added a b → FillsDerived a b
-  fills_balances rows adds =
-      let stay = stays rows 11 tenant added a b altering adds in record {
-        numbered = λ n. record {
-          balances = adds.numbered n.balances;
-          statuses = same_numbered _ _ (stay.1.1.1.1.1.1.0 (λ e. omega (arith, e))) n.statuses;
-          history = same_numbered _ _ (stay.1.1.1.1.1.1.1.0 (λ e. omega (arith, e))) n.history;
-        };
-        version = stay.0 (λ e. omega (arith, e));
-        entries = entries_by rows 11 tenant added a b altering adds (λ e. omega (arith, e)) (λ e. omega (arith, e)) (λ e. omega (arith, e)) (λ e. omega (arith, e));
-        inside = adds.inside;
-      }
+module _ (tenant : ℤ) (added : List Row) (a b : State) (altering : IsAltering balance_schema a)
+    (rows : ℤ → Trees → List Row) where
+  pub fills_balances : AddsRows rows 11 tenant added a b → FillsDerived a b
+  fills_balances adds =
+      let stay = stays rows 11 tenant added a b altering adds in
+      fills_one rows 11 tenant added a b altering adds (omega arith) (λ n. record {
+        balances = adds.numbered n.balances;
+        statuses = same_numbered _ _ (stay.1.1.1.1.1.1.0 (λ e. omega (arith, e))) n.statuses;
+        history = same_numbered _ _ (stay.1.1.1.1.1.1.1.0 (λ e. omega (arith, e))) n.history;
+      })
 
-  pub fills_statuses : (rows : ℤ → Trees → List Row) → AddsRows rows 13 tenant added a b → FillsDerived a b
-  fills_statuses rows adds =
-      let stay = stays rows 13 tenant added a b altering adds in record {
-        numbered = λ n. record {
-          balances = same_numbered _ _ (stay.1.1.1.1.1.0 (λ e. omega (arith, e))) n.balances;
-          statuses = adds.numbered n.statuses;
-          history = same_numbered _ _ (stay.1.1.1.1.1.1.1.0 (λ e. omega (arith, e))) n.history;
-        };
-        version = stay.0 (λ e. omega (arith, e));
-        entries = entries_by rows 13 tenant added a b altering adds (λ e. omega (arith, e)) (λ e. omega (arith, e)) (λ e. omega (arith, e)) (λ e. omega (arith, e));
-        inside = adds.inside;
-      }
+  pub fills_statuses : AddsRows rows 13 tenant added a b → FillsDerived a b
+  fills_statuses adds =
+      let stay = stays rows 13 tenant added a b altering adds in
+      fills_one rows 13 tenant added a b altering adds (omega arith) (λ n. record {
+        balances = same_numbered _ _ (stay.1.1.1.1.1.0 (λ e. omega (arith, e))) n.balances;
+        statuses = adds.numbered n.statuses;
+        history = same_numbered _ _ (stay.1.1.1.1.1.1.1.0 (λ e. omega (arith, e))) n.history;
+      })
 
-  pub fills_histories : (rows : ℤ → Trees → List Row) → AddsRows rows 15 tenant added a b → FillsDerived a b
-  fills_histories rows adds =
-      let stay = stays rows 15 tenant added a b altering adds in record {
-        numbered = λ n. record {
-          balances = same_numbered _ _ (stay.1.1.1.1.1.0 (λ e. omega (arith, e))) n.balances;
-          statuses = same_numbered _ _ (stay.1.1.1.1.1.1.0 (λ e. omega (arith, e))) n.statuses;
-          history = adds.numbered n.history;
-        };
-        version = stay.0 (λ e. omega (arith, e));
-        entries = entries_by rows 15 tenant added a b altering adds (λ e. omega (arith, e)) (λ e. omega (arith, e)) (λ e. omega (arith, e)) (λ e. omega (arith, e));
-        inside = adds.inside;
-      }
+  pub fills_histories : AddsRows rows 15 tenant added a b → FillsDerived a b
+  fills_histories adds =
+      let stay = stays rows 15 tenant added a b altering adds in
+      fills_one rows 15 tenant added a b altering adds (omega arith) (λ n. record {
+        balances = same_numbered _ _ (stay.1.1.1.1.1.0 (λ e. omega (arith, e))) n.balances;
+        statuses = same_numbered _ _ (stay.1.1.1.1.1.1.0 (λ e. omega (arith, e))) n.statuses;
+        history = adds.numbered n.history;
+      })
+
+-- a call that puts rows into one of these tables fills it
+pub filled :
+    (Adds : State → State → Type 0) (a b : State) (result : Result (Unit {0}) Unavailable) →
+    (IsAltering balance_schema a → Adds a b → FillsDerived a b) →
+    (HasCleanDisk a → IsAltering balance_schema a) → LeavesWritten Adds a b result →
+    LeavesChanged FillsDerived a b result
+filled Adds a b result fills altering wrote = record {
+  ok = λ clean.
+      on_ok_weaker result (fills (altering (omega (arith, wrote.follows.survives.clean, clean))))
+      (wrote.ok clean);
+  follows = wrote.follows;
+}
+
+-- what a loop that fills keeps, from its beginning on
+abbrev pub IsFilling : State → State → Type 0
+IsFilling begun now = (HasCleanDisk now → FillsDerived begun now) × Follows begun now
+
+pub filling_begins : (a : State) → (HasCleanDisk a → IsAltering balance_schema a) → IsFilling a a
+filling_begins a altering = (λ clean. fills_none a (altering clean), follows_itself a)
+
+pub filling_lasts :
+    (a b : State) → (HasCleanDisk a → IsAltering balance_schema a) → IsFilling a b →
+    HasCleanDisk b → IsAltering balance_schema b
+filling_lasts a b altering filling clean =
+    still_altering a b (altering (omega (arith, filling.1.survives.clean, clean))) (filling.0 clean)
+
+pub filling_goes_on :
+    (a b c : State) → IsFilling a b → (HasCleanDisk c → FillsDerived b c) → Follows b c →
+    IsFilling a c
+filling_goes_on a b c filling fills follows = (
+  λ clean.
+      fills_then a b c (filling.0 (omega (arith, follows.survives.clean, clean))) (fills clean),
+  follows_then a b c filling.1 follows,
+)
 
 no_rows : (rows : List Row) → rows ≡ [] → IsNumbered rows
 no_rows rows none = subst IsNumbered (sym none) (record { rise = tt; whole = tt })

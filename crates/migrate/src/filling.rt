@@ -50,51 +50,50 @@ fn fill_tenant<S: Alter>(
     let Some(tenant) = tenant else {
         return Ok(());
     };
-    fill_balances(conn, number, &tenant.rows.balances)?;
-    fill_statuses(conn, number, &tenant.rows.statuses)?;
-    fill_histories(conn, number, &tenant.rows.history)
+    fill_rows(conn, number, tenant.rows.balances.as_slice())?;
+    fill_rows(conn, number, tenant.rows.statuses.as_slice())?;
+    fill_rows(conn, number, tenant.rows.history.as_slice())
 }
 
-fn fill_balances<S: Alter>(
+/// A tenant's rows of one kind.
+fn fill_rows<S: Alter, R: Filling>(
     conn: &mut Connection<S>,
     number: i64,
-    rows: &[BalanceCells],
+    rows: &[R],
 ) -> Result<(), Unavailable>
     requires { IfClean (IsAltering balance_schema) S.Store conn.old }
     ensures { Changes FillsDerived S.Store conn.old conn.new result }
 {
-    for cells in rows {
-        fill_balance(conn, number, cells)?;
+    for row in rows {
+        row.fill(conn, number)?;
     }
     Ok(())
 }
 
-fn fill_statuses<S: Alter>(
-    conn: &mut Connection<S>,
-    number: i64,
-    rows: &[StatusCells],
-) -> Result<(), Unavailable>
-    requires { IfClean (IsAltering balance_schema) S.Store conn.old }
-    ensures { Changes FillsDerived S.Store conn.old conn.new result }
-{
-    for cells in rows {
-        fill_status(conn, number, cells)?;
-    }
-    Ok(())
+/// A row of one of the three tables.
+trait Filling {
+    /// Puts it into its table, as a row of the tenant with this number.
+    fn fill<S: Alter>(&self, conn: &mut Connection<S>, number: i64) -> Result<(), Unavailable>
+        requires { IfClean (IsAltering balance_schema) S.Store conn.old }
+        ensures { Changes FillsDerived S.Store conn.old conn.new result };
 }
 
-fn fill_histories<S: Alter>(
-    conn: &mut Connection<S>,
-    number: i64,
-    rows: &[HistoryCells],
-) -> Result<(), Unavailable>
-    requires { IfClean (IsAltering balance_schema) S.Store conn.old }
-    ensures { Changes FillsDerived S.Store conn.old conn.new result }
-{
-    for cells in rows {
-        fill_history(conn, number, cells)?;
+impl Filling for BalanceCells {
+    fn fill<S: Alter>(&self, conn: &mut Connection<S>, number: i64) -> Result<(), Unavailable> {
+        fill_balance(conn, number, self)
     }
-    Ok(())
+}
+
+impl Filling for StatusCells {
+    fn fill<S: Alter>(&self, conn: &mut Connection<S>, number: i64) -> Result<(), Unavailable> {
+        fill_status(conn, number, self)
+    }
+}
+
+impl Filling for HistoryCells {
+    fn fill<S: Alter>(&self, conn: &mut Connection<S>, number: i64) -> Result<(), Unavailable> {
+        fill_history(conn, number, self)
+    }
 }
 
 /// Sets the version, and makes the table of failed ids where that version has it.

@@ -1,11 +1,7 @@
-use Rattle.sqlite.specs.State.{HasCleanDisk}
 use Rattle.sqlite.specs.Held.{state}
-use Rattle.ledger_sql.specs.Frames.{Follows}
-use Rattle.migrate.specs.Filling.{FillsDerived}
+use Rattle.migrate.proofs.FillLemmas.{IsFilling}
 use Rattle.migrate.proofs.filling.fill_all.Given as goal
 
 -- what the loop keeps
 abbrev pub invariant-loop-place : goal.invariant-loop-place
-invariant-loop-place g l =
-    (HasCleanDisk (state g.S.Store l.conn) → FillsDerived (state g.S.Store l.fn.conn) (state g.S.Store l.conn))
-    × Follows (state g.S.Store l.fn.conn) (state g.S.Store l.conn)
+invariant-loop-place g l = IsFilling (state g.S.Store l.fn.conn) (state g.S.Store l.conn)
