@@ -1,5 +1,5 @@
 -- What a new tenant's rows leave of a database.
-use Rattle.std.proofs.Common.{◌≡◌, ◌≢◌, ℕ, ℤ, pos, None, Some, drop, List, [], ◌∷◌, ◌++◌, map, filter, Ok, Err, refl, sym, ap, subst, ◌∙◌, arith}
+use Rattle.std.proofs.Common.{◌≡◌, ◌≢◌, ◌<◌, ℕ, ℤ, pos, None, Some, drop, List, [], ◌∷◌, ◌++◌, map, filter, Ok, Err, refl, sym, ap, subst, ◌∙◌, arith}
 use Rattle.std.specs.List.{AllByRecursion}
 use Rattle.std.specs.List.Sorted.{IsPermutation}
 use Rattle.std.proofs.lemmas.List.Sorted.{IsPermutation-refl}
@@ -19,7 +19,7 @@ use Rattle.ledger_sql.specs.Strangers.{strangers_in}
 use Rattle.ledger_sql.specs.StrangerLaws.{strangers_stay}
 use Rattle.ledger_sql.specs.TableRows.{directory_rows, clock_rows, is_own, is_int, cells_from, account_rows, transfer_rows, balance_rows, status_rows, history_rows, failed_rows}
 use Rattle.ledger_sql.specs.Values.{directory_values, clock_values}
-use Rattle.stored_tables.specs.Frames.{KeepsRows}
+use Rattle.stored_tables.specs.Frames.{KeepsRows, AreNumbered}
 use Rattle.stored_tables.specs.Holds.{HoldsMachine}
 use Rattle.stored_ledgers.specs.declared.joining.Taken.{Taken}
 use Rattle.stored_ledgers.specs.declared.joining.Taken.TheVariants.{Name, Digest}
@@ -48,18 +48,19 @@ pub record RestStays (old new : Trees) : Type 0 where
   pub history : new 15 ≡ old 15
   pub failed : new 17 ≡ old 17
 
+-- only the tree of the directory or of the clocks has changed
 pub rest_of : (tree : ℕ) (old new : State) (ledger : IsLedger old.now.schema) → OthersStay tree old new
-    → (0 ≢ tree) × ((5 ≢ tree) × ((8 ≢ tree) × ((11 ≢ tree) × ((13 ≢ tree) × ((15 ≢ tree) × (17 ≢ tree))))))
-    → RestStays old.now.trees new.now.trees
-rest_of tree old new ledger others apart =
-    let all = stay tree old new ledger others in record {
-      version = all.0 apart.0;
-      accounts = all.1.1.1.0 apart.1.0;
-      transfers = all.1.1.1.1.0 apart.1.1.0;
-      balances = all.1.1.1.1.1.0 apart.1.1.1.0;
-      statuses = all.1.1.1.1.1.1.0 apart.1.1.1.1.0;
-      history = all.1.1.1.1.1.1.1.0 apart.1.1.1.1.1.0;
-      failed = all.1.1.1.1.1.1.1.1.0 apart.1.1.1.1.1.1;
+    → (0 < tree) → (tree < 5) → RestStays old.now.trees new.now.trees
+rest_of tree old new ledger others some few =
+    let all = stay tree old new ledger others in
+    record {
+      version = all.0 (λ e. omega (arith, some, e));
+      accounts = all.1.1.1.0 (λ e. omega (arith, few, e));
+      transfers = all.1.1.1.1.0 (λ e. omega (arith, few, e));
+      balances = all.1.1.1.1.1.0 (λ e. omega (arith, few, e));
+      statuses = all.1.1.1.1.1.1.0 (λ e. omega (arith, few, e));
+      history = all.1.1.1.1.1.1.1.0 (λ e. omega (arith, few, e));
+      failed = all.1.1.1.1.1.1.1.1.0 (λ e. omega (arith, few, e));
     }
 
 rest_then : (a b c : Trees) → RestStays a b → RestStays b c → RestStays a c
@@ -72,6 +73,35 @@ rest_then a b c f g = record {
   history = g.history ∙ f.history;
   failed = g.failed ∙ f.failed;
 }
+
+still : (old new : List Row) → new ≡ old → IsNumbered old → IsNumbered new
+still old new same rise = subst IsNumbered (sym same) rise
+
+-- the rowids of all tables rise, where they do in the two that may have changed
+pub numbered_again : (old new : Trees) → RestStays old new → AreNumbered old → IsNumbered (new 1)
+    → IsNumbered (new 4) → AreNumbered new
+numbered_again old new rest was directory clocks = (
+  still _ _ rest.version was.0,
+  (
+    directory,
+    (
+      clocks,
+      (
+        still _ _ rest.accounts was.1.1.1.0,
+        (
+          still _ _ rest.transfers was.1.1.1.1.0,
+          (
+            still _ _ rest.balances was.1.1.1.1.1.0,
+            (
+              still _ _ rest.statuses was.1.1.1.1.1.1.0,
+              (still _ _ rest.history was.1.1.1.1.1.1.1.0, (still _ _ rest.failed was.1.1.1.1.1.1.1.1.0, tt)),
+            ),
+          ),
+        ),
+      ),
+    ),
+  ),
+)
 
 own : (width : ℕ) (number : ℤ) (new old : List Row) → new ≡ old
     → map (cells_from 2 width) (filter (is_own number) new) ≡ map (cells_from 2 width) (filter (is_own number) old)
@@ -121,38 +151,8 @@ pub joined_rows : (number : ℕ) (name digest : List ℕ) (s0 s1 s2 s3 : State) 
 joined_rows number name digest s0 s1 s2 s3 same ledgers entry clock =
     let ledger1 : IsLedger s1.now.schema = subst (λ (db : Database). IsLedger db.schema) (sym same) ledgers.schema in
     let ledger2 : IsLedger s2.now.schema = subst IsLedger (sym entry.inside.schema) ledger1 in
-    let one = rest_of 1 s1 s2 ledger1 entry.tables (
-      (λ e. absurd (omega arith)),
-      (
-        (λ e. absurd (omega arith)),
-        (
-          (λ e. absurd (omega arith)),
-          (
-            (λ e. absurd (omega arith)),
-            (
-              (λ e. absurd (omega arith)),
-              ((λ e. absurd (omega arith)), (λ e. absurd (omega arith))),
-            ),
-          ),
-        ),
-      ),
-    ) in
-    let two = rest_of 4 s2 s3 ledger2 clock.tables (
-      (λ e. absurd (omega arith)),
-      (
-        (λ e. absurd (omega arith)),
-        (
-          (λ e. absurd (omega arith)),
-          (
-            (λ e. absurd (omega arith)),
-            (
-              (λ e. absurd (omega arith)),
-              ((λ e. absurd (omega arith)), (λ e. absurd (omega arith))),
-            ),
-          ),
-        ),
-      ),
-    ) in
+    let one = rest_of 1 s1 s2 ledger1 entry.tables (omega arith) (omega arith) in
+    let two = rest_of 4 s2 s3 ledger2 clock.tables (omega arith) (omega arith) in
     let back : (t : ℕ) → s1.now.trees t ≡ s0.now.trees t = λ t. ap (λ (db : Database). db.trees t) same in
     let rest = rest_then s1.now.trees s2.now.trees s3.now.trees one two in
     let all : RestStays s0.now.trees s3.now.trees = record {
@@ -171,31 +171,9 @@ joined_rows number name digest s0 s1 s2 s3 same ledgers entry clock =
     let was = ledgers.numbered in record {
       schema = clock.inside.schema ∙ entry.inside.schema ∙ ap (λ (db : Database). db.schema) same;
       version = all.version;
-      numbered = (
-        subst IsNumbered (sym all.version) was.0,
-        (
-          subst IsNumbered (sym tenants) (entry.numbered (subst IsNumbered (sym (back 1)) was.1.0)),
-          (
-            clock.numbered (subst IsNumbered (sym clocks) was.1.1.0),
-            (
-              subst IsNumbered (sym all.accounts) was.1.1.1.0,
-              (
-                subst IsNumbered (sym all.transfers) was.1.1.1.1.0,
-                (
-                  subst IsNumbered (sym all.balances) was.1.1.1.1.1.0,
-                  (
-                    subst IsNumbered (sym all.statuses) was.1.1.1.1.1.1.0,
-                    (
-                      subst IsNumbered (sym all.history) was.1.1.1.1.1.1.1.0,
-                      (subst IsNumbered (sym all.failed) was.1.1.1.1.1.1.1.1.0, tt),
-                    ),
-                  ),
-                ),
-              ),
-            ),
-          ),
-        ),
-      );
+      numbered = numbered_again s0.now.trees s3.now.trees all was
+          (subst IsNumbered (sym tenants) (entry.numbered (subst IsNumbered (sym (back 1)) was.1.0)))
+          (clock.numbered (subst IsNumbered (sym clocks) was.1.1.0));
       directory =
           let entries : List Row → List Row = map (λ row. column row 0 ∷ cells_from 2 2 row) in
           subst (λ rows. IsPermutation (directory_values (pos number) name digest ∷ directory_rows s0.now.trees) rows)

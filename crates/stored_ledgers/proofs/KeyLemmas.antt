@@ -22,7 +22,7 @@ use Rattle.stored_ledgers.specs.Keying.{IsKeyed, Keyed, HasKeyed, IsKeyRefused, 
 use Rattle.stored_ledgers.specs.Ledger.{HoldsLedgers}
 use Rattle.stored_ledgers.specs.Resting.{CanServe, IsSame}
 use Rattle.stored_ledgers.specs.Transactions.{Answer, IfAnswered, UnlessMade, MayLeave}
-use Rattle.stored_ledgers.proofs.JoinLemmas.{stay, rest_of, kept, clock_kept}
+use Rattle.stored_ledgers.proofs.JoinLemmas.{stay, rest_of, numbered_again, kept, clock_kept}
 use Rattle.stored_ledgers.proofs.KeyedLemmas.{one_apart, one_numbered, ledgers_keyed, sets_keyed}
 use Rattle.stored_ledgers.proofs.TenantLemmas.{only_picked}
 
@@ -74,22 +74,7 @@ set_key name digest old new number was ledgers named differs none sets =
     let numbered = ledgers.numbered in
     let has = sets.one name was
     (one_numbered name number was old.now.trees (ledgers.distinct.numbers number) named) numbered.1.0 in
-    let rest = rest_of 1 old new ledgers.schema has.tables (
-      (λ e. absurd (omega arith)),
-      (
-        (λ e. absurd (omega arith)),
-        (
-          (λ e. absurd (omega arith)),
-          (
-            (λ e. absurd (omega arith)),
-            (
-              (λ e. absurd (omega arith)),
-              ((λ e. absurd (omega arith)), (λ e. absurd (omega arith))),
-            ),
-          ),
-        ),
-      ),
-    ) in
+    let rest = rest_of 1 old new ledgers.schema has.tables (omega arith) (omega arith) in
     let clocks = (stay 1 old new ledgers.schema has.tables).1.1.0 (λ e. absurd (omega arith)) in record {
       number = number;
       was = was;
@@ -98,31 +83,8 @@ set_key name digest old new number was ledgers named differs none sets =
       again = λ same. absurd (differs same);
       schema = sets.inside.schema;
       version = rest.version;
-      numbered = (
-        subst IsNumbered (sym rest.version) numbered.0,
-        (
-          has.numbered,
-          (
-            subst IsNumbered (sym clocks) numbered.1.1.0,
-            (
-              subst IsNumbered (sym rest.accounts) numbered.1.1.1.0,
-              (
-                subst IsNumbered (sym rest.transfers) numbered.1.1.1.1.0,
-                (
-                  subst IsNumbered (sym rest.balances) numbered.1.1.1.1.1.0,
-                  (
-                    subst IsNumbered (sym rest.statuses) numbered.1.1.1.1.1.1.0,
-                    (
-                      subst IsNumbered (sym rest.history) numbered.1.1.1.1.1.1.1.0,
-                      (subst IsNumbered (sym rest.failed) numbered.1.1.1.1.1.1.1.1.0, tt),
-                    ),
-                  ),
-                ),
-              ),
-            ),
-          ),
-        ),
-      );
+      numbered = numbered_again old.now.trees new.now.trees rest numbered has.numbered
+          (subst IsNumbered (sym clocks) numbered.1.1.0);
       directory = has.directory;
       rows = λ tenant. kept tenant old.now.trees new.now.trees rest
           (clock_kept tenant old.now.trees new.now.trees clocks);

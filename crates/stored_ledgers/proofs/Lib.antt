@@ -7,6 +7,7 @@ mod WorkLemmas
 mod RoundLemmas
 mod TakenLemmas
 mod JoinLemmas
+mod JudgedLemmas
 mod FreeLemmas
 mod JoinedLemmas
 mod KeyedLemmas

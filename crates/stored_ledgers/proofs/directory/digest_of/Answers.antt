@@ -1,22 +1,15 @@
-use Rattle.std.proofs.Common.{rules, arith}
-use Rattle.std.proofs.lemmas.Result.{MatchResult-at_ok}
-use Rattle.sqlite.specs.Held.{state}
-use Rattle.sqlite.specs.State.{HasCleanDisk}
+use Rattle.std.proofs.Common.{rules}
+use Rattle.stored_ledgers.proofs.JudgedLemmas.{found_at_rest}
 use Rattle.stored_ledgers.proofs.TenantLemmas.{digest_found}
 use Rattle.stored_ledgers.proofs.directory.digest_of.Goals as goal
 
 pub returns : goal.returns
 returns g c = record {
   value = λ clean.
-      let mid : HasCleanDisk (state g.S.Store c.find_tenant_by_name-row.new.conn) =
-      omega (arith, c.in_ok-judged.ensures.follows.survives.clean, clean) in
-      let before : HasCleanDisk (state g.S.Store c.args.conn.now) =
-      omega (arith, c.find_tenant_by_name-row.ensures.reads.follows.survives.clean, mid) in
-      let ledgers = (c.requires before).2 in
-      let picks = MatchResult-at_ok _ _ _ c.in_ok-judged.ensures.ok.0
-      (c.find_tenant_by_name-row.ensures.ok mid ledgers.schema) in
-      digest_found c.args.name.now _ c.in_ok-judged.field-0 c.digest_in.result
-      (ledgers.distinct.names c.args.name.now)
-      (rw c.as_str.ensures.same at picks) c.digest_in.ensures;
+      let judged = c.in_ok-judged.ensures in
+      let is = found_at_rest _ _ _ _ c.in_ok-judged.field-0 c.find_tenant_by_name-row.ensures
+      judged.ok.0 judged.follows c.requires clean in
+      digest_found c.args.name.now _ _ _ (is.0.distinct.names c.args.name.now)
+      (rw c.as_str.ensures.same at is.1) c.digest_in.ensures;
   reads = search rules;
 }

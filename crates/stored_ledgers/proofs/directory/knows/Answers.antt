@@ -1,7 +1,5 @@
-use Rattle.std.proofs.Common.{◌∙◌, rules, arith}
-use Rattle.std.proofs.lemmas.Result.{MatchResult-at_ok}
-use Rattle.sqlite.specs.Held.{state}
-use Rattle.sqlite.specs.State.{HasCleanDisk}
+use Rattle.std.proofs.Common.{◌∙◌, rules}
+use Rattle.stored_ledgers.proofs.JudgedLemmas.{found_at_rest}
 use Rattle.stored_ledgers.proofs.TenantLemmas.{found_tenant}
 use Rattle.stored_ledgers.specs.DirectoryLaws.{found_number}
 use Rattle.stored_ledgers.proofs.directory.knows.Goals as goal
@@ -9,15 +7,11 @@ use Rattle.stored_ledgers.proofs.directory.knows.Goals as goal
 pub returns : goal.returns
 returns g c = record {
   value = λ clean.
-      let mid : HasCleanDisk (state g.S.Store c.find_tenant-number.new.conn) =
-      omega (arith, c.in_ok-judged.ensures.follows.survives.clean, clean) in
-      let before : HasCleanDisk (state g.S.Store c.args.conn.now) =
-      omega (arith, c.find_tenant-number.ensures.reads.follows.survives.clean, mid) in
-      let ledgers = (c.requires before).2 in
-      let picks = MatchResult-at_ok _ _ _ c.in_ok-judged.ensures.ok.0
-      (c.find_tenant-number.ensures.ok mid ledgers.schema) in
+      let judged = c.in_ok-judged.ensures in
+      let is = found_at_rest _ _ _ _ c.in_ok-judged.field-0 c.find_tenant-number.ensures
+      judged.ok.0 judged.follows c.requires clean in
+      let one = is.0.distinct.digests c.args.digest.now in
       c.is_some.ensures
-      ∙ found_tenant c.args.digest.now _ c.in_ok-judged.field-0 (found_number c.args.digest.now _ _
-      (ledgers.distinct.digests c.args.digest.now) picks);
+      ∙ found_tenant c.args.digest.now _ _ (found_number c.args.digest.now _ _ one is.1);
   reads = search rules;
 }

@@ -1,6 +1,6 @@
 use Rattle.sqlite.proofs.StateLemmas.{survives_weaker}
 use Rattle.stored_ledgers.proofs.KeyLemmas.{has_keyed, left_keyed}
-use Rattle.stored_ledgers.proofs.ServingLemmas.{rests_after}
+use Rattle.stored_ledgers.proofs.ServingLemmas.{serves_after}
 use Rattle.stored_ledgers.proofs.keying.change_key.Goals as goal
 
 pub returns-clause-told : goal.returns-clause-told
@@ -9,13 +9,9 @@ returns-clause-told g c live =
     c.in_transaction.result (c.in_transaction.ensures.told live) (c.in_transaction.ensures.same live)
 
 pub returns-clause-serves : goal.returns-clause-serves
-returns-clause-serves g c = record {
-  resting = λ live.
-      rests_after c.in_transaction.result _ _ _ _ _ (c.in_transaction.ensures.told live)
-      (c.in_transaction.ensures.again live) (c.in_transaction.ensures.same live)
-      (c.in_transaction.ensures.quiet live);
-  is_open = c.in_transaction.ensures.open;
-}
+returns-clause-serves g c =
+    let did = c.in_transaction.ensures in
+    serves_after _ _ _ _ _ _ did.told did.again did.same did.quiet did.open
 
 pub returns-clause-survives : goal.returns-clause-survives
 returns-clause-survives g c =

@@ -4,7 +4,7 @@ use Rattle.sqlite.proofs.StateLemmas.{survives_weaker}
 use Rattle.stored_ledgers.specs.Outcomes.{ArePast}
 use Rattle.stored_ledgers.proofs.OutcomeLemmas.{keeps_tables}
 use Rattle.stored_ledgers.proofs.RoundLemmas.{left_round}
-use Rattle.stored_ledgers.proofs.ServingLemmas.{rests_still, told_made, no_fault, other_fault}
+use Rattle.stored_ledgers.proofs.ServingLemmas.{told_made, no_fault, serves_failed}
 use Rattle.stored_ledgers.proofs.rounds.in_round.Goals as goal
 
 pub returns-in-Ok-Ok-clause-run : goal.returns-in-Ok-Ok-clause-run
@@ -45,13 +45,9 @@ pub returns-in-Err-clause-tables : goal.returns-in-Err-clause-tables
 returns-in-Err-clause-tables g c live = keeps_tables _ _ (c.in-Err.ensures.same live)
 
 pub returns-in-Err-clause-serves : goal.returns-in-Err-clause-serves
-returns-in-Err-clause-serves g c = record {
-  resting = λ live.
-      rests_still _ _ _ (c.in-Err.ensures.again live) (c.in-Err.ensures.same live)
-      (c.in-Err.ensures.quiet live);
-  is_open = λ clean differs.
-      c.in-Err.ensures.open clean (other_fault c.in-Err.why differs);
-}
+returns-in-Err-clause-serves g c =
+    let failed = c.in-Err.ensures in
+    serves_failed c.in-Err.why _ _ _ failed.again failed.same failed.quiet failed.open
 
 pub returns-in-Err-clause-same : goal.returns-in-Err-clause-same
 returns-in-Err-clause-same g c live = c.in-Err.ensures.same live
