@@ -1,6 +1,6 @@
 -- The rows of what is accepted, as they are written one after the other.
-use Rattle.std.proofs.Common.{◌≡◌, ℕ, ℤ, pos, false, [], ◌∷◌, ◌++◌, Result, OnOk, refl, sym, ap, ◌∙◌}
-use Rattle.std.proofs.lemmas.List.Sorted.{IsPermutation-refl, IsPermutation-map, IsPermutation-trans}
+use Rattle.std.proofs.Common.{◌≡◌, ℕ, ℤ, pos, false, [], ◌∷◌, ◌++◌, Result, OnOk, sym, ap, ◌∙◌}
+use Rattle.std.proofs.lemmas.List.Sorted.{IsPermutation-map, IsPermutation-trans}
 use Rattle.std.proofs.lemmas.Result.{on_ok_weaker}
 use Rattle.amount.specs.Column.{column_of}
 use Rattle.sqlite_trees.specs.Tree.{Trees}
@@ -17,6 +17,7 @@ use Rattle.ledger_sql.specs.TableRows.{account_rows, balance_rows, failed_rows}
 use Rattle.ledger_sql.specs.Values.{clock_values, account_values, balance_values, id_values}
 use Rattle.stored_tables.specs.Holds.{HoldsRows}
 use Rattle.stored_tables.specs.Moves.{ChangesRows, Any}
+use Rattle.stored_tables.proofs.RowsTell.{same_themselves}
 use Rattle.stored_tables.proofs.Statements.{account_added, balance_added, failed_added}
 use Rattle.stored_tables.proofs.Writing.{writes_then, still_inside}
 
@@ -46,17 +47,6 @@ held_same tenant xs ys trees same held = record {
   failed = IsPermutation-trans _ _ _ (IsPermutation-map _ xs.failed ys.failed same.failed) held.failed;
 }
 
-pub same_itself : (rows : TypedRows) → AreSameRows rows rows
-same_itself rows = record {
-  clock = refl;
-  accounts = IsPermutation-refl rows.accounts;
-  transfers = IsPermutation-refl rows.transfers;
-  balances = IsPermutation-refl rows.balances;
-  statuses = IsPermutation-refl rows.statuses;
-  history = IsPermutation-refl rows.history;
-  failed = IsPermutation-refl rows.failed;
-}
-
 -- what is known of one more failed id
 abbrev pub FailedAnywhere : Type 0
 FailedAnywhere = (id : ℕ) (xs ys : TypedRows) → has_id id xs.failed ≡ false → AreSameRows xs ys → AreSameRows (with_failed_id id xs) (record ys { failed = ys.failed ++ id ∷ [] })
@@ -70,5 +60,5 @@ failed_written anywhere tenant id s0 s1 inside adds =
       inside = added.inside;
       moves = λ rows unknown num held.
           let m = added.moves rows tt num held in
-          record { numbered = m.numbered; others = m.others; strangers = m.strangers; rows = held_same tenant (with_failed_id id rows) (record rows { failed = rows.failed ++ id ∷ [] }) s1.now.trees (anywhere id rows rows unknown (same_itself rows)) m.rows };
+          record { numbered = m.numbered; others = m.others; strangers = m.strangers; rows = held_same tenant (with_failed_id id rows) (record rows { failed = rows.failed ++ id ∷ [] }) s1.now.trees (anywhere id rows rows unknown (same_themselves rows)) m.rows };
     }

@@ -1,19 +1,21 @@
 -- What a call leaves that changes nothing, and one that gives up.
-use Rattle.std.proofs.Common.{◌≡◌, ℤ, true, false, IsTrue, Ok, Err, Result, IfOk, OnOk, sym, ap, subst, subst₂, ◌∙◌, arith}
+use Rattle.std.proofs.Common.{◌≡◌, ℤ, List, true, false, IsTrue, Ok, Err, Result, IfOk, OnOk, sym, ap, subst, subst₂, ◌∙◌}
 use Rattle.std.proofs.lemmas.Result.{IfOk-weaker}
 use Rattle.records.specs.declared.unavailable.Unavailable.{Unavailable}
 use Rattle.records.specs.Machine.{Machine}
 use Rattle.chain.specs.Tables.{State as Meant, Leaves, LooksUp, same}
 use Rattle.sqlite_trees.specs.declared.store.Store.{Ghosts}
-use Rattle.sqlite.specs.State.{State, HasCleanDisk, IsUnchanged}
+use Rattle.sqlite.specs.Effect.{Database}
+use Rattle.sqlite.specs.State.{State, Savepoint, HasCleanDisk, IsUnchanged}
 use Rattle.sqlite.specs.Held.{Held, state}
 use Rattle.sqlite_trees.specs.Tree.{Trees}
 use Rattle.ledger_sql.specs.Calls.{LeavesOver, Changes, FindsRows, Learns, OverLedger}
+use Rattle.ledger_sql.specs.Effects.{IsLedger}
 use Rattle.ledger_sql.specs.Frames.{Live, Follows}
-use Rattle.stored_tables.specs.BatchLaws.{live_before, follows_then, rest_itself}
+use Rattle.stored_tables.specs.BatchLaws.{clean_before, live_before, follows_then, rest_itself}
 use Rattle.stored_tables.specs.Holds.{HoldsMachine}
 use Rattle.stored_tables.specs.InBatch.{HoldsOwn, KeepsRest, IsInBatchOf, AreMarks, IsInOwnBatch, shown, marked_in}
-use Rattle.stored_tables.specs.Idle.{HoldsTenant}
+use Rattle.stored_tables.specs.Idle.{HoldsTenant, LearnsOf}
 use Rattle.stored_tables.specs.MachineOf.{machine_of}
 use Rattle.stored_tables.specs.Meaning.{batch_meaning, EndsIfFailed, HandsOn}
 
@@ -23,14 +25,16 @@ unfolding shown
 undone tenant old mid new f end live =
     ap (λ db. machine_of tenant db.trees) ((end.over live).now ∙ f.committed (live_before mid new end.follows live))
 
+-- the machine now, the database at the beginning and the marks are all that is shown
+pub shown_is : (tenant : ℤ) (s : State) (m : Machine) (begun : Database) (marks : List Savepoint) → machine_of tenant s.now.trees ≡ m → s.committed ≡ begun → s.marks ≡ marks
+    → shown tenant s ≡ record { now = m; begun = machine_of tenant begun.trees; marked = marked_in tenant marks }
+unfolding shown
+shown_is tenant s m begun marks now_is begun_is marks_are = λ i. record { now = now_is i; begun = machine_of tenant (begun_is i).trees; marked = marked_in tenant (marks_are i) }
+
 -- where nothing changed, the machines are the same
 pub same_shown : (tenant : ℤ) (old new : State) → IsUnchanged old new → shown tenant new ≡ shown tenant old
 unfolding shown
-same_shown tenant old new is = λ i. record {
-  now = machine_of tenant (is.0.now_is i).trees;
-  begun = machine_of tenant (is.0.committed_is i).trees;
-  marked = marked_in tenant (is.2 i);
-}
+same_shown tenant old new is = shown_is tenant new _ old.committed old.marks (ap (λ (db : Database). machine_of tenant db.trees) is.0.now_is) is.0.committed_is is.2
 
 -- and so is the batch
 pub same_batch : (tenant : ℤ) (old new : State) → IsUnchanged old new → IsInBatchOf tenant old → IsInBatchOf tenant new
@@ -50,7 +54,7 @@ module _ {S : Type 0} (store : Ghosts S) (tenant : ℤ) (old new : Held S) where
       → Leaves {S = Held S} {X = X} (batch_meaning store tenant) old new (Ok x) same
   reads x usable follows is = record {
     state = λ live. same_shown tenant (state store old) (state store new) (is live.0);
-    usable = λ clean. same_batch tenant (state store old) (state store new) (is clean) (usable (omega (arith, follows.survives.clean, clean)));
+    usable = λ clean. same_batch tenant (state store old) (state store new) (is clean) (usable (clean_before _ _ follows clean));
     undone = λ live. tt;
     follows = record { calls = follows; inside = λ live. same_rest tenant (state store old) (state store new) (is live.0) };
   }
@@ -70,21 +74,28 @@ module _ {S : Type 0} (store : Ghosts S) (tenant : ℤ) (old new : Held S) where
   -- before a call the tables were a ledger's, with the rows of the tenant's machine
   pub tenant_before : IsInOwnBatch tenant (state store old) → Follows (state store old) (state store new) → HasCleanDisk (state store new) → HoldsTenant tenant (state store old)
   tenant_before usable follows clean =
-      let batch = usable (omega (arith, follows.survives.clean, clean)) in
+      let batch = usable (clean_before _ _ follows clean) in
       record { schema = batch.now.ledger; holds = batch.now.holds }
 
   pub held_before : IsInOwnBatch tenant (state store old) → Follows (state store old) (state store new) → Live (state store new)
       → HoldsMachine tenant (shown tenant (state store old)).now (state store old).now.trees
   unfolding shown
-  held_before usable follows live = (usable (omega (arith, follows.survives.clean, live.0))).now.holds
+  held_before usable follows live = (usable (clean_before _ _ follows live.0)).now.holds
+
+-- where nothing changed, the tenant has the rows of its machine still
+pub still_holds : (tenant : ℤ) (old new : State) → IsUnchanged old new → HoldsTenant tenant old → HoldsTenant tenant new
+still_holds tenant old new is had = record {
+  schema = subst (λ (db : Database). IsLedger db.schema) (sym is.0.now_is) had.schema;
+  holds = subst (λ (db : Database). HoldsMachine tenant (machine_of tenant db.trees) db.trees) (sym is.0.now_is) had.holds;
+}
 
 -- a call that tells of the machine what is so, and gives up where it failed
 pub looks_up : {S X : Type 0} (store : Ghosts S) (tenant : ℤ) (old mid new : Held S) (IsSo : Machine → X → Type 0) (given result : Result X Unavailable) → IsInOwnBatch tenant (state store old)
-    → Learns (HoldsTenant tenant) (λ trees. IsSo (machine_of tenant trees)) store old mid given → HandsOn store given mid new result → LooksUp (batch_meaning store tenant) IsSo old new result
+    → LearnsOf tenant IsSo store old mid given → HandsOn store given mid new result → LooksUp (batch_meaning store tenant) IsSo old new result
 unfolding shown
 looks_up {S} {X} store tenant old mid new IsSo given result usable learns hands = subst (LooksUp (batch_meaning store tenant) IsSo old new) (sym hands.same) (at given learns hands.ends)
   where
-    at : (given : Result X Unavailable) → Learns (HoldsTenant tenant) (λ trees. IsSo (machine_of tenant trees)) store old mid given → EndsIfFailed store given mid new → LooksUp (batch_meaning store tenant) IsSo old new given
+    at : (given : Result X Unavailable) → LearnsOf tenant IsSo store old mid given → EndsIfFailed store given mid new → LooksUp (batch_meaning store tenant) IsSo old new given
     at (Ok x) learns ends =
         subst (λ (end : Held S). LooksUp (batch_meaning store tenant) IsSo old end (Ok x)) (sym ends)
         (record {
@@ -107,7 +118,7 @@ leaves_or_over {S} {X} store tenant old mid new change Is given result follows o
 module _ {S X : Type 0} (store : Ghosts S) (tenant : ℤ) (old new : Held S) (Answer : Trees → X → Type 0) (IsSo : Machine → X → Type 0) (result : Result X Unavailable) where
   -- what is found in a ledger's tables tells of the tenant's machine
   pub found : (Fits : X → Type 0) → ((m : Machine) (trees : Trees) (x : X) → HoldsMachine tenant m trees → Fits x → Answer trees x → IsSo m x) → FindsRows Fits Answer store old new result
-      → Learns (HoldsTenant tenant) (λ trees. IsSo (machine_of tenant trees)) store old new result
+      → LearnsOf tenant IsSo store old new result
   found Fits so finds = record {
     ok = λ clean tenant_there. at result finds.fits (finds.ok clean tenant_there.schema) tenant_there.holds;
     reads = finds.reads;
@@ -118,7 +129,7 @@ module _ {S X : Type 0} (store : Ghosts S) (tenant : ℤ) (old new : Held S) (An
       at (Err e) fits answer holds = tt
 
   -- so does what is learnt of them
-  pub learnt : ((m : Machine) (trees : Trees) (x : X) → HoldsMachine tenant m trees → Answer trees x → IsSo m x) → Learns OverLedger Answer store old new result → Learns (HoldsTenant tenant) (λ trees. IsSo (machine_of tenant trees)) store old new result
+  pub learnt : ((m : Machine) (trees : Trees) (x : X) → HoldsMachine tenant m trees → Answer trees x → IsSo m x) → Learns OverLedger Answer store old new result → LearnsOf tenant IsSo store old new result
   learnt so learns = record {
     ok = λ clean tenant_there. IfOk-weaker result (Answer (state store old).now.trees) (IsSo (machine_of tenant (state store old).now.trees)) (λ x. so (machine_of tenant (state store old).now.trees) (state store old).now.trees x tenant_there.holds) (learns.ok clean tenant_there.schema);
     reads = learns.reads;
@@ -127,11 +138,11 @@ module _ {S X : Type 0} (store : Ghosts S) (tenant : ℤ) (old new : Held S) (An
 -- a call of several steps whose effect comes of what is so before it
 pub changes : {S X : Type 0} (store : Ghosts S) (old new : Held S) (result : Result X Unavailable) (Is : Type 0) (Effect : State → State → Type 0) → (HasCleanDisk (state store old) → Is) → Follows (state store old) (state store new)
     → (Is → HasCleanDisk (state store new) → OnOk result (Effect (state store old) (state store new))) → Changes Effect store old new result
-changes store old new result Is Effect is follows ok = record { ok = λ clean. ok (is (omega (arith, follows.survives.clean, clean))) clean; follows = follows }
+changes store old new result Is Effect is follows ok = record { ok = λ clean. ok (is (clean_before _ _ follows clean)) clean; follows = follows }
 
 -- so it is over two steps
 pub changes_twice : {S X : Type 0} (store : Ghosts S) (old mid new : Held S) (result : Result X Unavailable) (Is : Type 0) (Effect : State → State → Type 0) → (HasCleanDisk (state store old) → Is) → Follows (state store old) (state store mid)
     → Follows (state store mid) (state store new) → (Is → HasCleanDisk (state store mid) → HasCleanDisk (state store new) → OnOk result (Effect (state store old) (state store new))) → Changes Effect store old new result
 changes_twice store old mid new result Is Effect is first second ok =
     changes store old new result Is Effect is (follows_then (state store old) (state store mid) (state store new) first second)
-    (λ before clean. ok before (omega (arith, second.survives.clean, clean)) clean)
+    (λ before clean. ok before (clean_before _ _ second clean) clean)

@@ -13,8 +13,8 @@ use Rattle.rows.specs.Widths.{IsStorableBalance}
 use Rattle.stored_tables.specs.declared.kept.KeptRow.{KeptRow}
 use Rattle.stored_tables.specs.BatchLaws.{others_then}
 use Rattle.stored_tables.specs.Holds.{HoldsRows}
-use Rattle.stored_tables.specs.Kept.{Kept, kept_in, HoldsKept, ChangesKept}
-use Rattle.stored_tables.specs.Moves.{CanWrite, ChangesRows, Any, IsThere}
+use Rattle.stored_tables.specs.Kept.{Kept, kept_in, HoldsKept, Flushes}
+use Rattle.stored_tables.specs.Moves.{CanWrite, ChangesRows, IsThere}
 use Rattle.stored_tables.specs.Releasing.{AreApart}
 use Rattle.stored_tables.proofs.ChangedRows.{there_kept}
 use Rattle.stored_tables.proofs.KeptRows.{kept_push, flush_over, with_none}
@@ -37,7 +37,7 @@ as_stored tenant rows trees held =
     subst (λ (balances : List BalanceRow). HoldsRows tenant (record rows { balances = balances }) trees) (sym (with_none held.stored) ∙ held.balances) held.holds
 
 -- no call at all
-pub same_kept : (tenant : ℤ) (kept : Kept) (s : State) → CanWrite s → ChangesKept tenant kept kept Any (λ rows. rows) s s
+pub same_kept : (tenant : ℤ) (kept : Kept) (s : State) → CanWrite s → Flushes tenant kept kept s s
 same_kept tenant kept s can = record {
   inside = record {
     schema = refl;
@@ -48,7 +48,7 @@ same_kept tenant kept s can = record {
 }
 
 -- what is kept stays in the rows over two calls in turn
-pub kept_then : (tenant : ℤ) (was mid is : Kept) (a b c : State) → ChangesKept tenant was mid Any (λ rows. rows) a b → ChangesKept tenant mid is Any (λ rows. rows) b c → ChangesKept tenant was is Any (λ rows. rows) a c
+pub kept_then : (tenant : ℤ) (was mid is : Kept) (a b c : State) → Flushes tenant was mid a b → Flushes tenant mid is b c → Flushes tenant was is a c
 kept_then tenant was mid is a b c f g = record {
   inside = inside_then a b c f.inside g.inside;
   moves = λ rows any num held.
@@ -69,7 +69,7 @@ some_own false v o is = absurd (cc)
 -- the last of those that are kept is written
 pub one_flushed : (tenant : ℤ) (more rest : List KeptRow) (e : KeptRow) (s0 s1 : State) → more ≡ rest ++ e ∷ []
     → ChangesRows tenant (λ rows. IsThere (λ row. row.account) e.account rows.balances) (λ rows. record rows { balances = set_balances e.account e.balances rows.balances }) s0 s1
-    → ChangesKept tenant (kept_in more) (kept_in rest) Any (λ rows. rows) s0 s1
+    → Flushes tenant (kept_in more) (kept_in rest) s0 s1
 one_flushed tenant more rest e s0 s1 is w = record {
   inside = w.inside;
   moves = λ rows any num held.

@@ -32,6 +32,7 @@ pub mod SortedBack
 pub mod SpanRows
 pub mod Statements
 pub mod TableMoves
+pub mod TablesLeave
 pub mod TakenEntries
 pub mod TakenValue
 pub mod WideBytes

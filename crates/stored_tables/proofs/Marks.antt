@@ -1,5 +1,5 @@
 -- What the mark of a batch does to it.
-use Rattle.std.proofs.Common.{◌≡◌, ℤ, inl, inr, List, [], ◌∷◌, ◌++◌, None, Ok, IsSome, IsTrue, true, false, refl, sym, ap, subst, subst₂, ◌∙◌, arith}
+use Rattle.std.proofs.Common.{◌≡◌, ℤ, inl, inr, List, [], ◌∷◌, ◌++◌, None, Ok, IsSome, IsTrue, true, false, refl, sym, ap, subst, subst₂, ◌∙◌}
 use Rattle.chain.specs.Tables.{Leaves, marking, marked_or, unmarked}
 use Rattle.sqlite_trees.specs.declared.store.Store.{Ghosts}
 use Rattle.sqlite.specs.Effect.{Database}
@@ -8,9 +8,10 @@ use Rattle.sqlite.specs.Held.{Held, state}
 use Rattle.ledger_sql.specs.Frames.{Live, Follows}
 use Rattle.ledger_sql.specs.Stages.{the_mark, IsMarked, HasMarked, HasGoneBack, HasReleased}
 use Rattle.stored_tables.specs.InBatch.{HoldsOwn, KeepsRest, IsInBatchOf, AreMarks, IsInOwnBatch, shown, marked_in}
-use Rattle.stored_tables.specs.BatchLaws.{rest_itself}
+use Rattle.stored_tables.specs.BatchLaws.{clean_before, rest_itself}
 use Rattle.stored_tables.specs.MachineOf.{machine_of}
 use Rattle.stored_tables.specs.Meaning.{batch_meaning}
+use Rattle.stored_tables.proofs.Keeping.{shown_is}
 
 -- no machine is marked, so there is no mark
 no_marks : (tenant : ℤ) (marks : List Savepoint) → marked_in tenant marks ≡ None → marks ≡ []
@@ -24,26 +25,22 @@ one_mark tenant now marks (inl none) some = absurd (let e : false ≡ true = sub
 one_mark tenant now marks (inr one) some = one
 
 module _ (tenant : ℤ) (old new : State) where
+  only_mark : (shown tenant old).marked ≡ None → HasMarked old new → new.marks ≡ the_mark old.now ∷ []
+  unfolding shown
+  only_mark none has = has.marks ∙ ap (λ ms. ms ++ the_mark old.now ∷ []) (no_marks tenant old.marks none)
+
   marked_state : (shown tenant old).marked ≡ None → HasMarked old new → shown tenant new ≡ marking (shown tenant old)
   unfolding shown
   marked_state none has =
-      let alone : new.marks ≡ the_mark old.now ∷ [] = has.marks ∙ ap (λ ms. ms ++ the_mark old.now ∷ []) (no_marks tenant old.marks none) in
-      λ i. record {
-        now = machine_of tenant (has.now i).trees;
-        begun = machine_of tenant (has.committed i).trees;
-        marked = marked_in tenant (alone i);
-      }
+      shown_is tenant new _ old.committed (the_mark old.now ∷ []) (ap (λ (db : Database). machine_of tenant db.trees) has.now) has.committed (only_mark none has)
 
   marked_batch : (shown tenant old).marked ≡ None → IsInBatchOf tenant old → HasMarked old new → IsInBatchOf tenant new
-  unfolding shown
-  marked_batch none was has =
-      let alone : new.marks ≡ the_mark old.now ∷ [] = has.marks ∙ ap (λ ms. ms ++ the_mark old.now ∷ []) (no_marks tenant old.marks none) in
-      record {
-        is_open = has.is_open;
-        mode = has.mode;
-        now = subst (HoldsOwn tenant) (sym has.now) was.now;
-        marks = inr (old.now, alone, was.now, subst (λ (db : Database). KeepsRest tenant db old.now) (sym has.now) (rest_itself tenant old.now));
-      }
+  marked_batch none was has = record {
+    is_open = has.is_open;
+    mode = has.mode;
+    now = subst (HoldsOwn tenant) (sym has.now) was.now;
+    marks = inr (old.now, only_mark none has, was.now, subst (λ (db : Database). KeepsRest tenant db old.now) (sym has.now) (rest_itself tenant old.now));
+  }
 
   -- the mark of a batch in which a machine is marked
   pub mark_of : IsInBatchOf tenant old → IsSome (shown tenant old).marked → (db : Database) × (old.marks ≡ the_mark db ∷ []) × HoldsOwn tenant db × KeepsRest tenant old.now db
@@ -56,11 +53,7 @@ module _ (tenant : ℤ) (old new : State) where
   back_state db marks has =
       let there : machine_of tenant new.now.trees ≡ marked_or (machine_of tenant old.now.trees) (marked_in tenant old.marks) =
       ap (λ (d : Database). machine_of tenant d.trees) (has.back [] db marks) ∙ sym (ap (λ ms. marked_or (machine_of tenant old.now.trees) (marked_in tenant ms)) marks) in
-      λ i. record {
-        now = there i;
-        begun = machine_of tenant (has.committed i).trees;
-        marked = marked_in tenant (has.marks i);
-      }
+      shown_is tenant new _ old.committed old.marks there has.committed has.marks
 
   back_batch : (db : Database) → old.marks ≡ the_mark db ∷ [] → HoldsOwn tenant db → HasGoneBack old new → IsInBatchOf tenant new
   back_batch db marks its has = record {
@@ -72,13 +65,7 @@ module _ (tenant : ℤ) (old new : State) where
 
   released_state : (db : Database) → old.marks ≡ the_mark db ∷ [] → HasReleased old new → shown tenant new ≡ unmarked (shown tenant old)
   unfolding shown
-  released_state db marks has =
-      let none : new.marks ≡ [] = has.marks [] db marks in
-      λ i. record {
-        now = machine_of tenant (has.now i).trees;
-        begun = machine_of tenant (has.committed i).trees;
-        marked = marked_in tenant (none i);
-      }
+  released_state db marks has = shown_is tenant new _ old.committed [] (ap (λ (d : Database). machine_of tenant d.trees) has.now) has.committed (has.marks [] db marks)
 
   released_batch : (db : Database) → old.marks ≡ the_mark db ∷ [] → IsInBatchOf tenant old → HasReleased old new → IsInBatchOf tenant new
   released_batch db marks was has = record {
@@ -103,7 +90,7 @@ module _ {S : Type 0} (store : Ghosts S) (tenant : ℤ) (old : Held S) (usable :
 
   module _ {X : Type 0} (x : X) (new : Held S) (follows : Follows (state store old) (state store new)) where
     was_clean : HasCleanDisk (state store new) → HasCleanDisk (state store old)
-    was_clean clean = omega (arith, follows.survives.clean, clean)
+    was_clean clean = clean_before _ _ follows clean
 
     stays : (state store new).now ≡ (state store old).now → KeepsRest tenant (state store old).now (state store new).now
     stays same = subst (KeepsRest tenant (state store old).now) (sym same) (rest_itself tenant (state store old).now)

@@ -21,8 +21,8 @@ use Rattle.rows.specs.Settling.{rows_when, rows_released, due_ids, is_due_row, I
 use Rattle.ledger_sql.specs.Effects.{IsInside}
 use Rattle.stored_tables.specs.BatchLaws.{others_then}
 use Rattle.stored_tables.specs.Frames.{KeepsOtherTenants, AreNumbered}
-use Rattle.stored_tables.specs.Kept.{Kept, HoldsKept, MovesKept, ChangesKept}
-use Rattle.stored_tables.specs.Moves.{Any, IsStatusOf}
+use Rattle.stored_tables.specs.Kept.{Kept, HoldsKept, MovesKept, ChangesKept, Flushes}
+use Rattle.stored_tables.specs.Moves.{IsStatusOf}
 use Rattle.stored_tables.specs.Releasing.{AreApart, CanExpire, Expires, AreReleased, IsLess, ReleasesOne}
 use Rattle.stored_tables.proofs.Apart.{apart_expired}
 use Rattle.stored_tables.proofs.RowMoves.{found_key}
@@ -151,7 +151,7 @@ module _ (tenant : ℤ) (clock id : ℕ) (found : Option StatusRow) (s0 s1 : Sta
     releases r expiry = on_ok_weaker r lets_expire expiry
 
 -- the next one is released once there is room
-pub roomed : (tenant : ℤ) (clock id : ℕ) (was mid is : Kept) (s0 s1 s2 : State) (r : Result (Unit {0}) Unavailable) → ChangesKept tenant was mid Any (λ rows. rows) s0 s1 → OnOk r (ReleasesOne tenant clock id mid is s1 s2)
+pub roomed : (tenant : ℤ) (clock id : ℕ) (was mid is : Kept) (s0 s1 s2 : State) (r : Result (Unit {0}) Unavailable) → Flushes tenant was mid s0 s1 → OnOk r (ReleasesOne tenant clock id mid is s1 s2)
     → OnOk r (ReleasesOne tenant clock id was is s0 s2)
 roomed tenant clock id was mid is s0 s1 s2 r room step =
     on_ok_weaker r

@@ -27,8 +27,8 @@ use Rattle.stored_tables.specs.Covers.{IsCovered, Covers}
 use Rattle.stored_tables.specs.Frames.{AreNumbered}
 use Rattle.stored_tables.specs.Holds.{HoldsRows}
 use Rattle.stored_tables.specs.declared.kept.KeptRow.{KeptRow}
-use Rattle.stored_tables.specs.Kept.{Kept, kept_in, HoldsKept, MovesKept, ChangesKept}
-use Rattle.stored_tables.specs.Moves.{CanWrite, Any}
+use Rattle.stored_tables.specs.Kept.{Kept, kept_in, HoldsKept, MovesKept, Flushes}
+use Rattle.stored_tables.specs.Moves.{CanWrite}
 use Rattle.stored_tables.specs.Releasing.{AreApart, AreReleased, IsLess, ReleasesOne, ReleasesDue}
 use Rattle.stored_tables.specs.BatchLaws.{others_then}
 use Rattle.stored_tables.proofs.DueKeys.{finds, is_within, holds_within}
@@ -111,7 +111,7 @@ module _ (tenant : ℤ) (clock : ℕ) where
   }
 
 -- what was kept is written
-pub seen_flushed : (tenant : ℤ) (clock : ℕ) (kept : Kept) (rest : List KeptRow) (seen : List (ℕ × ℕ)) (s0 s1 s2 : State) → rest ≡ [] → ReleasesSeen tenant clock kept seen s0 s1 → ChangesKept tenant kept (kept_in rest) Any (λ rows. rows) s1 s2
+pub seen_flushed : (tenant : ℤ) (clock : ℕ) (kept : Kept) (rest : List KeptRow) (seen : List (ℕ × ℕ)) (s0 s1 s2 : State) → rest ≡ [] → ReleasesSeen tenant clock kept seen s0 s1 → Flushes tenant kept (kept_in rest) s1 s2
     → ReleasesSeen tenant clock (kept_in []) seen s0 s2
 seen_flushed tenant clock kept rest seen s0 s1 s2 empty before flushed = record {
   inside = inside_then s0 s1 s2 before.inside flushed.inside;
@@ -191,7 +191,7 @@ seen_all fit tenant past from clock keys s0 s1 le seen = record {
 -- so it is once all that was kept is written
 pub due_flushed : RowsFit → (tenant : ℤ) (past from clock : ℕ) (keys : List (ℕ × ℕ)) (kept : Kept) (rest : List KeptRow) (s0 s1 s2 : State) (r : Result (Unit {0}) Unavailable) → from ≤ past
     → ReleasesSeen tenant clock kept (filter (is_within (from, 340282366920938463463374607431768211455) (clock, 340282366920938463463374607431768211455)) keys) s0 s1
-    → OnOk r (ChangesKept tenant kept (kept_in rest) Any (λ rows. rows) s1 s2) → OnOk r (rest ≡ []) → OnOk r (ReleasesDue tenant past clock (λ key. list_any (finds key) keys) s0 s2)
+    → OnOk r (Flushes tenant kept (kept_in rest) s1 s2) → OnOk r (rest ≡ []) → OnOk r (ReleasesDue tenant past clock (λ key. list_any (finds key) keys) s0 s2)
 due_flushed fit tenant past from clock keys kept rest s0 s1 s2 (Ok x) le seen flushed empty = seen_all fit tenant past from clock keys s0 s2 le (seen_flushed tenant clock kept rest _ s0 s1 s2 empty seen flushed)
 due_flushed fit tenant past from clock keys kept rest s0 s1 s2 (Err e) le seen flushed empty = tt
 

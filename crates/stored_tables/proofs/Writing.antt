@@ -1,5 +1,5 @@
 -- Moves of a tenant's rows one after the other, and the batch after them.
-use Rattle.std.proofs.Common.{◌≡◌, ℤ, inl, inr, List, Ok, refl, sym, ap, subst, ◌∙◌, arith}
+use Rattle.std.proofs.Common.{◌≡◌, ℤ, inl, inr, List, Ok, refl, sym, ap, subst, ◌∙◌}
 use Rattle.sqlite_trees.specs.Tree.{Trees}
 use Rattle.sqlite_trees.specs.declared.store.Store.{Ghosts}
 use Rattle.sqlite.specs.Effect.{Database}
@@ -12,13 +12,14 @@ use Rattle.rows.specs.Prescribed.{rows_for}
 use Rattle.rows.specs.TypedRows.{TypedRows}
 use Rattle.ledger_sql.specs.Effects.{IsLedger, IsInside, WritesInside}
 use Rattle.ledger_sql.specs.Frames.{Live, Follows}
-use Rattle.stored_tables.specs.BatchLaws.{others_then, rest_then, rest_back}
+use Rattle.stored_tables.specs.BatchLaws.{clean_before, others_then, rest_then, rest_back}
 use Rattle.stored_tables.specs.Frames.{AreNumbered}
 use Rattle.stored_tables.specs.Holds.{HoldsRows, HoldsMachine}
-use Rattle.stored_tables.specs.InBatch.{KeepsRest, AreMarks, IsInBatchOf, IsInOwnBatch, shown, marked_in}
+use Rattle.stored_tables.specs.InBatch.{KeepsRest, AreMarks, IsInBatchOf, IsInOwnBatch, shown}
 use Rattle.stored_tables.specs.MachineOf.{machine_of}
 use Rattle.stored_tables.specs.Meaning.{batch_meaning}
 use Rattle.stored_tables.specs.Moves.{MovesRows, ChangesRows}
+use Rattle.stored_tables.proofs.Keeping.{shown_is}
 
 pub inside_then : (a b c : State) → WritesInside a b → WritesInside b c → WritesInside a c
 inside_then a b c f g = record {
@@ -104,15 +105,13 @@ pub writes_leave : {S : Type 0} (store : Ghosts S) (tenant : ℤ) (old new : Hel
     → Leaves {S = Held S} {X = X} (batch_meaning store tenant) old new (Ok x) (on_now step)
 unfolding shown
 writes_leave store tenant old new x can change step held_machines usable follows w is =
-    let clean_before : HasCleanDisk (state store new) → HasCleanDisk (state store old) = λ clean. omega (arith, follows.survives.clean, clean) in
-    let batch = λ (clean : HasCleanDisk (state store new)). usable (clean_before clean) in
-    let change_is = λ (clean : HasCleanDisk (state store new)). is (clean_before clean, (batch clean).is_open) (batch clean).now.holds.valid in
+    let before = clean_before (state store old) (state store new) follows in
+    let batch = λ (clean : HasCleanDisk (state store new)). usable (before clean) in
+    let change_is = λ (clean : HasCleanDisk (state store new)). is (before clean, (batch clean).is_open) (batch clean).now.holds.valid in
     record {
-      state = λ live. λ i. record {
-        now = machine_after held_machines tenant can change step (state store old) (state store new) (batch live.0) (w live.0) (change_is live.0) i;
-        begun = machine_of tenant ((w live.0).inside.shown.committed_is i).trees;
-        marked = marked_in tenant ((w live.0).inside.marks i);
-      };
+      state = λ live.
+          shown_is tenant (state store new) _ _ _ (machine_after held_machines tenant can change step (state store old) (state store new) (batch live.0) (w live.0) (change_is live.0))
+          (w live.0).inside.shown.committed_is (w live.0).inside.marks;
       usable = λ clean. batch_after held_machines tenant can change step (state store old) (state store new) (batch clean) (w clean) (change_is clean);
       undone = λ live. tt;
       follows = record {

@@ -3,7 +3,7 @@ use Rattle.std.specs.Prelude.{◌≡◌, ℤ, refl}
 use Rattle.std.proofs.Common.{inl, ◌∙◌, sym, subst, arith}
 use Rattle.records.specs.Valid.{IsValid}
 use Rattle.sqlite.specs.Effect.{Database}
-use Rattle.sqlite.specs.State.{State}
+use Rattle.sqlite.specs.State.{State, HasCleanDisk}
 use Rattle.sqlite.proofs.StateLemmas.{survives_then}
 use Rattle.ledger_sql.specs.Frames.{Live, Follows}
 use Rattle.sqlite_trees.specs.Tree.{Trees}
@@ -27,9 +27,12 @@ follows_itself a = record {
   unmarked = λ live none. none;
 }
 
--- a connection that is live was so before
+-- a disk that has been honest so far was so before, and a connection that is live
+pub clean_before : (a b : State) → Follows a b → HasCleanDisk b → HasCleanDisk a
+clean_before a b f clean = omega (arith, f.survives.clean, clean)
+
 pub live_before : (a b : State) → Follows a b → Live b → Live a
-live_before a b f live = (omega (arith, f.survives.clean, live.0), f.live live)
+live_before a b f live = (clean_before a b f live.0, f.live live)
 
 -- a run of calls behind another is a run of calls
 pub follows_then : (a b c : State) → Follows a b → Follows b c → Follows a c

@@ -15,6 +15,7 @@ use Rattle.ledger_sql.specs.Strangers.{KeepsStrangers}
 use Rattle.stored_tables.specs.declared.kept.KeptRow.{KeptRow}
 use Rattle.stored_tables.specs.Frames.{KeepsOtherTenants, AreNumbered}
 use Rattle.stored_tables.specs.Holds.{HoldsRows}
+use Rattle.stored_tables.specs.Moves.{Any}
 
 -- what is kept of each account
 abbrev pub Kept : Type 0
@@ -66,3 +67,7 @@ pub record ChangesKept (tenant : ℤ) (was is : Kept) (can : TypedRows → Type 
       (rows : TypedRows) → can rows → AreNumbered old.now.trees →
       HoldsKept tenant was rows old.now.trees →
       MovesKept tenant is (change rows) old.now new.now
+
+-- some of it was written: the tenant's rows with what is kept stay what they were
+abbrev pub Flushes : ℤ → Kept → Kept → State → State → Type 0
+Flushes tenant was is old new = ChangesKept tenant was is Any (λ rows. rows) old new

@@ -2,6 +2,7 @@ pub mod BatchLaws
 pub mod Bounds
 pub mod Covers
 pub mod Entries
+pub mod Found
 pub mod Frames
 pub mod Handing
 pub mod Holds

@@ -1,6 +1,6 @@
 //! What the ledger accepts of a tenant, and ids that failed for good.
 
-ghost use Rattle.std.specs.Prelude.{◌≡◌, ◌≤◌, None, OnOk};
+ghost use Rattle.std.specs.Prelude.{◌≤◌, OnOk};
 ghost use Rattle.std.specs.BTreeSet.{contains, IsSubset};
 ghost use Rattle.records.specs.Accepted.{IsAccepted};
 ghost use Rattle.records.specs.Machine.{with_failed};
@@ -11,7 +11,7 @@ ghost use Rattle.ledger_sql.specs.Calls.{Changes, IfClean};
 ghost use Rattle.ledger_sql.specs.Effects.{IsInside};
 ghost use Rattle.chain.specs.Tables.{Leaves, FailsNow, on_now};
 ghost use Rattle.stored_tables.specs.Covers.{Covers, HasDue};
-ghost use Rattle.stored_tables.specs.Meaning.{batch_meaning};
+ghost use Rattle.stored_tables.specs.Meaning.{batch_meaning, MayCall};
 ghost use Rattle.stored_tables.specs.Moves.{CanAccept, ChangesRows, HasBoundedTimes};
 
 use crate::batch::TenantNumber;
@@ -35,9 +35,8 @@ pub(crate) fn accept_account<S: Alter>(
     tenant: TenantNumber,
     account: &Account,
 ) -> Result<(), Unavailable>
-    requires usable { (batch_meaning S.Store tenant.0).is_usable conn.old }
-    requires next { (batch_meaning S.Store tenant.0).is_live conn.old →
-        IsNextAccount ((batch_meaning S.Store tenant.0).state conn.old).now account.now }
+    requires may { MayCall (batch_meaning S.Store tenant.0)
+        (λ s. IsNextAccount s.now account.now) conn.old }
     requires bounded { account.now.timestamp ≤ max_clock }
     ensures { Leaves (batch_meaning S.Store tenant.0) conn.old conn.new result
         (on_now (λ m. with_account m account.now)) }
@@ -56,9 +55,8 @@ pub(crate) fn accept_transfer<S: Alter>(
     tenant: TenantNumber,
     accepted: &Accepted,
 ) -> Result<(), Unavailable>
-    requires usable { (batch_meaning S.Store tenant.0).is_usable conn.old }
-    requires next { (batch_meaning S.Store tenant.0).is_live conn.old →
-        IsAccepted ((batch_meaning S.Store tenant.0).state conn.old).now accepted.now }
+    requires may { MayCall (batch_meaning S.Store tenant.0)
+        (λ s. IsAccepted s.now accepted.now) conn.old }
     requires times { HasBoundedTimes accepted.now.stored }
     ensures leaves { Leaves (batch_meaning S.Store tenant.0) conn.old conn.new result
         (on_now (λ m. with_transfer m accepted.now.stored)) }
@@ -105,11 +103,7 @@ pub(crate) fn record_failed<S: Alter>(
     tenant: TenantNumber,
     id: u128,
 ) -> Result<(), Unavailable>
-    requires usable { (batch_meaning S.Store tenant.0).is_usable conn.old }
-    requires unmarked { (batch_meaning S.Store tenant.0).is_live conn.old →
-        ((batch_meaning S.Store tenant.0).state conn.old).marked ≡ None }
-    requires fails { (batch_meaning S.Store tenant.0).is_live conn.old →
-        FailsNow ((batch_meaning S.Store tenant.0).state conn.old).now id }
+    requires { MayCall (batch_meaning S.Store tenant.0) (λ s. FailsNow s.now id) conn.old }
     ensures { Leaves (batch_meaning S.Store tenant.0) conn.old conn.new result
         (on_now (λ m. with_failed m id)) }
 {

@@ -1,20 +1,16 @@
 //! An account's entries within a span of time, in its batch.
 
 ghost use Rattle.std.specs.Prelude.{◌≡◌, take, false};
-ghost use Rattle.chain.specs.Tables.{LooksUp};
 ghost use Rattle.chain.specs.AccountEntries.{account_entries_within};
 ghost use Rattle.sqlite.specs.Held.{state};
 ghost use Rattle.sqlite.specs.State.{HasCleanDisk};
-ghost use Rattle.ledger_sql.specs.Calls.{Learns, Reads};
+ghost use Rattle.ledger_sql.specs.Calls.{Reads};
 ghost use Rattle.stored_tables.specs.Handing.{HandsAccount, entries_behind};
-ghost use Rattle.stored_tables.specs.Idle.{HoldsTenant, machine_at};
-ghost use Rattle.stored_tables.specs.MachineOf.{machine_of};
-ghost use Rattle.stored_tables.specs.Meaning.{batch_meaning};
+ghost use Rattle.stored_tables.specs.Idle.{HoldsTenant, LearnsOf, machine_at};
 
 use crate::batch::TenantNumber;
 use crate::bounds::span_begin;
 use crate::entries_within::EntriesWithin;
-use crate::failing::or_give_up;
 use amount::columns_keep_order;
 use chain::AccountEntry;
 use ledger_sql::EntrySink;
@@ -33,25 +29,7 @@ pub(crate) fn account_entries<S: Alter>(
     account: u128,
     span: &Span,
 ) -> Result<Vec<AccountEntry>, Unavailable>
-    requires { (batch_meaning S.Store tenant.0).is_usable conn.old }
-    ensures { LooksUp (batch_meaning S.Store tenant.0)
-        (λ m found. found.items ≡ account_entries_within m account span.now)
-        conn.old conn.new result }
-{
-    let found = read_entries(alloc, conn, tenant, account, span);
-    or_give_up(conn, found)
-}
-
-/// The same, without giving up.
-fn read_entries<S: Alter>(
-    alloc: Global,
-    conn: &mut Connection<S>,
-    tenant: TenantNumber,
-    account: u128,
-    span: &Span,
-) -> Result<Vec<AccountEntry>, Unavailable>
-    ensures { Learns (HoldsTenant tenant.0) (λ trees found. found.items
-        ≡ account_entries_within (machine_of tenant.0 trees) account span.now)
+    ensures { LearnsOf tenant.0 (λ m found. found.items ≡ account_entries_within m account span.now)
         S.Store conn.old conn.new result }
 {
     columns_keep_order();

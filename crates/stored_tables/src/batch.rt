@@ -1,3 +1,4 @@
+use crate::failing::or_give_up;
 use crate::{accepting, account_entries, marking, reading, settling, spans};
 use chain::{AccountEntry, Tables};
 use records::{Accepted, Account, AccountWithBalances, PendingState, Span, Transfer, Unavailable};
@@ -25,56 +26,42 @@ pub struct Batch<'a, S: Alter> {
 }
 
 impl<S: Alter> Tables for Batch<'_, S> {
-    ghost use Rattle.std.specs.Prelude.{◌≡◌, refl};
+    ghost use Rattle.std.specs.Prelude.{refl};
     ghost use Rattle.std.proofs.Common.{ap, ◌∙◌};
-    ghost use Rattle.std.specs.BTreeSet.{contains, IsSubset};
-    ghost use Rattle.sqlite.specs.Held.{state as conn_state};
-    ghost use Rattle.ledger_sql.specs.Frames.{Live};
     ghost use Rattle.stored_tables.specs.BatchLaws.{calls_itself, calls_then_for};
     ghost use Rattle.stored_tables.specs.BatchLaws.{live_before, valid_now};
-    ghost use Rattle.stored_tables.specs.Covers.{CoversBatch};
-    ghost use Rattle.stored_tables.specs.InBatch.{IsInOwnBatch, FollowsInBatch, shown};
+    ghost use Rattle.stored_tables.specs.Meaning.{tables_meaning};
 
-    ghost means = { record {
-      state = λ b. shown b.tenant.0 (conn_state S.Store b.conn.now);
-      is_usable = λ b.
-          IsInOwnBatch b.tenant.0 (conn_state S.Store b.conn.now)
-          × (Live (conn_state S.Store b.conn.now) →
-          CoversBatch (contains ⟦<(u64, u128) as Ord>⟧.cmp b.due.now) b.past
-          (shown b.tenant.0 (conn_state S.Store b.conn.now)));
-      is_live = λ b. Live (conn_state S.Store b.conn.now);
-      follows = λ a b.
-          (b.conn.ghost_name ≡ a.conn.ghost_name)
-          × (b.due.ghost_name ≡ a.due.ghost_name)
-          × (b.tenant ≡ a.tenant)
-          × IsSubset ⟦<(u64, u128) as Ord>⟧.cmp a.due.now b.due.now
-          × FollowsInBatch a.tenant.0 (conn_state S.Store a.conn.now)
-          (conn_state S.Store b.conn.now)
-          × (b.past ≡ a.past);
-    } };
+    ghost means = { tables_meaning S.Store ⟦<(u64, u128) as Ord>⟧.cmp };
 
     fn clock(&mut self) -> Result<u64, Unavailable> {
-        reading::clock(self.conn, self.tenant)
+        let clock = reading::clock(self.conn, self.tenant);
+        or_give_up(self.conn, clock)
     }
 
     fn account(&mut self, id: u128) -> Result<Option<AccountWithBalances>, Unavailable> {
-        reading::account(self.conn, self.tenant, id)
+        let found = reading::account(self.conn, self.tenant, id);
+        or_give_up(self.conn, found)
     }
 
     fn transfer(&mut self, id: u128) -> Result<Option<Transfer>, Unavailable> {
-        reading::transfer(self.conn, self.tenant, id)
+        let found = reading::transfer(self.conn, self.tenant, id);
+        or_give_up(self.conn, found)
     }
 
     fn pending_state(&mut self, id: u128) -> Result<Option<PendingState>, Unavailable> {
-        reading::pending_state(self.conn, self.tenant, id)
+        let state = reading::pending_state(self.conn, self.tenant, id);
+        or_give_up(self.conn, state)
     }
 
     fn failed(&mut self, id: u128) -> Result<bool, Unavailable> {
-        reading::failed(self.conn, self.tenant, id)
+        let failed = reading::failed(self.conn, self.tenant, id);
+        or_give_up(self.conn, failed)
     }
 
     fn accounts_within(&mut self, alloc: Global, span: &Span) -> Result<Vec<Account>, Unavailable> {
-        spans::accounts(alloc, self.conn, self.tenant, span)
+        let found = spans::accounts(alloc, self.conn, self.tenant, span);
+        or_give_up(self.conn, found)
     }
 
     fn transfers_within(
@@ -82,7 +69,8 @@ impl<S: Alter> Tables for Batch<'_, S> {
         alloc: Global,
         span: &Span,
     ) -> Result<Vec<Transfer>, Unavailable> {
-        spans::transfers(alloc, self.conn, self.tenant, span)
+        let found = spans::transfers(alloc, self.conn, self.tenant, span);
+        or_give_up(self.conn, found)
     }
 
     fn account_entries(
@@ -91,7 +79,8 @@ impl<S: Alter> Tables for Batch<'_, S> {
         account: u128,
         span: &Span,
     ) -> Result<Vec<AccountEntry>, Unavailable> {
-        account_entries::account_entries(alloc, self.conn, self.tenant, account, span)
+        let found = account_entries::account_entries(alloc, self.conn, self.tenant, account, span);
+        or_give_up(self.conn, found)
     }
 
     fn settle(&mut self, clock: u64) -> Result<(), Unavailable> {

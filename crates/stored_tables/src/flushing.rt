@@ -3,8 +3,8 @@
 ghost use Rattle.std.specs.Prelude.{◌≡◌, ◌↔◌, ◌+◌, ◌≤◌, [], IsTrue, OnOk};
 ghost use Rattle.arrayvec.specs.ArrayVec.{array_vec_len};
 ghost use Rattle.ledger_sql.specs.Calls.{Changes, IfClean};
-ghost use Rattle.stored_tables.specs.Kept.{kept_in, ChangesKept};
-ghost use Rattle.stored_tables.specs.Moves.{CanWrite, Any};
+ghost use Rattle.stored_tables.specs.Kept.{kept_in, Flushes};
+ghost use Rattle.stored_tables.specs.Moves.{CanWrite};
 
 use crate::batch::TenantNumber;
 use crate::changing::set_balances;
@@ -20,7 +20,7 @@ pub(crate) fn flush<S: Alter>(
 ) -> Result<(), Unavailable>
     requires { IfClean CanWrite S.Store conn.old }
     ensures changes { Changes
-        (ChangesKept tenant.0 (kept_in kept.old.items) (kept_in kept.new.items) Any (λ rows. rows))
+        (Flushes tenant.0 (kept_in kept.old.items) (kept_in kept.new.items))
         S.Store conn.old conn.new result }
     ensures empty { OnOk result (kept.new.items ≡ []) }
 {
@@ -38,7 +38,7 @@ pub(crate) fn make_room<S: Alter>(
 ) -> Result<(), Unavailable>
     requires { IfClean CanWrite S.Store conn.old }
     ensures changes { Changes
-        (ChangesKept tenant.0 (kept_in kept.old.items) (kept_in kept.new.items) Any (λ rows. rows))
+        (Flushes tenant.0 (kept_in kept.old.items) (kept_in kept.new.items))
         S.Store conn.old conn.new result }
     ensures room { OnOk result (array_vec_len kept.new + 2 ≤ 128) }
 {

@@ -1,15 +1,11 @@
 //! What the rows of a tenant tell of its machine. The functions do nothing: each one's contract is
 //! a law.
 
-ghost use Rattle.std.specs.Prelude.{◌≡◌, ℕ, ℤ, pos, ◌<◌, ◌^◌, Option, Some, option_map, IfSome};
+ghost use Rattle.std.specs.Prelude.{◌≡◌, ℕ, ℤ, pos, ◌<◌, ◌^◌, Option, Some, option_map};
 ghost use Rattle.std.specs.List.{list_any};
 ghost use Rattle.amount.specs.Column.{column_of};
-ghost use Rattle.records.specs.declared.account.Account.{Account};
-ghost use Rattle.records.specs.declared.transfer.Transfer.{Transfer};
 ghost use Rattle.records.specs.Machine.{Machine, account_with, transfer_with};
 ghost use Rattle.records.specs.Machine.{has_id as is_among};
-ghost use Rattle.rows.specs.declared.balance_row.BalanceRow.{BalanceRow};
-ghost use Rattle.rows.specs.declared.status_row.StatusRow.{StatusRow};
 ghost use Rattle.rows.specs.Cells.{account_cells, transfer_cells, balance_cells, status_cells};
 ghost use Rattle.rows.specs.Keyed.{row_with};
 ghost use Rattle.rows.specs.Prescribed.{rows_for};
@@ -18,9 +14,10 @@ ghost use Rattle.rows.specs.Widths.{IsStorableBalance, IsStorableStatus};
 ghost use Rattle.sqlite_trees.specs.Tree.{Trees};
 ghost use Rattle.ledger_sql.specs.Effects.{Picks};
 ghost use Rattle.ledger_sql.specs.TableRows.{clock_rows, account_rows, transfer_rows, balance_rows};
-ghost use Rattle.ledger_sql.specs.TableRows.{status_rows, failed_rows, has_id, with_id};
+ghost use Rattle.ledger_sql.specs.TableRows.{status_rows, failed_rows, has_id};
 ghost use Rattle.ledger_sql.specs.Values.{clock_values, account_values, transfer_values};
 ghost use Rattle.ledger_sql.specs.Values.{balance_values, status_values};
+ghost use Rattle.stored_tables.specs.Found.{TellsById};
 ghost use Rattle.stored_tables.specs.Holds.{HoldsMachine};
 ghost use Rattle.stored_tables.specs.MachineOf.{machine_of};
 
@@ -49,30 +46,14 @@ pub(crate) fn point_reads()
         HoldsMachine tenant m trees →
         Picks (clock_rows tenant trees) (option_map (λ clock. clock_values (pos clock)) found) →
         found ≡ Some m.clock }
-    ensures account { (tenant : ℤ) (m : Machine) (trees : Trees) (id : ℕ) →
-        (found : Option Account) → HoldsMachine tenant m trees → id < 2 ^ 128 →
-        IfSome found IsStorableAccount →
-        Picks (with_id (column_of id) (account_rows tenant trees))
-        (option_map (λ row. account_values (account_cells row)) found) →
-        found ≡ account_with id m.accounts }
-    ensures transfer { (tenant : ℤ) (m : Machine) (trees : Trees) (id : ℕ) →
-        (found : Option Transfer) → HoldsMachine tenant m trees → id < 2 ^ 128 →
-        IfSome found IsStorableTransfer →
-        Picks (with_id (column_of id) (transfer_rows tenant trees))
-        (option_map (λ row. transfer_values (transfer_cells row)) found) →
-        found ≡ transfer_with id m.transfers }
-    ensures balance { (tenant : ℤ) (m : Machine) (trees : Trees) (id : ℕ) →
-        (found : Option BalanceRow) → HoldsMachine tenant m trees → id < 2 ^ 128 →
-        IfSome found IsStorableBalance →
-        Picks (with_id (column_of id) (balance_rows tenant trees))
-        (option_map (λ row. balance_values (balance_cells row)) found) →
-        found ≡ row_with (λ row. row.account) id (rows_for 3 m).balances }
-    ensures status { (tenant : ℤ) (m : Machine) (trees : Trees) (id : ℕ) →
-        (found : Option StatusRow) → HoldsMachine tenant m trees → id < 2 ^ 128 →
-        IfSome found IsStorableStatus →
-        Picks (with_id (column_of id) (status_rows tenant trees))
-        (option_map (λ row. status_values (status_cells row)) found) →
-        found ≡ row_with (λ row. row.transfer) id (rows_for 3 m).statuses }
+    ensures account { TellsById IsStorableAccount (λ row. account_values (account_cells row))
+        account_rows (λ id m. account_with id m.accounts) }
+    ensures transfer { TellsById IsStorableTransfer (λ row. transfer_values (transfer_cells row))
+        transfer_rows (λ id m. transfer_with id m.transfers) }
+    ensures balance { TellsById IsStorableBalance (λ row. balance_values (balance_cells row))
+        balance_rows (λ id m. row_with (λ row. row.account) id (rows_for 3 m).balances) }
+    ensures status { TellsById IsStorableStatus (λ row. status_values (status_cells row))
+        status_rows (λ id m. row_with (λ row. row.transfer) id (rows_for 3 m).statuses) }
     ensures failed { (tenant : ℤ) (m : Machine) (trees : Trees) (id : ℕ) →
         HoldsMachine tenant m trees → id < 2 ^ 128 →
         list_any (has_id (column_of id)) (failed_rows tenant trees) ≡ is_among id m.failed }

@@ -2,7 +2,7 @@
 
 ghost use Rattle.std.specs.Prelude.{◌≡◌, None, IsSome};
 ghost use Rattle.chain.specs.Tables.{Leaves, marking, marked_or, at_mark, unmarked};
-ghost use Rattle.stored_tables.specs.Meaning.{batch_meaning};
+ghost use Rattle.stored_tables.specs.Meaning.{batch_meaning, MayCall};
 
 use crate::batch::TenantNumber;
 use crate::failing::or_give_up;
@@ -15,9 +15,7 @@ pub(crate) fn mark<S: Alter>(
     conn: &mut Connection<S>,
     tenant: TenantNumber,
 ) -> Result<(), Unavailable>
-    requires usable { (batch_meaning S.Store tenant.0).is_usable conn.old }
-    requires unmarked { (batch_meaning S.Store tenant.0).is_live conn.old →
-        ((batch_meaning S.Store tenant.0).state conn.old).marked ≡ None }
+    requires { MayCall (batch_meaning S.Store tenant.0) (λ s. s.marked ≡ None) conn.old }
     ensures { Leaves (batch_meaning S.Store tenant.0) conn.old conn.new result marking }
 {
     let done = stages::mark(conn);
@@ -29,9 +27,7 @@ pub(crate) fn back_to_mark<S: Alter>(
     conn: &mut Connection<S>,
     tenant: TenantNumber,
 ) -> Result<(), Unavailable>
-    requires usable { (batch_meaning S.Store tenant.0).is_usable conn.old }
-    requires marked { (batch_meaning S.Store tenant.0).is_live conn.old →
-        IsSome ((batch_meaning S.Store tenant.0).state conn.old).marked }
+    requires { MayCall (batch_meaning S.Store tenant.0) (λ s. IsSome s.marked) conn.old }
     ensures { Leaves (batch_meaning S.Store tenant.0) conn.old conn.new result at_mark }
 {
     undo_to_mark(conn, tenant)?;
@@ -40,9 +36,7 @@ pub(crate) fn back_to_mark<S: Alter>(
 
 /// Goes back to the mark, which stays.
 fn undo_to_mark<S: Alter>(conn: &mut Connection<S>, tenant: TenantNumber) -> Result<(), Unavailable>
-    requires usable { (batch_meaning S.Store tenant.0).is_usable conn.old }
-    requires marked { (batch_meaning S.Store tenant.0).is_live conn.old →
-        IsSome ((batch_meaning S.Store tenant.0).state conn.old).marked }
+    requires { MayCall (batch_meaning S.Store tenant.0) (λ s. IsSome s.marked) conn.old }
     ensures { Leaves (batch_meaning S.Store tenant.0) conn.old conn.new result
         (λ s. record s { now = marked_or s.now s.marked }) }
 {
@@ -55,9 +49,7 @@ pub(crate) fn release_mark<S: Alter>(
     conn: &mut Connection<S>,
     tenant: TenantNumber,
 ) -> Result<(), Unavailable>
-    requires usable { (batch_meaning S.Store tenant.0).is_usable conn.old }
-    requires marked { (batch_meaning S.Store tenant.0).is_live conn.old →
-        IsSome ((batch_meaning S.Store tenant.0).state conn.old).marked }
+    requires { MayCall (batch_meaning S.Store tenant.0) (λ s. IsSome s.marked) conn.old }
     ensures { Leaves (batch_meaning S.Store tenant.0) conn.old conn.new result unmarked }
 {
     let done = stages::release_mark(conn);

@@ -4,14 +4,10 @@ ghost use Rattle.std.specs.Prelude.{◌≡◌};
 ghost use Rattle.records.specs.Facts.{account_in};
 ghost use Rattle.records.specs.Machine.{account_with, transfer_with, has_id};
 ghost use Rattle.records.specs.Balances.{balances_in};
-ghost use Rattle.chain.specs.Tables.{LooksUp, pending_state_of};
-ghost use Rattle.ledger_sql.specs.Calls.{Learns};
-ghost use Rattle.stored_tables.specs.Idle.{HoldsTenant};
-ghost use Rattle.stored_tables.specs.MachineOf.{machine_of};
-ghost use Rattle.stored_tables.specs.Meaning.{batch_meaning};
+ghost use Rattle.chain.specs.Tables.{pending_state_of};
+ghost use Rattle.stored_tables.specs.Idle.{LearnsOf};
 
 use crate::batch::TenantNumber;
-use crate::failing::or_give_up;
 use crate::laws::point_reads;
 use ledger_sql::finding;
 use records::{Account, AccountWithBalances, Balances, PendingState, Transfer, Unavailable};
@@ -23,19 +19,7 @@ pub(crate) fn clock<S: Alter>(
     conn: &mut Connection<S>,
     tenant: TenantNumber,
 ) -> Result<u64, Unavailable>
-    requires { (batch_meaning S.Store tenant.0).is_usable conn.old }
-    ensures { LooksUp (batch_meaning S.Store tenant.0) (λ m found. found ≡ m.clock)
-        conn.old conn.new result }
-{
-    let clock = read_clock(conn, tenant);
-    or_give_up(conn, clock)
-}
-
-/// The same, without giving up.
-fn read_clock<S: Alter>(conn: &mut Connection<S>, tenant: TenantNumber) -> Result<u64, Unavailable>
-    ensures { Learns (HoldsTenant tenant.0)
-        (λ trees clock. clock ≡ (machine_of tenant.0 trees).clock)
-        S.Store conn.old conn.new result }
+    ensures { LearnsOf tenant.0 (λ m found. found ≡ m.clock) S.Store conn.old conn.new result }
 {
     point_reads();
     match finding::find_clock(conn, tenant.0)? {
@@ -50,9 +34,8 @@ pub(crate) fn account<S: Alter>(
     tenant: TenantNumber,
     id: u128,
 ) -> Result<Option<AccountWithBalances>, Unavailable>
-    requires { (batch_meaning S.Store tenant.0).is_usable conn.old }
-    ensures { LooksUp (batch_meaning S.Store tenant.0) (λ m found. found ≡ account_in m id)
-        conn.old conn.new result }
+    ensures { LearnsOf tenant.0 (λ m found. found ≡ account_in m id)
+        S.Store conn.old conn.new result }
 {
     let Some(account) = account_alone(conn, tenant, id)? else {
         return Ok(None);
@@ -67,13 +50,11 @@ fn account_alone<S: Alter>(
     tenant: TenantNumber,
     id: u128,
 ) -> Result<Option<Account>, Unavailable>
-    requires { (batch_meaning S.Store tenant.0).is_usable conn.old }
-    ensures { LooksUp (batch_meaning S.Store tenant.0)
-        (λ m found. found ≡ account_with id m.accounts) conn.old conn.new result }
+    ensures { LearnsOf tenant.0 (λ m found. found ≡ account_with id m.accounts)
+        S.Store conn.old conn.new result }
 {
     point_reads();
-    let found = finding::find_account(conn, tenant.0, id);
-    or_give_up(conn, found)
+    finding::find_account(conn, tenant.0, id)
 }
 
 /// The balances of the account with this id, at the clock. That an account has none is told as a
@@ -83,22 +64,7 @@ fn balances<S: Alter>(
     tenant: TenantNumber,
     account: u128,
 ) -> Result<Balances, Unavailable>
-    requires { (batch_meaning S.Store tenant.0).is_usable conn.old }
-    ensures { LooksUp (batch_meaning S.Store tenant.0) (λ m found. found ≡ balances_in m account)
-        conn.old conn.new result }
-{
-    let balances = read_balances(conn, tenant, account);
-    or_give_up(conn, balances)
-}
-
-/// The same, without giving up.
-fn read_balances<S: Alter>(
-    conn: &mut Connection<S>,
-    tenant: TenantNumber,
-    account: u128,
-) -> Result<Balances, Unavailable>
-    ensures { Learns (HoldsTenant tenant.0)
-        (λ trees found. found ≡ balances_in (machine_of tenant.0 trees) account)
+    ensures { LearnsOf tenant.0 (λ m found. found ≡ balances_in m account)
         S.Store conn.old conn.new result }
 {
     point_reads();
@@ -114,13 +80,11 @@ pub(crate) fn transfer<S: Alter>(
     tenant: TenantNumber,
     id: u128,
 ) -> Result<Option<Transfer>, Unavailable>
-    requires { (batch_meaning S.Store tenant.0).is_usable conn.old }
-    ensures { LooksUp (batch_meaning S.Store tenant.0)
-        (λ m found. found ≡ transfer_with id m.transfers) conn.old conn.new result }
+    ensures { LearnsOf tenant.0 (λ m found. found ≡ transfer_with id m.transfers)
+        S.Store conn.old conn.new result }
 {
     point_reads();
-    let found = finding::find_transfer(conn, tenant.0, id);
-    or_give_up(conn, found)
+    finding::find_transfer(conn, tenant.0, id)
 }
 
 /// What has become of the transfer with this id, if it is a pending one.
@@ -129,22 +93,7 @@ pub(crate) fn pending_state<S: Alter>(
     tenant: TenantNumber,
     id: u128,
 ) -> Result<Option<PendingState>, Unavailable>
-    requires { (batch_meaning S.Store tenant.0).is_usable conn.old }
-    ensures { LooksUp (batch_meaning S.Store tenant.0) (λ m found. found ≡ pending_state_of m id)
-        conn.old conn.new result }
-{
-    let state = read_state(conn, tenant, id);
-    or_give_up(conn, state)
-}
-
-/// The same, without giving up.
-fn read_state<S: Alter>(
-    conn: &mut Connection<S>,
-    tenant: TenantNumber,
-    id: u128,
-) -> Result<Option<PendingState>, Unavailable>
-    ensures { Learns (HoldsTenant tenant.0)
-        (λ trees found. found ≡ pending_state_of (machine_of tenant.0 trees) id)
+    ensures { LearnsOf tenant.0 (λ m found. found ≡ pending_state_of m id)
         S.Store conn.old conn.new result }
 {
     point_reads();
@@ -159,11 +108,9 @@ pub(crate) fn failed<S: Alter>(
     tenant: TenantNumber,
     id: u128,
 ) -> Result<bool, Unavailable>
-    requires { (batch_meaning S.Store tenant.0).is_usable conn.old }
-    ensures { LooksUp (batch_meaning S.Store tenant.0) (λ m found. found ≡ has_id id m.failed)
-        conn.old conn.new result }
+    ensures { LearnsOf tenant.0 (λ m found. found ≡ has_id id m.failed)
+        S.Store conn.old conn.new result }
 {
     point_reads();
-    let failed = finding::has_failed(conn, tenant.0, id);
-    or_give_up(conn, failed)
+    finding::has_failed(conn, tenant.0, id)
 }

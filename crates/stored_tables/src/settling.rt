@@ -1,6 +1,6 @@
 //! The clock of a tenant, and what is due at it.
 
-ghost use Rattle.std.specs.Prelude.{◌≡◌, ◌+◌, ◌≤◌, None};
+ghost use Rattle.std.specs.Prelude.{◌≡◌, ◌+◌, ◌≤◌};
 ghost use Rattle.std.specs.BTreeSet.{contains};
 ghost use Rattle.arrayvec.specs.ArrayVec.{array_vec_len};
 ghost use Rattle.records.specs.Due.{has_come};
@@ -11,7 +11,7 @@ ghost use Rattle.ledger_sql.specs.Effects.{IsInside};
 ghost use Rattle.chain.specs.Tables.{Leaves, on_now};
 ghost use Rattle.stored_tables.specs.Covers.{Covers};
 ghost use Rattle.stored_tables.specs.Kept.{kept_in};
-ghost use Rattle.stored_tables.specs.Meaning.{batch_meaning};
+ghost use Rattle.stored_tables.specs.Meaning.{batch_meaning, MayCall};
 ghost use Rattle.stored_tables.specs.Moves.{CanWrite};
 ghost use Rattle.stored_tables.specs.Releasing.{ReleasesOne, ReleasesDue, MovesClock};
 
@@ -37,16 +37,9 @@ pub(crate) fn settle<S: Alter>(
     past: u64,
     clock: u64,
 ) -> Result<(), Unavailable>
-    requires usable { (batch_meaning S.Store tenant.0).is_usable conn.old }
-    requires covered { (batch_meaning S.Store tenant.0).is_live conn.old →
-        Covers (contains ⟦<(u64, u128) as Ord>⟧.cmp due.now)
-        ((batch_meaning S.Store tenant.0).state conn.old).now }
-    requires unmarked { (batch_meaning S.Store tenant.0).is_live conn.old →
-        ((batch_meaning S.Store tenant.0).state conn.old).marked ≡ None }
-    requires past { (batch_meaning S.Store tenant.0).is_live conn.old →
-        past ≤ ((batch_meaning S.Store tenant.0).state conn.old).now.clock }
-    requires later { (batch_meaning S.Store tenant.0).is_live conn.old →
-        ((batch_meaning S.Store tenant.0).state conn.old).now.clock ≤ clock }
+    requires may { MayCall (batch_meaning S.Store tenant.0)
+        (λ s. Covers (contains ⟦<(u64, u128) as Ord>⟧.cmp due.now) s.now
+        × (past ≤ s.now.clock) × (s.now.clock ≤ clock)) conn.old }
     requires bounded { clock ≤ max_clock }
     ensures { Leaves (batch_meaning S.Store tenant.0) conn.old conn.new result
         (on_now (λ m. at_clock m clock)) }

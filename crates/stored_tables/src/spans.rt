@@ -2,15 +2,11 @@
 
 ghost use Rattle.std.specs.Prelude.{◌≡◌};
 ghost use Rattle.records.specs.Queries.{accounts_within, transfers_within};
-ghost use Rattle.chain.specs.Tables.{LooksUp};
-ghost use Rattle.ledger_sql.specs.Calls.{IfClean, Learns};
-ghost use Rattle.stored_tables.specs.Idle.{HasOpenStore, HoldsTenant};
-ghost use Rattle.stored_tables.specs.MachineOf.{machine_of};
-ghost use Rattle.stored_tables.specs.Meaning.{batch_meaning};
+ghost use Rattle.ledger_sql.specs.Calls.{IfClean};
+ghost use Rattle.stored_tables.specs.Idle.{HasOpenStore, LearnsOf};
 
 use crate::batch::TenantNumber;
 use crate::bounds::{span_first, span_last};
-use crate::failing::or_give_up;
 use ledger_sql::spans::{newest_accounts, newest_transfers, oldest_accounts, oldest_transfers};
 use records::{Account, Order, Span, Transfer, Unavailable};
 use rows::{read_in_order, rows_fit, rows_stand_in_order};
@@ -24,24 +20,8 @@ pub(crate) fn accounts<S: Alter>(
     tenant: TenantNumber,
     span: &Span,
 ) -> Result<Vec<Account>, Unavailable>
-    requires { (batch_meaning S.Store tenant.0).is_usable conn.old }
-    ensures { LooksUp (batch_meaning S.Store tenant.0)
-        (λ m found. found.items ≡ accounts_within m span.now) conn.old conn.new result }
-{
-    let found = read_accounts(alloc, conn, tenant, span);
-    or_give_up(conn, found)
-}
-
-/// The same, without giving up.
-fn read_accounts<S: Alter>(
-    alloc: Global,
-    conn: &mut Connection<S>,
-    tenant: TenantNumber,
-    span: &Span,
-) -> Result<Vec<Account>, Unavailable>
     requires { IfClean HasOpenStore S.Store conn.old }
-    ensures { Learns (HoldsTenant tenant.0) (λ trees found. found.items ≡ accounts_within
-        (machine_of tenant.0 trees) span.now)
+    ensures { LearnsOf tenant.0 (λ m found. found.items ≡ accounts_within m span.now)
         S.Store conn.old conn.new result }
 {
     rows_fit();
@@ -64,24 +44,8 @@ pub(crate) fn transfers<S: Alter>(
     tenant: TenantNumber,
     span: &Span,
 ) -> Result<Vec<Transfer>, Unavailable>
-    requires { (batch_meaning S.Store tenant.0).is_usable conn.old }
-    ensures { LooksUp (batch_meaning S.Store tenant.0)
-        (λ m found. found.items ≡ transfers_within m span.now) conn.old conn.new result }
-{
-    let found = read_transfers(alloc, conn, tenant, span);
-    or_give_up(conn, found)
-}
-
-/// The same, without giving up.
-fn read_transfers<S: Alter>(
-    alloc: Global,
-    conn: &mut Connection<S>,
-    tenant: TenantNumber,
-    span: &Span,
-) -> Result<Vec<Transfer>, Unavailable>
     requires { IfClean HasOpenStore S.Store conn.old }
-    ensures { Learns (HoldsTenant tenant.0) (λ trees found. found.items ≡ transfers_within
-        (machine_of tenant.0 trees) span.now)
+    ensures { LearnsOf tenant.0 (λ m found. found.items ≡ transfers_within m span.now)
         S.Store conn.old conn.new result }
 {
     rows_fit();

@@ -1,10 +1,10 @@
-use Rattle.std.proofs.Common.{◌≡◌, false, arith, rules}
-use Rattle.sqlite.specs.State.{HasCleanDisk}
+use Rattle.std.proofs.Common.{◌≡◌, false, rules}
 use Rattle.sqlite.specs.Held.{state}
 use Rattle.records.specs.Machine.{has_id, with_failed}
 use Rattle.records.specs.Valid.IsValid.{next_failed}
 use Rattle.rows.specs.Changes.{with_failed_id}
 use Rattle.rows.specs.Prescribed.{rows_for}
+use Rattle.stored_tables.specs.BatchLaws.{clean_before}
 use Rattle.stored_tables.proofs.AcceptedRows.{failed_written}
 use Rattle.stored_tables.proofs.Keeping.{leaves_or_over}
 use Rattle.stored_tables.proofs.Numbers.{passed}
@@ -25,6 +25,6 @@ returns g c =
     (λ x added.
     writes_leave g.S.Store t c.args.conn.now c.add_failed-done.new.conn x (λ rows. has_id id rows.failed ≡ false) (with_failed_id id) (λ m. with_failed m id) c.held_machines.ensures c.requires.usable c.add_failed-done.ensures.follows
     (λ clean.
-    let clean0 : HasCleanDisk s0 = omega (arith, c.add_failed-done.ensures.follows.survives.clean, clean) in
+    let clean0 = clean_before _ _ c.add_failed-done.ensures.follows clean in
     failed_written c.changes_keep_same_rows.ensures.failed t id s0 s1 (is_inside t s0 (c.requires.usable clean0)) (rw (passed t (search rules)) at (added clean)))
-    (λ live valid. let fails = c.requires.fails live in record { may = fails.unrecorded; rows = c.failed_rows.ensures _ id; valid = next_failed _ id valid fails.next }))
+    (λ live valid. let fails = c.requires.so live in record { may = fails.unrecorded; rows = c.failed_rows.ensures _ id; valid = next_failed _ id valid fails.next }))

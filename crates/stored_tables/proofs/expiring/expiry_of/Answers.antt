@@ -1,6 +1,6 @@
-use Rattle.std.proofs.Common.{rules, arith}
-use Rattle.sqlite.specs.State.{HasCleanDisk}
+use Rattle.std.proofs.Common.{rules}
 use Rattle.sqlite.specs.Held.{state}
+use Rattle.stored_tables.specs.BatchLaws.{clean_before}
 use Rattle.stored_tables.specs.Kept.{kept_in}
 use Rattle.stored_tables.proofs.ExpiryReads.{expiry_told, still_ledger}
 use Rattle.stored_tables.proofs.expiring.expiry_of.Goals as goal
@@ -17,8 +17,8 @@ returns g c = record {
       let s0 = state g.S.Store c.args.conn.now in
       let s1 = state g.S.Store c.stored_transfer.new.conn in
       let s2 = state g.S.Store c.balances_of.new.conn in
-      let clean2 : HasCleanDisk s2 = omega (arith, c.balances_of-2.ensures.reads.follows.survives.clean, clean) in
-      let clean1 : HasCleanDisk s1 = omega (arith, c.balances_of.ensures.reads.follows.survives.clean, clean2) in
+      let clean2 = clean_before _ _ c.balances_of-2.ensures.reads.follows clean in
+      let clean1 = clean_before _ _ c.balances_of.ensures.reads.follows clean2 in
       let first = c.in_ok-transfer.ensures.reads.same clean1 in
       let second = c.in_ok-debit.ensures.reads.same clean2 in
       let ledger1 = still_ledger s0 s1 first ledger in

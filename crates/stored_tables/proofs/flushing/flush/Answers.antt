@@ -1,8 +1,7 @@
-use Rattle.std.proofs.Common.{arith, ap, ◌++◌, ◌∙◌}
+use Rattle.std.proofs.Common.{ap, ◌++◌, ◌∙◌}
 use Rattle.std.specs.Option.{option_to_list}
-use Rattle.sqlite.specs.State.{HasCleanDisk}
 use Rattle.sqlite.specs.Held.{state}
-use Rattle.stored_tables.specs.BatchLaws.{follows_itself, follows_then}
+use Rattle.stored_tables.specs.BatchLaws.{clean_before, follows_itself, follows_then}
 use Rattle.stored_tables.specs.Kept.{kept_in}
 use Rattle.stored_tables.proofs.KeptMoves.{same_kept, kept_then, one_flushed}
 use Rattle.stored_tables.proofs.Writing.{still_inside}
@@ -16,7 +15,7 @@ loop-row-init g c =
 pub set_balances-requires : goal.set_balances-requires
 set_balances-requires g c clean =
     let s0 = state g.S.Store c.args.conn.now in
-    let before : HasCleanDisk s0 = omega (arith, c.loop-row.invariant.1.survives.clean, clean) in
+    let before = clean_before _ _ c.loop-row.invariant.1 clean in
     still_inside s0 (state g.S.Store c.loop-row.conn) (c.requires before).inside (c.loop-row.invariant.0 clean).inside
 
 pub loop-row-preserved : goal.loop-row-preserved
@@ -28,7 +27,7 @@ loop-row-preserved g c =
     let rest = c.pop.new.self.items in
     let row = c.in-Some.row in (
       λ clean.
-          let before : HasCleanDisk s1 = omega (arith, c.set_balances.ensures.follows.survives.clean, clean) in
+          let before = clean_before _ _ c.set_balances.ensures.follows clean in
           kept_then c.args.tenant.0 (kept_in c.args.kept.now.items) (kept_in more) (kept_in rest) s0 s1 s2 (c.loop-row.invariant.0 before)
           (one_flushed c.args.tenant.0 more rest row s1 s2 (c.pop.ensures.items ∙ ap (λ o. rest ++ option_to_list o) c.in-Some.is) (c.in_ok-set_balances.ensures.ok clean)),
       follows_then s0 s1 s2 c.loop-row.invariant.1 c.set_balances.ensures.follows,

@@ -2,14 +2,13 @@ use Rattle.arrayvec.specs.ArrayVec.{array_vec_len}
 use Rattle.sqlite.specs.State.{HasCleanDisk}
 use Rattle.sqlite.specs.Held.{state}
 use Rattle.ledger_sql.specs.Frames.{Follows}
-use Rattle.stored_tables.specs.Kept.{kept_in, ChangesKept}
-use Rattle.stored_tables.specs.Moves.{Any}
+use Rattle.stored_tables.specs.Kept.{kept_in, Flushes}
 use Rattle.stored_tables.proofs.flushing.flush.Given as goal
 
 -- what the loop keeps: the tenant's rows with what is kept are what they were
 abbrev pub invariant-loop-row : goal.invariant-loop-row
 invariant-loop-row g l =
-    (HasCleanDisk (state g.S.Store l.conn) → ChangesKept l.tenant.0 (kept_in l.fn.kept.items) (kept_in l.kept.items) Any (λ rows. rows) (state g.S.Store l.fn.conn) (state g.S.Store l.conn))
+    (HasCleanDisk (state g.S.Store l.conn) → Flushes l.tenant.0 (kept_in l.fn.kept.items) (kept_in l.kept.items) (state g.S.Store l.fn.conn) (state g.S.Store l.conn))
     × Follows (state g.S.Store l.fn.conn) (state g.S.Store l.conn)
 
 abbrev pub decreases-loop-row : goal.decreases-loop-row

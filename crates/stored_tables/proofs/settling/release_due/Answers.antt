@@ -2,10 +2,9 @@ use Rattle.std.proofs.Common.{rules, List, [], ◌∷◌, map, filter, sym, subs
 use Rattle.std.proofs.lemmas.List.{map-append}
 use Rattle.std.proofs.lemmas.Map.Iter.{iter_end}
 use Rattle.std.specs.Map.Iter.{deref}
-use Rattle.sqlite.specs.State.{HasCleanDisk}
 use Rattle.sqlite.specs.Held.{state}
 use Rattle.stored_tables.specs.declared.kept.KeptRow.{KeptRow}
-use Rattle.stored_tables.specs.BatchLaws.{follows_itself, follows_then}
+use Rattle.stored_tables.specs.BatchLaws.{clean_before, follows_itself, follows_then}
 use Rattle.stored_tables.specs.Kept.{kept_in}
 use Rattle.stored_tables.proofs.DueKeys.{is_within}
 use Rattle.stored_tables.proofs.ReleasedAll.{ReleasesSeen, seen_none, seen_more, due_flushed, can_write_still}
@@ -25,13 +24,13 @@ loop-entry-init g c =
 pub release_next-requires : goal.release_next-requires
 release_next-requires g c clean =
     let s0 = state g.S.Store c.args.conn.now in
-    let before : HasCleanDisk s0 = omega (arith, c.loop-entry.invariant.3.survives.clean, clean) in
+    let before = clean_before _ _ c.loop-entry.invariant.3 clean in
     can_write_still s0 (state g.S.Store c.loop-entry.conn) (c.requires before) (c.loop-entry.invariant.2 clean).inside
 
 pub flush-requires : goal.flush-requires
 flush-requires g c clean =
     let s0 = state g.S.Store c.args.conn.now in
-    let before : HasCleanDisk s0 = omega (arith, c.loop-entry.invariant.3.survives.clean, clean) in
+    let before = clean_before _ _ c.loop-entry.invariant.3 clean in
     can_write_still s0 (state g.S.Store c.loop-entry.conn) (c.requires before) (c.loop-entry.invariant.2 clean).inside
 
 pub loop-entry-preserved : goal.loop-entry-preserved
@@ -44,7 +43,7 @@ loop-entry-preserved g c =
       tt,
       tt,
       λ clean.
-          let before : HasCleanDisk s1 = omega (arith, follows.survives.clean, clean) in
+          let before = clean_before _ _ follows clean in
           subst (λ seen. ReleasesSeen c.args.tenant.0 c.args.clock more seen s0 s2) (sym (map-append deref c.loop-entry.yielded (c.in-Some.entry ∷ [])))
           (seen_more c.args.tenant.0 c.args.clock (kept_in c.loop-entry.kept.items) more (map deref c.loop-entry.yielded) c.in-Some.entry.now s0 s1 s2 (c.loop-entry.invariant.2 before) (c.in_ok-release_next.ensures.ok clean)),
       follows_then s0 s1 s2 c.loop-entry.invariant.3 follows,
@@ -56,7 +55,7 @@ returns g c = record {
       let s0 = state g.S.Store c.args.conn.now in
       let s1 = state g.S.Store c.loop-entry.conn in
       let s2 = state g.S.Store c.flush.new.conn in
-      let before : HasCleanDisk s1 = omega (arith, c.flush.ensures.changes.follows.survives.clean, clean) in
+      let before = clean_before _ _ c.flush.ensures.changes.follows clean in
       let keys = c.args.due.now.keys in
       let kept = kept_in c.loop-entry.kept.items in
       let start = c.into_iter-entry-iterator.ensures.into_iter_gives ∙ c.range-entry-items.ensures.between (search rules)

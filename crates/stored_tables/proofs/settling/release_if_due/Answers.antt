@@ -1,8 +1,8 @@
-use Rattle.std.proofs.Common.{◌≡◌, None, Some, sym, subst, ◌∙◌, arith, ap}
+use Rattle.std.proofs.Common.{◌≡◌, None, Some, sym, subst, ◌∙◌, ap}
 use Rattle.std.proofs.lemmas.Option.{same_Some}
-use Rattle.sqlite.specs.State.{HasCleanDisk}
 use Rattle.sqlite.specs.Held.{state}
 use Rattle.rows.specs.Settling.{is_due_row}
+use Rattle.stored_tables.specs.BatchLaws.{clean_before}
 use Rattle.stored_tables.specs.Kept.{kept_in}
 use Rattle.stored_tables.specs.Moves.{IsStatusOf}
 use Rattle.stored_tables.proofs.ExpiryWrites.{still_told, told_of_row}
@@ -14,7 +14,7 @@ pub expire-requires-clause-told : goal.expire-requires-clause-told
 expire-requires-clause-told g c clean =
     let t = c.args.tenant.0 in
     let s0 = state g.S.Store c.args.conn.now in
-    let before : HasCleanDisk s0 = omega (arith, c.status.ensures.reads.follows.survives.clean, clean) in
+    let before = clean_before _ _ c.status.ensures.reads.follows clean in
     let told : IsStatusOf t c.args.id s0.now.trees (Some c.in-Some.row) = subst (IsStatusOf t c.args.id s0.now.trees) c.in-Some.is (c.in_ok-row.ensures.ok clean (c.requires.inside before).schema) in
     still_told t c.in-Some.row s0 (state g.S.Store c.status.new.conn) (c.in_ok-row.ensures.reads.same clean) (told_of_row t c.args.id c.in-Some.row s0.now.trees told)
 

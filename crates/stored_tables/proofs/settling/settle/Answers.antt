@@ -1,18 +1,18 @@
-use Rattle.std.proofs.Common.{◌≡◌, refl, arith}
+use Rattle.std.proofs.Common.{◌≡◌, refl}
 use Rattle.sqlite.specs.State.{HasCleanDisk}
 use Rattle.sqlite.specs.Held.{state}
 use Rattle.records.specs.Step.{at_clock}
 use Rattle.records.specs.Valid.IsValid.{later}
 use Rattle.rows.specs.Prescribed.{rows_for}
 use Rattle.ledger_sql.specs.Frames.{Live}
-use Rattle.stored_tables.specs.BatchLaws.{valid_now}
+use Rattle.stored_tables.specs.BatchLaws.{clean_before, valid_now}
 use Rattle.stored_tables.specs.InBatch.{shown}
 use Rattle.stored_tables.proofs.Keeping.{leaves_or_over}
 use Rattle.stored_tables.proofs.Writing.{writes_leave, is_inside}
 use Rattle.stored_tables.proofs.settling.settle.Goals as goal
 
 pub move_clock-done-requires : goal.move_clock-done-requires
-move_clock-done-requires g c = record { writing = λ clean. record { inside = is_inside _ _ (c.requires.usable clean); is_open = (c.requires.usable clean).is_open }; bounded = c.requires.bounded }
+move_clock-done-requires g c = record { writing = λ clean. record { inside = is_inside _ _ (c.requires.may.usable clean); is_open = (c.requires.may.usable clean).is_open }; bounded = c.requires.bounded }
 
 pub returns : goal.returns
 returns g c =
@@ -21,9 +21,9 @@ returns g c =
     let s0 = state g.S.Store c.args.conn.now in
     let m = (shown t s0).now in
     let live : HasCleanDisk (state g.S.Store c.move_clock-done.new.conn) → Live s0 = λ clean.
-    let clean0 : HasCleanDisk s0 = omega (arith, c.move_clock-done.ensures.follows.survives.clean, clean) in (clean0, (c.requires.usable clean0).is_open) in
+    let clean0 = clean_before _ _ c.move_clock-done.ensures.follows clean in (clean0, (c.requires.may.usable clean0).is_open) in
     leaves_or_over g.S.Store _ c.args.conn.now c.move_clock-done.new.conn _ _ _ _ _ c.move_clock-done.ensures.follows c.move_clock-done.ensures.ok c.or_give_up.ensures
     (λ x moves.
-    writes_leave g.S.Store t c.args.conn.now c.move_clock-done.new.conn x (λ rows. rows ≡ rows_for 3 m) (λ rows. rows_for 3 (at_clock m clock)) (λ m. at_clock m clock) c.held_machines.ensures c.requires.usable c.move_clock-done.ensures.follows
-    (λ clean. moves clean m (valid_now t s0 (live clean) c.requires.usable) (c.requires.past (live clean)) (c.requires.later (live clean)) (c.requires.covered (live clean)))
-    (λ live0 valid. record { may = refl; rows = refl; valid = later m clock valid (c.requires.later live0) c.requires.bounded }))
+    writes_leave g.S.Store t c.args.conn.now c.move_clock-done.new.conn x (λ rows. rows ≡ rows_for 3 m) (λ rows. rows_for 3 (at_clock m clock)) (λ m. at_clock m clock) c.held_machines.ensures c.requires.may.usable c.move_clock-done.ensures.follows
+    (λ clean. let so = c.requires.may.so (live clean) in moves clean m (valid_now t s0 (live clean) c.requires.may.usable) so.1 so.2 so.0)
+    (λ live0 valid. record { may = refl; rows = refl; valid = later m clock valid ((c.requires.may.so live0).2) c.requires.bounded }))

@@ -1,21 +1,13 @@
-use Rattle.std.proofs.Common.{refl}
-use Rattle.sqlite.specs.Held.{state}
-use Rattle.stored_tables.specs.BatchLaws.{live_before}
-use Rattle.stored_tables.proofs.Covering.{covered, covers_clock}
+use Rattle.stored_tables.proofs.Covering.{covers_clock}
+use Rattle.stored_tables.proofs.TablesLeave.{tables_left}
 use Rattle.stored_tables.proofs.batch.BatchTables.settle.Goals as goal
 
-pub settle-requires-clause-covered : goal.settle-requires-clause-covered
-settle-requires-clause-covered g c live = (c.requires.usable.1 live).now
-
-pub settle-requires-clause-past : goal.settle-requires-clause-past
-settle-requires-clause-past g c live = (c.requires.usable.1 live).behind
+pub settle-requires-clause-may : goal.settle-requires-clause-may
+settle-requires-clause-may g c = record {
+  usable = c.requires.usable.0;
+  so = λ live. let covers = c.requires.usable.1 live in (covers.now, covers.behind, c.requires.later live);
+}
 
 pub returns : goal.returns
 returns g c =
-    let before = live_before (state g.S.Store c.args.self.now.conn.now) (state g.S.Store c.settle.new.conn) c.settle.ensures.follows.calls in
-    record {
-      state = c.settle.ensures.state;
-      usable = covered c.settle.result _ _ _ _ _ _ c.settle.ensures.usable c.settle.ensures.state (λ live. covers_clock _ _ _ (c.requires.usable.1 (before live)) c.args.clock (c.requires.later (before live)));
-      undone = c.settle.ensures.undone;
-      follows = (refl, refl, refl, λ key has. has, c.settle.ensures.follows, refl);
-    }
+    tables_left g.S.Store _ c.args.self.now c.settle.new.conn c.settle.result _ c.settle.ensures (λ live. covers_clock _ _ _ (c.requires.usable.1 live) c.args.clock (c.requires.later live))
