@@ -1,11 +1,10 @@
 -- Turns as a course.
-use Rattle.std.proofs.Common.{◌⊎◌, inl, inr, ℕ, List, [], ◌++◌, append_assoc, sym, subst}
+use Rattle.std.proofs.Common.{ℕ, List, [], ◌++◌, append_assoc, sym, subst}
 use Rattle.std.proofs.lemmas.List.{append-nil}
 use Rattle.chain.specs.Ledgers.{LedgersMeaning}
-use Rattle.ledger_http.specs.declared.reply.Reply.{Reply}
-use Rattle.service.specs.Connections.{Connection, IsFirstAnswered, IsTurnedAway, LacksMemory}
 use Rattle.service.specs.Courses.{Event, Course, Begin}
 use Rattle.service.specs.ConnectionEvents.{event_in, ExchangesLeadOn}
+use Rattle.service.specs.ExchangeLaws.{live_before}
 use Rattle.service.specs.OwnDeeds.{EachSeesItself}
 use Rattle.clients.specs.Turns.{Nothing, More, connection_of, events_in_turns}
 use Rattle.clients.specs.Turns.{TurnsLeadOn, ServeEachAlone}
@@ -13,16 +12,6 @@ use Rattle.clients.specs.Turns.{TurnsLeadOn, ServeEachAlone}
 -- ledgers that are no longer live stay so
 abbrev pub StaysDead : {S : Type 0} → LedgersMeaning S → Type 0
 StaysDead {S} t = (a b : S) → t.follows a b → t.is_live b → t.is_live a
-
-live_before :
-    {S C : Type 0} (t : LedgersMeaning S) (gives : C → ℕ → C → Type 0) (old new : Connection S C)
-    (reply : Reply) → StaysDead t →
-    IsFirstAnswered t gives old reply new ⊎ (IsTurnedAway old reply new ⊎ LacksMemory old reply new) →
-    t.is_live new.ledgers → t.is_live old.ledgers
-live_before t gives old new reply lived (inl answered) live =
-    lived old.ledgers new.ledgers answered.follows live
-live_before t gives old new reply lived (inr (inl away)) live = subst t.is_live away.cut.ledgers live
-live_before t gives old new reply lived (inr (inr lacks)) live = subst t.is_live lacks.cut.ledgers live
 
 -- turns lead a course on, each by its exchange
 pub turns_lead_on :

@@ -1,23 +1,21 @@
 -- What is answered at a point of a round.
 use Rattle.std.proofs.Common.{append-nil, ◌≡◌, ◌≢◌, ◌⊎◌, inl, inr, refl, ap, sym, ◌∙◌, subst, ℕ, Bool, true, false}
-use Rattle.std.proofs.Common.{List, [], ◌∷◌, ◌++◌, take, bytes_eq, Option, Some, Result, Ok, Err, IsOk, if◌then◌else◌}
+use Rattle.std.proofs.Common.{List, [], ◌∷◌, ◌++◌, take, bytes_eq, Some, Result, Ok, if◌then◌else◌}
 use Rattle.std.proofs.Math.Path.{fun_ext}
 use Rattle.std.proofs.lemmas.Bool.{true≢false, and_parts}
 use Rattle.std.proofs.lemmas.Slice.Eq.{bytes_eq-Decides}
-use Rattle.httparse.specs.Grammar.{RequestHead}
 use Rattle.chain.specs.Ledgers.{LedgersMeaning, Tenants, KeepsAll, Finds}
 use Rattle.ledger_http.specs.declared.early.Early.{Early}
-use Rattle.ledger_http.specs.declared.refusal.Refusal.{Refusal}
 use Rattle.ledger_http.specs.declared.reply.Reply.{Reply}
 use Rattle.ledger_http.specs.ReplyText.{reply_text}
-use Rattle.ledger_http.specs.Results.{and_then}
-use Rattle.ledger_http.specs.Message.{First, first_message}
-use Rattle.ledger_http.specs.Question.{Question, as_early, question_in, asked_of}
+use Rattle.ledger_http.specs.Question.{Question}
 use Rattle.service.specs.Connections.{connection, Connection, IsFirstAnswered, IsTurnedAway, LacksMemory}
+use Rattle.service.specs.Connections.{IsCutOff}
 use Rattle.service.specs.Courses.{Replied}
+use Rattle.service.specs.ExchangeLaws.{answers_asked, whole_of}
 use Rattle.service.specs.Deeds.{asking, tenant_of, after_deed, IsDeedDone}
 use Rattle.service.specs.Replies.{unavailable}
-use Rattle.service.specs.Responds.{AnswersAsked, Responds, RefusesEarly, IsLeftBy, IsLeftByAsked}
+use Rattle.service.specs.Responds.{Responds, RefusesEarly, IsLeftBy, IsLeftByAsked}
 use Rattle.service.specs.Responds as response
 use Rattle.service.specs.Seen.{SeenAt, Whole, Within, seen}
 use Rattle.clients.specs.Talk.{Talk, may_answer, is_written}
@@ -35,6 +33,12 @@ seen_over old = record {
   moments = old.moments;
   goes_on = old.goes_on;
 }
+
+cut_seen :
+    {S C : Type 0} (old new : Connection S C) → IsCutOff old new →
+    IsCutOff (seen_over old) (seen_over new)
+cut_seen old new cut =
+    record { ledgers = ap Whole cut.ledgers; moments = cut.moments; ends = cut.ends }
 
 module _ {S C : Type 0} (t : LedgersMeaning S) (gives : C → ℕ → C → Type 0) where
   seen_by :
@@ -62,22 +66,14 @@ module _ {S C : Type 0} (t : LedgersMeaning S) (gives : C → ℕ → C → Type
         early = away.early;
         first = away.first;
         taken = away.taken;
-        cut = record {
-          ledgers = ap Whole away.cut.ledgers;
-          moments = away.cut.moments;
-          ends = away.cut.ends;
-        };
+        cut = cut_seen old new away.cut;
       }))
   seen_by old new reply (inr (inr lacks)) =
       inr (inr (record {
         told = lacks.told;
         first = lacks.first;
         taken = lacks.taken;
-        cut = record {
-          ledgers = ap Whole lacks.cut.ledgers;
-          moments = lacks.cut.moments;
-          ends = lacks.cut.ends;
-        };
+        cut = cut_seen old new lacks.cut;
       }))
 
   pub are_seen : AreSeen t gives
@@ -95,18 +91,6 @@ module _ {S C : Type 0} (t : LedgersMeaning S) (gives : C → ℕ → C → Type
     held = has.held;
     ended = has.ended;
   }
-
-first_is_ok :
-    (first : Result First Refusal) (question : Question) →
-    and_then (as_early first) question_in ≡ Ok question → IsOk first
-first_is_ok (Ok first) question is = refl
-first_is_ok (Err refusal) question is = absurd (cc)
-
-whole_of :
-    (bytes : List ℕ) (head : Option RequestHead) (question : Question) →
-    asked_of bytes head ≡ Ok question → IsOk (first_message bytes head)
-unfolding asked_of
-whole_of bytes head question is = first_is_ok (first_message bytes head) question is
 
 -- nothing that asks is refused early
 early_of :
@@ -165,9 +149,8 @@ after_by false old new question moment digest is done =
 pub answers_leave : HeadsAreUnique → AnswersLeave
 answers_leave unique old new bytes question moment reply asks responds available =
     let answers =
-    subst (λ (asked : Result Question Early). AnswersAsked old new asked moment (reply_text reply))
-    (ap (asked_of bytes) (unique bytes responds.head asks.0 responds.has asks.1) ∙ asks.2)
-    (responds.answered available) in
+    answers_asked unique old new bytes asks.0 (Ok question) moment reply responds asks.1 asks.2
+    available in
     fun_ext (λ digest.
     after_by (bytes_eq (tenant_of (asking question moment)) digest) old new question moment digest refl
     (record { may = tt; own = answers.own; others = answers.others }))

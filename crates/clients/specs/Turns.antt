@@ -6,7 +6,7 @@ use Rattle.ledger_http.specs.declared.reply.Reply.{Reply}
 use Rattle.service.specs.Connections.{Connection, connection, Exchange}
 use Rattle.service.specs.ConnectionEvents.{event_in}
 use Rattle.service.specs.Courses.{Event, Course}
-use Rattle.service.specs.OwnDeeds.{SeesItself}
+use Rattle.service.specs.OwnDeeds.{EachSees}
 
 -- what one client has sent that is not answered, and whether another message of it is
 pub record Sent : Type 0 where
@@ -66,26 +66,27 @@ events_in_turns Nothing = []
 events_in_turns (More all last told next turns turn) =
     events_in_turns turns ++ event_in told.reply turn.exchange.by
 
--- turns lead every course on that has led to their ledgers, whichever clients they are of
-abbrev pub TurnsLeadOn :
-    {S C : Type 0} → LedgersMeaning S → (C → ℕ → C → Type 0) → Type 0
-TurnsLeadOn {S} {C} t gives =
+-- this is so of the events of all turns, as long as the ledgers are live
+abbrev pub OfTurns :
+    {S C : Type 0} → LedgersMeaning S → (C → ℕ → C → Type 0)
+    → (Tenants → List Event → Tenants → Type 0) → Type 0
+OfTurns {S} {C} t gives IsSo =
     (first last : Clients S C) (all : List ToldReply)
     (turns : ClientTurns S C t gives first all last)
     → t.is_live last.ledgers
-    → (began : Tenants) (events : List Event)
-    → Course began events (t.tenants first.ledgers)
-    → Course began (events ++ events_in_turns turns) (t.tenants last.ledgers)
+    → IsSo (t.tenants first.ledgers) (events_in_turns turns) (t.tenants last.ledgers)
+
+-- turns lead every course on that has led to their ledgers, whichever clients they are of
+abbrev pub TurnsLeadOn : {S C : Type 0} → LedgersMeaning S → (C → ℕ → C → Type 0) → Type 0
+TurnsLeadOn t gives =
+    OfTurns t gives (λ old more new.
+    (began : Tenants) (events : List Event)
+    → Course began events old
+    → Course began (events ++ more) new)
 
 -- each tenant sees its own requests alone, whichever clients they came from
-abbrev pub ServeEachAlone :
-    {S C : Type 0} → LedgersMeaning S → (C → ℕ → C → Type 0) → Type 0
-ServeEachAlone {S} {C} t gives =
-    (first last : Clients S C) (all : List ToldReply)
-    (turns : ClientTurns S C t gives first all last)
-    → t.is_live last.ledgers
-    → (digest : List ℕ)
-    → SeesItself (t.tenants first.ledgers) (events_in_turns turns) (t.tenants last.ledgers) digest
+abbrev pub ServeEachAlone : {S C : Type 0} → LedgersMeaning S → (C → ℕ → C → Type 0) → Type 0
+ServeEachAlone t gives = OfTurns t gives EachSees
 
 -- what stands first of what one client has sent gets this reply, by the ledgers as they are then
 pub record HearsFirst {S C : Type 0} (t : LedgersMeaning S) (gives : C → ℕ → C → Type 0)

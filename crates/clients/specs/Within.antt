@@ -10,6 +10,7 @@ use Rattle.ledger_http.specs.Unread.{without, IsWhole}
 use Rattle.service.specs.ConnectionEvents.{event_in}
 use Rattle.service.specs.Courses.{Replied}
 use Rattle.service.specs.Deeds.{asking, tenant_of, after_deed}
+pub use Rattle.service.specs.ExchangeLaws.{HeadsAreUnique}
 use Rattle.service.specs.Replies.{unavailable}
 use Rattle.service.specs.Responds.{Responds}
 use Rattle.service.specs.Seen.{Whole, Within, seen}
@@ -86,8 +87,3 @@ TellsUnavailable {S} {C} t gives =
     (replied_to size unavailable talk))
     × (event_in unavailable (has.exchange [] (λ ended. refl)).by
     ≡ Replied (Ok question) moment unavailable ∷ [])
-
--- bytes have one head
-abbrev pub HeadsAreUnique : Type 0
-HeadsAreUnique =
-    (bytes : List ℕ) (h k : Option RequestHead) → HasHead bytes h → HasHead bytes k → h ≡ k

@@ -1,43 +1,26 @@
 -- A connection as a course.
-use Rattle.std.proofs.Common.{◌⊎◌, ℕ, inl, inr, List, [], ◌++◌, Option, refl, sym, subst}
+use Rattle.std.proofs.Common.{◌⊎◌, ℕ, inl, inr, List, [], ◌++◌, refl, sym, subst}
 use Rattle.std.proofs.lemmas.List.{append-nil}
-use Rattle.httparse.specs.Grammar.{RequestHead}
 use Rattle.chain.specs.Ledgers.{LedgersMeaning, Tenants}
 use Rattle.ledger_http.specs.declared.reply.Reply.{Reply}
-use Rattle.ledger_http.specs.ReplyText.{reply_text}
 use Rattle.ledger_http.specs.Question.{asked_of}
-use Rattle.service.specs.Responds.{AnswersAsked}
 use Rattle.service.specs.Connections.{Connection, IsFirstAnswered, IsTurnedAway, LacksMemory}
 use Rattle.service.specs.Connections.{IsCutOff, Nothing, More}
 use Rattle.service.specs.Courses.{Event, Replied, Happens, Course, Begin, Then}
 use Rattle.service.specs.Courses.{ResponsesHappen}
 use Rattle.service.specs.ConnectionEvents.{event_in, events_in, ExchangesLeadOn}
 use Rattle.service.specs.ConnectionEvents.{ConnectionsAreCourses}
-use Rattle.service.proofs.Isolation.{HeadsAreUnique}
+use Rattle.service.specs.ExchangeLaws.{HeadsAreUnique, answers_asked, live_before}
 
 -- a response is what happens
 pub responses_happen : HeadsAreUnique → ResponsesHappen
 responses_happen unique old new bytes moment reply event to r =
     subst (λ (e : Event). Happens old e new) (sym to.is) (record {
-      answered = λ available.
-          subst
-          (λ (head : Option RequestHead).
-          AnswersAsked old new (asked_of bytes head) moment (reply_text reply))
-          (unique bytes r.head to.head r.has to.has) (r.answered available);
+      answered =
+          answers_asked unique old new bytes to.head (asked_of bytes to.head) moment reply r to.has
+          refl;
       same = r.same;
     })
-
-live_before :
-    {S C : Type 0} (t : LedgersMeaning S) (gives : C → ℕ → C → Type 0) (old new : Connection S C)
-    (reply : Reply) → ((a b : S) → t.follows a b → t.is_live b → t.is_live a) →
-    IsFirstAnswered t gives old reply new ⊎ (IsTurnedAway old reply new ⊎ LacksMemory old reply new) →
-    t.is_live new.ledgers → t.is_live old.ledgers
-live_before t gives old new reply lived (inl answered) live =
-    lived old.ledgers new.ledgers answered.follows live
-live_before t gives old new reply lived (inr (inl away)) live =
-    subst t.is_live away.cut.ledgers live
-live_before t gives old new reply lived (inr (inr lacks)) live =
-    subst t.is_live lacks.cut.ledgers live
 
 cut_off :
     {S C : Type 0} (t : LedgersMeaning S) (first : Tenants) (events : List Event)

@@ -6,8 +6,9 @@ use Rattle.sha2.specs.Sha256.{sha256}
 use Rattle.records.specs.Machine.{Machine}
 use Rattle.chain.specs.Ledgers.{Tenants}
 use Rattle.ledger_http.specs.declared.early.Early.{Early}
+use Rattle.ledger_http.specs.declared.early.Early.TheVariants.{Page, Health}
 use Rattle.ledger_http.specs.declared.reply.Reply.{Reply}
-use Rattle.ledger_http.specs.ReplyText.{reply_text}
+use Rattle.ledger_http.specs.ReplyText.{early_text, reply_text}
 use Rattle.ledger_http.specs.Message.{HasHead}
 use Rattle.ledger_http.specs.Question.{Question, asked_of}
 use Rattle.ledger_http.specs.Alone.{StandsAlone as IsAlone}
@@ -16,12 +17,8 @@ use Rattle.wire.specs.Told.{outcome_text}
 use Rattle.service.specs.Served.{served_to}
 use Rattle.service.specs.Replies.{unavailable}
 use Rattle.service.specs.Responds.{AnswersAsked, Responds, IsAsking, IsCaller, AgreesOn}
-use Rattle.service.specs.Responds.{PageTellsNothing, HealthTellsNothing}
-
--- bytes have one head
-abbrev pub HeadsAreUnique : Type 0
-HeadsAreUnique =
-    (bytes : List ℕ) (h k : Option RequestHead) → HasHead bytes h → HasHead bytes k → h ≡ k
+use Rattle.service.specs.Responds.{EarlyTellsNothing, PageTellsNothing, HealthTellsNothing}
+pub use Rattle.service.specs.ExchangeLaws.{HeadsAreUnique, answers_asked}
 
 same_text :
     (asked : Result Question Early) (old new old' new' : Tenants) (moment : ℕ)
@@ -77,9 +74,8 @@ pub isolated :
 isolated unique old new old' new' bytes moment reply reply' r r' agree ne ne' =
     let a : AnswersAsked old new (asked_of bytes r.head) moment (reply_text reply) = r.answered ne in
     let a' : AnswersAsked old' new' (asked_of bytes r.head) moment (reply_text reply') =
-    subst
-    (λ (h : Option RequestHead). AnswersAsked old' new' (asked_of bytes h) moment (reply_text reply'))
-    (unique bytes r'.head r.head r'.has r.has) (r'.answered ne') in
+    answers_asked unique old' new' bytes r.head (asked_of bytes r.head) moment reply' r' r.has refl
+    ne' in
     let agrees : (digest : List ℕ) → IsAsking (asked_of bytes r.head) digest → old digest ≡ old'
     digest =
     λ digest asking. agree digest (r.head, r.has, asking) in
@@ -96,23 +92,16 @@ isolated unique old new old' new' bytes moment reply reply' r r' agree ne ne' =
           (λ asking. not_caller (r.head, r.has, asking));
     }
 
-pub page_tells_nothing : HeadsAreUnique → PageTellsNothing
-page_tells_nothing unique old new bytes head moment reply has asks r ne =
-    let a =
-    subst (λ (asked : Result Question Early). AnswersAsked old new asked moment (reply_text reply)) asks
-    (subst
-    (λ (h : Option RequestHead). AnswersAsked old new (asked_of bytes h) moment (reply_text reply))
-    (unique bytes r.head head r.has has) (r.answered ne)) in
+early_tells_nothing : HeadsAreUnique → (early : Early) → EarlyTellsNothing early (early_text early)
+early_tells_nothing unique early old new bytes head moment reply has asks r ne =
+    let a = answers_asked unique old new bytes head (Err early) moment reply r has asks ne in
     (a.told, a.same)
 
+pub page_tells_nothing : HeadsAreUnique → PageTellsNothing
+page_tells_nothing unique = early_tells_nothing unique Page
+
 pub health_tells_nothing : HeadsAreUnique → HealthTellsNothing
-health_tells_nothing unique old new bytes head moment reply has asks r ne =
-    let a =
-    subst (λ (asked : Result Question Early). AnswersAsked old new asked moment (reply_text reply)) asks
-    (subst
-    (λ (h : Option RequestHead). AnswersAsked old new (asked_of bytes h) moment (reply_text reply))
-    (unique bytes r.head head r.has has) (r.answered ne)) in
-    (a.told, a.same)
+health_tells_nothing unique = early_tells_nothing unique Health
 
 pub alone :
     HeadsAreUnique →
@@ -122,10 +111,9 @@ pub alone :
 alone unique old new unread message moment reply s r = record {
   head = Some s.head;
   has = s.unread_has;
-  answered = λ ne.
-      subst (λ (asked : Result Question Early). AnswersAsked old new asked moment (reply_text reply))
-      (ap (asked_of message) (unique message r.head (Some s.head) r.has s.has) ∙ s.same)
-      (r.answered ne);
+  answered =
+      answers_asked unique old new message (Some s.head) (asked_of unread (Some s.head)) moment
+      reply r s.has s.same;
   same = r.same;
   whole = λ is. s.unread_whole;
 }

@@ -16,7 +16,7 @@ use Rattle.service.specs.Openings.{run_meaning, IsSettled, FoundAfter, As_now, A
 use Rattle.service.specs.Openings.{Moves, ResponsesMove}
 use Rattle.service.specs.EventLaws.{told_unavailable, told_available, unavailable_tells_nothing}
 use Rattle.service.proofs.ConnectionEventsLemmas.{responses_happen}
-use Rattle.service.proofs.Isolation.{HeadsAreUnique}
+use Rattle.service.specs.ExchangeLaws.{HeadsAreUnique}
 
 same_either_way :
     (untold : Bool) (deeds : List Deed) → (if untold then deeds else deeds) ≡ deeds

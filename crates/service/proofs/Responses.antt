@@ -18,18 +18,7 @@ use Rattle.wire.specs.Meaning.{meaning_of}
 use Rattle.service.specs.Replies.{Serves, unavailable, told_early}
 use Rattle.service.specs.Responds.{AnswersAsked, Responds, RefusesEarly, TellsPage}
 use Rattle.service.specs.Responds.{TellsHealth, TellsFailure}
-
-first_is_ok :
-    (first : Result First Refusal) (question : Question) →
-    and_then (as_early first) question_in ≡ Ok question → IsOk first
-first_is_ok (Ok first) question is = refl
-first_is_ok (Err refusal) question is = absurd (cc)
-
-whole_of :
-    (bytes : List ℕ) (head : Option RequestHead) (question : Question) →
-    asked_of bytes head ≡ Ok question → IsOk (first_message bytes head)
-unfolding asked_of
-whole_of bytes head question is = first_is_ok (first_message bytes head) question is
+use Rattle.service.specs.ExchangeLaws.{whole_of}
 
 health_is_ok :
     (first : Result First Refusal) → and_then (as_early first) question_in ≡ Err Health → IsOk first
@@ -61,35 +50,26 @@ responds_to old new bytes head question moment reply has is serves = record {
   whole = λ u. whole_of bytes head question is;
 }
 
-pub early_of :
-    (bytes : List ℕ) (head : Option RequestHead) (question : Question) (reply : Reply) →
-    HasHead bytes head → asked_of bytes head ≡ Ok question → RefusesEarly bytes reply
-early_of bytes head question reply has is = record {
-  head = head;
-  has = has;
-  refused = λ early no ne. absurd (let e = sym is ∙ no in cc);
-  whole = λ u. whole_of bytes head question is;
-}
+-- who asks a question asks for nothing that is told before a tenant is looked up
+module _ (bytes : List ℕ) (head : Option RequestHead) (question : Question) (reply : Reply)
+    (has : HasHead bytes head) (is : asked_of bytes head ≡ Ok question) where
+  not_early : (early : Early) → asked_of bytes head ≡ Err early → ⊥
+  not_early early asks = let e = sym is ∙ asks in absurd (cc)
 
-pub no_page :
-    (bytes : List ℕ) (head : Option RequestHead) (question : Question) (reply : Reply) →
-    HasHead bytes head → asked_of bytes head ≡ Ok question → TellsPage bytes reply
-no_page bytes head question reply has is = record {
-  head = head;
-  has = has;
-  page = λ asks. absurd (let e = sym is ∙ asks in cc);
-}
+  pub early_of : RefusesEarly bytes reply
+  early_of = record {
+    head = head;
+    has = has;
+    refused = λ early asks ne. absurd (not_early early asks);
+    whole = λ u. whole_of bytes head question is;
+  }
 
--- a question is none for health
-pub no_health :
-    (has_failed : Bool) (bytes : List ℕ) (head : Option RequestHead) (question : Question)
-    (reply : Reply) →
-    HasHead bytes head → asked_of bytes head ≡ Ok question → TellsHealth has_failed bytes reply
-no_health has_failed bytes head question reply has is = record {
-  head = head;
-  has = has;
-  health = λ asks. absurd (let e = sym is ∙ asks in cc);
-}
+  pub no_page : TellsPage bytes reply
+  no_page = record { head = head; has = has; page = λ asks. absurd (not_early Page asks) }
+
+  pub no_health : (has_failed : Bool) → TellsHealth has_failed bytes reply
+  no_health has_failed =
+      record { head = head; has = has; health = λ asks. absurd (not_early Health asks) }
 
 is_unavailable : (early : Early) → early_reply early ≡ unavailable → early ≡ Refused Unavailable
 is_unavailable Page is = absurd (cc)
@@ -164,32 +144,26 @@ telling_told bytes has_failed head Page has told whole = early_telling bytes hea
 telling_told bytes has_failed head (Refused refusal) has told whole =
     early_telling bytes head (Refused refusal) has told whole
 
-pub page_telling :
-    (bytes : List ℕ) (has_failed : Bool) (head : Option RequestHead) (early : Early)
-    (asked : Result Asked Early) →
-    HasHead bytes head → asked ≡ Err early → (asked_of bytes head ≡ Err Page → asked ≡ Err Page) →
-    TellsPage bytes (told_early has_failed early)
-page_telling bytes has_failed head early asked has is page = record {
-  head = head;
-  has = has;
-  page = λ asks.
-      let e = sym is ∙ page asks in
-      ap (told_early has_failed) (let same : early ≡ Page = cc in same);
-}
+-- who asks for what is told early is told it
+module _ (bytes : List ℕ) (has_failed : Bool) (head : Option RequestHead) (early : Early)
+    (asked : Result Asked Early) (has : HasHead bytes head) (is : asked ≡ Err early) where
+  told_as :
+      (other : Early) → asked ≡ Err other →
+      told_early has_failed early ≡ told_early has_failed other
+  told_as other asks =
+      let e = sym is ∙ asks in
+      ap (told_early has_failed) (let same : early ≡ other = cc in same)
 
-pub health_telling :
-    (bytes : List ℕ) (has_failed : Bool) (head : Option RequestHead) (early : Early)
-    (asked : Result Asked Early) →
-    HasHead bytes head → asked ≡ Err early →
-    (asked_of bytes head ≡ Err Health → asked ≡ Err Health) →
-    TellsHealth has_failed bytes (told_early has_failed early)
-health_telling bytes has_failed head early asked has is health = record {
-  head = head;
-  has = has;
-  health = λ asks.
-      let e = sym is ∙ health asks in
-      ap (told_early has_failed) (let same : early ≡ Health = cc in same);
-}
+  pub page_telling :
+      (asked_of bytes head ≡ Err Page → asked ≡ Err Page) →
+      TellsPage bytes (told_early has_failed early)
+  page_telling page = record { head = head; has = has; page = λ asks. told_as Page (page asks) }
+
+  pub health_telling :
+      (asked_of bytes head ≡ Err Health → asked ≡ Err Health) →
+      TellsHealth has_failed bytes (told_early has_failed early)
+  health_telling health =
+      record { head = head; has = has; health = λ asks. told_as Health (health asks) }
 
 -- where a question is told something early, that is for want of memory
 told_in_place :

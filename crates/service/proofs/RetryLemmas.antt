@@ -2,12 +2,9 @@
 use Rattle.std.proofs.Common.{◌≡◌, ℕ, List, [], ◌∷◌, Option, Some, Result, Ok, Err, refl, sym}
 use Rattle.std.proofs.Common.{ap, ◌∙◌, subst}
 use Rattle.std.specs.List.{AllZip}
-use Rattle.records.specs.declared.account.AccountEvent.{AccountEvent}
 use Rattle.records.specs.declared.reply.EventResult.{EventResult}
-use Rattle.records.specs.declared.transfer.TransferEvent.{TransferEvent}
 use Rattle.records.specs.Machine.{Machine}
-use Rattle.records.specs.Step.{Outcome, Answered, Exhausted, account_rules, transfer_rules}
-use Rattle.records.specs.Step.{step_machine}
+use Rattle.records.specs.Step.{Outcome, Answered, Exhausted}
 use Rattle.engine.specs.FailedLaws.{OfEach}
 use Rattle.ledger_http.specs.declared.refusal.Refusal.{Refusal}
 use Rattle.wire.specs.declared.request.Request.{Request}
@@ -18,6 +15,7 @@ use Rattle.chain.specs.Ledgers.{Tenants}
 use Rattle.service.specs.Courses.{Course, Event}
 use Rattle.service.specs.OwnDeeds.{Happening, deed_of, digest_since, own_happenings, after_all}
 use Rattle.service.specs.Retries.{IsAskedEarlier, HasAsked}
+pub use Rattle.service.specs.StepLaws.{StepLaws}
 use Rattle.service.proofs.OwnDeedLemmas.{after_more, sees_itself}
 
 -- what comes behind a request finds the machine that it left
@@ -30,17 +28,6 @@ asked_then began owns request moment m asked =
     ∙ (after_more began asked.before (asked.own ∷ asked.since)
     ∙ (ap (λ (tenant : Option Machine). after_all tenant (asked.own ∷ asked.since)) asked.held
     ∙ ap (λ (deed : Deed). after_all (after_deed deed (Some m)) asked.since) asked.asks))
-
--- batches lead from a machine to another one, and so do steps one after the other
-pub record StepLaws (Leads : Machine → Machine → Type 0) : Type 0 where
-  pub accounts :
-      (m : Machine) (batch : List AccountEvent) (moment : ℕ) →
-      Leads m (step_machine account_rules m batch moment)
-  pub transfers :
-      (m : Machine) (batch : List TransferEvent) (moment : ℕ) →
-      Leads m (step_machine transfer_rules m batch moment)
-  pub itself : (m : Machine) → Leads m m
-  pub onward : (m next last : Machine) → Leads m next → Leads next last → Leads m last
 
 module _ (Leads : Machine → Machine → Type 0) (laws : StepLaws Leads)
   where

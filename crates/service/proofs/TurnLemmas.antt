@@ -1,10 +1,9 @@
 -- Messages in turn.
 use Rattle.std.proofs.Common.{◌≡◌, ◌≢◌, inl, inr, ℕ, ◌+◌, ◌<◌, false, List, [], ◌∷◌, ◌++◌}
-use Rattle.std.proofs.Common.{length, take, get_or, Option, Result, Ok, Err, refl, sym, ap, ◌∙◌, subst}
+use Rattle.std.proofs.Common.{length, take, get_or, Result, Ok, Err, refl, sym, ap, ◌∙◌, subst}
 use Rattle.std.proofs.Math.Path.{fun_ext}
 use Rattle.std.proofs.lemmas.List.{append-nil, take_more}
 use Rattle.std.specs.List.{AllByRecursion, flat_map}
-use Rattle.httparse.specs.Grammar.{RequestHead}
 use Rattle.chain.specs.Ledgers.{LedgersMeaning, Tenants, KeepsAll, Finds, LeadsByRound}
 use Rattle.ledger_http.specs.declared.early.Early.{Early}
 use Rattle.ledger_http.specs.declared.reply.Reply.{Reply}
@@ -23,7 +22,7 @@ use Rattle.service.specs.OpeningLaws.{moves_none, moves_one, moves_then}
 use Rattle.service.specs.Turns.{RespondsTo, RespondInTurn, TakeTurns, AreRepliesTo, MovesInRound}
 use Rattle.service.specs.Turns.{MovesEach, EachHearsItsOwn}
 use Rattle.service.specs.TurnLaws.{replies_happen}
-use Rattle.service.proofs.Isolation.{HeadsAreUnique}
+use Rattle.service.specs.ExchangeLaws.{HeadsAreUnique, answers_asked}
 
 -- the message at an index is the next one
 message_more :
@@ -160,10 +159,8 @@ module _ (unique : HeadsAreUnique) where
       subst (λ (deeds : List Deed). AreDone deeds old new)
       (sym (ap untold_in to.is ∙ (subst IsStill to.is still).untold))
       (answered_done asked message.moment (reply_text told) old new
-      (subst
-      (λ (head : Option RequestHead).
-      AnswersAsked old new (asked_of bytes head) message.moment (reply_text told))
-      (unique bytes responds.head to.head responds.has to.has) (responds.answered available)))
+      (answers_asked unique old new bytes to.head asked message.moment told responds to.has refl
+      available))
 
   -- so it is of all messages of a round
   all_done :

@@ -7,7 +7,7 @@ use Rattle.ledger_http.specs.Question.{asked_of}
 use Rattle.service.specs.Connections.{Connection, IsFirstAnswered, IsTurnedAway, LacksMemory, Exchange}
 use Rattle.service.specs.Connections.{Runs, Nothing, More}
 use Rattle.service.specs.Courses.{Event, Replied, Course}
-use Rattle.service.specs.OwnDeeds.{SeesItself}
+use Rattle.service.specs.OwnDeeds.{EachSees}
 
 -- the event of an exchange; what is refused while it is read is none
 abbrev pub event_in :
@@ -37,21 +37,20 @@ ExchangesLeadOn {S} {C} t gives =
     → Course first events (t.tenants old.ledgers)
     → Course first (events ++ event_in reply exchange.by) (t.tenants new.ledgers)
 
--- so the exchanges of a connection are a course
-abbrev pub ConnectionsAreCourses :
-    {S C : Type 0} → LedgersMeaning S → (C → ℕ → C → Type 0) → Type 0
-ConnectionsAreCourses {S} {C} t gives =
+-- this is so of the events of each connection, as long as the ledgers are live
+abbrev pub OfConnections :
+    {S C : Type 0} → LedgersMeaning S → (C → ℕ → C → Type 0)
+    → (Tenants → List Event → Tenants → Type 0) → Type 0
+OfConnections {S} {C} t gives IsSo =
     (first last : Connection S C) (replies : List Reply)
     (runs : Runs S C t gives first replies last)
     → t.is_live last.ledgers
-    → Course (t.tenants first.ledgers) (events_in runs) (t.tenants last.ledgers)
+    → IsSo (t.tenants first.ledgers) (events_in runs) (t.tenants last.ledgers)
+
+-- so the exchanges of a connection are a course
+abbrev pub ConnectionsAreCourses : {S C : Type 0} → LedgersMeaning S → (C → ℕ → C → Type 0) → Type 0
+ConnectionsAreCourses t gives = OfConnections t gives Course
 
 -- on a connection each tenant sees its own requests alone
-abbrev pub ServesEachAlone :
-    {S C : Type 0} → LedgersMeaning S → (C → ℕ → C → Type 0) → Type 0
-ServesEachAlone {S} {C} t gives =
-    (first last : Connection S C) (replies : List Reply)
-    (runs : Runs S C t gives first replies last)
-    → t.is_live last.ledgers
-    → (digest : List ℕ)
-    → SeesItself (t.tenants first.ledgers) (events_in runs) (t.tenants last.ledgers) digest
+abbrev pub ServesEachAlone : {S C : Type 0} → LedgersMeaning S → (C → ℕ → C → Type 0) → Type 0
+ServesEachAlone t gives = OfConnections t gives EachSees

@@ -11,12 +11,14 @@ pub mod Courses
 pub mod Seen
 pub mod OwnDeeds
 pub mod OwnDeedLaws
+pub mod ExchangeLaws
 pub mod ConnectionEvents
 pub mod Openings
 pub mod EventLaws
 pub mod OpeningLaws
 pub mod Turns
 pub mod TurnLaws
+pub mod StepLaws
 pub mod Retries
 pub mod Following
 pub mod Calls

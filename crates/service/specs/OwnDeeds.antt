@@ -87,8 +87,11 @@ pub record SeesItself (old : Tenants) (events : List Event) (new : Tenants) (dig
   pub left :
       new (digest_since digest events) ≡ after_all (old digest) (own_happenings digest events)
 
+-- so it is of each tenant
+abbrev pub EachSees : Tenants → List Event → Tenants → Type 0
+EachSees old events new = (digest : List ℕ) → SeesItself old events new digest
+
 -- the law of courses
 abbrev pub EachSeesItself : Type 0
 EachSeesItself =
-    (old new : Tenants) (events : List Event) → Course old events new
-    → (digest : List ℕ) → SeesItself old events new digest
+    (old new : Tenants) (events : List Event) → Course old events new → EachSees old events new

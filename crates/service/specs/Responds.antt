@@ -125,25 +125,22 @@ Isolates =
     → reply' ≢ unavailable
     → AgreesOn bytes old new old' new' reply reply'
 
--- the page is the same bytes for everybody, and nothing changes
-abbrev pub PageTellsNothing : Type 0
-PageTellsNothing =
+-- what is told early is the same bytes for everybody, and nothing changes
+abbrev pub EarlyTellsNothing : Early → List ℕ → Type 0
+EarlyTellsNothing early text =
     (old new : Tenants) (bytes : List ℕ) (head : Option RequestHead) (moment : ℕ) (reply : Reply)
     → HasHead bytes head
-    → asked_of bytes head ≡ Err Page
+    → asked_of bytes head ≡ Err early
     → Responds old new bytes moment reply
     → reply ≢ unavailable
-    → (reply_text reply ≡ page_reply) × KeepsAll old new
+    → (reply_text reply ≡ text) × KeepsAll old new
 
--- so is what is told of ledgers that serve
+-- so is the page, and what is told of ledgers that serve
+abbrev pub PageTellsNothing : Type 0
+PageTellsNothing = EarlyTellsNothing Page page_reply
+
 abbrev pub HealthTellsNothing : Type 0
-HealthTellsNothing =
-    (old new : Tenants) (bytes : List ℕ) (head : Option RequestHead) (moment : ℕ) (reply : Reply)
-    → HasHead bytes head
-    → asked_of bytes head ≡ Err Health
-    → Responds old new bytes moment reply
-    → reply ≢ unavailable
-    → (reply_text reply ≡ health_reply) × KeepsAll old new
+HealthTellsNothing = EarlyTellsNothing Health health_reply
 
 -- what stands behind a message does not matter to its answer
 abbrev pub MessagesStandAlone : Type 0

@@ -9,7 +9,10 @@ ghost use Rattle.service.specs.Responds.{Isolates, PageTellsNothing, HealthTells
 ghost use Rattle.service.specs.Retries.{HasAsked, RetriesAddNothing, StaysFailedOnceAsked};
 ghost use Rattle.service.specs.Seen.{seen};
 ghost use Rattle.service.specs.Sound.{EachIsSound};
+ghost use Rattle.service.specs.StepLaws.{StepLaws};
 ghost use Rattle.service.specs.Turns.{EachHearsItsOwn};
+ghost use Rattle.engine.specs.Following.{ContinuesAfter};
+ghost use Rattle.records.specs.Later.{IsLater};
 ghost use Rattle.records.specs.Step.{account_rules, transfer_rules};
 ghost use Rattle.records.specs.declared.account_result.AccountResult.TheVariants as for_account;
 ghost use Rattle.records.specs.declared.transfer_result.TransferResult.TheVariants as for_transfer;
@@ -111,6 +114,22 @@ pub fn connections_serve_each_alone<L: Ledgers, C: Moments>()
     each_tenant_sees_itself();
 }
 
+// Whatever a tenant asks leads to a later machine.
+fn requests_lead_to_later()
+    ensures { StepLaws IsLater }
+{
+    steps_lead_to_later();
+    later_of_later_is_later();
+}
+
+// That machine continues the one before it.
+fn requests_continue()
+    ensures { StepLaws ContinuesAfter }
+{
+    steps_continue();
+    continued_of_continued_continues();
+}
+
 /// A batch whose every event was accepted in a course adds nothing when it is sent again, however
 /// often, whenever, and whatever any tenant did between. So it is whether the batch was answered,
 /// or answered `unavailable` and found done.
@@ -118,8 +137,7 @@ pub fn retried_in_course_adds_nothing()
     ensures accounts { RetriesAddNothing HasAsked account_rules for_account.Exists Accounts }
     ensures transfers { RetriesAddNothing HasAsked transfer_rules for_transfer.Exists Transfers }
 {
-    steps_lead_to_later();
-    later_of_later_is_later();
+    requests_lead_to_later();
     retry_adds_nothing();
 }
 
@@ -129,8 +147,7 @@ pub fn retried_in_course_adds_nothing()
 pub fn failed_in_course_stays_failed()
     ensures { StaysFailedOnceAsked HasAsked }
 {
-    steps_lead_to_later();
-    later_of_later_is_later();
+    requests_lead_to_later();
     failed_stays_failed();
 }
 
@@ -140,8 +157,7 @@ pub fn failed_in_course_stays_failed()
 pub fn told_in_course_stays()
     ensures { ToldStays HasAsked }
 {
-    steps_continue();
-    continued_of_continued_continues();
+    requests_continue();
     steps_tell_their_clock();
     what_was_told_stays();
 }
@@ -151,8 +167,7 @@ pub fn told_in_course_stays()
 pub fn left_in_course_stays()
     ensures { LeftStays }
 {
-    steps_continue();
-    continued_of_continued_continues();
+    requests_continue();
     rests_stay();
 }
 

@@ -5,17 +5,11 @@ use Rattle.records.specs.TransferVerdict.{fails_for_good}
 use Rattle.engine.specs.FailedLaws.{StaysFailed, AnswersIfFirst, batch_runs}
 use Rattle.records.specs.Later.{IsLater}
 use Rattle.wire.specs.declared.request.Request.TheVariants.{Transfers}
-use Rattle.service.proofs.RetryLemmas.{StepLaws, asked_leads, each_on}
+use Rattle.service.proofs.RetryLemmas.{asked_leads, each_on}
 use Rattle.service.proofs.laws.failed_in_course_stays_failed.Goals as goal
 
 pub returns : goal.returns
 returns c digest batch moment m now asked valid again later =
-    let laws : StepLaws IsLater = record {
-      accounts = c.steps_lead_to_later.ensures.accounts;
-      transfers = c.steps_lead_to_later.ensures.transfers;
-      itself = c.later_of_later_is_later.ensures.itself;
-      onward = c.later_of_later_is_later.ensures.onward;
-    } in
     each_on
     (λ ev result.
     fails_for_good result ≡ true → StaysFailed (step_machine transfer_rules m batch moment) ev)
@@ -25,5 +19,6 @@ returns c digest batch moment m now asked valid again later =
     batch (step_outcome transfer_rules m batch moment)
     (λ ev result stays fails.
     stays fails now again later valid
-    (asked_leads IsLater laws digest (Transfers batch) moment m now asked))
+    (asked_leads IsLater c.requests_lead_to_later.ensures digest (Transfers batch) moment m now
+    asked))
     (c.failed_stays_failed.ensures.failed m batch moment)

@@ -4,18 +4,14 @@ use Rattle.records.specs.Machine.{Machine}
 use Rattle.records.specs.declared.statement_row.StatementRow.{StatementRow}
 use Rattle.parts.specs.Chunks.{chunks_of}
 use Rattle.parts.specs.Parts.{chunks_by}
-use Rattle.service.proofs.RetryLemmas.{StepLaws, course_leads}
+use Rattle.service.proofs.RetryLemmas.{course_leads}
 use Rattle.service.proofs.laws.left_in_course_stays.Goals as goal
 
 pub returns : goal.returns
 returns c old new events course rest held same =
-    let laws : StepLaws ContinuesAfter = record {
-      accounts = c.steps_continue.ensures.accounts;
-      transfers = c.steps_continue.ensures.transfers;
-      itself = c.continued_of_continued_continues.ensures.itself;
-      onward = c.continued_of_continued_continues.ensures.onward;
-    } in
-    let led = course_leads ContinuesAfter laws old new events course rest.digest held.0 held.1 in
+    let led =
+    course_leads ContinuesAfter c.requests_continue.ensures old new events course rest.digest
+    held.0 held.1 in
     let now : new rest.digest ≡ Some led.0 = ap new (sym same) ∙ led.1 in
     ap (λ (tenant : Option Machine). chunks_by tenant rest) now
     ∙ ap (λ (rows : List StatementRow). chunks_of (length rows) [] rows)

@@ -17,7 +17,7 @@ use Rattle.wire.specs.declared.request.Request.TheVariants as asks
 use Rattle.parts.specs.Chunks.{statement_chunks}
 use Rattle.service.specs.Following.{clock_in}
 use Rattle.service.specs.Served.{answer_told, batch_told, told_by, left_by, query_told}
-use Rattle.service.proofs.RetryLemmas.{StepLaws, asked_leads}
+use Rattle.service.proofs.RetryLemmas.{asked_leads}
 use Rattle.service.proofs.laws.told_in_course_stays.Goals as goal
 
 -- a reply tells this clock, if any
@@ -73,13 +73,8 @@ told_clock of_accounts of_transfers m moment (asks.Statement account) =
 pub returns : goal.returns
 returns c digest request moment m now asked =
     let left = left_by m moment request in
-    let laws : StepLaws ContinuesAfter = record {
-      accounts = c.steps_continue.ensures.accounts;
-      transfers = c.steps_continue.ensures.transfers;
-      itself = c.continued_of_continued_continues.ensures.itself;
-      onward = c.continued_of_continued_continues.ensures.onward;
-    } in
-    let continues = asked_leads ContinuesAfter laws digest request moment m now asked in
+    let continues =
+    asked_leads ContinuesAfter c.requests_continue.ensures digest request moment m now asked in
     record {
       told_clock =
           told_clock c.steps_tell_their_clock.ensures.accounts

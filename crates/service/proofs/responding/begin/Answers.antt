@@ -29,7 +29,7 @@ returns-in-Ok-clause-replies g c = record {
       no_page _ a.head (question_of c.in-Ok.asked) _ a.has a.told;
   health =
       let a = c.in-Ok.ensures in
-      no_health _ _ a.head (question_of c.in-Ok.asked) _ a.has a.told;
+      no_health _ a.head (question_of c.in-Ok.asked) _ a.has a.told _;
   failed =
       let a = c.in-Ok.ensures in record {
         head = a.head;

@@ -33,7 +33,7 @@ returns-in-Some g c = record {
       no_page _ q.head q.question _ q.has q.is;
   health =
       let q = subst (λ (r : Option Rest). IfSome r (λ rest. IsQuestion c.args.bytes.now)) c.in-Some.is c.begin-front.ensures.asks in
-      no_health _ _ q.head q.question _ q.has q.is;
+      no_health _ q.head q.question _ q.has q.is _;
   failed =
       let f = c.begin-front.ensures.replies.failed in record {
         head = f.head;
