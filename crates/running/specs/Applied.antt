@@ -16,9 +16,9 @@ Takes old new entry took =
     ((m : Machine) → IsRunning m old → IsNext m entry × IsRunning (with_entry m entry) new)
 
 -- its history was told
-abbrev pub Tells :
+abbrev pub TellsHistory :
     {H : Type 0} → (H → H → List HistoryRow → Type 0) → H → H → Running → Entry → Bool → Type 0
-Tells {H} told first then old entry took =
+TellsHistory {H} told first then old entry took =
     OnTrue took
     ((m : Machine) → IsRunning m old → IsToldMore told first then m (with_entry m entry))
 

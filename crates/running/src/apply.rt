@@ -6,7 +6,7 @@ ghost use Rattle.records.specs.Accepted.{IsAccepted};
 ghost use Rattle.records.specs.Step.{account_verdict_in, at_clock, max_clock};
 ghost use Rattle.records.specs.Valid.{IsNextTimestamp, IsNextTransfer, event_of_account};
 ghost use Rattle.running.specs.declared.entry.Entry.TheVariants.{Opened, Moved};
-ghost use Rattle.running.specs.Applied.{Takes, Tells, Refuses};
+ghost use Rattle.running.specs.Applied.{Takes, TellsHistory, Refuses};
 ghost use Rattle.running.specs.Entries.{CanCome};
 ghost use Rattle.running.specs.Running.{IsRunning};
 
@@ -28,7 +28,8 @@ impl Running {
     ) -> Result<bool, AllocError>
         requires { (m : Machine) × IsRunning m self.old }
         ensures accepted { IfOk result (Takes self.old self.new entry.now) }
-        ensures told { IfOk result (Tells H.told history.old history.new self.old entry.now) }
+        ensures told { IfOk result
+            (TellsHistory H.told history.old history.new self.old entry.now) }
         ensures refused { IfOk result (Refuses self.old entry.now) }
     {
         match entry {
@@ -63,7 +64,7 @@ impl Running {
         requires { (m : Machine) × IsRunning m self.old }
         ensures accepted { IfOk result (Takes self.old self.new (Moved transfer.now)) }
         ensures told { IfOk result
-            (Tells H.told history.old history.new self.old (Moved transfer.now)) }
+            (TellsHistory H.told history.old history.new self.old (Moved transfer.now)) }
         ensures refused { IfOk result (Refuses self.old (Moved transfer.now)) }
     {
         transfer_rows();
