@@ -11,10 +11,12 @@ that it calls. What a function's proof needs of others are their contracts, whic
 changes, so that none is refused for another's sake. What was not refused so is tried by itself, as
 `rt ci` does, and so is what changes more than functions' bodies.
 
-Such a check is asked for these functions alone (`--only`), and proves them and what they call. All of
-the crate was proved from nothing before, in the same run. What a check was asked for beside the
-functions that it turns is proved there too, or lacks nothing but them: else each of its wrong bodies
-is tried by itself. So what was refused was refused for its body.
+Such a check is asked for these functions alone (`--only`), and would prove them and what they call. All
+of the crate is proved from nothing in the same run. So of the others each that answers are written for
+is taken by its statement here, with a hole for its proof (`--allow-holes`): the contract is all that its
+callers need. What else the check was asked for is proved there, or lacks nothing but the functions that
+it turns: else all is proved in one check more, and where that tells nothing each of its wrong bodies is
+tried by itself. So what was refused was refused for its body.
 
 The gate tries one wrong body of each function that has any, the first by name, in one check a crate;
 and those that are tried by themselves. `must-fail` tries the others too: each further one of a function
@@ -24,6 +26,7 @@ All else is the toolchain's own, from the library beside `rt`; where that has no
 called here, each wrong body is tried as `rt ci` does. There are as many lanes as `build/lanes.py`
 tells."""
 
+import copy
 import importlib.machinery
 import importlib.util
 import inspect
@@ -39,9 +42,20 @@ import threading
 import lanes
 
 FN = re.compile(r"(\s*)(?:pub(?:\([^)]*\))? )?(?:const )?(?:unsafe )?fn (\w+)")
-# What macros of std and of the kit write functions of.
-DERIVED = {"clone", "cmp", "default", "drop", "eq", "fmt", "from", "hash", "partial_cmp"}
+# What begins methods whose names are plain: those of a type whose parameters are letters, and of a trait
+# that is over one name at most.
+LETTERS = r"(?:<(?:, |'\w+|[A-Z]\b(?:: [^<>]*)?)*>)?"
+OWNER = re.compile(rf"impl{LETTERS} (?:(\w+)(?:<(\w+)>)? for )?(\w+){LETTERS}(?: where .*)?(?: \{{)?$")
 SAYS = re.compile(r"fn (\S+): (.*)")
+# A proof that is left open: a function's theorem without one.
+HOLE = """use {module} as stated
+
+pub {name}_spec : {{M : Type 1}} → stated.statement M
+{name}_spec = ?
+"""
+# The last line of a check of some functions, with holes and without, and the flags of it.
+HOLES = r"only=\d+ holes=\d+", ["--allow-holes"]
+WHOLE = r"only=\d+ proved=\d+", []
 # What is said of a function that lacks nothing but others.
 LACKS = re.compile(r"(?:no proof:|not proved;)(?: [^;]*, which (?:is|are) not proved(?:;|$))+")
 
@@ -78,9 +92,20 @@ def function_at(lines, at, is_body=False):
     return (found[2], begin) if is_body else None
 
 
+def owner(lines, begin):
+    """The type whose method begins at a line, as a check names it, or None where it is no method, or the
+    name is not plain. Of a trait's method it is the type's name, the trait's and that which it is over."""
+    if not FN.match(lines[begin])[1]:
+        return None
+    found = OWNER.match(next((it for it in lines[begin::-1] if it.startswith(("impl", "unsafe"))), ""))
+    trait, over, kind = found.groups() if found else (None, None, None)
+    return kind and kind + ("" if trait in (None, "Drop") else trait + (over or ""))
+
+
 class WrongBody:
     """An edit: what it replaces, as files, texts and new texts, and where that stands: functions'
-    names, each with its file and the lines up to what is replaced; or None among these."""
+    names, each with its file, its lines and what a check is asked for to prove it; or None among
+    these."""
 
     def __init__(self, crate, path):
         self.path, self.pairs = path, []
@@ -115,7 +140,10 @@ class WrongBody:
         name, begin = found
         indent = FN.match(lines[begin])[1]
         end = next((it for it in range(at, len(lines)) if lines[it] == f"{indent}}}"), at)
-        return name, file, range(begin + 1, end + 2)
+        is_method = FN.match(lines[begin])[1]
+        kind = owner(lines, begin)
+        asked = [kind, name] if kind else module(file) + ([] if is_method else [name])
+        return name, file, range(begin + 1, end + 2), "::".join(asked)
 
     def stands_alone(self):
         """Whether it changes something else than functions' bodies."""
@@ -123,7 +151,11 @@ class WrongBody:
 
     def names(self):
         """The names of the functions, each with its file."""
-        return {(name, file) for name, file, _ in self.places}
+        return {(name, file) for name, file, *_ in self.places}
+
+    def asked(self):
+        """What a check is asked for to prove the functions."""
+        return {it for *_, it in self.places}
 
     def joins(self, group, texts, crate):
         """Whether it can be tried with others. Then the texts have its words too."""
@@ -143,7 +175,7 @@ class WrongBody:
         """The line that says that a function of it is not proved, and not for what it calls, in a check
         that turns the functions with these names; or None."""
         for line in lines:
-            for name, file, within in self.places:
+            for name, file, within, _ in self.places:
                 is_one = sum(other == name for other, _ in names) == 1
                 if is_of(line, name, None if is_one else file):
                     return line
@@ -191,7 +223,8 @@ def lacks_more(line, names):
     """Whether a line says of a function with none of these names that it is not proved, and not for what
     it stands on alone."""
     said = SAYS.fullmatch(line)
-    if not said or said[2].startswith(("proved", "assumed")) or LACKS.fullmatch(said[2]):
+    settled = "proved", "no holes", "depends on a hole", "assumed"
+    if not said or said[2].startswith(settled) or LACKS.fullmatch(said[2]):
         return False
     return not any(speaks_of(line, name) for name, _ in names)
 
@@ -214,28 +247,52 @@ def groups(crate, edits):
     return found
 
 
-def only(crate, names):
-    """The flags by which a check is asked for some functions, given as names and files, alone. One
-    whose name others have is asked for with its module."""
-    sources = (it.read_text() for it in sorted(pathlib.Path(crate.folder, "src").rglob("*.rt")))
-    known = [found[2] for text in sources for found in map(FN.match, text.split("\n")) if found]
-    words = set()
-    for name, file in names:
-        is_one = known.count(name) == 1 and name not in DERIVED
-        words.add(name if is_one else file[len("src/") : -len(".rt")].replace("/", "::"))
-    return [it for word in sorted(words) for it in ("--only", word)]
+def only(asked):
+    """The flags by which a check is asked for some functions alone."""
+    return [it for word in sorted(asked) for it in ("--only", word)]
+
+
+def with_holes(crate, asked, room):
+    """The crate in a folder of its own, in which each function that answers are written for, but those
+    that are asked for, is taken by its statement: its proof is a hole."""
+    crate = copy.copy(crate)
+    for part in filter(lambda it: os.path.isdir(f"{crate.folder}/{it}"), ("src", "specs", "proofs")):
+        shutil.copytree(f"{crate.folder}/{part}", f"{room}/{part}")
+    crate.folder = room
+    for file in pathlib.Path(room, "proofs").rglob("Answers.antt"):
+        folder = file.parent
+        path = folder.relative_to(f"{room}/proofs").parts
+        words = ["::".join(path[at:end]) for end in range(1, len(path) + 1) for at in range(end)]
+        if "fn" in path or "+" in "".join(path) or asked & set(words):
+            continue
+        for name in ("Answers.antt", "Invariants.antt"):
+            folder.joinpath(name).unlink(missing_ok=True)
+        module = ".".join(["Rattle", crate.name, "proofs", *path, "Statement"])
+        folder.joinpath("Proof.antt").write_text(HOLE.format(module=module, name=path[-1]))
+    return crate
+
+
+def ran_group(rt, crate, group, texts, flags, kept):
+    """The lines of a check of a group, with holes or, where that tells nothing, without; or none."""
+    names = {it for each in group for it in each.names()}
+    asked = {it for each in group for it in each.asked()}
+    for last, more in HOLES, WHOLE:
+        with tempfile.TemporaryDirectory(prefix=f"rt-holes-{os.getpid()}-") as room:
+            tried = with_holes(crate, asked, room) if more else crate
+            ran = rt.checked(tried, texts, [*flags, *more, *only(asked)], kept)
+        lines = ran.stdout.rstrip("\n").split("\n")
+        is_read = not any(rt.unread(it, texts) for it in lines)
+        is_over = ran.returncode == 1 and re.match(last, lines[-1])
+        if is_read and is_over and not rt.rtlib.STALE.search(ran.stdout):
+            if not any(lacks_more(it, names) for it in lines):
+                return lines
+    return []
 
 
 def try_group(rt, crate, group, texts, flags, kept):
     """What is to be said of each edit of a group that was refused in one check of all."""
+    lines = ran_group(rt, crate, group, texts, flags, kept)
     names = {it for each in group for it in each.names()}
-    ran = rt.checked(crate, texts, [*flags, *only(crate, names)], kept)
-    lines = ran.stdout.rstrip("\n").split("\n")
-    is_read = not any(rt.unread(it, texts) for it in lines) and not rt.rtlib.STALE.search(ran.stdout)
-    if not is_read or ran.returncode != 1 or not re.match(r"only=\d+ proved=\d+", lines[-1]):
-        return {}
-    if any(lacks_more(it, names) for it in lines):
-        return {}
     refused = {it.path: it.refusal(lines, names) for it in group}
     label = f"must-fail {crate.name}"
     return {path: f"{label}/{os.path.basename(path)}: refused, as it must be: {line[:160]}"
@@ -322,8 +379,8 @@ class Together:
         if crate.folder not in self.has_begun:
             return subprocess.CompletedProcess([], 0, "", "")
         groups = set(self.groups[crate.folder].values())
-        turned = {it for group in groups for each in group.edits for it in each.names()}
-        return self.checked(crate, texts, [*flags, *only(crate, turned)], kept)
+        turned = {it for group in groups for each in group.edits for it in each.asked()}
+        return self.checked(crate, texts, [*flags, *only(turned)], kept)
 
     def added(self, tasks, crate, edits, *given, **named):
         """`add_edits` of `rt`, in which the tasks of a group wait for its first, and that for the first
